@@ -1,0 +1,9 @@
+pub mod BuiltIn
+pub mod ExprTree
+pub mod FunctionNames
+pub mod Integers
+pub mod Names
+pub mod NumExprTree
+pub mod Tables
+pub mod Tree
+pub mod TreeCode

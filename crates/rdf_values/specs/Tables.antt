@@ -1,0 +1,77 @@
+-- Tables: a list of columns, and a list of rows that fit them.
+use Rattle.std.specs.Prelude.{ℕ, zero, suc, ◌≡◌, ◌≤◌, ◌<◌, ◌*◌, ⊤, Bool, false, ◌||◌, length, take, drop, List, [], ◌∷◌, ◌++◌, bytes_eq}
+use Rattle.rdf_values.specs.declared.column.Column.{Column}
+use Rattle.rdf_values.specs.declared.value.ColType.{ColType}
+use Rattle.rdf_values.specs.declared.value.ColType.TheVariants as k
+use Rattle.rdf_values.specs.declared.value.Value.{Value}
+use Rattle.rdf_values.specs.declared.value.Value.TheVariants as v
+
+-- what a contract sees of a table
+pub record TableView : Type 0 where
+  pub columns : List Column
+  pub rows : List (List Value)
+
+-- a value is of a column's kind, and a vector has at most 4,096 elements
+abbrev pub FitsKind : ColType → Value → Type 0
+FitsKind k.Int (v.Int n) = ⊤
+FitsKind k.Int (v.Bool b) = ⊥
+FitsKind k.Int (v.Vect ns) = ⊥
+FitsKind k.Bool (v.Int n) = ⊥
+FitsKind k.Bool (v.Bool b) = ⊤
+FitsKind k.Bool (v.Vect ns) = ⊥
+FitsKind k.Vect (v.Int n) = ⊥
+FitsKind k.Vect (v.Bool b) = ⊥
+FitsKind k.Vect (v.Vect ns) = length ns ≤ 4096
+
+-- one value per column, each of its column's kind
+abbrev pub FitsRow : List Column → List Value → Type 0
+FitsRow [] [] = ⊤
+FitsRow [] (x ∷ xs) = ⊥
+FitsRow (c ∷ cs) [] = ⊥
+FitsRow (c ∷ cs) (x ∷ xs) = FitsKind c.kind x × FitsRow cs xs
+
+abbrev pub FitRows : List Column → List (List Value) → Type 0
+FitRows cols [] = ⊤
+FitRows cols (row ∷ rows) = FitsRow cols row × FitRows cols rows
+
+-- a column of that name stands in the list
+abbrev pub has_name : List Column → List ℕ → Bool
+has_name [] name = false
+has_name (c ∷ cs) name = bytes_eq c.name name || has_name cs name
+
+-- a table holds numbers and vectors, and no truth values
+abbrev pub IsStored : ColType → Type 0
+IsStored k.Int = ⊤
+IsStored k.Bool = ⊥
+IsStored k.Vect = ⊤
+
+-- each column has a name that none before it has, and a kind that a table holds
+abbrev pub AreColumns : List Column → List Column → Type 0
+AreColumns seen [] = ⊤
+AreColumns seen (c ∷ cs) = (has_name seen c.name ≡ false) × IsStored c.kind × AreColumns (seen ++ c ∷ []) cs
+
+-- 1 to 64 columns with distinct names
+pub record IsHeader (columns : List Column) : Type 0 where
+  pub some : 0 < length columns
+  pub few : length columns ≤ 64
+  pub distinct : AreColumns [] columns
+
+-- what every table meets
+pub record IsTable (t : TableView) : Type 0 where
+  pub header : IsHeader t.columns
+  pub fit : FitRows t.columns t.rows
+  pub few : length t.rows ≤ 1000000
+
+-- ---- how a table is kept
+
+-- so many rows of one width, from the first cell on
+abbrev pub rows_of : ℕ → ℕ → List Value → List (List Value)
+rows_of width zero cells = []
+rows_of width (suc n) cells = take width cells ∷ rows_of width n (drop width cells)
+
+-- the cells are those of so many rows of a table
+pub record HoldsTable (columns : List Column) (cells : List Value) (entries : ℕ) : Type 0 where
+  pub header : IsHeader columns
+  pub fit : FitRows columns (rows_of (length columns) entries cells)
+  pub all : length cells ≡ entries * length columns
+  pub few : entries ≤ 1000000

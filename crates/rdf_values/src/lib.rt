@@ -1,0 +1,54 @@
+//! The types of an analysis and of its table, and the definitions that speak of them alone.
+#![tactic(auto)]
+
+pub mod action;
+pub mod bytes;
+pub mod column;
+pub mod expr;
+pub mod expr_cause;
+pub mod fault;
+pub mod fn_names;
+pub mod graph_cause;
+pub mod int_list;
+pub mod integer;
+pub mod item;
+pub mod label;
+pub mod list;
+pub mod memory;
+pub mod name;
+pub mod num_expr;
+pub mod script;
+pub mod script_cause;
+pub mod span;
+pub mod statement;
+pub mod table;
+pub mod table_cause;
+pub mod text;
+pub mod value;
+pub mod vary_values;
+
+pub use crate::action::{ActionKind, ReduceOp};
+pub use crate::bytes::Bytes;
+pub use crate::column::Column;
+pub use crate::expr::{Args, BinOp, Expr, ExprNode, Mark};
+pub use crate::expr_cause::ExprCause;
+pub use crate::fault::{EntryFault, Fault};
+pub use crate::fn_names::{FnName, FnNames};
+pub use crate::graph_cause::GraphCause;
+pub use crate::int_list::IntList;
+pub use crate::integer::{read_integer, read_magnitude};
+pub use crate::item::Item;
+pub use crate::label::Label;
+pub use crate::list::ListOf;
+pub use crate::memory::Memory;
+pub use crate::name::Name;
+pub use crate::num_expr::{Callee, NumArgs, NumExpr, NumNode};
+pub use crate::script::{Line, Script};
+pub use crate::script_cause::ScriptCause;
+pub use crate::span::Span;
+pub use crate::statement::Statement;
+pub use crate::table::Table;
+pub use crate::table_cause::TableCause;
+pub use crate::text::Text;
+pub use crate::value::{ColType, Scalar, Value};
+pub use crate::vary_values::VaryValues;
