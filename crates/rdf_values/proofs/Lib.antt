@@ -1,3 +1,4 @@
 pub mod Digits
 pub mod OneText
+pub mod Pushing
 pub mod Rows
