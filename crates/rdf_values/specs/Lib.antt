@@ -1,6 +1,7 @@
 pub mod BuiltIn
 pub mod ExprTree
 pub mod FunctionNames
+pub mod Functions
 pub mod Integers
 pub mod Names
 pub mod NumExprTree
