@@ -1,4 +1,4 @@
--- What functions mean: a name, a number of arguments, and the answer to a list of them.
+-- The functions that a caller hands in, by their names, their numbers of arguments and their answers.
 use Rattle.std.specs.Prelude.{ℕ, ℤ, List, Option, map}
 use Rattle.rdf_values.specs.declared.fn_names.FnName.{FnName}
 
@@ -8,10 +8,8 @@ pub record Function : Type 0 where
   pub arity : ℕ
   pub answer : List ℤ → Option ℤ
 
--- the name and arity of a function
 abbrev pub fn_name : Function → FnName
 fn_name f = record { name = f.name; arity = f.arity }
 
--- the names and arities of functions, in their order
 abbrev pub fn_names : List Function → List FnName
-fn_names functions = map fn_name functions
+fn_names fns = map fn_name fns
