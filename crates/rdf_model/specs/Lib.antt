@@ -1,4 +1,5 @@
 pub mod ColumnValues
+pub mod Columns
 pub mod Demanded
 pub mod EntryOutcomes
 pub mod Evaluation
