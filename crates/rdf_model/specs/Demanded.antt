@@ -1,106 +1,130 @@
--- Which evaluations an entry needs, each site under each variation once.
-use Rattle.std.specs.Prelude.{ℕ, Bool, true, false, ◌&&◌, List, [], ◌∷◌, ◌++◌, Option, Some, None, if◌then◌else◌, filter, nat_eq, slice_get}
-use Rattle.std.specs.List.{list_any, flat_map}
+-- Which evaluations an entry calls for, each site under each variation once.
+use Rattle.std.specs.Prelude.{ℕ, Bool, true, false, ◌&&◌, List, [], ◌∷◌, ◌++◌, Option, Some, None, if◌then◌else◌, filter, nat_eq, flat_map}
+use Rattle.std.specs.List.{list_any}
 use Rattle.rdf_values.specs.Names.{same, place}
 use Rattle.rdf_values.specs.Path.{Path, Under, same_variation, target_of}
 use Rattle.rdf_values.specs.Depends.{columns_in, site_depends}
-use Rattle.rdf_values.specs.Bookings.{Pass, Acts, Reports, columns_of}
+use Rattle.rdf_values.specs.Bookings.{Booking, ActionAt, ReportOn, Pass, columns_of}
 use Rattle.rdf_values.specs.Tree.{NamedTree}
+use Rattle.rdf_values.specs.Functions.{Function}
 use Rattle.rdf_values.specs.declared.vary_values.VaryValues.{VaryValues}
 use Rattle.rdf_values.specs.declared.vary_values.VaryValues.TheVariants.{Lists, Vector}
 use Rattle.rdf_values.specs.declared.statement.Statement.TheVariants.{Define, Redefine, Filter, Vary}
 use Rattle.rdf_values.specs.declared.column.Column.{Column}
 use Rattle.rdf_values.specs.declared.value.Value.{Value}
-use Rattle.rdf_values.specs.Functions.{Function, fn_names}
-use Rattle.rdf_values.specs.Numbered.{callee}
-use Rattle.rdf_model.specs.Evaluation.{Outcome, Gives, Faults, Needs, evaluate, called}
-use Rattle.rdf_model.specs.ColumnValues.{own_place, varied, column_value}
+use Rattle.rdf_model.specs.Evaluation.{Outcome, Gives, Faults, Needs, is_met, named_call}
+use Rattle.rdf_model.specs.ColumnValues.{own_place, varied, column_value, expression_at}
 use Rattle.rdf_model.specs.EntryOutcomes.{through}
 
--- an expression that is evaluated as a whole: the node that it stands at, and for a Vary the places of its column and tag
+-- a site: an expression that is evaluated as a whole, by the node that it makes, and in a Vary by the places of its column and tag
 pub record Site : Type 0 where
   pub node : List ℕ
   pub column : ℕ
   pub tag : ℕ
+
+-- the site of a Define, a Redefine or a Filter, or of a Vary's vector
+abbrev pub site_at : List ℕ → Site
+site_at node = record { node = node; column = 0; tag = 0 }
 
 -- a site, and the variation under which it is evaluated
 pub record Demand : Type 0 where
   pub site : Site
   pub under : Under
 
+-- both nominal, or the same variation
 abbrev pub same_under : Under → Under → Bool
 same_under None None = true
 same_under (Some u) (Some v) = same_variation u v
 same_under u v = false
 
+-- two sites are the same
+abbrev pub same_site : Site → Site → Bool
+same_site s t = same s.node t.node && nat_eq s.column t.column && nat_eq s.tag t.tag
+
+-- two demands are the same
 abbrev pub same_demand : Demand → Demand → Bool
-same_demand p q =
-    same p.site.node q.site.node && nat_eq p.site.column q.site.column && nat_eq p.site.tag q.site.tag && same_under p.under q.under
+same_demand p q = same_site p.site q.site && same_under p.under q.under
 
 -- nominal, where the expression doesn't depend on the variation
 abbrev pub projected : Path → NamedTree → Under → Under
 projected path e None = None
 projected path e (Some v) = if site_depends v path e then Some v else None
 
-abbrev pub open_to : {M A : Type 0} → Outcome ⊥ A → Outcome M A
-open_to (Gives a) = Gives a
-open_to (Faults k) = Faults k
-open_to (Needs c) = elim c [ ]
+-- an outcome in which nothing is missing, where something could be
+abbrev pub with_needs : {M A : Type 0} → Outcome ⊥ A → Outcome M A
+with_needs (Gives a) = Gives a
+with_needs (Faults kind) = Faults kind
+with_needs (Needs m) = elim m [ ]
 
-abbrev pub is_need : {M A : Type 0} → Outcome M A → Bool
-is_need (Needs c) = true
-is_need o = false
+-- what follows an answer; nothing follows a fault
+abbrev pub demands_after : {A : Type 0} → Outcome ⊥ A → (A → List Demand) → List Demand
+demands_after (Gives a) next = next a
+demands_after (Faults kind) next = []
+demands_after (Needs m) next = elim m [ ]
 
--- the expression of a Vary for a column and a tag, and the place of the tag if each has its own
-abbrev pub chosen_site : VaryValues → ℕ → ℕ → Option (NamedTree × ℕ)
-chosen_site (Lists lists) i k =
-    elim (slice_get lists i) [ None ↦ None | Some es ↦ elim (slice_get es k) [ None ↦ None | Some e ↦ Some (e, k) ] ]
-chosen_site (Vector e) i k = Some (e, 0)
-
-abbrev pub evaluated : List ℕ → ℕ → Option (NamedTree × ℕ) → (NamedTree → List Demand) → (NamedTree → Under) → List Demand
-evaluated node i None below under = []
-evaluated node i (Some s) below under = record { site = record { node = node; column = i; tag = s.1 }; under = under s.0 } ∷ below s.0
-
+-- with the caller's functions, in one row of a table with these columns
 module _ (fns : List Function) (columns : List Column) (row : List Value) where
-  -- the columns that the evaluation of an expression meets: those without which it comes to a need
+  -- the columns that the evaluation of an expression meets at the end of the path
   abbrev pub met_columns : Path → Under → NamedTree → List (List ℕ)
-  met_columns path u e =
-      filter (λ c. is_need (evaluate (λ d. if same c d then Needs c else open_to (column_value fns columns row path u d)) (λ f. called fns (callee (fn_names fns) f)) e)) (columns_in e)
+  met_columns path u e = filter (is_met same (λ c. with_needs (column_value fns columns row path u c)) (named_call fns) e) (columns_in e)
+
+  -- a site with its expression, and then what the columns that it meets demand
+  abbrev pub site_demands : Path → Under → Site → NamedTree → (List ℕ → List Demand) → List Demand
+  site_demands path u site e column_demands = record { site = site; under = projected path e u } ∷ flat_map column_demands (met_columns path u e)
+
+  -- the site of a Vary for the column at place i and the tag at place k
+  abbrev pub tag_demands : Path → Under → List ℕ → VaryValues → (List ℕ → List Demand) → ℕ → ℕ → List Demand
+  tag_demands path u node (Vector e) column_demands i k = site_demands path u (site_at node) e column_demands
+  tag_demands path u node (Lists lists) column_demands i k =
+      elim (expression_at lists i k) [ None ↦ [] | Some e ↦ site_demands path u (record { node = node; column = i; tag = k }) e column_demands ]
 
   -- what reading a column that is no alias demands
-  abbrev pub read : Path → Under → List ℕ → List Demand
-  read [] u name = []
-  read (Define node parent column expr ∷ up) u name =
-      elim (same column name) [ true ↦ evaluated node 0 (Some (expr, 0)) (λ e. flat_map (λ c. read up u (target_of up c)) (met_columns up u e)) (λ e. projected up e u) | false ↦ read up u name ]
-  read (Redefine node parent column expr ∷ up) u name =
-      elim (same column name) [ true ↦ evaluated node 0 (Some (expr, 0)) (λ e. flat_map (λ c. read up u (target_of up c)) (met_columns up u e)) (λ e. projected up e u) | false ↦ read up u name ]
-  read (Vary node parent names values tags vary ∷ up) u name =
+  abbrev pub named_demands : Path → Under → List ℕ → List Demand
+  named_demands [] u name = []
+  named_demands (Define node parent column expr ∷ up) u name =
+      if same column name then site_demands up u (site_at node) expr (λ c. named_demands up u (target_of up c)) else named_demands up u name
+  named_demands (Redefine node parent column expr ∷ up) u name =
+      if same column name then site_demands up u (site_at node) expr (λ c. named_demands up u (target_of up c)) else named_demands up u name
+  named_demands (Vary node parent names values tags vary ∷ up) u name =
       varied (own_place u vary tags) (place (same name) names)
-      (λ i k. evaluated node i (chosen_site values i k) (λ e. flat_map (λ c. read up u (target_of up c)) (met_columns up u e)) (λ e. projected up e u))
-      (read up u name)
-  read (s ∷ up) u name = read up u name
+      (tag_demands up u node values (λ c. named_demands up u (target_of up c)))
+      (named_demands up u name)
+  named_demands (s ∷ up) u name = named_demands up u name
+
+  -- what reading a column demands, an alias read as its target
+  abbrev pub column_demands : Path → Under → List ℕ → List Demand
+  column_demands path u name = named_demands path u (target_of path name)
 
   -- what trying the filters of a path demands, from the head down, until one stops or faults
-  abbrev pub tried : Path → Under → List Demand
-  tried [] u = []
-  tried (Filter node parent expr label ∷ up) u =
-      tried up u
-      ++ elim (through fns columns row {M = ⊥} up u) as (λ _. List Demand) [ Gives passed ↦ (if passed then evaluated node 0 (Some (expr, 0)) (λ e. flat_map (λ c. read up u (target_of up c)) (met_columns up u e)) (λ e. projected up e u) else []) | Faults k ↦ [] | Needs c ↦ [] ]
-  tried (s ∷ up) u = tried up u
+  abbrev pub filter_demands : Path → Under → List Demand
+  filter_demands [] u = []
+  filter_demands (Filter node parent expr label ∷ up) u =
+      filter_demands up u
+      ++ demands_after (through fns columns row up u) (λ passed. if passed then site_demands up u (site_at node) expr (column_demands up u) else [])
+  filter_demands (s ∷ up) u = filter_demands up u
 
-  -- the columns of an action in order, until one faults
-  abbrev pub read_all : Path → Under → List (List ℕ) → List Demand
-  read_all path u [] = []
-  read_all path u (c ∷ cs) =
-      read path u (target_of path c)
-      ++ elim (column_value fns columns row {M = ⊥} path u c) as (λ _. List Demand) [ Gives v ↦ read_all path u cs | Faults k ↦ [] | Needs m ↦ [] ]
+  -- what reading an action's columns demands, in order, until one faults
+  abbrev pub input_demands : Path → Under → List (List ℕ) → List Demand
+  input_demands path u [] = []
+  input_demands path u (c ∷ cs) =
+      column_demands path u c ++ demands_after (column_value fns columns row path u c) (λ v. input_demands path u cs)
+
+  -- what was booked demands: its filters, and where the entry passes them its columns; a report demands all that its filters do
+  abbrev pub booking_demands : Booking → Under → List Demand
+  booking_demands (ActionAt k at) u =
+      filter_demands at u
+      ++ demands_after (through fns columns row at u) (λ passed. if passed then input_demands at u (columns_of k) else [])
+  booking_demands (ReportOn filters) u = flat_map (λ f. filter_demands f None) filters
 
   -- what a pass demands, a demand as often as it is met
-  abbrev pub demands : Pass → List Demand
-  demands p =
-      elim p.of.what [ Acts k at ↦ tried at p.under ++ elim (through fns columns row {M = ⊥} at p.under) as (λ _. List Demand) [ Gives passed ↦ (if passed then read_all at p.under (columns_of k) else []) | Faults f ↦ [] | Needs c ↦ [] ] | Reports filters ↦ flat_map (λ f. tried f None) filters ]
+  abbrev pub pass_demands : Pass → List Demand
+  pass_demands p = booking_demands p.result.booking p.under
 
--- each once
+-- each demand once
 abbrev pub distinct : List Demand → List Demand
 distinct [] = []
-distinct (p ∷ ps) = let qs = distinct ps in if list_any (same_demand p) qs then qs else p ∷ qs
+distinct (p ∷ ps) = if list_any (same_demand p) (distinct ps) then distinct ps else p ∷ distinct ps
+
+-- what several passes demand of an entry, each demand once
+abbrev pub demanded : List Function → List Column → List Value → List Pass → List Demand
+demanded fns columns row ps = distinct (flat_map (pass_demands fns columns row) ps)

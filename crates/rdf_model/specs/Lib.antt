@@ -1,8 +1,10 @@
-pub mod Evaluation
 pub mod ColumnValues
-pub mod EntryOutcomes
-pub mod Results
-pub mod Loops
-pub mod Transcript
 pub mod Demanded
+pub mod EntryOutcomes
+pub mod Evaluation
 pub mod LoopFacts
+pub mod Loops
+pub mod PartialResults
+pub mod ResultLines
+pub mod Results
+pub mod Transcript

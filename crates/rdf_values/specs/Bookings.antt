@@ -1,19 +1,20 @@
--- The results that a script books, and their passes.
-use Rattle.std.specs.Prelude.{ℕ, Bool, true, false, not, List, [], ◌∷◌, ◌++◌, map, Option, Some, None, if◌then◌else◌, filter}
+-- The results that a script books, their passes, and which of them an access fills.
+use Rattle.std.specs.Prelude.{ℕ, Bool, true, false, not, ◌||◌, List, [], ◌∷◌, ◌++◌, map, Option, Some, None, if◌then◌else◌, filter}
 use Rattle.std.specs.List.{list_any}
 use Rattle.rdf_values.specs.Names.{same, among}
-use Rattle.rdf_values.specs.Path.{Path, Variation, Under, path, target_of}
+use Rattle.rdf_values.specs.Path.{Path, Variation, Under, path, variations}
 use Rattle.rdf_values.specs.Depends.{column_depends, filters_depend}
 use Rattle.rdf_values.specs.declared.statement.Statement.{Statement}
-use Rattle.rdf_values.specs.declared.statement.Statement.TheVariants.{Filter, Action, Report, VariationsFor, Print}
+use Rattle.rdf_values.specs.declared.statement.Statement.TheVariants.{Filter, Action, Report, VariationsFor, Watch, Print}
 use Rattle.rdf_values.specs.declared.action.ActionKind.{ActionKind}
 use Rattle.rdf_values.specs.declared.action.ActionKind.TheVariants as kind
 
--- the columns that an action reads, in written order
-abbrev pub option_list : {A : Type 0} → Option A → List A
-option_list None = []
-option_list (Some a) = a ∷ []
+-- the weight's column, where there is one
+abbrev pub weight_column : Option (List ℕ) → List (List ℕ)
+weight_column None = []
+weight_column (Some w) = w ∷ []
 
+-- the columns that an action reads, in written order
 abbrev pub columns_of : ActionKind → List (List ℕ)
 columns_of kind.Count = []
 columns_of (kind.Sum c) = c ∷ []
@@ -21,86 +22,101 @@ columns_of (kind.Min c) = c ∷ []
 columns_of (kind.Max c) = c ∷ []
 columns_of (kind.Take c) = c ∷ []
 columns_of (kind.Reduce o c) = c ∷ []
-columns_of (kind.Histo1D edges x w) = x ∷ option_list w
-columns_of (kind.Histo2D xs ys x y w) = x ∷ y ∷ option_list w
+columns_of (kind.Histo1D edges x w) = x ∷ weight_column w
+columns_of (kind.Histo2D xs ys x y w) = x ∷ y ∷ weight_column w
 
--- the named filters of a path, head first, each as the path that it ends
+-- ---- named filters
+
+-- the named filters of a path, head first, each as the path that begins with it
 abbrev pub named_on : Path → List Path
 named_on [] = []
 named_on (Filter node parent expr (Some label) ∷ up) = named_on up ++ (Filter node parent expr (Some label) ∷ up) ∷ []
 named_on (s ∷ up) = named_on up
 
-abbrev pub if_named : Statement → Path → List Path
-if_named (Filter node parent expr (Some label)) up = (Filter node parent expr (Some label) ∷ up) ∷ []
-if_named s up = []
-
-abbrev pub parent_of : Statement → List ℕ
-parent_of (Filter node parent expr label) = parent
-parent_of s = []
-
--- all named filters among the statements, the latest first, in the order of booking
+-- the named filters among the statements so far, in the order of booking
 abbrev pub named_before : List Statement → List Path
 named_before [] = []
-named_before (s ∷ before) = named_before before ++ if_named s (path before (parent_of s))
+named_before (Filter node parent expr (Some label) ∷ before) =
+    named_before before ++ (Filter node parent expr (Some label) ∷ path before parent) ∷ []
+named_before (s ∷ before) = named_before before
 
--- the filters that a Report covers: all those before it on the head, and those of the path elsewhere
+-- the filters that a Report covers: on the head all that were booked before it, elsewhere those of the path
 abbrev pub covered : List Statement → Path → List Path
 covered before [] = named_before before
 covered before (s ∷ up) = named_on (s ∷ up)
 
--- what a result is: an action at the end of a path, or a report on filters
-pub data Made : Type 0 where
-  Acts : (k : ActionKind) (at : Path) → Made
-  Reports : (filters : List Path) → Made
+-- ---- results
 
+-- what was booked: an action at the end of a path, or a report on filters
+pub data Booking : Type 0 where
+  ActionAt : (k : ActionKind) (at : Path) → Booking
+  ReportOn : (filters : List Path) → Booking
+
+-- a result: its name, and what was booked under it
 pub record Booked : Type 0 where
   pub name : List ℕ
-  pub what : Made
+  pub booking : Booking
 
 -- the result that a statement books, by the statements before it
 abbrev pub booked_by : List Statement → Statement → List Booked
-booked_by before (Action result parent k) = record { name = result; what = Acts k (path before parent) } ∷ []
-booked_by before (Report result parent) =
-    record { name = result; what = Reports (covered before (path before parent)) } ∷ []
+booked_by before (Action result parent k) = record { name = result; booking = ActionAt k (path before parent) } ∷ []
+booked_by before (Report result parent) = record { name = result; booking = ReportOn (covered before (path before parent)) } ∷ []
 booked_by before s = []
 
--- the results among the statements, the latest first, in the order of booking
+-- the results of the statements so far, in the order of booking
 abbrev pub bookings : List Statement → List Booked
 bookings [] = []
 bookings (s ∷ before) = bookings before ++ booked_by before s
 
--- a pass: a result under nominal or one variation
-pub record Pass : Type 0 where
-  pub of : Booked
-  pub under : Under
-
--- the result column_depends on the variation
-abbrev pub result_depends : Made → Variation → Bool
-result_depends (Acts k at) v = if filters_depend v at then true else list_any (λ c. column_depends v at (target_of at c)) (columns_of k)
-result_depends (Reports filters) v = false
-
-abbrev pub has_variations : List Statement → List ℕ → Bool
-has_variations [] name = false
-has_variations (VariationsFor result ∷ before) name = if same result name then true else has_variations before name
-has_variations (s ∷ before) name = has_variations before name
-
--- the passes of a result: nominal, and where they are asked for its variations in the order of their numbers
-abbrev pub varied_passes : Bool → List Variation → Booked → List Pass
-varied_passes false vs b = []
-varied_passes true vs b = map (λ v. record { of = b; under = Some v }) (filter (result_depends b.what) vs)
-
-abbrev pub passes_of : List Statement → List Variation → Booked → List Pass
-passes_of script vs b = record { of = b; under = None } ∷ varied_passes (has_variations script b.name) vs b
-
+-- the names of results
 abbrev pub names_of : List Booked → List (List ℕ)
 names_of bs = map (λ (b : Booked). b.name) bs
 
--- the results that are filled after the statements, the latest first: a Print of one that isn't fills all that were booked before it
+-- the results of that name
+abbrev pub results_named : List ℕ → List Booked → List Booked
+results_named name bs = filter (λ (b : Booked). same b.name name) bs
+
+-- a result depends on the variation: a filter above it or a column of its action does
+abbrev pub result_depends : Variation → Booking → Bool
+result_depends v (ActionAt k at) = filters_depend v at || list_any (column_depends v at) (columns_of k)
+result_depends v (ReportOn filters) = false
+
+-- the statements ask for the variations of the result
+abbrev pub has_variations : List Statement → List ℕ → Bool
+has_variations [] name = false
+has_variations (VariationsFor result ∷ before) name = same result name || has_variations before name
+has_variations (s ∷ before) name = has_variations before name
+
+-- the statements ask for partial results of the result
+abbrev pub is_watched : List Statement → List ℕ → Bool
+is_watched [] name = false
+is_watched (Watch result ∷ before) name = same result name || is_watched before name
+is_watched (s ∷ before) name = is_watched before name
+
+-- ---- passes
+
+-- a pass: a result under nominal or under one variation
+pub record Pass : Type 0 where
+  pub result : Booked
+  pub under : Under
+
+-- the passes of a result under the variations on which it depends, in the order of their numbers
+abbrev pub varied_passes : List Statement → Booked → List Pass
+varied_passes script b =
+    map (λ v. record { result = b; under = Some v }) (filter (λ v. result_depends v b.booking) (variations script))
+
+-- the passes of a result: the nominal one, and where they are asked for those under its variations
+abbrev pub passes_of : List Statement → Booked → List Pass
+passes_of script b = record { result = b; under = None } ∷ (if has_variations script b.name then varied_passes script b else [])
+
+-- ---- what is filled
+
+-- the names of the results that are filled after the statements so far: a Print of one that isn't fills all booked before it
 abbrev pub filled : List Statement → List (List ℕ)
 filled [] = []
-filled (Print p ∷ before) = let done = filled before in if among p done then done else names_of (bookings before)
+filled (Print p ∷ before) = if among p (filled before) then filled before else names_of (bookings before)
 filled (s ∷ before) = filled before
 
--- the results that wait to be filled
+-- the results that were booked and aren't filled
 abbrev pub waiting : List Statement → List Booked
 waiting before = filter (λ (b : Booked). not (among b.name (filled before))) (bookings before)

@@ -2,6 +2,7 @@ pub mod Bookings
 pub mod BuiltIn
 pub mod Cuts
 pub mod Depends
+pub mod Draws
 pub mod ExprTree
 pub mod Fold
 pub mod FunctionNames

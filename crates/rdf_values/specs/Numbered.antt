@@ -8,9 +8,10 @@ use Rattle.rdf_values.specs.declared.fn_names.FnName.{FnName}
 use Rattle.rdf_values.specs.declared.num_expr.Callee.{Callee}
 use Rattle.rdf_values.specs.declared.num_expr.Callee.TheVariants as fn
 
--- an expression with its columns and functions renamed
+-- with other names for columns and functions
 module _ {C D F G : Type 0} (column : C → D) (function : F → G) where
   abbrev mutual
+    -- the expression under the other names
     pub renamed : Tree C F → Tree D G
     renamed (Lit z) = Lit z
     renamed (Truth b) = Truth b
@@ -22,6 +23,7 @@ module _ {C D F G : Type 0} (column : C → D) (function : F → G) where
     renamed (Pick v i) = Pick (renamed v) (renamed i)
     renamed (Call f args) = Call (function f) (all_renamed args)
 
+    -- the arguments of a call under the other names
     pub all_renamed : Trees C F → Trees D G
     all_renamed End = End
     all_renamed (More a rest) = More (renamed a) (all_renamed rest)
