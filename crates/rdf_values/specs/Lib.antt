@@ -1,9 +1,11 @@
+pub mod Answers
 pub mod BuiltIn
 pub mod ExprTree
 pub mod FunctionNames
 pub mod Integers
 pub mod Names
 pub mod NumExprTree
+pub mod TableText
 pub mod Tables
 pub mod Tree
 pub mod TreeCode
