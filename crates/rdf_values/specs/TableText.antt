@@ -44,18 +44,18 @@ column_of field =
     if is_name (before_first is_colon field) then option_map (λ kind. record { name = before_first is_colon field; kind = kind }) (type_of (after_first is_colon field)) else None
 
 -- the column, where fewer than 64 stand before it and none of these has its name
-abbrev pub if_new : ℕ → List Column → Column → Option Column
-if_new i before column = if nat_lt i 64 && not (has_name before column.name) then Some column else None
+abbrev pub if_new : List Column → Column → Option Column
+if_new before column = if nat_lt (length before) 64 && not (has_name before column.name) then Some column else None
 
--- the column of field number i, where these columns stand before it
-unfoldable pub column_at : ℕ → List Column → List ℕ → Result Column TableCause
-column_at i before field = ok_or (option_and_then (if_new i before) (column_of field)) (cause.Header i)
+-- the column of a field, where these columns stand before it
+unfoldable pub next_column : List Column → List ℕ → Option Column
+next_column before field = option_and_then (if_new before) (column_of field)
 
 -- the columns of a header's fields from number i on, where these columns stand before them
 unfoldable pub columns_from : ℕ → List Column → List (List ℕ) → Result (List Column) TableCause
 columns_from i before [] = Ok []
 columns_from i before (field ∷ fields) =
-    on_ok (column_at i before field) (λ column. result_cons (Ok column) (columns_from (i + 1) (before ++ column ∷ []) fields))
+    on_ok (ok_or (next_column before field) (cause.Header i)) (λ column. result_cons (Ok column) (columns_from (i + 1) (before ++ column ∷ []) fields))
 
 -- ---- the entries
 

@@ -43,22 +43,22 @@ pub(crate) fn read_row(
     alloc: Global,
     entry: u32,
     columns: &[Column],
-    record: &ByteRecord,
+    fields: &ByteRecord,
     row: &mut ListOf<Value>,
 ) -> Result<(), TableRefusal>
     requires { length columns.now ≤ 64 }
-    ensures { MatchResult result (λ _. row_of entry columns.now (fields_of «record».now) ≡ Ok row.new)
-        (Refuses TableRefusal.At TableRefusal.Memory (row_of entry columns.now (fields_of «record».now))) }
+    ensures { MatchResult result (λ _. row_of entry columns.now (fields_of fields.now) ≡ Ok row.new)
+        (Refuses TableRefusal.At TableRefusal.Memory (row_of entry columns.now (fields_of fields.now))) }
 {
     if entry >= MAX_ENTRIES {
         return Err(TableRefusal::At(TableCause::TooMany { entry }));
     }
-    if record.len() != columns.len() {
+    if fields.len() != columns.len() {
         return Err(TableRefusal::At(TableCause::FieldCount { entry }));
     }
     row.clear();
     for i in 0..columns.len() {
-        let value = read_cell(alloc, entry, i as u32, columns[i].kind, field(record, i))?;
+        let value = read_cell(alloc, entry, i as u32, columns[i].kind, field(fields, i))?;
         row.push(value)?;
     }
     Ok(())

@@ -1,9 +1,8 @@
 // Columns from a header.
 ghost use Rattle.std.specs.Prelude.{◌≡◌, ◌≤◌, ◌<◌, [], List, ℕ, IfOk, OnSome, length, position};
 ghost use Rattle.rdf_values.specs.Answers.{Answers};
-ghost use Rattle.rdf_values.specs.TableText.{column_of, columns_from, if_new, is_colon, type_of};
+ghost use Rattle.rdf_values.specs.TableText.{column_of, columns_from, is_colon, next_column, type_of};
 ghost use Rattle.rdf_values.specs.Tables.{has_name};
-ghost use Rattle.std.specs.Prelude.{option_and_then};
 ghost use Rattle.csv.specs.Records.{fields_of};
 
 use crate::records::field;
@@ -61,8 +60,9 @@ fn read_column(alloc: Global, field: &[u8]) -> Result<Option<Column>, Memory>
 }
 
 // The same, where it may stand behind these columns.
+#[tactic(auto, unfolding(rdf_values::specs::TableText::next_column))]
 fn next_column(alloc: Global, before: &[Column], field: &[u8]) -> Result<Option<Column>, Memory>
-    ensures value { IfOk result (λ column. column ≡ option_and_then (if_new (length before.now) before.now) (column_of field.now)) }
+    ensures value { IfOk result (λ column. column ≡ next_column before.now field.now) }
     ensures room { IfOk result (λ column. OnSome column (length before.now < 64)) }
 {
     if before.len() >= MAX_COLUMNS {

@@ -16,16 +16,16 @@ pub fn read_table(alloc: Global, bytes: &[u8]) -> Result<Table, TableRefusal>
     ensures { Answers TableRefusal.At TableRefusal.Memory (table_of (csv_records bytes.now)) result }
 {
     let mut reader = open(alloc, bytes);
-    let mut record = ByteRecord::new(alloc);
-    if !next(&mut reader, &mut record)? {
+    let mut fields = ByteRecord::new(alloc);
+    if !next(&mut reader, &mut fields)? {
         return Err(TableRefusal::At(TableCause::Header { field: 0 }));
     }
-    let columns = read_header(alloc, &record)?;
+    let columns = read_header(alloc, &fields)?;
     let mut table = Table::new(alloc, columns);
     let mut row = ListOf::new(alloc);
     let mut entry = 0;
-    while next(&mut reader, &mut record)? {
-        read_row(alloc, entry, table.columns(), &record, &mut row)?;
+    while next(&mut reader, &mut fields)? {
+        read_row(alloc, entry, table.columns(), &fields, &mut row)?;
         table.push(&mut row)?;
         entry += 1;
     }

@@ -19,11 +19,11 @@ pub(crate) fn open(alloc: Global, bytes: &[u8]) -> Reader<&[u8]>
 
 /// Reads the next record, if there is one. `csv` leaves it open whether reading from bytes can fail as reading a file
 /// can; it would be answered as want of memory.
-pub(crate) fn next(reader: &mut Reader<&[u8]>, record: &mut ByteRecord) -> Result<bool, Memory>
+pub(crate) fn next(reader: &mut Reader<&[u8]>, fields: &mut ByteRecord) -> Result<bool, Memory>
     requires { (left : List (List (List ℕ))) × Leaves reader.old left }
-    ensures { IfOk result (λ found. (left : List (List (List ℕ))) → Leaves reader.old left → Took found left (fields_of record.new) reader.new) }
+    ensures { IfOk result (λ found. (left : List (List (List ℕ))) → Leaves reader.old left → Took found left (fields_of fields.new) reader.new) }
 {
-    let error = match reader.read_byte_record(record) {
+    let error = match reader.read_byte_record(fields) {
         Ok(found) => return Ok(found),
         Err(error) => error,
     };
@@ -34,9 +34,9 @@ pub(crate) fn next(reader: &mut Reader<&[u8]>, record: &mut ByteRecord) -> Resul
 }
 
 /// The field at a place.
-pub(crate) fn field(record: &ByteRecord, i: usize) -> &[u8]
-    requires { i < length (fields_of record.now) }
-    ensures { result.now ≡ slice_index_or (fields_of record.now) i [] }
+pub(crate) fn field(fields: &ByteRecord, i: usize) -> &[u8]
+    requires { i < length (fields_of fields.now) }
+    ensures { result.now ≡ slice_index_or (fields_of fields.now) i [] }
 {
-    record.get(i).unwrap()
+    fields.get(i).unwrap()
 }
