@@ -115,22 +115,26 @@ abbrev pub args_count : {C F : Type 0} → Trees C F → ℕ
 args_count End = 0
 args_count (More a rest) = args_count rest + 1
 
--- the kind of an expression, or the first refusal: the parts from left to right, and then the part itself
-module _ (scope : Scope) (names : FunctionNames) where
+-- the kind of an expression, or the first refusal, by the kinds of columns and the shapes of functions: the parts from left to right, and then the part itself
+module _ {C F : Type 0} (column : C → Result ColType GraphCause) (function : F → Result Shape GraphCause) where
   abbrev mutual
-    pub kind_of : NamedTree → Result ColType GraphCause
-    kind_of (Lit z) = Ok kind.Int
-    kind_of (Truth b) = Ok kind.Bool
-    kind_of (Col c) = column_kind scope c
-    kind_of (Neg a) = kind_of a >>= negated_kind
-    kind_of (Not a) = kind_of a >>= inverted_kind
-    kind_of (Bin o a b) = kind_of a >>= λ s. kind_of b >>= λ t. operator_kind o s t
-    kind_of (Cond c a b) = kind_of c >>= λ r. kind_of a >>= λ s. kind_of b >>= λ t. chosen_kind r s t
-    kind_of (Pick v i) = kind_of v >>= λ s. kind_of i >>= λ t. picked_kind s t
-    kind_of (Call f args) =
-        shape_of names f
-        >>= λ s. if nat_eq (args_count args) (length s.takes) then (kinds_of args >>= λ ts. if same_kinds ts s.takes then Ok s.gives else Err WrongType) else Err WrongCount
+    pub kind_by : Tree C F → Result ColType GraphCause
+    kind_by (Lit z) = Ok kind.Int
+    kind_by (Truth b) = Ok kind.Bool
+    kind_by (Col c) = column c
+    kind_by (Neg a) = kind_by a >>= negated_kind
+    kind_by (Not a) = kind_by a >>= inverted_kind
+    kind_by (Bin o a b) = kind_by a >>= λ s. kind_by b >>= λ t. operator_kind o s t
+    kind_by (Cond c a b) = kind_by c >>= λ r. kind_by a >>= λ s. kind_by b >>= λ t. chosen_kind r s t
+    kind_by (Pick v i) = kind_by v >>= λ s. kind_by i >>= λ t. picked_kind s t
+    kind_by (Call f args) =
+        function f
+        >>= λ s. if nat_eq (args_count args) (length s.takes) then (kinds_by args >>= λ ts. if same_kinds ts s.takes then Ok s.gives else Err WrongType) else Err WrongCount
 
-    pub kinds_of : Trees (List ℕ) (List ℕ) → Result (List ColType) GraphCause
-    kinds_of End = Ok []
-    kinds_of (More a rest) = kind_of a >>= λ t. kinds_of rest >>= λ ts. Ok (t ∷ ts)
+    pub kinds_by : Trees C F → Result (List ColType) GraphCause
+    kinds_by End = Ok []
+    kinds_by (More a rest) = kind_by a >>= λ t. kinds_by rest >>= λ ts. Ok (t ∷ ts)
+
+-- the kind of an expression as it is written, or the first refusal
+abbrev pub kind_of : Scope → FunctionNames → NamedTree → Result ColType GraphCause
+kind_of scope names e = kind_by (column_kind scope) (shape_of names) e
