@@ -1,5 +1,5 @@
-pub mod Bookings
 pub mod Answers
+pub mod Bookings
 pub mod BuiltIn
 pub mod Cuts
 pub mod Depends
