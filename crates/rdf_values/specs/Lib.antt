@@ -1,9 +1,13 @@
 pub mod BuiltIn
+pub mod Canonical
 pub mod ExprTree
 pub mod FunctionNames
+pub mod Grammar
 pub mod Integers
 pub mod Names
 pub mod NumExprTree
+pub mod Scans
 pub mod Tables
+pub mod Tokens
 pub mod Tree
 pub mod TreeCode

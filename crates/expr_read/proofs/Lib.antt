@@ -1,0 +1,10 @@
+pub mod Lists
+pub mod Reading
+pub mod Scanned
+pub mod Sizes
+pub mod TokenSteps
+pub mod Took
+pub mod Unique
+pub mod UniqueValues
+pub mod ValidTokens
+pub mod Whole
