@@ -1,7 +1,8 @@
 // Prints expressions.
-ghost use Rattle.std.specs.Prelude.{◌≡◌, ◌++◌, ◌≤◌, nat_le, codes, OnOk, IfOk, List, []};
+ghost use Rattle.std.specs.Prelude.{◌≡◌, ◌++◌, ◌≤◌, nat_le, codes, OnOk, IfOk, List, ℕ};
 ghost use Rattle.std.specs.Fmt.{signed_decimal};
 ghost use Rattle.rdf_values.specs.ExprTree.{tree_of, trees_of};
+ghost use Rattle.rdf_values.specs.Scans.{ReadsText};
 ghost use Rattle.rdf_values.specs.Canonical.{tree_level, in_parens, text_of, args_text, more_text, op_text};
 
 use crate::level::level_of;
@@ -140,7 +141,8 @@ fn write_more(out: &mut Text, alloc: Global, args: &Args) -> Result<(), Memory>
 
 /// The canonical text of an expression, with the fewest parentheses.
 pub fn print_expr(alloc: Global, expr: &Expr) -> Result<Text, Memory>
-    ensures { IfOk result (λ text. text ≡ text_of expr.now) }
+    ensures text { IfOk result (λ out. out ≡ text_of expr.now) }
+    ensures back { IfOk result (λ out. (text : List ℕ) → ReadsText text expr.now → ReadsText out expr.now) }
 {
     let mut out = Text::new(alloc);
     write_node(&mut out, alloc, &expr.node)?;
