@@ -1,35 +1,12 @@
 -- The arguments of a call without vectors.
-use Rattle.std.proofs.Common.{◌≡◌, ℕ, ℤ, List, [], ◌∷◌, ◌++◌, map, Result, Ok, Err, ◌∙◌, append_assoc, refl, ap, sym}
+use Rattle.std.proofs.Common.{◌≡◌, ℕ, ℤ, List, [], ◌∷◌, ◌++◌, map, Ok, ◌∙◌, refl, ap, sym}
 use Rattle.rdf_values.specs.Functions.{Function}
 use Rattle.rdf_values.specs.declared.num_expr.Callee.{Callee}
 use Rattle.rdf_values.specs.declared.num_expr.Callee.TheVariants as fn
 use Rattle.rdf_values.specs.declared.value.Value.{Value}
 use Rattle.rdf_values.specs.declared.value.Value.TheVariants as val
-use Rattle.rdf_values.specs.declared.value.Scalar.{Scalar}
-use Rattle.rdf_values.specs.declared.value.Scalar.TheVariants as scalar
 use Rattle.rdf_model.specs.Evaluation.{Outcome, Gives, Faults, Needs, ◌>>=◌, argument, call_outcome}
-use Rattle.expr_eval.specs.Answers.{scalar_value}
-use Rattle.expr_eval.specs.Scalars.{IsScalar, AreScalars, number_call, Gathers}
-use Rattle.expr_eval.specs.declared.stop.ScalarStop.{ScalarStop}
-use Rattle.expr_eval.specs.declared.stop.ScalarStop.TheVariants.{Fault, Need}
-
-is_scalar : (s : Scalar) → IsScalar (scalar_value s)
-is_scalar (scalar.Int z) = tt
-is_scalar (scalar.Bool b) = tt
-
--- one argument, and then the rest
-pub gathers_more : {A : Type 0} (r : Result A ScalarStop) (first : Outcome ℕ Value) (rest : Outcome ℕ (List Value)) (s : Scalar) (before after : List ℤ)
-    → first ≡ Gives (scalar_value s) → Gathers r (before ++ argument (scalar_value s) ∷ []) after rest
-    → Gathers r before after (first >>= λ v. rest >>= λ vs. Gives (v ∷ vs))
-gathers_more (Ok u) first (Gives vs) s before after e h = rw e ((is_scalar s, h.0), h.1 ∙ append_assoc before (argument (scalar_value s) ∷ []) (map argument vs))
-gathers_more (Ok u) first (Faults k) s before after e h = absurd h
-gathers_more (Ok u) first (Needs c) s before after e h = absurd h
-gathers_more (Err (Fault k)) first (Gives vs) s before after e h = absurd h
-gathers_more (Err (Fault k)) first (Faults j) s before after e h = rw e h
-gathers_more (Err (Fault k)) first (Needs c) s before after e h = absurd h
-gathers_more (Err (Need c)) first (Gives vs) s before after e h = absurd h
-gathers_more (Err (Need c)) first (Faults j) s before after e h = absurd h
-gathers_more (Err (Need c)) first (Needs d) s before after e h = rw e h
+use Rattle.expr_eval.specs.Scalars.{AreScalars, number_call, Gathers}
 
 -- a call with values that are no vectors takes them as numbers
 pub call_with_numbers : (functions : List Function) (f : Callee) (vs : List Value) → AreScalars vs → call_outcome functions f vs ≡ number_call functions f (map argument vs)
