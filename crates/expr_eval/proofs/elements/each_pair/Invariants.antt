@@ -1,4 +1,4 @@
-use Rattle.std.proofs.Common.{◌≡◌, drop, length}
+use Rattle.std.proofs.Common.{◌≡◌, drop}
 use Rattle.rdf_model.specs.Evaluation.{for_all, pairs, number_operation}
 use Rattle.expr_eval.specs.EvalAnswers.{following}
 use Rattle.expr_eval.proofs.elements.each_pair.Given as goal
