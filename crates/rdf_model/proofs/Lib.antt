@@ -1,0 +1,2 @@
+mod Analyses
+pub mod Examples
