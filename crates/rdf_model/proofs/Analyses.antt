@@ -199,6 +199,10 @@ header_alone = record table { rows = [] }
 abbrev pub numbers : List ℤ → Dataset
 numbers xs = record { fns = []; columns = int_column "x" ∷ []; rows = map (λ x. val.Int x ∷ []) xs }
 
+-- one column v of vectors
+abbrev pub vectors : List (List ℤ) → Dataset
+vectors vs = record { fns = []; columns = vec_column "v" ∷ []; rows = map (λ v. val.Vect v ∷ []) vs }
+
 abbrev pub greatest : ℤ
 greatest = pos (2 ^ 63 - 1)
 
@@ -218,6 +222,10 @@ with_square = record table { fns = record { name = codes "square"; arity = 1; an
 -- one cluster, and no sets noted
 abbrev pub whole : Course
 whole = record { spans = cut 4 10000; chains = λ loop. [] }
+
+-- the table in clusters of this size, and the sets of clusters that its only loop notes
+abbrev pub in_clusters : ℕ → List (List ℕ) → Course
+in_clusters size sets = record { spans = cut 4 size; chains = λ loop. sets }
 
 -- the script is accepted, and ends with this output and status, in a course
 abbrev pub Runs : Course → Dataset → List Statement → String → ℕ → Type 0

@@ -1,2 +1,4 @@
-mod Analyses
+pub mod Analyses
 pub mod Examples
+pub mod MoreExamples
+pub mod Refusals
