@@ -3,6 +3,7 @@ pub mod BuiltIn
 pub mod Cuts
 pub mod Depends
 pub mod Draws
+pub mod EachColumn
 pub mod ExprTree
 pub mod Fold
 pub mod FunctionNames

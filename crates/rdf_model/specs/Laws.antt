@@ -1,0 +1,96 @@
+-- Laws of the definitions, in the words of an analysis. Each is the contract of a function of this crate, and so proved.
+use Rattle.std.specs.Prelude.{◌≡◌, ℕ, false, List, [], ◌∷◌, Option, Some, None}
+use Rattle.rdf_values.specs.Path.{Path, Variation, Under}
+use Rattle.rdf_values.specs.Depends.{site_depends}
+use Rattle.rdf_values.specs.EachColumn.{EachColumn}
+use Rattle.rdf_values.specs.Bookings.{ActionAt, result_depends}
+use Rattle.rdf_values.specs.Functions.{Function, fn_names}
+use Rattle.rdf_values.specs.Numbered.{ScopeColumn, numbered, number_in, callee}
+use Rattle.rdf_values.specs.Tree.{NamedTree, NumTree}
+use Rattle.rdf_values.specs.declared.action.ActionKind.{ActionKind}
+use Rattle.rdf_values.specs.declared.statement.Statement.{Statement}
+use Rattle.rdf_values.specs.declared.statement.Statement.TheVariants.{Vary}
+use Rattle.rdf_values.specs.declared.column.Column.{Column}
+use Rattle.rdf_values.specs.declared.value.Value.{Value}
+use Rattle.rdf_values.specs.declared.fault.EntryFault.{EntryFault}
+use Rattle.rdf_model.specs.Evaluation.{Outcome, Gives, Faults, evaluate, call_outcome, named_call}
+use Rattle.rdf_model.specs.ColumnValues.{own_place, expression_value, column_value}
+use Rattle.rdf_model.specs.EntryOutcomes.{Entry, action_outcome}
+use Rattle.rdf_model.specs.Results.{Dataset, pass_result}
+
+-- an outcome needs nothing: it is an answer or a fault
+pub data IsKnown {M A : Type 0} : Outcome M A → Type 0 where
+  gives : {a : A} → IsKnown (Gives a)
+  faults : {kind : EntryFault} → IsKnown (Faults kind)
+
+-- what an expression of the script comes to in a row, at the end of a path, with nothing missing
+abbrev pub site_value : Dataset → List Value → Path → Under → NamedTree → Outcome ⊥ Value
+site_value d row at u e = expression_value d.fns (column_value d.fns d.columns row at u) e
+
+-- what a row comes to for an action, with nothing missing
+abbrev pub entry_in : Dataset → List Value → ActionKind → Path → Under → Outcome ⊥ Entry
+entry_in d row k at u = action_outcome d.fns d.columns row k at u
+
+-- the path with the statement on it, where the variation has a place
+abbrev pub with_place : Option ℕ → Statement → Path → Path
+with_place None s up = up
+with_place (Some k) s up = s ∷ up
+
+-- the path with the statement on it, unless it is a Vary that the variation is none of
+abbrev pub unless_other : Under → Statement → Path → Path
+unless_other u (Vary node parent columns values tags vary) up = with_place (own_place u vary tags) (Vary node parent columns values tags vary) up
+unless_other u s up = s ∷ up
+
+-- the path without each Vary that the variation is none of; under nominal without any
+abbrev pub own_alone : Under → Path → Path
+own_alone u [] = []
+own_alone u (s ∷ up) = unless_other u s (own_alone u up)
+
+-- ---- evaluation
+
+-- an expression with its columns and functions numbered comes to what the expression as it is written comes to
+abbrev pub NumberedEvaluatesAlike : Type 0
+NumberedEvaluatesAlike =
+    (fns : List Function) (scope : List ScopeColumn) (look : ℕ → Outcome ℕ Value) (e : NamedTree)
+    → evaluate look (call_outcome fns) (numbered scope (fn_names fns) e) ≡ evaluate (λ c. look (number_in scope c)) (named_call fns) e
+
+-- an expression whose columns are all there needs nothing
+abbrev pub NothingIsNeeded : Type 0
+NothingIsNeeded =
+    (fns : List Function) (look : ℕ → Outcome ℕ Value) (e : NumTree)
+    → EachColumn (λ c. IsKnown (look c)) e → IsKnown (evaluate look (call_outcome fns) e)
+
+-- ---- variations
+
+-- an expression that doesn't depend on a variation comes under it to what it comes to under nominal, faults alike
+abbrev pub UnvariedSiteIsNominal : Type 0
+UnvariedSiteIsNominal =
+    (d : Dataset) (row : List Value) (at : Path) (v : Variation) (e : NamedTree)
+    → site_depends v at e ≡ false
+    → site_value d row at (Some v) e ≡ site_value d row at None e
+
+-- a result that doesn't depend on a variation comes under it to what it comes to under nominal: at each entry, faults alike
+abbrev pub UnvariedEntryIsNominal : Type 0
+UnvariedEntryIsNominal =
+    (d : Dataset) (row : List Value) (k : ActionKind) (at : Path) (v : Variation)
+    → result_depends v (ActionAt k at) ≡ false
+    → entry_in d row k at (Some v) ≡ entry_in d row k at None
+
+-- and over the whole table
+abbrev pub UnvariedResultIsNominal : Type 0
+UnvariedResultIsNominal =
+    (d : Dataset) (k : ActionKind) (at : Path) (v : Variation)
+    → result_depends v (ActionAt k at) ≡ false
+    → pass_result d k at (Some v) ≡ pass_result d k at None
+
+-- variations aren't combined: an entry comes under each to what it comes to in the script without any other Vary
+abbrev pub OtherVariationsAreNominal : Type 0
+OtherVariationsAreNominal =
+    (d : Dataset) (row : List Value) (k : ActionKind) (at : Path) (u : Under)
+    → entry_in d row k at u ≡ entry_in d row k (own_alone u at) u
+
+-- and so does the result over the whole table; under nominal it is that of the script without any Vary
+abbrev pub ResultsAreOfOneVariation : Type 0
+ResultsAreOfOneVariation =
+    (d : Dataset) (k : ActionKind) (at : Path) (u : Under)
+    → pass_result d k at u ≡ pass_result d k (own_alone u at) u
