@@ -6,9 +6,9 @@ use Rattle.std.specs.List.{list_any}
 use Rattle.std.proofs.lemmas.List.Folds.{list_any-append}
 use Rattle.rdf_values.specs.Depends.{columns_in, columns_in_all}
 use Rattle.rdf_values.specs.EachColumn.{EachColumn, EachArgument}
-use Rattle.rdf_values.specs.Functions.{Function}
-use Rattle.rdf_values.specs.Numbered.{renamed, all_renamed}
-use Rattle.rdf_values.specs.Tree.{Tree, Trees, Lit, Truth, Col, Neg, Not, Bin, Cond, Pick, Call, End, More}
+use Rattle.rdf_values.specs.Functions.{Function, fn_names}
+use Rattle.rdf_values.specs.Numbered.{renamed, all_renamed, ScopeColumn, numbered, number_in, callee}
+use Rattle.rdf_values.specs.Tree.{Tree, Trees, NamedTree, NumTree, Lit, Truth, Col, Neg, Not, Bin, Cond, Pick, Call, End, More}
 use Rattle.rdf_values.specs.declared.expr.BinOp.{BinOp}
 use Rattle.rdf_values.specs.declared.expr.BinOp.TheVariants as op
 use Rattle.rdf_values.specs.declared.num_expr.Callee.{Callee}
@@ -17,7 +17,7 @@ use Rattle.rdf_values.specs.declared.value.Value.{Value}
 use Rattle.rdf_values.specs.declared.value.Value.TheVariants as val
 use Rattle.rdf_values.specs.declared.fault.EntryFault.{EntryFault}
 use Rattle.rdf_values.specs.declared.fault.EntryFault.TheVariants as fault
-use Rattle.rdf_model.specs.Evaluation.{Outcome, Gives, Faults, Needs, ◌>>=◌, for_all, fits, checked, divided, is_zero, mark, pairs, number_operation, value_operation, vector_operation, in_order, operation, chosen_side, negation, inversion, element_outcome, element, picked, sum_from, extreme_element, answer_outcome, given_call, call_outcome, evaluate, evaluate_all, gives_int, gives_vect, argument}
+use Rattle.rdf_model.specs.Evaluation.{Outcome, Gives, Faults, Needs, ◌>>=◌, for_all, fits, checked, divided, is_zero, mark, pairs, number_operation, value_operation, vector_operation, in_order, operation, chosen_side, negation, inversion, element_outcome, element, picked, sum_from, extreme_element, answer_outcome, given_call, call_outcome, named_call, evaluate, evaluate_all, gives_int, gives_vect, argument}
 use Rattle.rdf_model.specs.Laws.{IsKnown, gives, faults}
 
 -- ---- looks that agree
@@ -207,3 +207,14 @@ module _ (M : Type 0) where
       evaluate_all_known End h = gives
       evaluate_all_known (More a rest) h =
           bind_known (evaluate look call a) _ (evaluate_known a h.0) (λ v. bind_known (evaluate_all look call rest) _ (evaluate_all_known rest h.1) (λ vs. gives))
+
+-- ---- at the columns and functions of a script
+
+-- an expression with its columns and functions numbered
+pub numbered_alike : (fns : List Function) (scope : List ScopeColumn) (look : ℕ → Outcome ℕ Value) (e : NamedTree)
+    → evaluate look (call_outcome fns) (numbered scope (fn_names fns) e) ≡ evaluate (λ c. look (number_in scope c)) (named_call fns) e
+numbered_alike fns scope look e = evaluate_renamed (number_in scope) (callee (fn_names fns)) look (call_outcome fns) e
+
+-- an expression whose columns are all there
+pub nothing_needed : (fns : List Function) (look : ℕ → Outcome ℕ Value) (e : NumTree) → EachColumn (λ c. IsKnown (look c)) e → IsKnown (evaluate look (call_outcome fns) e)
+nothing_needed fns look e h = evaluate_known ℕ look (call_outcome fns) (call_known ℕ fns) e h
