@@ -1,7 +1,10 @@
 pub mod Analyses
-pub mod Evaluations
+pub mod Chains
 pub mod Close
+pub mod Evaluations
 pub mod Examples
+pub mod Faults
 pub mod MoreExamples
 pub mod Refusals
+pub mod Reports
 pub mod Variations

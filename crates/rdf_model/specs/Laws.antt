@@ -1,9 +1,10 @@
 -- Laws of the definitions, in the words of an analysis. Each is the contract of a function of this crate, and so proved.
-use Rattle.std.specs.Prelude.{◌≡◌, ℕ, false, List, [], ◌∷◌, Option, Some, None}
-use Rattle.rdf_values.specs.Path.{Path, Variation, Under}
+use Rattle.std.specs.Prelude.{◌≡◌, ℕ, ◌+◌, ◌*◌, ◌/◌, ◌<◌, ◌≤◌, false, List, [], ◌∷◌, length, Option, Some, None, slice_get, All, Contains}
+use Rattle.rdf_values.specs.Path.{Path, Variation, Under, target_of, maker}
 use Rattle.rdf_values.specs.Depends.{site_depends}
 use Rattle.rdf_values.specs.EachColumn.{EachColumn}
-use Rattle.rdf_values.specs.Bookings.{ActionAt, result_depends}
+use Rattle.rdf_values.specs.Bookings.{ActionAt, Pass, result_depends}
+use Rattle.rdf_values.specs.Cuts.{stride}
 use Rattle.rdf_values.specs.Functions.{Function, fn_names}
 use Rattle.rdf_values.specs.Numbered.{ScopeColumn, numbered, number_in, callee}
 use Rattle.rdf_values.specs.Tree.{NamedTree, NumTree}
@@ -13,10 +14,12 @@ use Rattle.rdf_values.specs.declared.statement.Statement.TheVariants.{Vary}
 use Rattle.rdf_values.specs.declared.column.Column.{Column}
 use Rattle.rdf_values.specs.declared.value.Value.{Value}
 use Rattle.rdf_values.specs.declared.fault.EntryFault.{EntryFault}
+use Rattle.rdf_values.specs.declared.fault.Fault.{Fault}
 use Rattle.rdf_model.specs.Evaluation.{Outcome, Gives, Faults, evaluate, call_outcome, named_call}
-use Rattle.rdf_model.specs.ColumnValues.{own_place, expression_value, column_value}
-use Rattle.rdf_model.specs.EntryOutcomes.{Entry, action_outcome}
-use Rattle.rdf_model.specs.Results.{Dataset, pass_result}
+use Rattle.rdf_model.specs.ColumnValues.{own_place, expression_value, named_value, column_value}
+use Rattle.rdf_model.specs.EntryOutcomes.{Entry, Feed, action_outcome, report_outcome}
+use Rattle.rdf_model.specs.Results.{Dataset, pass_result, fault_at, first_fault, cutflow}
+use Rattle.rdf_model.specs.PartialResults.{IsChain}
 
 -- an outcome needs nothing: it is an answer or a fault
 pub data IsKnown {M A : Type 0} : Outcome M A → Type 0 where
@@ -45,6 +48,18 @@ unless_other u s up = s ∷ up
 abbrev pub own_alone : Under → Path → Path
 own_alone u [] = []
 own_alone u (s ∷ up) = unless_other u s (own_alone u up)
+
+-- what a row comes to for a report on these filters, with nothing missing
+abbrev pub report_in : Dataset → List Value → List Path → Outcome ⊥ Entry
+report_in d row filters = report_outcome d.fns d.columns row filters
+
+-- what a column comes to in a row, at the end of a path, with nothing missing
+abbrev pub column_in : Dataset → List Value → Path → Under → List ℕ → Outcome ⊥ Value
+column_in d row at u name = column_value d.fns d.columns row at u name
+
+-- the same of a column that is no alias
+abbrev pub named_in : Dataset → List Value → Path → Under → List ℕ → Outcome ⊥ Value
+named_in d row at u name = named_value d.fns d.columns row at u name
 
 -- ---- evaluation
 
@@ -94,3 +109,63 @@ abbrev pub ResultsAreOfOneVariation : Type 0
 ResultsAreOfOneVariation =
     (d : Dataset) (k : ActionKind) (at : Path) (u : Under)
     → pass_result d k at u ≡ pass_result d k (own_alone u at) u
+
+-- under nominal a column comes to what it comes to right where it was made
+abbrev pub ColumnsComeFromTheirMaker : Type 0
+ColumnsComeFromTheirMaker =
+    (d : Dataset) (row : List Value) (at : Path) (name : List ℕ)
+    → column_in d row at None name ≡ named_in d row (maker at name) None (target_of at name)
+
+-- ---- faults
+
+-- a pass faults at that entry and none does at an earlier one, nor one before it at its own
+pub record IsFirstFault (d : Dataset) (ps : List Pass) (f : Fault) : Type 0 where
+  pub row : List Value
+  pub pass : Pass
+  pub its_row : slice_get d.rows f.entry ≡ Some row
+  pub its_pass : slice_get ps f.pass ≡ Some pass
+  pub its_fault : fault_at d row pass ≡ Some f.kind
+  pub earlier_entries : (e n : ℕ) (r : List Value) (p : Pass) → e < f.entry → slice_get d.rows e ≡ Some r → slice_get ps n ≡ Some p → fault_at d r p ≡ None
+  pub earlier_passes : (n : ℕ) (p : Pass) → n < f.pass → slice_get ps n ≡ Some p → fault_at d row p ≡ None
+
+-- no pass faults at any entry
+abbrev pub HaveNoFault : Dataset → List Pass → Type 0
+HaveNoFault d ps = (e n : ℕ) (r : List Value) (p : Pass) → slice_get d.rows e ≡ Some r → slice_get ps n ≡ Some p → fault_at d r p ≡ None
+
+-- the first fault of several passes is the least entry at which one faults, and there the first such pass; none where no pass faults
+abbrev pub FirstFaultIsLeast : Type 0
+FirstFaultIsLeast =
+    (d : Dataset) (ps : List Pass)
+    → ((f : Fault) → first_fault d ps ≡ Some f → IsFirstFault d ps f) × (first_fault d ps ≡ None → HaveNoFault d ps)
+
+-- ---- partial results
+
+-- a set that a loop noted earlier is part of each that it noted later
+abbrev pub NotedSetsGrow : Type 0
+NotedSetsGrow =
+    (c g i j : ℕ) (sets : List (List ℕ)) (earlier later : List ℕ)
+    → IsChain c g sets → i ≤ j → slice_get sets i ≡ Some earlier → slice_get sets j ≡ Some later → All (Contains later) earlier
+
+-- the last set has all clusters but the remainder
+abbrev pub LastSetIsWhole : Type 0
+LastSetIsWhole =
+    (c g j : ℕ) (sets : List (List ℕ)) (last : List ℕ)
+    → IsChain c g sets → slice_get sets j ≡ Some last → j + 1 ≡ length sets → length last ≡ c / g * g
+
+-- a loop notes at most 1,000 sets, and at most one after each k-th cluster
+abbrev pub FewSetsAreNoted : Type 0
+FewSetsAreNoted =
+    (c k : ℕ) (sets : List (List ℕ))
+    → 1 ≤ k → IsChain c (stride c k) sets → (length sets ≤ 1000) × (length sets * k ≤ c)
+
+-- ---- reports
+
+-- a filter lets through no more entries than reach it
+abbrev pub PassedAreAmongReached : Type 0
+PassedAreAmongReached = (d : Dataset) (filter : Path) → (cutflow d filter).pass ≤ (cutflow d filter).all
+
+-- an entry feeds nothing to a report
+abbrev pub ReportsAreFedNothing : Type 0
+ReportsAreFedNothing =
+    (d : Dataset) (row : List Value) (filters : List Path) (values : List Value)
+    → report_in d row filters ≡ Gives (Feed values) → ⊥

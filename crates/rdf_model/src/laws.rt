@@ -1,7 +1,7 @@
 // Laws of the definitions. Each function does nothing; its contract is the law, and its proof the law's.
 ghost use Rattle.rdf_model.specs.Laws.{
     NumberedEvaluatesAlike, NothingIsNeeded, UnvariedSiteIsNominal, UnvariedEntryIsNominal,
-    UnvariedResultIsNominal, OtherVariationsAreNominal, ResultsAreOfOneVariation
+    UnvariedResultIsNominal, OtherVariationsAreNominal, ResultsAreOfOneVariation, ColumnsComeFromTheirMaker, FirstFaultIsLeast, NotedSetsGrow, LastSetIsWhole, FewSetsAreNoted, PassedAreAmongReached, ReportsAreFedNothing
 };
 
 /// Numbers in place of names change no evaluation.
@@ -37,4 +37,39 @@ pub fn other_variations_are_nominal()
 /// The result under one variation is that of the script without the other ones.
 pub fn results_are_of_one_variation()
     ensures { ResultsAreOfOneVariation }
+{}
+
+/// Under nominal a Vary changes no column.
+pub fn columns_come_from_their_maker()
+    ensures { ColumnsComeFromTheirMaker }
+{}
+
+/// The first fault of a loop stands at the least entry, and there in the first pass.
+pub fn first_fault_is_least()
+    ensures { FirstFaultIsLeast }
+{}
+
+/// Each set of clusters that a loop notes is part of the later ones.
+pub fn noted_sets_grow()
+    ensures { NotedSetsGrow }
+{}
+
+/// The last set that a loop notes lacks fewer clusters than the stride.
+pub fn last_set_is_whole()
+    ensures { LastSetIsWhole }
+{}
+
+/// At most 1,000 sets are noted in a loop, however many clusters it has.
+pub fn few_sets_are_noted()
+    ensures { FewSetsAreNoted }
+{}
+
+/// No filter lets through more entries than reach it.
+pub fn passed_are_among_reached()
+    ensures { PassedAreAmongReached }
+{}
+
+/// An entry feeds nothing to a report.
+pub fn reports_are_fed_nothing()
+    ensures { ReportsAreFedNothing }
 {}
