@@ -1,5 +1,5 @@
 -- Laws of the definitions, in the words of an analysis. Each is the contract of a function of this crate, and so proved.
-use Rattle.std.specs.Prelude.{◌≡◌, ℕ, ◌+◌, ◌*◌, ◌/◌, ◌<◌, ◌≤◌, false, List, [], ◌∷◌, length, Option, Some, None, slice_get, All, Contains}
+use Rattle.std.specs.Prelude.{◌≡◌, ℕ, ◌+◌, ◌*◌, ◌/◌, ◌<◌, ◌≤◌, Bool, true, false, List, [], ◌∷◌, ◌++◌, length, Option, Some, None, slice_get, All, Contains}
 use Rattle.rdf_values.specs.Path.{Path, Variation, Under, target_of, maker}
 use Rattle.rdf_values.specs.Depends.{site_depends}
 use Rattle.rdf_values.specs.EachColumn.{EachColumn}
@@ -11,15 +11,16 @@ use Rattle.rdf_values.specs.Tree.{NamedTree, NumTree}
 use Rattle.rdf_values.specs.declared.action.ActionKind.{ActionKind}
 use Rattle.rdf_values.specs.declared.statement.Statement.{Statement}
 use Rattle.rdf_values.specs.declared.statement.Statement.TheVariants.{Vary}
-use Rattle.rdf_values.specs.declared.column.Column.{Column}
+use Rattle.rdf_values.specs.declared.span.Span.{Span}
 use Rattle.rdf_values.specs.declared.value.Value.{Value}
 use Rattle.rdf_values.specs.declared.fault.EntryFault.{EntryFault}
 use Rattle.rdf_values.specs.declared.fault.Fault.{Fault}
 use Rattle.rdf_model.specs.Evaluation.{Outcome, Gives, Faults, evaluate, call_outcome, named_call}
 use Rattle.rdf_model.specs.ColumnValues.{own_place, expression_value, named_value, column_value}
-use Rattle.rdf_model.specs.EntryOutcomes.{Entry, Feed, action_outcome, report_outcome}
-use Rattle.rdf_model.specs.Results.{Dataset, pass_result, fault_at, first_fault, cutflow}
-use Rattle.rdf_model.specs.PartialResults.{IsChain}
+use Rattle.rdf_model.specs.EntryOutcomes.{Entry, Feed, through, action_outcome, report_outcome}
+use Rattle.rdf_model.specs.Results.{Dataset, pass_result, fault_in, fault_at, first_fault, cutflow}
+use Rattle.rdf_model.specs.PartialResults.{rows_in, over_clusters, IsChain}
+use Rattle.rdf_model.specs.LoopFacts.{loop_facts, kinds_in, is_covered, result_over, counts_over}
 
 -- an outcome needs nothing: it is an answer or a fault
 pub data IsKnown {M A : Type 0} : Outcome M A → Type 0 where
@@ -52,6 +53,14 @@ own_alone u (s ∷ up) = unless_other u s (own_alone u up)
 -- what a row comes to for a report on these filters, with nothing missing
 abbrev pub report_in : Dataset → List Value → List Path → Outcome ⊥ Entry
 report_in d row filters = report_outcome d.fns d.columns row filters
+
+-- whether a row passes the filters of a path under nominal, with nothing missing
+abbrev pub filter_in : Dataset → List Value → Path → Outcome ⊥ Bool
+filter_in d row path = through d.fns d.columns row path None
+
+-- the pass of an action of that name
+abbrev pub action_pass : List ℕ → ActionKind → Path → Under → Pass
+action_pass name k at u = record { result = record { name = name; booking = ActionAt k at }; under = u }
 
 -- what a column comes to in a row, at the end of a path, with nothing missing
 abbrev pub column_in : Dataset → List Value → Path → Under → List ℕ → Outcome ⊥ Value
@@ -169,3 +178,19 @@ abbrev pub ReportsAreFedNothing : Type 0
 ReportsAreFedNothing =
     (d : Dataset) (row : List Value) (filters : List Path) (values : List Value)
     → report_in d row filters ≡ Gives (Feed values) → ⊥
+
+-- ---- the facts of a loop
+
+-- over any set of clusters the facts of a loop give each of its action passes the result of that pass by itself
+abbrev pub FactsGiveResults : Type 0
+FactsGiveResults =
+    (d : Dataset) (filters : List Path) (spans : List Span) (set : List ℕ) (before after : List Pass) (name : List ℕ) (k : ActionKind) (at : Path) (u : Under)
+    → result_over (loop_facts d filters spans (before ++ action_pass name k at u ∷ after)) set (length (kinds_in before)) k ≡ pass_result (over_clusters spans d set) k at u
+
+-- and each filter that a report of the loop covers its counts, where it faults in none of these rows
+abbrev pub FactsGiveCounts : Type 0
+FactsGiveCounts =
+    (d : Dataset) (before after : List Path) (s : Statement) (up : Path) (spans : List Span) (set : List ℕ) (ps : List Pass)
+    → is_covered ps (s ∷ up) ≡ true
+    → All (λ row. fault_in (filter_in d row (s ∷ up)) ≡ None) (rows_in spans d.rows set)
+    → counts_over (loop_facts d (before ++ (s ∷ up) ∷ after) spans ps) set (length before) ≡ cutflow (over_clusters spans d set) (s ∷ up)

@@ -1,7 +1,7 @@
 // Laws of the definitions. Each function does nothing; its contract is the law, and its proof the law's.
 ghost use Rattle.rdf_model.specs.Laws.{
     NumberedEvaluatesAlike, NothingIsNeeded, UnvariedSiteIsNominal, UnvariedEntryIsNominal,
-    UnvariedResultIsNominal, OtherVariationsAreNominal, ResultsAreOfOneVariation, ColumnsComeFromTheirMaker, FirstFaultIsLeast, NotedSetsGrow, LastSetIsWhole, FewSetsAreNoted, PassedAreAmongReached, ReportsAreFedNothing
+    UnvariedResultIsNominal, OtherVariationsAreNominal, ResultsAreOfOneVariation, ColumnsComeFromTheirMaker, FirstFaultIsLeast, NotedSetsGrow, LastSetIsWhole, FewSetsAreNoted, PassedAreAmongReached, ReportsAreFedNothing, FactsGiveResults, FactsGiveCounts
 };
 
 /// Numbers in place of names change no evaluation.
@@ -72,4 +72,14 @@ pub fn passed_are_among_reached()
 /// An entry feeds nothing to a report.
 pub fn reports_are_fed_nothing()
     ensures { ReportsAreFedNothing }
+{}
+
+/// Over any clusters the facts of a loop give each action pass the result of that pass by itself.
+pub fn facts_give_results()
+    ensures { FactsGiveResults }
+{}
+
+/// Over clusters in which it doesn't fault the facts of a loop give a covered filter its counts.
+pub fn facts_give_counts()
+    ensures { FactsGiveCounts }
 {}
