@@ -1,5 +1,7 @@
+pub mod Answers
 pub mod Bookings
 pub mod BuiltIn
+pub mod Canonical
 pub mod Cuts
 pub mod Depends
 pub mod Draws
@@ -8,6 +10,7 @@ pub mod ExprTree
 pub mod Fold
 pub mod FunctionNames
 pub mod Functions
+pub mod Grammar
 pub mod Integers
 pub mod Kinds
 pub mod Machine
@@ -15,8 +18,11 @@ pub mod Names
 pub mod NumExprTree
 pub mod Numbered
 pub mod Path
+pub mod Scans
 pub mod Spread
+pub mod TableText
 pub mod Tables
+pub mod Tokens
 pub mod Tree
 pub mod TreeCode
 pub mod Verdict
