@@ -5,6 +5,7 @@ pub mod Evaluations
 pub mod Examples
 pub mod Faults
 pub mod MoreExamples
+pub mod Outputs
 pub mod Parts
 pub mod Refusals
 pub mod Reports

@@ -1,9 +1,9 @@
 -- Laws of the definitions, in the words of an analysis. Each is the contract of a function of this crate, and so proved.
-use Rattle.std.specs.Prelude.{◌≡◌, ℕ, ◌+◌, ◌*◌, ◌/◌, ◌<◌, ◌≤◌, Bool, true, false, List, [], ◌∷◌, ◌++◌, length, Option, Some, None, slice_get, All, Contains}
-use Rattle.rdf_values.specs.Path.{Path, Variation, Under, target_of, maker}
+use Rattle.std.specs.Prelude.{◌≡◌, ◌⊎◌, ℕ, ◌+◌, ◌*◌, ◌/◌, ◌<◌, ◌≤◌, Bool, true, false, List, [], ◌∷◌, ◌++◌, length, Option, Some, None, slice_get, All, Contains}
+use Rattle.rdf_values.specs.Path.{history, Path, Variation, Under, target_of, maker}
 use Rattle.rdf_values.specs.Depends.{site_depends}
 use Rattle.rdf_values.specs.EachColumn.{EachColumn}
-use Rattle.rdf_values.specs.Bookings.{ActionAt, Pass, result_depends}
+use Rattle.rdf_values.specs.Bookings.{ActionAt, Pass, result_depends, is_watched}
 use Rattle.rdf_values.specs.Cuts.{stride}
 use Rattle.rdf_values.specs.Functions.{Function, fn_names}
 use Rattle.rdf_values.specs.Numbered.{ScopeColumn, numbered, number_in, callee}
@@ -11,6 +11,7 @@ use Rattle.rdf_values.specs.Tree.{NamedTree, NumTree}
 use Rattle.rdf_values.specs.declared.action.ActionKind.{ActionKind}
 use Rattle.rdf_values.specs.declared.statement.Statement.{Statement}
 use Rattle.rdf_values.specs.declared.statement.Statement.TheVariants.{Vary}
+use Rattle.rdf_values.specs.declared.script.Script.{Script}
 use Rattle.rdf_values.specs.declared.span.Span.{Span}
 use Rattle.rdf_values.specs.declared.value.Value.{Value}
 use Rattle.rdf_values.specs.declared.fault.EntryFault.{EntryFault}
@@ -19,7 +20,8 @@ use Rattle.rdf_model.specs.Evaluation.{Outcome, Gives, Faults, evaluate, call_ou
 use Rattle.rdf_model.specs.ColumnValues.{own_place, expression_value, named_value, column_value}
 use Rattle.rdf_model.specs.EntryOutcomes.{Entry, Feed, through, action_outcome, report_outcome}
 use Rattle.rdf_model.specs.Results.{Dataset, pass_result, fault_in, fault_at, first_fault, cutflow}
-use Rattle.rdf_model.specs.PartialResults.{rows_in, over_clusters, IsChain}
+use Rattle.rdf_model.specs.PartialResults.{rows_in, over_clusters, IsChain, Course}
+use Rattle.rdf_model.specs.Transcript.{transcript}
 use Rattle.rdf_model.specs.LoopFacts.{loop_facts, kinds_in, is_covered, result_over, counts_over}
 
 -- an outcome needs nothing: it is an answer or a fault
@@ -194,3 +196,18 @@ FactsGiveCounts =
     → is_covered ps (s ∷ up) ≡ true
     → All (λ row. fault_in (filter_in d row (s ∷ up)) ≡ None) (rows_in spans d.rows set)
     → counts_over (loop_facts d (before ++ (s ∷ up) ∷ after) spans ps) set (length before) ≡ cutflow (over_clusters spans d set) (s ∷ up)
+
+-- ---- output
+
+-- without a Watch the output of a script over a table is one function of both: no cluster and no noted set shows in it
+abbrev pub UnwatchedOutputIsOneFunction : Type 0
+UnwatchedOutputIsOneFunction =
+    (script : Script) (d : Dataset) (one other : Course)
+    → ((name : List ℕ) → is_watched (history script) name ≡ false)
+    → transcript script d one ≡ transcript script d other
+
+-- a run ends with status 0, or with status 8 where a loop faulted
+abbrev pub StatusTellsOfFaults : Type 0
+StatusTellsOfFaults =
+    (script : Script) (d : Dataset) (course : Course)
+    → ((transcript script d course).status ≡ 0) ⊎ ((transcript script d course).status ≡ 8)

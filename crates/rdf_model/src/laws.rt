@@ -1,7 +1,7 @@
 // Laws of the definitions. Each function does nothing; its contract is the law, and its proof the law's.
 ghost use Rattle.rdf_model.specs.Laws.{
     NumberedEvaluatesAlike, NothingIsNeeded, UnvariedSiteIsNominal, UnvariedEntryIsNominal,
-    UnvariedResultIsNominal, OtherVariationsAreNominal, ResultsAreOfOneVariation, ColumnsComeFromTheirMaker, FirstFaultIsLeast, NotedSetsGrow, LastSetIsWhole, FewSetsAreNoted, PassedAreAmongReached, ReportsAreFedNothing, FactsGiveResults, FactsGiveCounts
+    UnvariedResultIsNominal, OtherVariationsAreNominal, ResultsAreOfOneVariation, ColumnsComeFromTheirMaker, FirstFaultIsLeast, NotedSetsGrow, LastSetIsWhole, FewSetsAreNoted, PassedAreAmongReached, ReportsAreFedNothing, FactsGiveResults, FactsGiveCounts, UnwatchedOutputIsOneFunction, StatusTellsOfFaults
 };
 
 /// Numbers in place of names change no evaluation.
@@ -82,4 +82,14 @@ pub fn facts_give_results()
 /// Over clusters in which it doesn't fault the facts of a loop give a covered filter its counts.
 pub fn facts_give_counts()
     ensures { FactsGiveCounts }
+{}
+
+/// Without a Watch the output is a function of script, table and functions alone.
+pub fn unwatched_output_is_one_function()
+    ensures { UnwatchedOutputIsOneFunction }
+{}
+
+/// A run ends with status 0, or with status 8 after a fault.
+pub fn status_tells_of_faults()
+    ensures { StatusTellsOfFaults }
 {}
