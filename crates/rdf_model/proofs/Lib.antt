@@ -9,4 +9,5 @@ pub mod Outputs
 pub mod Parts
 pub mod Refusals
 pub mod Reports
+pub mod Typing
 pub mod Variations

@@ -1,10 +1,13 @@
 -- Laws of the definitions, in the words of an analysis. Each is the contract of a function of this crate, and so proved.
-use Rattle.std.specs.Prelude.{◌≡◌, ◌⊎◌, ℕ, ◌+◌, ◌*◌, ◌/◌, ◌<◌, ◌≤◌, Bool, true, false, List, [], ◌∷◌, ◌++◌, length, Option, Some, None, slice_get, All, Contains}
+use Rattle.std.specs.Prelude.{◌≡◌, ◌⊎◌, ℕ, ◌+◌, ◌*◌, ◌/◌, ◌<◌, ◌≤◌, Bool, true, false, List, [], ◌∷◌, ◌++◌, length, Option, Some, None, Ok, ⊤, slice_get, All, Contains}
 use Rattle.rdf_values.specs.Path.{history, Path, Variation, Under, target_of, maker}
 use Rattle.rdf_values.specs.Depends.{site_depends}
 use Rattle.rdf_values.specs.EachColumn.{EachColumn}
 use Rattle.rdf_values.specs.Bookings.{ActionAt, Pass, result_depends, is_watched}
 use Rattle.rdf_values.specs.Cuts.{stride}
+use Rattle.rdf_values.specs.Kinds.{Scope, column_kind, kind_of}
+use Rattle.rdf_values.specs.Tables.{FitsKind}
+use Rattle.rdf_values.specs.declared.value.ColType.{ColType}
 use Rattle.rdf_values.specs.Functions.{Function, fn_names}
 use Rattle.rdf_values.specs.Numbered.{ScopeColumn, numbered, number_in, callee}
 use Rattle.rdf_values.specs.Tree.{NamedTree, NumTree}
@@ -16,7 +19,7 @@ use Rattle.rdf_values.specs.declared.span.Span.{Span}
 use Rattle.rdf_values.specs.declared.value.Value.{Value}
 use Rattle.rdf_values.specs.declared.fault.EntryFault.{EntryFault}
 use Rattle.rdf_values.specs.declared.fault.Fault.{Fault}
-use Rattle.rdf_model.specs.Evaluation.{Outcome, Gives, Faults, evaluate, call_outcome, named_call}
+use Rattle.rdf_model.specs.Evaluation.{Outcome, Gives, Faults, Needs, evaluate, call_outcome, named_call}
 use Rattle.rdf_model.specs.ColumnValues.{own_place, expression_value, named_value, column_value}
 use Rattle.rdf_model.specs.EntryOutcomes.{Entry, Feed, through, action_outcome, report_outcome}
 use Rattle.rdf_model.specs.Results.{Dataset, pass_result, fault_in, fault_at, first_fault, cutflow}
@@ -211,3 +214,29 @@ abbrev pub StatusTellsOfFaults : Type 0
 StatusTellsOfFaults =
     (script : Script) (d : Dataset) (course : Course)
     → ((transcript script d course).status ≡ 0) ⊎ ((transcript script d course).status ≡ 8)
+
+-- ---- kinds
+
+-- what an outcome gives meets P
+abbrev pub Meets : {M A : Type 0} → (A → Type 0) → Outcome M A → Type 0
+Meets P (Gives a) = P a
+Meets P (Faults kind) = ⊤
+Meets P (Needs m) = ⊤
+
+-- what an outcome gives is of the kind, and a vector has at most 4,096 elements
+abbrev pub FitsOutcome : {M : Type 0} → ColType → Outcome M Value → Type 0
+FitsOutcome t o = Meets (FitsKind t) o
+
+-- as many values as kinds, each of its kind
+abbrev pub FitKinds : List ColType → List Value → Type 0
+FitKinds [] [] = ⊤
+FitKinds (t ∷ ts) (v ∷ vs) = FitsKind t v × FitKinds ts vs
+FitKinds ts vs = ⊥
+
+-- a checked expression comes to a value of its kind, where the visible columns do
+abbrev pub CheckedExpressionsFit : Type 0
+CheckedExpressionsFit =
+    (fns : List Function) (scope : Scope) (look : List ℕ → Outcome ⊥ Value) (e : NamedTree) (t : ColType)
+    → kind_of scope (fn_names fns) e ≡ Ok t
+    → ((c : List ℕ) (s : ColType) → column_kind scope c ≡ Ok s → FitsOutcome s (look c))
+    → FitsOutcome t (evaluate look (named_call fns) e)
