@@ -4,6 +4,7 @@ pub mod Close
 pub mod Evaluations
 pub mod Examples
 pub mod Faults
+pub mod Generated
 pub mod MoreExamples
 pub mod Outputs
 pub mod Parts

@@ -140,12 +140,15 @@ check_values names scope tags columns (Vector e) =
 
 -- ---- the columns and edges of an action
 
+-- a number
 abbrev int : ColType
 int = kind.Int
 
+-- a vector
 abbrev vect : ColType
 vect = kind.Vect
 
+-- a truth value
 abbrev truth : ColType
 truth = kind.Bool
 
