@@ -1,3 +1,4 @@
+pub mod Accepted
 pub mod Analyses
 pub mod Chains
 pub mod Close
@@ -12,3 +13,4 @@ pub mod Refusals
 pub mod Reports
 pub mod Typing
 pub mod Variations
+pub mod Verdicts

@@ -25,7 +25,7 @@ use Rattle.rdf_model.specs.Laws.{Meets, FitsOutcome, FitKinds}
 -- ---- outcomes
 
 module _ (M : Type 0) where
-  meets_bind : {A B : Type 0} (P : A → Type 0) (Q : B → Type 0) (o : Outcome M A) (f : A → Outcome M B) → Meets P o → ((a : A) → P a → Meets Q (f a)) → Meets Q (o >>= f)
+  pub meets_bind : {A B : Type 0} (P : A → Type 0) (Q : B → Type 0) (o : Outcome M A) (f : A → Outcome M B) → Meets P o → ((a : A) → P a → Meets Q (f a)) → Meets Q (o >>= f)
   meets_bind P Q (Gives a) f h k = k a h
   meets_bind P Q (Faults e) f h k = tt
   meets_bind P Q (Needs m) f h k = tt
@@ -51,7 +51,7 @@ module _ (M : Type 0) where
   vector_fits f xs h =
       meets_bind (λ ys. length ys ≡ length xs) (FitsKind kind.Vect) (for_all f xs) gives_vect (answers_length f xs) (λ ys e. subst (λ (n : ℕ). n ≤ 4096) (sym e) h)
 
-  if_fits : (t : ColType) (b : Bool) (o p : Outcome M Value) → FitsOutcome t o → FitsOutcome t p → FitsOutcome t (if b then o else p)
+  pub if_fits : (t : ColType) (b : Bool) (o p : Outcome M Value) → FitsOutcome t o → FitsOutcome t p → FitsOutcome t (if b then o else p)
   if_fits t true o p h k = h
   if_fits t false o p h k = k
 
@@ -73,11 +73,11 @@ module _ (M : Type 0) where
 
 -- ---- refusals of kinds
 
-abbrev in_ok : {A : Type 0} → A → Result A GraphCause → A
+abbrev pub in_ok : {A : Type 0} → A → Result A GraphCause → A
 in_ok d (Ok a) = a
 in_ok d (Err e) = d
 
-same_ok : {A : Type 0} (a b : A) → ◌≡◌ {A = Result A GraphCause} (Ok a) (Ok b) → a ≡ b
+pub same_ok : {A : Type 0} (a b : A) → ◌≡◌ {A = Result A GraphCause} (Ok a) (Ok b) → a ≡ b
 same_ok a b h = ap (in_ok a) h
 
 -- what was answered first, and what followed
@@ -93,7 +93,7 @@ both_true : (a b : Bool) → (a && b) ≡ true → (a ≡ true) × (b ≡ true)
 both_true true b h = (refl, h)
 both_true false b h = cc h
 
-same_kind_is : (s t : ColType) → same_kind s t ≡ true → s ≡ t
+pub same_kind_is : (s t : ColType) → same_kind s t ≡ true → s ≡ t
 same_kind_is kind.Int kind.Int h = refl
 same_kind_is kind.Bool kind.Bool h = refl
 same_kind_is kind.Vect kind.Vect h = refl
@@ -169,7 +169,7 @@ map_length f (x ∷ xs) = ap suc (map_length f xs)
 -- ---- values
 
 module _ (M : Type 0) where
-  as_kind : (s t : ColType) (o : Outcome M Value) → s ≡ t → FitsOutcome s o → FitsOutcome t o
+  pub as_kind : (s t : ColType) (o : Outcome M Value) → s ≡ t → FitsOutcome s o → FitsOutcome t o
   as_kind s t o h f = subst (λ (u : ColType). FitsOutcome u o) h f
 
   negation_fits : (s t : ColType) (v : Value) → negated_kind s ≡ Ok t → FitsKind s v → FitsOutcome t (negation {M = M} v)
@@ -258,7 +258,7 @@ module _ (M : Type 0) where
   element_is_fit (Some z) = tt
   element_is_fit None = tt
 
-  element_fits : (xs : List ℤ) (i : ℤ) → FitsOutcome kind.Int (element {M = M} xs i)
+  pub element_fits : (xs : List ℤ) (i : ℤ) → FitsOutcome kind.Int (element {M = M} xs i)
   element_fits xs (pos i) = element_is_fit (slice_get xs i)
   element_fits xs (negsuc i) = tt
 
