@@ -1,8 +1,9 @@
 -- In an accepted script each visible column comes to a value of its kind.
-use Rattle.std.proofs.Common.{◌≡◌, ◌⊎◌, inl, inr, ℕ, zero, suc, ℤ, pos, Bool, true, false, not, ◌||◌, List, [], ◌∷◌, ◌++◌, map, length, Option, Some, None, Ok, Err, Result, option_map, refl, sym, ◌∙◌, ap, subst, if◌then◌else◌, nat_eq, slice_get}
+use Rattle.std.proofs.Common.{◌≡◌, ◌⊎◌, inl, inr, ℕ, zero, suc, ℤ, pos, Bool, true, false, not, ◌||◌, List, [], ◌∷◌, ◌++◌, map, length, Option, Some, None, Ok, Err, Result, option_map, refl, sym, ◌∙◌, ap, subst, if◌then◌else◌, nat_eq, slice_get, ◌<◌, arith}
 use Rattle.std.specs.Prelude.{⊤}
 use Rattle.std.specs.List.{list_any}
 use Rattle.std.proofs.lemmas.Slice.Eq.{bytes_eq-Decides}
+use Rattle.std.proofs.lemmas.Bool.Decides.{Decides-eqb}
 use Rattle.rdf_values.specs.Names.{same, among, place}
 use Rattle.rdf_values.specs.Path.{Path, Under, history, makes, parent_of, path, target_of}
 use Rattle.rdf_values.specs.Kinds.{Scope, FunctionNames, scope_of, same_kind, column_kind, kind_of, shape_of}
@@ -26,7 +27,7 @@ use Rattle.rdf_model.specs.Evaluation.{Outcome, Gives, Faults, Needs, ◌>>=◌,
 use Rattle.rdf_model.specs.ColumnValues.{cell, expression_value, own_place, tag_element, expression_at, value_if, tag_value, varied, named_value, column_value}
 use Rattle.rdf_model.specs.Results.{Dataset}
 use Rattle.rdf_model.specs.Laws.{Meets, FitsOutcome, column_in}
-use Rattle.rdf_model.proofs.Typing.{in_ok, same_ok, same_kind_is, meets_bind, as_kind, element_fits, checked_expressions_fit}
+use Rattle.rdf_model.proofs.Typing.{in_ok, same_ok, same_kind_is, meets_bind, as_kind, if_fits, element_fits, checked_expressions_fit}
 use Rattle.rdf_model.proofs.Verdicts.{verdict_is_the_first_refusal}
 
 -- ---- refusals in order
@@ -218,10 +219,16 @@ made_fits : (t k : ColType) (b : Bool) (r : Result ColType GraphCause) (own abov
 made_fits t k true r own above h f next = as_kind ⊥ k t own (same_ok k t h) f
 made_fits t k false r own above h f next = next h
 
-varied_fits : (t : ColType) (k i : Option ℕ) (own : ℕ → ℕ → Outcome ⊥ Value) (above : Outcome ⊥ Value) → ((j l : ℕ) → i ≡ Some j → FitsOutcome t (own j l)) → FitsOutcome t above → FitsOutcome t (varied k i own above)
+varied_fits : (t : ColType) (k i : Option ℕ) (own : ℕ → ℕ → Outcome ⊥ Value) (above : Outcome ⊥ Value) → ((j l : ℕ) → i ≡ Some j → k ≡ Some l → FitsOutcome t (own j l)) → FitsOutcome t above → FitsOutcome t (varied k i own above)
 varied_fits t None i own above h f = f
 varied_fits t (Some k) None own above h f = f
-varied_fits t (Some k) (Some i) own above h f = h i k refl
+varied_fits t (Some k) (Some i) own above h f = h i k refl refl
+
+-- an element below the length is there
+there : {A : Type 0} (xs : List A) (i : ℕ) → i < length xs → (x : A) × (slice_get xs i ≡ Some x)
+there [] i lt = absurd (omega (arith, lt))
+there (x ∷ xs) zero lt = (x, refl)
+there (x ∷ xs) (suc i) lt = there xs i (omega (arith, lt))
 
 abbrev in_tree : NamedTree → Option NamedTree → NamedTree
 in_tree d None = d
@@ -235,6 +242,23 @@ in_place (Some i) = i
 place_after : (o : Option ℕ) (i : ℕ) → option_map suc o ≡ Some i → (j : ℕ) × (o ≡ Some j) × (suc j ≡ i)
 place_after None i h = cc h
 place_after (Some j) i h = (j, refl, ap in_place h)
+
+-- a place is below the length
+place_within : {A : Type 0} (p : A → Bool) (xs : List A) (i : ℕ) → place p xs ≡ Some i → i < length xs
+place_within p [] i h = cc h
+place_within p (x ∷ xs) i h = go (p x) h (λ j q. place_within p xs j q)
+  where
+    go : (b : Bool) → (if b then Some 0 else option_map suc (place p xs)) ≡ Some i → ((j : ℕ) → place p xs ≡ Some j → j < length xs) → i < length (x ∷ xs)
+    go true q next = let e : 0 ≡ i = ap in_place q in omega (arith, e)
+    go false q next = let w = place_after (place p xs) i q in let lt = next w.0 w.1 in omega (arith, lt, w.2)
+
+own_within : (u : Under) (vary : List ℕ) (tags : List (List ℕ)) (l : ℕ) → own_place u vary tags ≡ Some l → l < length tags
+own_within None vary tags l h = cc h
+own_within (Some u) vary tags l h = go (same u.name vary) h
+  where
+    go : (b : Bool) → (if b then place (same u.tag) tags else None) ≡ Some l → l < length tags
+    go true q = place_within (same u.tag) tags l q
+    go false q = cc q
 
 -- no column that a Vary changes is an alias
 target_is_none : (scope : Scope) (up : Path) (columns : List (List ℕ)) (name : List ℕ) (i : ℕ) → place (same name) columns ≡ Some i → first_refusal (map (check_target scope up) columns) ≡ None → is_alias up name ≡ false
@@ -256,3 +280,120 @@ module _ (names : FunctionNames) (scope : Scope) (tags : ℕ) (name : List ℕ) 
   list_kind k (x ∷ es) zero e h q =
       kind_expected k (kind_of scope names e) (ap (λ y. expect_kind k (kind_of scope names y)) (sym (ap (in_tree x) q)) ∙ (both_none (expect_kind k (kind_of scope names x)) (map (λ y. expect_kind k (kind_of scope names y)) es) h).0)
   list_kind k (x ∷ es) (suc l) e h q = list_kind k es l e (both_none (expect_kind k (kind_of scope names x)) (map (λ y. expect_kind k (kind_of scope names y)) es) h).1 q
+
+  -- there is an expression for the column and each tag, and it is of the column's kind
+  abbrev HasExpression : List (List NamedTree) → ℕ → ℕ → Type 0
+  HasExpression lists i l = (e : NamedTree) × (expression_at lists i l ≡ Some e) × (kind_of scope names e ≡ Ok t)
+
+  lists_kind : (columns : List (List ℕ)) (lists : List (List NamedTree)) (i l : ℕ)
+      → place (same name) columns ≡ Some i → length lists ≡ length columns → l < tags → first_refusal (check_lists names scope tags columns lists) ≡ None → HasExpression lists i l
+  lists_kind [] lists i l h m lt k = cc h
+  lists_kind (c ∷ cs) [] i l h m lt k = absurd (omega (arith, m))
+  lists_kind (c ∷ cs) (es ∷ lists) i l h m lt k =
+      let r : (check_list names scope tags c es ≡ None) × (first_refusal (check_lists names scope tags cs lists) ≡ None) = both_none (check_list names scope tags c es) (check_lists names scope tags cs lists) k in
+      go (same name c) refl h r.0 (λ j q. lists_kind cs lists j l q (omega (arith, m)) lt r.1)
+    where
+      here : same name c ≡ true → check_list names scope tags c es ≡ None → HasExpression (es ∷ lists) 0 l
+      here p r =
+          let its : kind_or_int (column_kind scope c) ≡ t = ap (λ x. kind_or_int (column_kind scope x)) (sym (names_equal name c p)) ∙ ap kind_or_int known in
+          let parts : (refuse_unless (nat_eq (length es) tags) cause.WrongCount ≡ None) × (first_refusal (map (λ x. expect_kind (kind_or_int (column_kind scope c)) (kind_of scope names x)) es) ≡ None) =
+              both_none (refuse_unless (nat_eq (length es) tags) cause.WrongCount) (map (λ x. expect_kind (kind_or_int (column_kind scope c)) (kind_of scope names x)) es) r in
+          let many : length es ≡ tags = (Decides-eqb (length es) tags).0 (unless_holds (nat_eq (length es) tags) cause.WrongCount parts.0) in
+          let found = there es l (subst (λ (n : ℕ). l < n) (sym many) lt) in
+          (found.0, found.1, list_kind (kind_or_int (column_kind scope c)) es l found.0 parts.1 found.1 ∙ ap Ok its)
+
+      go : (b : Bool) → same name c ≡ b → (if b then Some 0 else option_map suc (place (same name) cs)) ≡ Some i → check_list names scope tags c es ≡ None
+          → ((j : ℕ) → place (same name) cs ≡ Some j → HasExpression lists j l) → HasExpression (es ∷ lists) i l
+      go true p q r next = subst (λ (n : ℕ). HasExpression (es ∷ lists) n l) (ap in_place q) (here p r)
+      go false p q r next =
+          let w = place_after (place (same name) cs) i q in subst (λ (n : ℕ). HasExpression (es ∷ lists) n l) w.2 (next w.0 w.1)
+
+  -- the only column of a vector holds numbers
+  vector_column : (columns : List (List ℕ)) (i : ℕ) → place (same name) columns ≡ Some i → check_vector_column scope columns ≡ None → kind.Int ≡ t
+  vector_column [] i h k = cc k
+  vector_column (c ∷ d ∷ cs) i h k = cc k
+  vector_column (c ∷ []) i h k = go (same name c) refl h
+    where
+      go : (b : Bool) → same name c ≡ b → (if b then Some 0 else None) ≡ Some i → kind.Int ≡ t
+      go true p q = same_ok kind.Int t (sym (kind_expected kind.Int (column_kind scope c) k) ∙ ap (column_kind scope) (sym (names_equal name c p)) ∙ known)
+      go false p q = cc q
+
+  tag_fits : (many l : ℕ) (v : Value) → FitsKind kind.Vect v → FitsOutcome kind.Int (tag_element {M = ⊥} many l v)
+  tag_fits many l (val.Vect xs) f = if_fits ⊥ kind.Int (nat_eq (length xs) many) _ _ (element_fits ⊥ xs (pos l)) tt
+  tag_fits many l v f = elim f [ ]
+
+  -- the value of a Vary's column under a tag
+  tag_value_fits : (values : VaryValues) (columns : List (List ℕ)) (i l : ℕ) (value : NamedTree → Outcome ⊥ Value)
+      → ((e : NamedTree) (s : ColType) → kind_of scope names e ≡ Ok s → FitsOutcome s (value e))
+      → place (same name) columns ≡ Some i → l < tags → check_values names scope tags columns values ≡ None → FitsOutcome t (tag_value values tags i l value)
+  tag_value_fits (Lists lists) columns i l value h q lt k =
+      let parts : (refuse_unless (nat_eq (length lists) (length columns)) cause.WrongCount ≡ None) × (first_refusal (check_lists names scope tags columns lists) ≡ None) =
+          both_none (refuse_unless (nat_eq (length lists) (length columns)) cause.WrongCount) (check_lists names scope tags columns lists) k in
+      let many : length lists ≡ length columns = (Decides-eqb (length lists) (length columns)).0 (unless_holds (nat_eq (length lists) (length columns)) cause.WrongCount parts.0) in
+      let found = lists_kind columns lists i l q many lt parts.1 in
+      subst (λ (o : Option NamedTree). FitsOutcome t (value_if value o)) (sym found.1) (h found.0 t found.2)
+  tag_value_fits (Vector e) columns i l value h q lt k =
+      let m : (refuse_unless (nat_eq (length columns) 1) cause.WrongCount ≡ None) × (first_refusal (expect_kind kind.Vect (kind_of scope names e) ∷ check_vector_column scope columns ∷ []) ≡ None) =
+          both_none (refuse_unless (nat_eq (length columns) 1) cause.WrongCount) (expect_kind kind.Vect (kind_of scope names e) ∷ check_vector_column scope columns ∷ []) k in
+      let n : (expect_kind kind.Vect (kind_of scope names e) ≡ None) × (first_refusal (check_vector_column scope columns ∷ []) ≡ None) =
+          both_none (expect_kind kind.Vect (kind_of scope names e)) (check_vector_column scope columns ∷ []) m.1 in
+      as_kind ⊥ kind.Int t (value e >>= tag_element tags l) (vector_column columns i q (both_none (check_vector_column scope columns) [] n.1).0)
+      (meets_bind ⊥ (FitsKind kind.Vect) (FitsKind kind.Int) (value e) (tag_element tags l) (h e kind.Vect (kind_expected kind.Vect (kind_of scope names e) n.0)) (λ v f. tag_fits tags l v f))
+
+-- ---- columns
+
+module _ (d : Dataset) (row : List Value) (u : Under) (fits_row : FitsRow d.columns row) where
+  -- what an expression comes to, where the columns above it fit
+  expression_fits : (up : Path) → Sound (fn_names d.fns) (scope_of d.columns) up
+      → ((name : List ℕ) (t : ColType) → column_kind (made_columns (fn_names d.fns) (scope_of d.columns) up) name ≡ Ok t → FitsOutcome t (named_value d.fns d.columns row {M = ⊥} up u name))
+      → (e : NamedTree) (t : ColType) → kind_of (visible_columns (fn_names d.fns) (scope_of d.columns) up) (fn_names d.fns) e ≡ Ok t
+      → FitsOutcome t (expression_value d.fns (λ c. named_value d.fns d.columns row {M = ⊥} up u (target_of up c)) e)
+  expression_fits up s above e t h =
+      checked_expressions_fit d.fns (visible_columns (fn_names d.fns) (scope_of d.columns) up) (λ c. named_value d.fns d.columns row up u (target_of up c)) e t h
+      (λ c k q. above (target_of up c) k (visible_resolved (fn_names d.fns) (scope_of d.columns) up s c k q))
+
+  -- a column that an expression makes
+  defined_fits : (up : Path) → Sound (fn_names d.fns) (scope_of d.columns) up
+      → ((name : List ℕ) (t : ColType) → column_kind (made_columns (fn_names d.fns) (scope_of d.columns) up) name ≡ Ok t → FitsOutcome t (named_value d.fns d.columns row {M = ⊥} up u name))
+      → (column name : List ℕ) (expr : NamedTree) (t : ColType)
+      → refusal_in (kind_of (visible_columns (fn_names d.fns) (scope_of d.columns) up) (fn_names d.fns) expr) ≡ None
+      → column_kind (with_made (fn_names d.fns) column expr up (made_columns (fn_names d.fns) (scope_of d.columns) up)) name ≡ Ok t
+      → FitsOutcome t (if same column name then expression_value d.fns (λ c. named_value d.fns d.columns row {M = ⊥} up u (target_of up c)) expr else named_value d.fns d.columns row up u name)
+  defined_fits up s above column name expr t good h =
+      let k = kind_known (kind_of (visible_columns (fn_names d.fns) (scope_of d.columns) up) (fn_names d.fns) expr) good in
+      made_fits t (kind_or_int (kind_of (visible_columns (fn_names d.fns) (scope_of d.columns) up) (fn_names d.fns) expr)) (same column name)
+      (column_kind (made_columns (fn_names d.fns) (scope_of d.columns) up) name)
+      (expression_value d.fns (λ c. named_value d.fns d.columns row {M = ⊥} up u (target_of up c)) expr) (named_value d.fns d.columns row up u name) h
+      (expression_fits up s above expr (kind_or_int (kind_of (visible_columns (fn_names d.fns) (scope_of d.columns) up) (fn_names d.fns) expr)) (k.1 ∙ ap Ok (sym (ap kind_or_int k.1))))
+      (above name t)
+
+  -- a column that a Vary changes is visible with the kind that it was made with
+  varied_known : (up : Path) (columns : List (List ℕ)) (name : List ℕ) (t : ColType) (i : ℕ) → place (same name) columns ≡ Some i
+      → first_refusal (map (check_target (visible_columns (fn_names d.fns) (scope_of d.columns) up) up) columns) ≡ None
+      → column_kind (made_columns (fn_names d.fns) (scope_of d.columns) up) name ≡ Ok t → column_kind (visible_columns (fn_names d.fns) (scope_of d.columns) up) name ≡ Ok t
+  varied_known up columns name t i q good h =
+      passed_over (λ a. kind_or_int (column_kind (made_columns (fn_names d.fns) (scope_of d.columns) up) (target_of up a))) (made_columns (fn_names d.fns) (scope_of d.columns) up) name t (aliases up)
+      (target_is_none (visible_columns (fn_names d.fns) (scope_of d.columns) up) up columns name i q good) h
+
+  -- a column that was made, read at a node
+  made_column_fits : (at : Path) → Sound (fn_names d.fns) (scope_of d.columns) at → (name : List ℕ) (t : ColType)
+      → column_kind (made_columns (fn_names d.fns) (scope_of d.columns) at) name ≡ Ok t → FitsOutcome t (named_value d.fns d.columns row {M = ⊥} at u name)
+  made_column_fits [] s name t h = cell_fits d.columns row name t fits_row h
+  made_column_fits (Define node parent column expr ∷ up) s name t h = defined_fits up s.1 (made_column_fits up s.1) column name expr t s.0 h
+  made_column_fits (Redefine node parent column expr ∷ up) s name t h = defined_fits up s.1 (made_column_fits up s.1) column name expr t s.0 h
+  made_column_fits (Vary node parent columns values tags vary ∷ up) s name t h =
+      varied_fits t (own_place u vary tags) (place (same name) columns) _ (named_value d.fns d.columns row up u name)
+      (λ i l q p. tag_value_fits (fn_names d.fns) (visible_columns (fn_names d.fns) (scope_of d.columns) up) (length tags) name t (varied_known up columns name t i q s.0.0 h) values columns i l
+        (expression_value d.fns (λ c. named_value d.fns d.columns row up u (target_of up c))) (expression_fits up s.1 (made_column_fits up s.1)) q (own_within u vary tags l p) s.0.1)
+      (made_column_fits up s.1 name t h)
+  made_column_fits (x ∷ up) s name t h = made_column_fits up s.1 name t h
+
+pub accepted_columns_fit : (d : Dataset) (row : List Value) (script : Script) (node : List ℕ) (u : Under) (name : List ℕ) (t : ColType)
+    → verdict (fn_names d.fns) d.columns script ≡ None → FitsRow d.columns row
+    → column_kind (visible_columns (fn_names d.fns) (scope_of d.columns) (path (history script) node)) name ≡ Ok t
+    → FitsOutcome t (column_in d row (path (history script) node) u name)
+accepted_columns_fit d row script node u name t good fits h =
+    let sound : Sound (fn_names d.fns) (scope_of d.columns) (path (history script) node) =
+        sound_path (fn_names d.fns) (scope_of d.columns) (history script) ((verdict_is_the_first_refusal (fn_names d.fns) d.columns script).0 good) node in
+    made_column_fits d row u fits (path (history script) node) sound (target_of (path (history script) node) name) t
+    (visible_resolved (fn_names d.fns) (scope_of d.columns) (path (history script) node) sound name t h)

@@ -1,7 +1,7 @@
 // Laws of the definitions. Each function does nothing; its contract is the law, and its proof the law's.
 ghost use Rattle.rdf_model.specs.Laws.{
     NumberedEvaluatesAlike, NothingIsNeeded, UnvariedSiteIsNominal, UnvariedEntryIsNominal,
-    UnvariedResultIsNominal, OtherVariationsAreNominal, ResultsAreOfOneVariation, ColumnsComeFromTheirMaker, FirstFaultIsLeast, NotedSetsGrow, LastSetIsWhole, FewSetsAreNoted, PassedAreAmongReached, ReportsAreFedNothing, FactsGiveResults, FactsGiveCounts, UnwatchedOutputIsOneFunction, StatusTellsOfFaults, CheckedExpressionsFit
+    UnvariedResultIsNominal, OtherVariationsAreNominal, ResultsAreOfOneVariation, ColumnsComeFromTheirMaker, FirstFaultIsLeast, NotedSetsGrow, LastSetIsWhole, FewSetsAreNoted, PassedAreAmongReached, ReportsAreFedNothing, FactsGiveResults, FactsGiveCounts, UnwatchedOutputIsOneFunction, StatusTellsOfFaults, CheckedExpressionsFit, VerdictIsTheFirstRefusal, AcceptedColumnsFit
 };
 
 /// Numbers in place of names change no evaluation.
@@ -97,4 +97,14 @@ pub fn status_tells_of_faults()
 /// A checked expression comes to a value of its kind, and a vector has at most 4,096 elements.
 pub fn checked_expressions_fit()
     ensures { CheckedExpressionsFit }
+{}
+
+/// The verdict names the first line that isn't accepted after those before it.
+pub fn verdict_is_the_first_refusal()
+    ensures { VerdictIsTheFirstRefusal }
+{}
+
+/// In an accepted script each visible column comes to a value of its kind, or to a fault.
+pub fn accepted_columns_fit()
+    ensures { AcceptedColumnsFit }
 {}
