@@ -1,14 +1,13 @@
 -- In an accepted script each visible column comes to a value of its kind.
-use Rattle.std.proofs.Common.{◌≡◌, ◌⊎◌, inl, inr, ℕ, zero, suc, ℤ, pos, Bool, true, false, not, ◌||◌, List, [], ◌∷◌, ◌++◌, map, length, Option, Some, None, Ok, Err, Result, option_map, refl, sym, ◌∙◌, ap, subst, if◌then◌else◌, nat_eq, slice_get, ◌<◌, arith}
+use Rattle.std.proofs.Common.{◌≡◌, ◌⊎◌, inl, inr, ℕ, zero, suc, pos, Bool, true, false, ◌||◌, List, [], ◌∷◌, ◌++◌, map, length, Option, Some, None, Ok, Err, Result, option_map, refl, sym, ◌∙◌, ap, subst, if◌then◌else◌, nat_eq, slice_get, ◌<◌, arith}
 use Rattle.std.specs.Prelude.{⊤}
-use Rattle.std.specs.List.{list_any}
 use Rattle.std.proofs.lemmas.Slice.Eq.{bytes_eq-Decides}
 use Rattle.std.proofs.lemmas.Bool.Decides.{Decides-eqb}
 use Rattle.rdf_values.specs.Names.{same, among, place}
 use Rattle.rdf_values.specs.Path.{Path, Under, history, makes, parent_of, path, target_of}
-use Rattle.rdf_values.specs.Kinds.{Scope, FunctionNames, scope_of, same_kind, column_kind, kind_of, shape_of}
-use Rattle.rdf_values.specs.Verdict.{refuse_if, refuse_unless, first_refusal, refusal_in, expect_kind, repeats, aliases, is_alias, kind_or_int, with_aliases, with_made, made_columns, visible_columns, is_visible, check_list, check_lists, check_values, check_vector_column, check_node, check_target, check_tags, is_varied, scope_at, check, AreAccepted, verdict}
-use Rattle.rdf_values.specs.Functions.{Function, fn_names}
+use Rattle.rdf_values.specs.Kinds.{Scope, FunctionNames, scope_of, same_kind, column_kind, kind_of}
+use Rattle.rdf_values.specs.Verdict.{refuse_if, refuse_unless, first_refusal, refusal_in, expect_kind, repeats, aliases, is_alias, kind_or_int, with_made, made_columns, visible_columns, is_visible, check_list, check_lists, check_values, check_vector_column, check_node, check_target, check_tags, is_varied, scope_at, check, AreAccepted, verdict}
+use Rattle.rdf_values.specs.Functions.{fn_names}
 use Rattle.rdf_values.specs.Tables.{FitsKind, FitsRow}
 use Rattle.rdf_values.specs.Tree.{NamedTree}
 use Rattle.rdf_values.specs.declared.vary_values.VaryValues.{VaryValues}
@@ -23,11 +22,11 @@ use Rattle.rdf_values.specs.declared.value.Value.TheVariants as val
 use Rattle.rdf_values.specs.declared.graph_cause.GraphCause.{GraphCause}
 use Rattle.rdf_values.specs.declared.graph_cause.GraphCause.TheVariants as cause
 use Rattle.rdf_values.specs.declared.script.Script.{Script}
-use Rattle.rdf_model.specs.Evaluation.{Outcome, Gives, Faults, Needs, ◌>>=◌, named_call, evaluate, element}
-use Rattle.rdf_model.specs.ColumnValues.{cell, expression_value, own_place, tag_element, expression_at, value_if, tag_value, varied, named_value, column_value}
+use Rattle.rdf_model.specs.Evaluation.{Outcome, Gives, ◌>>=◌}
+use Rattle.rdf_model.specs.ColumnValues.{cell, expression_value, own_place, tag_element, expression_at, value_if, tag_value, varied, named_value}
 use Rattle.rdf_model.specs.Results.{Dataset}
-use Rattle.rdf_model.specs.Laws.{Meets, FitsOutcome, column_in}
-use Rattle.rdf_model.proofs.Typing.{in_ok, same_ok, same_kind_is, meets_bind, as_kind, if_fits, element_fits, checked_expressions_fit}
+use Rattle.rdf_model.specs.Laws.{FitsOutcome, column_in}
+use Rattle.rdf_model.proofs.Typing.{same_ok, same_kind_is, meets_bind, as_kind, if_fits, element_fits, checked_expressions_fit}
 use Rattle.rdf_model.proofs.Verdicts.{verdict_is_the_first_refusal}
 
 -- ---- refusals in order
@@ -144,11 +143,12 @@ module _ (names : FunctionNames) (header : Scope) where
       (third (check_node before node parent) (refuse_if (is_visible (scope_at names header before parent) column) cause.NameTaken) (refuse_unless (is_visible (scope_at names header before parent) target) cause.UnknownColumn) [] h)
   checked_of before (Vary node parent columns values tags vary) h =
       let targets : Option GraphCause = first_refusal (map (check_target (scope_at names header before parent) (path before parent)) columns) in
-      let value : Option GraphCause = check_values names (scope_at names header before parent) (length tags) columns values in
-      (third (check_node before node parent) (refuse_if (repeats columns) cause.NameTaken) targets (check_tags before tags vary ∷ value ∷ []) h,
-      third targets (check_tags before tags vary) value []
-      (both_none (refuse_if (repeats columns) cause.NameTaken) (targets ∷ check_tags before tags vary ∷ value ∷ [])
-      (both_none (check_node before node parent) (refuse_if (repeats columns) cause.NameTaken ∷ targets ∷ check_tags before tags vary ∷ value ∷ []) h).1).1)
+      let value : Option GraphCause = check_values names (scope_at names header before parent) (length tags) columns values in (
+        third (check_node before node parent) (refuse_if (repeats columns) cause.NameTaken) targets (check_tags before tags vary ∷ value ∷ []) h,
+        third targets (check_tags before tags vary) value []
+            (both_none (refuse_if (repeats columns) cause.NameTaken) (targets ∷ check_tags before tags vary ∷ value ∷ [])
+            (both_none (check_node before node parent) (refuse_if (repeats columns) cause.NameTaken ∷ targets ∷ check_tags before tags vary ∷ value ∷ []) h).1).1,
+      )
   checked_of before (Filter node parent expr label) h = tt
   checked_of before (Action result parent k) h = tt
   checked_of before (Report result parent) h = tt
@@ -297,7 +297,7 @@ module _ (names : FunctionNames) (scope : Scope) (tags : ℕ) (name : List ℕ) 
       here p r =
           let its : kind_or_int (column_kind scope c) ≡ t = ap (λ x. kind_or_int (column_kind scope x)) (sym (names_equal name c p)) ∙ ap kind_or_int known in
           let parts : (refuse_unless (nat_eq (length es) tags) cause.WrongCount ≡ None) × (first_refusal (map (λ x. expect_kind (kind_or_int (column_kind scope c)) (kind_of scope names x)) es) ≡ None) =
-              both_none (refuse_unless (nat_eq (length es) tags) cause.WrongCount) (map (λ x. expect_kind (kind_or_int (column_kind scope c)) (kind_of scope names x)) es) r in
+          both_none (refuse_unless (nat_eq (length es) tags) cause.WrongCount) (map (λ x. expect_kind (kind_or_int (column_kind scope c)) (kind_of scope names x)) es) r in
           let many : length es ≡ tags = (Decides-eqb (length es) tags).0 (unless_holds (nat_eq (length es) tags) cause.WrongCount parts.0) in
           let found = there es l (subst (λ (n : ℕ). l < n) (sym many) lt) in
           (found.0, found.1, list_kind (kind_or_int (column_kind scope c)) es l found.0 parts.1 found.1 ∙ ap Ok its)
@@ -328,15 +328,15 @@ module _ (names : FunctionNames) (scope : Scope) (tags : ℕ) (name : List ℕ) 
       → place (same name) columns ≡ Some i → l < tags → check_values names scope tags columns values ≡ None → FitsOutcome t (tag_value values tags i l value)
   tag_value_fits (Lists lists) columns i l value h q lt k =
       let parts : (refuse_unless (nat_eq (length lists) (length columns)) cause.WrongCount ≡ None) × (first_refusal (check_lists names scope tags columns lists) ≡ None) =
-          both_none (refuse_unless (nat_eq (length lists) (length columns)) cause.WrongCount) (check_lists names scope tags columns lists) k in
+      both_none (refuse_unless (nat_eq (length lists) (length columns)) cause.WrongCount) (check_lists names scope tags columns lists) k in
       let many : length lists ≡ length columns = (Decides-eqb (length lists) (length columns)).0 (unless_holds (nat_eq (length lists) (length columns)) cause.WrongCount parts.0) in
       let found = lists_kind columns lists i l q many lt parts.1 in
       subst (λ (o : Option NamedTree). FitsOutcome t (value_if value o)) (sym found.1) (h found.0 t found.2)
   tag_value_fits (Vector e) columns i l value h q lt k =
       let m : (refuse_unless (nat_eq (length columns) 1) cause.WrongCount ≡ None) × (first_refusal (expect_kind kind.Vect (kind_of scope names e) ∷ check_vector_column scope columns ∷ []) ≡ None) =
-          both_none (refuse_unless (nat_eq (length columns) 1) cause.WrongCount) (expect_kind kind.Vect (kind_of scope names e) ∷ check_vector_column scope columns ∷ []) k in
+      both_none (refuse_unless (nat_eq (length columns) 1) cause.WrongCount) (expect_kind kind.Vect (kind_of scope names e) ∷ check_vector_column scope columns ∷ []) k in
       let n : (expect_kind kind.Vect (kind_of scope names e) ≡ None) × (first_refusal (check_vector_column scope columns ∷ []) ≡ None) =
-          both_none (expect_kind kind.Vect (kind_of scope names e)) (check_vector_column scope columns ∷ []) m.1 in
+      both_none (expect_kind kind.Vect (kind_of scope names e)) (check_vector_column scope columns ∷ []) m.1 in
       as_kind ⊥ kind.Int t (value e >>= tag_element tags l) (vector_column columns i q (both_none (check_vector_column scope columns) [] n.1).0)
       (meets_bind ⊥ (FitsKind kind.Vect) (FitsKind kind.Int) (value e) (tag_element tags l) (h e kind.Vect (kind_expected kind.Vect (kind_of scope names e) n.0)) (λ v f. tag_fits tags l v f))
 
@@ -384,7 +384,7 @@ module _ (d : Dataset) (row : List Value) (u : Under) (fits_row : FitsRow d.colu
   made_column_fits (Vary node parent columns values tags vary ∷ up) s name t h =
       varied_fits t (own_place u vary tags) (place (same name) columns) _ (named_value d.fns d.columns row up u name)
       (λ i l q p. tag_value_fits (fn_names d.fns) (visible_columns (fn_names d.fns) (scope_of d.columns) up) (length tags) name t (varied_known up columns name t i q s.0.0 h) values columns i l
-        (expression_value d.fns (λ c. named_value d.fns d.columns row up u (target_of up c))) (expression_fits up s.1 (made_column_fits up s.1)) q (own_within u vary tags l p) s.0.1)
+      (expression_value d.fns (λ c. named_value d.fns d.columns row up u (target_of up c))) (expression_fits up s.1 (made_column_fits up s.1)) q (own_within u vary tags l p) s.0.1)
       (made_column_fits up s.1 name t h)
   made_column_fits (x ∷ up) s name t h = made_column_fits up s.1 name t h
 
@@ -394,6 +394,6 @@ pub accepted_columns_fit : (d : Dataset) (row : List Value) (script : Script) (n
     → FitsOutcome t (column_in d row (path (history script) node) u name)
 accepted_columns_fit d row script node u name t good fits h =
     let sound : Sound (fn_names d.fns) (scope_of d.columns) (path (history script) node) =
-        sound_path (fn_names d.fns) (scope_of d.columns) (history script) ((verdict_is_the_first_refusal (fn_names d.fns) d.columns script).0 good) node in
+    sound_path (fn_names d.fns) (scope_of d.columns) (history script) ((verdict_is_the_first_refusal (fn_names d.fns) d.columns script).0 good) node in
     made_column_fits d row u fits (path (history script) node) sound (target_of (path (history script) node) name) t
     (visible_resolved (fn_names d.fns) (scope_of d.columns) (path (history script) node) sound name t h)

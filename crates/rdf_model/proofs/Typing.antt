@@ -1,14 +1,13 @@
 -- A checked expression comes to a value of its kind.
-use Rattle.std.proofs.Common.{◌≡◌, ℕ, zero, suc, ◌≤◌, ℤ, pos, negsuc, Bool, true, false, ◌&&◌, List, [], ◌∷◌, map, length, Option, Some, None, Ok, Err, Result, refl, sym, ◌∙◌, ap, subst, arith, if◌then◌else◌, nat_eq, fold, slice_get, codes}
-use Rattle.std.specs.Prelude.{⊤, ◌+ℤ◌, neg_ℤ, nat_abs}
+use Rattle.std.proofs.Common.{◌≡◌, ℕ, suc, ◌≤◌, ℤ, pos, negsuc, Bool, true, false, ◌&&◌, List, [], ◌∷◌, map, length, Option, Some, None, Ok, Err, Result, refl, sym, ◌∙◌, ap, subst, arith, if◌then◌else◌, nat_eq, slice_get, codes}
+use Rattle.std.specs.Prelude.{⊤, neg_ℤ, nat_abs}
 use Rattle.std.specs.Int.{int_min, int_max}
 use Rattle.rdf_values.specs.Names.{same}
-use Rattle.rdf_values.specs.Kinds.{◌>>=◌ as ◌>>>◌, Shape, shape, Scope, FunctionNames, same_kind, same_kinds, column_kind, shape_in, shapes, shape_of, built_in_shapes, arithmetic_kind, logical_kind, equality_kind, operator_kind, negated_kind, inverted_kind, chosen_kind, picked_kind, args_count, result_kind, kind_by, kinds_by, kind_of}
+use Rattle.rdf_values.specs.Kinds.{◌>>=◌ as ◌>>>◌, Shape, shape, Scope, FunctionNames, same_kind, same_kinds, column_kind, shape_in, shapes, shape_of, logical_kind, operator_kind, negated_kind, inverted_kind, chosen_kind, picked_kind, args_count, result_kind, kind_by, kinds_by, kind_of}
 use Rattle.rdf_values.specs.Functions.{Function, fn_names}
-use Rattle.rdf_values.specs.Numbered.{callee, callee_in, given_from, built_in}
+use Rattle.rdf_values.specs.Numbered.{callee, callee_in, given_from}
 use Rattle.rdf_values.specs.Tables.{FitsKind}
 use Rattle.rdf_values.specs.Tree.{Tree, Trees, NamedTree, Lit, Truth, Col, Neg, Not, Bin, Cond, Pick, Call, End, More}
-use Rattle.rdf_values.specs.declared.fn_names.FnName.{FnName}
 use Rattle.rdf_values.specs.declared.expr.BinOp.{BinOp}
 use Rattle.rdf_values.specs.declared.expr.BinOp.TheVariants as op
 use Rattle.rdf_values.specs.declared.num_expr.Callee.{Callee}
@@ -19,7 +18,7 @@ use Rattle.rdf_values.specs.declared.value.Value.{Value}
 use Rattle.rdf_values.specs.declared.value.Value.TheVariants as val
 use Rattle.rdf_values.specs.declared.graph_cause.GraphCause.{GraphCause}
 use Rattle.rdf_values.specs.declared.graph_cause.GraphCause.TheVariants as cause
-use Rattle.rdf_model.specs.Evaluation.{Outcome, Gives, Faults, Needs, ◌>>=◌, for_all, checked, fits, is_zero, mark, pairs, marked, is_set, is_arithmetic, of_numbers, number_operation, vector_operation, value_operation, in_order, operation, chosen_side, negation, inversion, element_outcome, element, picked, sum_from, extreme_element, answer_outcome, given_call, call_outcome, named_call, evaluate, evaluate_all, gives_int, gives_vect, argument}
+use Rattle.rdf_model.specs.Evaluation.{Outcome, Gives, Faults, Needs, ◌>>=◌, for_all, checked, is_zero, mark, pairs, marked, is_set, of_numbers, number_operation, value_operation, in_order, operation, chosen_side, negation, inversion, element_outcome, element, picked, sum_from, extreme_element, answer_outcome, given_call, call_outcome, named_call, evaluate, evaluate_all, gives_int, gives_vect, argument}
 use Rattle.rdf_model.specs.Laws.{Meets, FitsOutcome, FitKinds}
 
 -- ---- outcomes

@@ -10,7 +10,7 @@ use Rattle.rdf_values.specs.Verdict.{verdict, check, AreAccepted, visible_column
 use Rattle.rdf_values.specs.Tables.{FitsKind, FitsRow}
 use Rattle.rdf_values.specs.declared.value.ColType.{ColType}
 use Rattle.rdf_values.specs.Functions.{Function, fn_names}
-use Rattle.rdf_values.specs.Numbered.{ScopeColumn, numbered, number_in, callee}
+use Rattle.rdf_values.specs.Numbered.{ScopeColumn, numbered, number_in}
 use Rattle.rdf_values.specs.Tree.{NamedTree, NumTree}
 use Rattle.rdf_values.specs.declared.action.ActionKind.{ActionKind}
 use Rattle.rdf_values.specs.declared.statement.Statement.{Statement}

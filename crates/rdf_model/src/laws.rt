@@ -1,7 +1,26 @@
 // Laws of the definitions. Each function does nothing; its contract is the law, and its proof the law's.
 ghost use Rattle.rdf_model.specs.Laws.{
-    NumberedEvaluatesAlike, NothingIsNeeded, UnvariedSiteIsNominal, UnvariedEntryIsNominal,
-    UnvariedResultIsNominal, OtherVariationsAreNominal, ResultsAreOfOneVariation, ColumnsComeFromTheirMaker, FirstFaultIsLeast, NotedSetsGrow, LastSetIsWhole, FewSetsAreNoted, PassedAreAmongReached, ReportsAreFedNothing, FactsGiveResults, FactsGiveCounts, UnwatchedOutputIsOneFunction, StatusTellsOfFaults, CheckedExpressionsFit, VerdictIsTheFirstRefusal, AcceptedColumnsFit
+  NumberedEvaluatesAlike,
+  NothingIsNeeded,
+  UnvariedSiteIsNominal,
+  UnvariedEntryIsNominal,
+  UnvariedResultIsNominal,
+  OtherVariationsAreNominal,
+  ResultsAreOfOneVariation,
+  ColumnsComeFromTheirMaker,
+  FirstFaultIsLeast,
+  NotedSetsGrow,
+  LastSetIsWhole,
+  FewSetsAreNoted,
+  PassedAreAmongReached,
+  ReportsAreFedNothing,
+  FactsGiveResults,
+  FactsGiveCounts,
+  UnwatchedOutputIsOneFunction,
+  StatusTellsOfFaults,
+  CheckedExpressionsFit,
+  VerdictIsTheFirstRefusal,
+  AcceptedColumnsFit,
 };
 
 /// Numbers in place of names change no evaluation.

@@ -1,16 +1,15 @@
 -- Definitions computed: clusters, cells, kinds, numbers of columns, paths, and the machine of claims.
-use Rattle.std.specs.Prelude.{◌≡◌, ⊤, ℕ, ◌-◌, ◌^◌, true, false, List, [], ◌∷◌, map, ℤ, pos, negsuc, Option, Some, None, codes, refl, Ok, Err}
-use Rattle.rdf_values.specs.Cuts.{below, cut, stride}
-use Rattle.rdf_values.specs.Fold.{Cell, Extreme, Reduced, Flat, bin, fold_items}
+use Rattle.std.specs.Prelude.{◌≡◌, ℕ, ◌-◌, ◌^◌, true, false, List, [], ◌∷◌, map, pos, negsuc, Some, None, codes, refl, Ok, Err}
+use Rattle.rdf_values.specs.Cuts.{cut, stride}
+use Rattle.rdf_values.specs.Fold.{Reduced, Flat, bin, fold_items}
 use Rattle.rdf_values.specs.Spread.{spread, feed_fault}
 use Rattle.rdf_values.specs.Kinds.{kind_of}
 use Rattle.rdf_values.specs.Numbered.{numbered}
 use Rattle.rdf_values.specs.Path.{Variation, path, target_of, maker, varies, variations}
 use Rattle.rdf_values.specs.Depends.{column_depends}
-use Rattle.rdf_values.specs.Bookings.{Pass, passes_of, filled, bookings, names_of, waiting}
-use Rattle.rdf_values.specs.Machine.{opening, replayed, IsHonest, Ended, Faulted, Machine}
-use Rattle.rdf_values.specs.Tree.{NamedTree, Lit, Col, Bin, Pick, Call, End, More}
-use Rattle.rdf_values.specs.declared.event.Event.{Event}
+use Rattle.rdf_values.specs.Bookings.{filled, names_of, waiting}
+use Rattle.rdf_values.specs.Machine.{replayed, IsHonest, Ended}
+use Rattle.rdf_values.specs.Tree.{NamedTree, Lit, Col, Bin, Call, End, More}
 use Rattle.rdf_values.specs.declared.event.Event.TheVariants as event
 use Rattle.rdf_values.specs.declared.step_cause.StepCause.TheVariants.{NoSlot, Stopped, Busy, NotHeld, NotNext, NotOver}
 use Rattle.rdf_values.specs.declared.fault.Fault.{Fault}
@@ -19,13 +18,13 @@ use Rattle.rdf_values.specs.declared.expr.BinOp.TheVariants as op
 use Rattle.rdf_values.specs.declared.num_expr.Callee.TheVariants as fn
 use Rattle.rdf_values.specs.declared.vary_values.VaryValues.TheVariants.{Lists}
 use Rattle.rdf_values.specs.declared.statement.Statement.{Statement}
-use Rattle.rdf_values.specs.declared.statement.Statement.TheVariants.{Define, Redefine, Alias, Vary, Action, VariationsFor, Print}
+use Rattle.rdf_values.specs.declared.statement.Statement.TheVariants.{Define, Alias, Vary, Action, Print}
 use Rattle.rdf_values.specs.declared.action.ActionKind.TheVariants as kind
 use Rattle.rdf_values.specs.declared.action.ReduceOp.TheVariants as reduce
 use Rattle.rdf_values.specs.declared.item.Item.TheVariants as item
 use Rattle.rdf_values.specs.declared.value.ColType.TheVariants as column
 use Rattle.rdf_values.specs.declared.value.Value.TheVariants as val
-use Rattle.rdf_values.specs.declared.graph_cause.GraphCause.TheVariants.{UnknownColumn, UnknownFunction, WrongType, WrongCount}
+use Rattle.rdf_values.specs.declared.graph_cause.GraphCause.TheVariants.{WrongType}
 
 -- ---- clusters
 

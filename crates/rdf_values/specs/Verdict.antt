@@ -1,6 +1,6 @@
 -- Whether a script is accepted: each line is tested against the lines before it.
 use Rattle.std.specs.Prelude.{◌≡◌, ⊤, ℕ, ◌+◌, ◌*◌, Bool, true, false, not, ◌&&◌, ◌||◌, List, [], ◌∷◌, ◌++◌, length, map, Option, Some, None, if◌then◌else◌, nat_eq, nat_lt, nat_le, codes, Result, Ok, Err, ℤ, int_lt, sum_by}
-use Rattle.std.specs.List.{list_any, list_all}
+use Rattle.std.specs.List.{list_any}
 use Rattle.rdf_values.specs.Names.{same, among}
 use Rattle.rdf_values.specs.Path.{Path, Variation, makes, path, target_of, variations}
 use Rattle.rdf_values.specs.Tree.{NamedTree}
