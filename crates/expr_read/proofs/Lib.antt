@@ -14,4 +14,5 @@ pub mod Unique
 pub mod UniqueValues
 pub mod ValidTokens
 pub mod Whole
+pub mod WholeReads
 pub mod Words
