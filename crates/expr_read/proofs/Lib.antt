@@ -1,3 +1,5 @@
+pub mod Decided
+pub mod Examples
 pub mod Lists
 pub mod Numerals
 pub mod Readable

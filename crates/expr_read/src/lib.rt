@@ -17,7 +17,7 @@ mod token;
 mod tokenizer;
 mod values;
 
-pub use laws::{one_tree, scan_decides};
+pub use laws::{one_answer, one_tree, scan_decides};
 pub use print::print_expr;
 pub use read::{read_expr, read_values};
 pub use refusal::ExprRefusal;
