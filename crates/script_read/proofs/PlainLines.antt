@@ -46,7 +46,7 @@ one_call bytes k l (call.sum {x = x} f g) (call.sum {x = y} e h) =
 -- a line is a name and a call, or a Print
 pub data Parts : List ℕ → Statement → Type 0 where
   action : {bytes n c : List ℕ} {k : ActionKind} {s : Statement} → is_name n ≡ true → is_free n ≡ true → IsPlainCall c k → bytes ≡ n ++ c
-    → s ≡ says.Action n (codes "df") k → Parts bytes s
+      → s ≡ says.Action n (codes "df") k → Parts bytes s
   prints : {bytes n : List ℕ} {s : Statement} → is_name n ≡ true → bytes ≡ codes "Print(" ++ n ++ codes ")" → s ≡ says.Print n → Parts bytes s
 
 pub parts : (bytes : List ℕ) (s : Statement) → IsPlainLine bytes s → Parts bytes s
