@@ -1,5 +1,5 @@
 -- A line of the plain form has one reading, and holds no LF.
-use Rattle.std.proofs.Common.{◌≡◌, ℕ, suc, Bool, true, false, List, [], ◌∷◌, ◌++◌, get_or, arith, refl, ap, ◌∙◌, sym, subst, append_assoc}
+use Rattle.std.proofs.Common.{◌≡◌, ℕ, true, false, List, ◌++◌, get_or, refl, ap, ◌∙◌, sym, subst, append_assoc}
 use Rattle.std.specs.Prelude.{◌&&◌, ◌==◌, codes}
 use Rattle.std.specs.List.{list_all}
 use Rattle.std.proofs.lemmas.List.{append_cancel_left, append_cancel_right}
@@ -12,7 +12,7 @@ use Rattle.rdf_values.specs.declared.statement.Statement.TheVariants as says
 use Rattle.script_read.specs.PlainParts.{IsPlainCall, begins, is_in_line}
 use Rattle.script_read.specs.PlainParts as call
 use Rattle.script_read.specs.PlainScript.{IsPlainLine, is_free, count, sum, print}
-use Rattle.script_read.proofs.Cuts.{both, one_cut, name_is_word, name_in_line}
+use Rattle.script_read.proofs.Cuts.{one_cut, name_is_word, name_in_line}
 
 -- ---- calls
 

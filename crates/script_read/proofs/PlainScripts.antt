@@ -11,7 +11,7 @@ use Rattle.rdf_values.specs.declared.script.Script.{Script}
 use Rattle.rdf_values.specs.declared.statement.Statement.{Statement}
 use Rattle.script_read.specs.declared.refusal.ScriptRefusal.{ScriptRefusal}
 use Rattle.script_read.specs.declared.refusal.ScriptRefusal.TheVariants as refusal
-use Rattle.script_read.specs.PlainParts.{begins, is_in_line}
+use Rattle.script_read.specs.PlainParts.{is_in_line}
 use Rattle.script_read.specs.PlainScript.{IsPlainLine, ArePlainLines, none, more, IsPlainScript}
 use Rattle.script_read.proofs.Cuts.{one_cut}
 use Rattle.script_read.proofs.PlainLines.{one_line, line_in_line}

@@ -1,6 +1,6 @@
-use Rattle.std.proofs.Common.{◌≡◌, ℕ, List, [], ◌∷◌, ◌++◌, length, ◌≤◌, ◌<◌, suc, true, false, arith, rules, refl, ap, ◌∙◌, sym, Err}
+use Rattle.std.proofs.Common.{ap, ◌∙◌, sym, Err}
 use Rattle.script_read.proofs.Passing.{passed_on}
-use Rattle.script_read.proofs.PlainScripts.{Keeps, keeps_none, left_over, none_left, memory_left, keeps_on, all_read, only_script, refused_line, refused_end, refused_many}
+use Rattle.script_read.proofs.PlainScripts.{keeps_none, left_over, none_left, memory_left, keeps_on, all_read, only_script, refused_line, refused_end, refused_many}
 use Rattle.script_read.proofs.read.read_script.Goals as goal
 
 pub loop-rest-init : goal.loop-rest-init
