@@ -2,3 +2,4 @@ pub mod Digits
 pub mod OneText
 pub mod Pushing
 pub mod Rows
+pub mod ScriptExamples
