@@ -1,4 +1,5 @@
 pub mod Digits
+pub mod OneForm
 pub mod OneText
 pub mod Pushing
 pub mod Rows
