@@ -1,5 +1,6 @@
 pub mod Digits
 pub mod OneForm
+pub mod OneScript
 pub mod OneText
 pub mod Pushing
 pub mod Rows
