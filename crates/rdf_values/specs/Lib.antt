@@ -1,4 +1,5 @@
 pub mod Bookings
+pub mod Answers
 pub mod BuiltIn
 pub mod Cuts
 pub mod Depends
@@ -14,6 +15,7 @@ pub mod NumExprTree
 pub mod Numbered
 pub mod Path
 pub mod Spread
+pub mod TableText
 pub mod Tables
 pub mod Tree
 pub mod TreeCode

@@ -1,5 +1,6 @@
 // Canonical integers.
 ghost use Rattle.std.specs.Prelude.{◌≡◌, ◌≤◌, ◌^◌, ℕ, List, IfSome};
+ghost use Rattle.std.specs.Fmt.{signed_decimal};
 ghost use Rattle.rdf_values.specs.Integers.{begins_badly, digits_up_to, magnitude_of, integer_of};
 
 const NEGATIVE_LIMIT: u64 = 9_223_372_036_854_775_808;
@@ -55,7 +56,8 @@ pub fn read_magnitude(digits: &[u8], most: u64) -> Option<u64>
 /// The number that the bytes are the canonical text of.
 #[tactic(auto, unfolding(crate::specs::Integers::integer_of))]
 pub fn read_integer(text: &[u8]) -> Option<i64>
-    ensures { result ≡ integer_of text.now }
+    ensures value { result ≡ integer_of text.now }
+    ensures text { IfSome result (λ n. text.now ≡ signed_decimal n) }
 {
     let (first, rest) = text.split_first()?;
     if *first == b'-' {
@@ -68,4 +70,10 @@ pub fn read_integer(text: &[u8]) -> Option<i64>
         Some(n) => Some(n as i64),
         None => None,
     }
+}
+
+/// A law: the decimal text of each number of 64 bits reads as that number.
+pub fn reads_own_text(n: i64)
+    ensures { integer_of (signed_decimal n) ≡ Some n }
+{
 }

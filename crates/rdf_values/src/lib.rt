@@ -36,7 +36,7 @@ pub use crate::fault::{EntryFault, Fault};
 pub use crate::fn_names::{FnName, FnNames};
 pub use crate::graph_cause::GraphCause;
 pub use crate::int_list::IntList;
-pub use crate::integer::{read_integer, read_magnitude};
+pub use crate::integer::{read_integer, read_magnitude, reads_own_text};
 pub use crate::item::Item;
 pub use crate::label::Label;
 pub use crate::list::ListOf;
