@@ -1,0 +1,4 @@
+pub mod Adding
+pub mod Books
+pub mod Entries
+pub mod Prints
