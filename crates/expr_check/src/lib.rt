@@ -5,6 +5,7 @@
 mod build;
 mod callee;
 mod kind;
+mod part;
 pub mod refusal;
 pub mod scope;
 
