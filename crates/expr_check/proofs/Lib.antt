@@ -1,3 +1,4 @@
 pub mod Found
 pub mod Callees
 pub mod Refused
+pub mod Calls

@@ -131,13 +131,14 @@ fn check_call(
         return Err(CheckRefusal::WrongCount);
     }
     let arguments = check_arguments(alloc, args, signature.takes, scope, names)?;
-    if !arguments.fit {
-        return Err(CheckRefusal::WrongType);
+    if arguments.fit {
+        Ok(Part {
+            node: NumNode::Call(callee, arguments.nodes),
+            kind: signature.gives,
+        })
+    } else {
+        Err(CheckRefusal::WrongType)
     }
-    Ok(Part {
-        node: NumNode::Call(callee, arguments.nodes),
-        kind: signature.gives,
-    })
 }
 
 #[cycle(check)]
