@@ -2,3 +2,5 @@ pub mod Found
 pub mod Callees
 pub mod Refused
 pub mod Calls
+pub mod Each
+pub mod Typed
