@@ -4,3 +4,4 @@ pub mod Refused
 pub mod Calls
 pub mod Each
 pub mod Typed
+pub mod Distinct

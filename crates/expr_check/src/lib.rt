@@ -6,6 +6,7 @@ mod build;
 mod callee;
 mod kind;
 mod part;
+mod reads;
 pub mod refusal;
 pub mod scope;
 
