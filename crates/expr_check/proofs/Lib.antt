@@ -5,3 +5,4 @@ pub mod Calls
 pub mod Each
 pub mod Typed
 pub mod Distinct
+pub mod ScopeKinds
