@@ -6,3 +6,4 @@ pub mod Each
 pub mod Typed
 pub mod Distinct
 pub mod ScopeKinds
+pub mod WellTyped

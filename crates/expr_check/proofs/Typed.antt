@@ -67,7 +67,7 @@ module _ {C F : Type 0} (col col' : C → Result ColType GraphCause) (fun fun' :
         let es = kinds_by-same rest (each_right (λ c. col c ≡ col' c) (columns_in a) (columns_in_all rest) h) in
         simp (ea, es) refl
 
-bind_ok : {A B : Type 0} (r : Result A GraphCause) (f : A → Result B GraphCause) (b : B) → (r >>= f) ≡ Ok b → (a : A) × (r ≡ Ok a) × (f a ≡ Ok b)
+pub bind_ok : {A B : Type 0} (r : Result A GraphCause) (f : A → Result B GraphCause) (b : B) → (r >>= f) ≡ Ok b → (a : A) × (r ≡ Ok a) × (f a ≡ Ok b)
 bind_ok (Ok a) f b h = (a, refl, h)
 bind_ok (Err e) f b h = cc h
 
