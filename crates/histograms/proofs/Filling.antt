@@ -45,9 +45,9 @@ get_or-up_to f (suc n) k d l =
     let size : length (map f (up_to n)) ≡ suc n = length-map (up_to n) f ∙ length-up_to n ∙ add-one n in
     rw (map-append f (up_to n) (suc n ∷ []))
     (⊎_elim
-      (λ (e : k ≡ suc n). ap (λ i. get_or (map f (up_to n) ++ f (suc n) ∷ []) i d) e ∙ get_or_at (map f (up_to n)) (f (suc n)) [] d (suc n) size ∙ ap f (sym e))
-      (λ (ne : k ≡ suc n → ⊥). get_or_append_left (map f (up_to n)) (f (suc n) ∷ []) d k (omega arith) ∙ get_or-up_to f n k d (omega arith))
-      (cases_eq k (suc n)))
+    (λ (e : k ≡ suc n). ap (λ i. get_or (map f (up_to n) ++ f (suc n) ∷ []) i d) e ∙ get_or_at (map f (up_to n)) (f (suc n)) [] d (suc n) size ∙ ap f (sym e))
+    (λ (ne : k ≡ suc n → ⊥). get_or_append_left (map f (up_to n)) (f (suc n) ∷ []) d k (omega arith) ∙ get_or-up_to f n k d (omega arith))
+    (cases_eq k (suc n)))
 
 -- the weights of a cell after one more point
 weights_yes : (edges : List ℤ) (x w : ℤ) (k : ℕ) → k ≡ bin edges x → flat_items (weights_at edges k) (Point x w ∷ []) ≡ w ∷ []
@@ -86,10 +86,10 @@ pub from_places : (edges : List ℤ) (points : List Item) (cells : List CellSum)
 from_places edges points cells size each =
     same_lists (map cell_seen cells) (flat_cells edges points) (length-map cells cell_seen ∙ size ∙ sym (length-flat_cells edges points))
     (λ k d l.
-      let below : k < length cells = rw length-map at l in
-      let within : k ≤ length edges = omega arith in
-      get_or-map cell_seen cells k (get_or cells k (record { sum = pos 0; squares = pos 0 })) d below ∙ each k (get_or cells k (record { sum = pos 0; squares = pos 0 })) within
-      ∙ sym (get_or-up_to (λ i. cell_of (flat_items (weights_at edges i) points)) (length edges) k d within))
+    let below : k < length cells = rw length-map at l in
+    let within : k ≤ length edges = omega arith in
+    get_or-map cell_seen cells k (get_or cells k (record { sum = pos 0; squares = pos 0 })) d below ∙ each k (get_or cells k (record { sum = pos 0; squares = pos 0 })) within
+    ∙ sym (get_or-up_to (λ i. cell_of (flat_items (weights_at edges i) points)) (length edges) k d within))
 
 -- the cells after one more point
 pub flat_cells-point : (edges : List ℤ) (points : List Item) (x w : ℤ) (cells : List CellSum) (cell : CellSum) → length cells ≡ length edges + 1 → bin edges x ≤ length edges
@@ -99,13 +99,13 @@ flat_cells-point edges points x w cells cell size within read same =
     let place = bin edges x in
     from_places edges (points ++ Point x w ∷ []) (set cells place (with_weight cell w)) (length-set cells place (with_weight cell w) ∙ size)
     (λ k d l. ⊎_elim
-      (λ (e : k ≡ place).
-        let here : cell_seen cell ≡ cell_of (flat_items (weights_at edges k) points) = ap cell_seen (read ∙ ap (λ i. get_or cells i cell) (sym e)) ∙ kept_at edges points cells k cell size same l in
-        let now : get_or (set cells place (with_weight cell w)) k d ≡ with_weight cell w = ap (λ i. get_or (set cells place (with_weight cell w)) i d) e ∙ get_or-set_same cells place (with_weight cell w) d (omega arith) in
-        ap cell_seen now ∙ ap (λ c. joined c (record { sum = w; squares = w *ℤ w })) here ∙ sym (cell_yes edges points x w k e))
-      (λ (ne : k ≡ place → ⊥).
-        ap cell_seen (get_or-set_other cells place k (with_weight cell w) d ne) ∙ kept_at edges points cells k d size same l ∙ sym (cell_no edges points x w k ne))
-      (cases_eq k place))
+    (λ (e : k ≡ place).
+    let here : cell_seen cell ≡ cell_of (flat_items (weights_at edges k) points) = ap cell_seen (read ∙ ap (λ i. get_or cells i cell) (sym e)) ∙ kept_at edges points cells k cell size same l in
+    let now : get_or (set cells place (with_weight cell w)) k d ≡ with_weight cell w = ap (λ i. get_or (set cells place (with_weight cell w)) i d) e ∙ get_or-set_same cells place (with_weight cell w) d (omega arith) in
+    ap cell_seen now ∙ ap (λ c. joined c (record { sum = w; squares = w *ℤ w })) here ∙ sym (cell_yes edges points x w k e))
+    (λ (ne : k ≡ place → ⊥).
+    ap cell_seen (get_or-set_other cells place k (with_weight cell w) d ne) ∙ kept_at edges points cells k d size same l ∙ sym (cell_no edges points x w k ne))
+    (cases_eq k place))
 
 -- the cells of two lists of points
 pub flat_cells-append : (edges : List ℤ) (points more : List Item) (cells others all : List CellSum) → length cells ≡ length edges + 1 → length others ≡ length edges + 1 → length all ≡ length edges + 1
@@ -114,9 +114,9 @@ pub flat_cells-append : (edges : List ℤ) (points more : List Item) (cells othe
 flat_cells-append edges points more cells others all size size' size'' each same same' =
     from_places edges (points ++ more) all size''
     (λ k d l.
-      ap cell_seen (each k d (omega arith)) ∙ ap (λ c. joined c (cell_seen (get_or others k d))) (kept_at edges points cells k d size same l)
-      ∙ ap (λ c. joined (cell_of (flat_items (weights_at edges k) points)) c) (kept_at edges more others k d size' same' l)
-      ∙ sym (ap cell_of (flat_items-append (weights_at edges k) points more) ∙ cell_of-append (flat_items (weights_at edges k) points) (flat_items (weights_at edges k) more)))
+    ap cell_seen (each k d (omega arith)) ∙ ap (λ c. joined c (cell_seen (get_or others k d))) (kept_at edges points cells k d size same l)
+    ∙ ap (λ c. joined (cell_of (flat_items (weights_at edges k) points)) c) (kept_at edges more others k d size' same' l)
+    ∙ sym (ap cell_of (flat_items-append (weights_at edges k) points more) ∙ cell_of-append (flat_items (weights_at edges k) points) (flat_items (weights_at edges k) more)))
 
 -- cells without weights are those of no points
 pub flat_cells-none : (edges : List ℤ) (cells : List CellSum) → length cells ≡ length edges + 1

@@ -1,5 +1,5 @@
 // The edges of an axis.
-ghost use Rattle.std.specs.Prelude.{◌≡◌, ◌↔◌, ◌<◌, ◌-◌, ◌^◌, ◌+◌, ◌≤◌, ℤ, List, length, true, false, IfOk};
+ghost use Rattle.std.specs.Prelude.{◌≡◌, ◌↔◌, ◌<◌, ◌-◌, ◌^◌, ◌+◌, ◌*◌, ◌≤◌, ℤ, List, length, true, false, IfOk};
 ghost use Rattle.rdf_values.specs.Fold.{bin};
 ghost use Rattle.rdf_values.specs.Verdict.{are_edges, rises};
 ghost use Rattle.histograms.specs.Axis.{IsAxis};
@@ -65,4 +65,11 @@ impl Edges {
     {
         self.edges.as_slice().partition_point(|edge| *edge <= value) as u32
     }
+}
+
+/// The place of a cell of two axes in a list row by row, where a row has so many cells.
+pub fn place(row_cells: u32, i: u32, j: u32) -> usize
+    ensures { result ≡ i * row_cells + j }
+{
+    i as usize * row_cells as usize + j as usize
 }
