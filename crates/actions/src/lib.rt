@@ -2,7 +2,10 @@
 //! It stands on `rdf_values`, whose definitions say what is made, and on `histograms`.
 #![tactic(auto)]
 
+pub mod fills;
 pub mod items;
 pub mod numbers;
+pub mod state;
+pub mod taken;
 
 pub use crate::items::{Items, Part};

@@ -1,5 +1,5 @@
 -- Bounds on a cell's sums.
-use Rattle.std.proofs.Common.{ℕ, ◌≡◌, ◌+◌, ◌*◌, ◌^◌, ◌<◌, ◌≤◌, length, get_or, List, ℤ, pos, negsuc, ◌+ℤ◌, ◌*ℤ◌, arith, sym, refl, subst, lit<, set, w64, FitsSigned}
+use Rattle.std.proofs.Common.{ℕ, ◌≡◌, ◌+◌, ◌*◌, ◌^◌, ◌<◌, ◌≤◌, length, get_or, List, ℤ, pos, negsuc, ◌+ℤ◌, ◌*ℤ◌, arith, sym, subst, lit<, set, w64, FitsSigned}
 use Rattle.std.specs.Prelude.{nat_abs, All}
 use Rattle.std.specs.Int.{w128}
 use Rattle.std.proofs.lemmas.Int.{ints, fits_signed_from_abs, fits_signed_mul, unsigned_abs-mul}

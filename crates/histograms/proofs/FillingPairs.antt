@@ -1,9 +1,8 @@
 -- What a cell of two axes holds after one more point, and rows kept in one list.
-use Rattle.std.proofs.Common.{ℕ, zero, suc, ◌≡◌, ◌+◌, ◌*◌, ◌<◌, ◌≤◌, Bool, true, false, cond, length, get_or, set, map, take, drop, List, [], ◌∷◌, ◌++◌, ℤ, pos, ◌+ℤ◌, ◌*ℤ◌, arith, refl, ap, sym, ◌∙◌, ⊎_elim, add-one, length-append, length-drop}
-use Rattle.std.specs.Prelude.{nat_eq, ◌&&◌}
+use Rattle.std.proofs.Common.{ℕ, zero, suc, ◌≡◌, ◌+◌, ◌*◌, ◌<◌, ◌≤◌, length, get_or, set, map, take, drop, List, [], ◌∷◌, ◌++◌, ℤ, pos, ◌*ℤ◌, arith, refl, ap, sym, ◌∙◌, ⊎_elim, length-drop}
 use Rattle.std.proofs.lemmas.Bool.{cases_eq, eq-eqb, ne_eqb}
 use Rattle.std.proofs.lemmas.List.{append-nil, get_or-drop, get_or-map, get_or-set_other, get_or-set_same, get_or-take, length-map, length-set, length-take-le, map-append, same_lists}
-use Rattle.std.proofs.lemmas.Nat.{mul-add-lt, same_from_place, rows}
+use Rattle.std.proofs.lemmas.Nat.{same_from_place, rows}
 use Rattle.std.proofs.Math.IntN.{+ℤ_idl}
 use Rattle.rdf_values.specs.declared.item.Item.{Item}
 use Rattle.rdf_values.specs.declared.item.Item.TheVariants.{Point2}

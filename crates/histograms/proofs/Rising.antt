@@ -1,7 +1,6 @@
 -- Edges that rise, and the place of a value among them.
-use Rattle.std.proofs.Common.{ℕ, zero, suc, ◌≡◌, ◌+◌, ◌<◌, ◌≤◌, Bool, true, false, cond, ◌&&◌, length, get_or, List, [], ◌∷◌, ℤ, ◌≤ℤ◌, ◌<ℤ◌, arith, refl, ap, sym, ◌∙◌, add-one}
+use Rattle.std.proofs.Common.{ℕ, zero, suc, ◌≡◌, ◌<◌, ◌≤◌, Bool, true, false, cond, ◌&&◌, length, get_or, List, [], ◌∷◌, ℤ, ◌<ℤ◌, arith, refl, sym, ◌∙◌, add-one}
 use Rattle.std.proofs.lemmas.Int.{ints}
-use Rattle.std.proofs.lemmas.Grind.{common_steps}
 use Rattle.std.proofs.lemmas.List.Sums.{sum_by-cons}
 use Rattle.std.specs.Prelude.{int_lt, int_le, count_by, nat_le}
 use Rattle.std.specs.List.{IsAllAdjacentAnswer}

@@ -1,4 +1,4 @@
-use Rattle.std.proofs.Common.{rules, w64, ◌+ℤ◌, ◌*ℤ◌, FitsSigned, to_z, of_z}
+use Rattle.std.proofs.Common.{rules, w64, FitsSigned}
 use Rattle.std.specs.Int.{w128}
 use Rattle.std.proofs.lemmas.Int.{to_z-of_z}
 use Rattle.histograms.proofs.Bounds.{widened}

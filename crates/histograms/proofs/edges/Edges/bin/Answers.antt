@@ -1,5 +1,5 @@
-use Rattle.std.proofs.Common.{◌≡◌, rules, arith, ◌≤◌, ◌<◌, ◌∙◌, length, sym, ap, true, subst}
-use Rattle.std.specs.Prelude.{int_le, count_by}
+use Rattle.std.proofs.Common.{◌≡◌, rules, ◌∙◌, sym, ap, true}
+use Rattle.std.specs.Prelude.{int_le}
 use Rattle.std.proofs.lemmas.List.Sorted.{IsPartitionPoint-from_clause}
 use Rattle.rdf_values.specs.Fold.{bin}
 use Rattle.rdf_values.specs.Verdict.{rises}

@@ -1,4 +1,4 @@
-use Rattle.std.proofs.Common.{rules, ◌≡◌, ◌<◌, ◌≤◌, ◌+◌, ◌^◌, ◌∙◌, length, map, get_or, set, arith, ap, sym, subst, w64, length-set}
+use Rattle.std.proofs.Common.{◌≡◌, ◌<◌, ◌≤◌, ◌+◌, ◌∙◌, length, map, get_or, set, arith, ap, sym, subst, w64, length-set}
 use Rattle.std.proofs.lemmas.Int.{to_z-of_z}
 use Rattle.rdf_values.specs.Fold.{bin}
 use Rattle.histograms.specs.Cells.{IsBounded, cell_seen, with_weight}

@@ -1,4 +1,4 @@
-use Rattle.std.proofs.Common.{rules, ℕ, ◌≡◌, ◌<◌, ◌≤◌, ◌+◌, ◌*◌, ◌^◌, ◌∙◌, length, map, get_or, set, arith, ap, sym, subst, List, ℤ, w64, length-set, vec_len, refl}
+use Rattle.std.proofs.Common.{rules, ℕ, ◌≡◌, ◌<◌, ◌≤◌, ◌+◌, ◌*◌, ◌∙◌, length, map, get_or, set, arith, ap, sym, subst, List, ℤ, w64, length-set, vec_len, refl}
 use Rattle.std.proofs.lemmas.Int.{to_z-of_z}
 use Rattle.rdf_values.specs.Fold.{bin}
 use Rattle.histograms.specs.declared.cell_sum.CellSum.{CellSum}

@@ -1,4 +1,4 @@
-use Rattle.std.proofs.Common.{rules, ℕ, ◌≡◌, ◌<◌, ◌≤◌, ◌+◌, ◌*◌, ◌^◌, ◌∙◌, length, map, get_or, arith, ap, sym, subst, List, ℤ}
+use Rattle.std.proofs.Common.{rules, ℕ, ◌≡◌, ◌<◌, ◌+◌, ◌*◌, ◌∙◌, length, map, get_or, ap, subst, List, ℤ}
 use Rattle.std.proofs.lemmas.List.{take_at}
 use Rattle.histograms.specs.declared.cell_sum.CellSum.{CellSum}
 use Rattle.histograms.specs.Cells.{cell_seen, together}

@@ -1,4 +1,4 @@
-use Rattle.std.proofs.Common.{rules, ◌≡◌, ◌<◌, ◌≤◌, ◌+◌, ◌*◌, ◌∙◌, length, map, get_or, arith, ap, sym, subst, pos, replicate}
+use Rattle.std.proofs.Common.{◌≡◌, ◌+◌, ◌*◌, length, ap, pos, replicate}
 use Rattle.std.proofs.lemmas.List.{get_or-replicate, length-replicate}
 use Rattle.histograms.specs.declared.cell_sum.CellSum.{CellSum}
 use Rattle.histograms.proofs.FillingPairs.{square_cells-none}
