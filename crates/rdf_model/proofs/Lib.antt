@@ -10,3 +10,4 @@ pub mod Parts
 pub mod Refusals
 pub mod Reports
 pub mod Variations
+pub mod EachColumns
