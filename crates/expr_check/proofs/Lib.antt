@@ -1,9 +1,9 @@
-pub mod Found
 pub mod Callees
-pub mod Refused
 pub mod Calls
-pub mod Each
-pub mod Typed
 pub mod Distinct
+pub mod Each
+pub mod Found
+pub mod Refused
 pub mod ScopeKinds
+pub mod Typed
 pub mod WellTyped

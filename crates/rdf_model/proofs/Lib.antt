@@ -1,6 +1,7 @@
 pub mod Analyses
 pub mod Chains
 pub mod Close
+pub mod EachColumns
 pub mod Evaluations
 pub mod Examples
 pub mod Faults
@@ -10,4 +11,3 @@ pub mod Parts
 pub mod Refusals
 pub mod Reports
 pub mod Variations
-pub mod EachColumns
