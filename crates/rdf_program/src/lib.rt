@@ -18,3 +18,6 @@ mod top;
 pub use crate::one_due::at_most_one_due;
 pub use crate::status::Status;
 pub use crate::top::rdf_top;
+
+#[cfg(test)]
+mod tests;
