@@ -1,0 +1,12 @@
+//! Types of expressions: the kind of an expression over named columns, or the first refusal, and the
+//! expression with its columns and functions numbered. It stands on `rdf_values`.
+#![tactic(auto)]
+
+mod build;
+mod callee;
+mod kind;
+pub mod refusal;
+pub mod scope;
+
+pub use crate::refusal::CheckRefusal;
+pub use crate::scope::Scope;

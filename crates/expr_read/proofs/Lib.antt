@@ -1,0 +1,17 @@
+pub mod Lists
+pub mod Numerals
+pub mod Readable
+pub mod Reading
+pub mod ReadsBack
+pub mod Scanned
+pub mod Shown
+pub mod Sizes
+pub mod Spelled
+pub mod SpelledTree
+pub mod TokenSteps
+pub mod Took
+pub mod Unique
+pub mod UniqueValues
+pub mod ValidTokens
+pub mod Whole
+pub mod Words
