@@ -1,6 +1,6 @@
 -- The ranges of the clusters.
 use Rattle.std.proofs.Common.{◌≡◌, ◌≤◌, ◌<◌, ◌+◌, ◌*◌, ℕ, zero, suc, List, [], ◌∷◌, ◌++◌, length, map, min, Some, arith, refl, ap, ◌∙◌, length-append, add-one, ◌⊎◌, inl, inr, sym}
-use Rattle.std.specs.Prelude.{slice_get, option_map}
+use Rattle.std.specs.Prelude.{slice_get}
 use Rattle.std.specs.Int.{div_ceil}
 use Rattle.std.proofs.lemmas.Grind.{div_ceil_times}
 use Rattle.std.proofs.lemmas.List.{length-map, map-append}
@@ -11,7 +11,7 @@ use Rattle.rdf_values.specs.declared.span.Span.{Span}
 use Rattle.clusters.specs.Ranges.{Lead}
 use Rattle.clusters.proofs.Leading.{Lead-push}
 
-length-below : (n : ℕ) → length (below n) ≡ n
+pub length-below : (n : ℕ) → length (below n) ≡ n
 length-below zero = refl
 length-below (suc n) = omega (arith, length-append (below n) (n ∷ []), length-below n)
 
@@ -36,7 +36,7 @@ get_last (x ∷ xs) y i h = rw h (get_last xs y (length xs) refl)
 before_or_last : (i n : ℕ) → i < suc n → (i < n) ⊎ (i ≡ n)
 before_or_last i n h = grind arith
 
-slice_get-below : (n i : ℕ) → i < n → slice_get (below n) i ≡ Some i
+pub slice_get-below : (n i : ℕ) → i < n → slice_get (below n) i ≡ Some i
 slice_get-below zero i h = absurd (omega arith)
 slice_get-below (suc n) i h = elim (before_or_last i n h) [
   | inl l ↦ get_before (below n) (n ∷ []) i (omega (arith, length-below n)) ∙ slice_get-below n i l

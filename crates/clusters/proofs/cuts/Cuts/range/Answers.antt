@@ -1,5 +1,4 @@
-use Rattle.std.proofs.Common.{◌≡◌, ◌≤◌, ◌<◌, ◌+◌, ◌*◌, ◌∙◌, arith, min, refl, Some}
-use Rattle.rdf_values.specs.declared.span.Span.{Span}
+use Rattle.std.proofs.Common.{◌≡◌, ◌+◌, ◌*◌, ◌∙◌, arith, min, refl}
 use Rattle.clusters.proofs.Clusters.{length-cut, range_at, starts_below}
 use Rattle.clusters.proofs.cuts.Cuts.range.Goals as goal
 
