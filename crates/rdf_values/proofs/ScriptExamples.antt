@@ -1,6 +1,6 @@
 -- Texts that are scripts, and texts that are refused, by the definitions alone.
-use Rattle.std.proofs.Common.{◌≡◌, ◌<◌, ◌≤◌, ◌+◌, ◌-◌, ℕ, zero, suc, ℤ, pos, negsuc, Bool, true, false, List, [], ◌∷◌, ◌++◌, length, replicate, Some, None, Ok, Err, arith, refl, ap, ◌∙◌, sym, subst}
-use Rattle.std.specs.Prelude.{codes, slice_get}
+use Rattle.std.proofs.Common.{◌≡◌, ◌+◌, ℕ, zero, suc, negsuc, true, List, [], ◌∷◌, ◌++◌, replicate, Ok, Err, arith, refl, ap, ◌∙◌, sym, subst}
+use Rattle.std.specs.Prelude.{codes}
 use Rattle.std.proofs.lemmas.List.{same_from_push}
 use Rattle.rdf_values.specs.Names.{is_name}
 use Rattle.rdf_values.specs.Integers.{integer_of, magnitude_of}
@@ -100,8 +100,8 @@ call_not_closed : RefusesScript (codes "n = df.Count(") (cause.Syntax 1 13)
 unfolding lines_of tokens_from lexeme word_lexeme is_name
 call_not_closed =
     script.refused_line (script.at_end refl (omega arith)
-        (record { rest = t.Close ∷ []; form = form.Books (codes "n") (codes "df") form.Count; whole = record { tokens = refl; free = refl } })
-        (open_is_no_end (t.Word (codes "n") ∷ t.Equals ∷ t.Word (codes "df") ∷ t.Dot ∷ t.Word (codes "Count") ∷ [])))
+    (record { rest = t.Close ∷ []; form = form.Books (codes "n") (codes "df") form.Count; whole = record { tokens = refl; free = refl } })
+    (open_is_no_end (t.Word (codes "n") ∷ t.Equals ∷ t.Word (codes "df") ∷ t.Dot ∷ t.Word (codes "Count") ∷ [])))
 
 abbrev text_at : ℕ → List ℕ → QuotedText
 text_at place content = record { place = place; content = content }
@@ -113,7 +113,7 @@ number_in_an_expression : RefusesScript (codes "d = df.Define(\"p\", \"922337203
 unfolding lines_of tokens_from lexeme word_lexeme string_lexeme is_name tokens_at first_token number_first magnitude_of
 number_in_an_expression =
     script.refused_line (script.at_string {f = form.Books (codes "d") (codes "df") (form.Define (text_at 14 (codes "p")) (text_at 19 (codes "9223372036854775808")))}
-        refl (record { tokens = refl; free = refl }) (st.later (λ q. is_a_name (codes "p") 14 q refl) (st.here (st.no_expression (at_token refl)))))
+    refl (record { tokens = refl; free = refl }) (st.later (λ q. is_a_name (codes "p") 14 q refl) (st.here (st.no_expression (at_token refl)))))
 
 -- no argument is a word
 no_word_argument : (m : Method) (w : List ℕ) (rest : List LineToken) → t.Word w ∷ rest ≡ arguments m ++ t.Close ∷ [] → ⊥
@@ -137,10 +137,11 @@ word_for_a_string : RefusesScript (codes "s = df.Sum(w)") (cause.Syntax 1 11)
 unfolding lines_of tokens_from lexeme word_lexeme is_name
 word_for_a_string =
     script.refused_line (script.at_token {i = 6} {t = at 11 (t.Word (codes "w"))} refl
-        (record {
-            before = record { rest = t.Quoted (text_at 0 []) ∷ t.Close ∷ []; form = form.Books (codes "s") (codes "df") (form.Sum (text_at 0 [])); whole = record { tokens = refl; free = refl } };
-            with_it = λ b. no_sum_of_a_word b.rest b.form b.whole.tokens; })
-        refl)
+    (record {
+      before = record { rest = t.Quoted (text_at 0 []) ∷ t.Close ∷ []; form = form.Books (codes "s") (codes "df") (form.Sum (text_at 0 [])); whole = record { tokens = refl; free = refl } };
+      with_it = λ b. no_sum_of_a_word b.rest b.form b.whole.tokens;
+    })
+    refl)
   where
     no_sum_of_a_word : (rest : List LineToken) (f : Form)
         → t.Word (codes "s") ∷ t.Equals ∷ t.Word (codes "df") ∷ t.Dot ∷ t.Word (codes "Sum") ∷ t.Open ∷ t.Word (codes "w") ∷ rest ≡ form_tokens f → ⊥
