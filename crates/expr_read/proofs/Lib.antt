@@ -1,5 +1,6 @@
 pub mod Lists
 pub mod Numerals
+pub mod ReadOnce
 pub mod Readable
 pub mod Reading
 pub mod ReadsBack
