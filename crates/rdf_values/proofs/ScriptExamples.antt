@@ -1,21 +1,29 @@
 -- Texts that are scripts, and texts that are refused, by the definitions alone.
-use Rattle.std.proofs.Common.{◌≡◌, ◌+◌, ℕ, zero, suc, negsuc, true, List, [], ◌∷◌, ◌++◌, replicate, Ok, Err, arith, refl, ap, ◌∙◌, sym, subst}
+use Rattle.std.proofs.Common.{◌≡◌, ◌+◌, ℕ, zero, suc, pos, negsuc, Some, None, true, List, [], ◌∷◌, ◌++◌, replicate, Ok, Err, arith, refl, ap, ◌∙◌, sym, subst}
 use Rattle.std.specs.Prelude.{codes}
 use Rattle.std.proofs.lemmas.List.{same_from_push}
-use Rattle.rdf_values.specs.Names.{is_name}
+use Rattle.rdf_values.specs.Names.{is_name, same}
+use Rattle.rdf_values.specs.Tree.{Bin, Col, Lit}
 use Rattle.rdf_values.specs.Integers.{integer_of, magnitude_of}
-use Rattle.rdf_values.specs.Tokens.{tokens_at, first_token, number_first}
-use Rattle.rdf_values.specs.Scans.{at_token}
+use Rattle.rdf_values.specs.Tokens.{Word, Number, Op, Punct, tokens_at, first_token, word_first, number_first, long_mark, short_mark}
+use Rattle.rdf_values.specs.Grammar.{Reads, name, binary, tighter, one_list, last_item}
+use Rattle.rdf_values.specs.Grammar as grammar
+use Rattle.rdf_values.specs.Scans.{ReadsText, at_token}
 use Rattle.rdf_values.specs.ScriptLines.{lines_of}
 use Rattle.rdf_values.specs.LineTokens.{LineToken, PlacedToken, QuotedText, lexeme, word_lexeme, string_lexeme, tokens_from, line_tokens}
 use Rattle.rdf_values.specs.LineTokens as t
 use Rattle.rdf_values.specs.LineForms.{Form, Method, IsForm, BeginsLine, StopsAt, form_tokens, method_word, arguments}
 use Rattle.rdf_values.specs.LineForms as form
-use Rattle.rdf_values.specs.Statements.{IsBad, FirstBad, LineRefusal, AName, AnExpression}
+use Rattle.rdf_values.specs.Statements.{IsBad, operation_text, FirstBad, LineRefusal, AName, AnExpression}
 use Rattle.rdf_values.specs.Statements as st
 use Rattle.rdf_values.specs.Scripts.{IsLine, IsScript, RefusesLine, RefusesScript, RefusesLines}
 use Rattle.rdf_values.specs.Scripts as script
 use Rattle.rdf_values.specs.declared.action.ActionKind.TheVariants as kind
+use Rattle.rdf_values.specs.declared.action.ReduceOp.{ReduceOp}
+use Rattle.rdf_values.specs.declared.action.ReduceOp.TheVariants as op
+use Rattle.rdf_values.specs.declared.expr.BinOp.TheVariants as bin
+use Rattle.rdf_values.specs.declared.expr.Mark.TheVariants as mark
+use Rattle.rdf_values.specs.declared.vary_values.VaryValues.TheVariants.{Lists}
 use Rattle.rdf_values.specs.declared.statement.Statement.TheVariants as says
 use Rattle.rdf_values.specs.declared.expr_cause.ExprCause.TheVariants as why
 use Rattle.rdf_values.specs.declared.script_cause.ScriptCause.TheVariants as cause
@@ -206,3 +214,84 @@ statement_257 : RefusesScript (prints 257) (cause.TooMany 257)
 statement_257 =
     let P : List (List ℕ) → Type 0 = λ lines. RefusesLines 1 0 lines (cause.TooMany 257) in
     subst P (sym (prints_lines 257)) (too_many_from 256 1 0 refl)
+
+-- ---- strings, and the order of the steps
+
+-- tokens come before what they make: the line is refused at the bad integer, and not at the word in its list
+token_before_walk : RefusesScript (codes "h = df.Histo1D([x, 01])") (cause.Syntax 1 19)
+unfolding lines_of tokens_from lexeme word_lexeme is_name integer_of magnitude_of
+token_before_walk = script.refused_line (script.at_byte refl)
+
+bad_name : RefusesScript (codes "s = df.Sum(\"1x\")") (cause.Syntax 1 11)
+unfolding lines_of tokens_from lexeme word_lexeme string_lexeme is_name
+bad_name =
+    script.refused_line (script.at_string {f = form.Books (codes "s") (codes "df") (form.Sum (text_at 11 (codes "1x")))} refl (record { tokens = refl; free = refl }) (st.here (st.no_name refl)))
+
+no_add : (o : ReduceOp) → codes "add" ≡ operation_text o → ⊥
+no_add o e = apart o (ap (λ w. same w (codes "add")) e)
+  where
+    apart : (o : ReduceOp) → same (codes "add") (codes "add") ≡ same (operation_text o) (codes "add") → ⊥
+    apart op.Min e = cc e
+    apart op.Max e = cc e
+    apart op.And e = cc e
+    apart op.Or e = cc e
+    apart op.Xor e = cc e
+    apart op.WrapAdd e = cc e
+
+-- the left one of two bad strings counts
+bad_operation : RefusesScript (codes "\nr = df.Reduce(\"add\", \"1\")") (cause.Syntax 2 14)
+unfolding lines_of tokens_from lexeme word_lexeme string_lexeme is_name
+bad_operation =
+    script.after_blank refl (script.refused_line (script.at_string {f = form.Books (codes "r") (codes "df") (form.Reduce (text_at 14 (codes "add")) (text_at 21 (codes "1")))}
+        refl (record { tokens = refl; free = refl }) (st.here (st.no_operation no_add))))
+
+-- the text `x > 1` is an expression
+x_above_1 : Reads 0 (Word (codes "x") ∷ Op bin.Gt ∷ Number (pos 1) ∷ []) (Bin bin.Gt (Col (codes "x")) (Lit (pos 1)))
+x_above_1 = tighter (tighter (tighter (tighter (binary (tighter (tighter (tighter (tighter (tighter name))))) (tighter (tighter (tighter (tighter grammar.number)))) refl refl))))
+
+x_above_1_text : ReadsText (codes "x > 1") (Bin bin.Gt (Col (codes "x")) (Lit (pos 1)))
+unfolding tokens_at first_token word_first number_first magnitude_of long_mark short_mark
+x_above_1_text = record {
+  found = record { token = Word (codes "x"); place = 0 } ∷ record { token = Op bin.Gt; place = 2 } ∷ record { token = Number (pos 1); place = 4 } ∷ [];
+  tokens_are = refl;
+  reads_as = x_above_1;
+}
+
+filter_line : IsLine (codes "f = df.Filter(\"x > 1\", \"high x\")") (says.Filter (codes "f") (codes "df") (Bin bin.Gt (Col (codes "x")) (Lit (pos 1))) (Some (codes "high x")))
+unfolding tokens_from lexeme word_lexeme string_lexeme is_name
+filter_line = record {
+  found = at 0 (t.Word (codes "f")) ∷ at 2 t.Equals ∷ at 4 (t.Word (codes "df")) ∷ at 6 t.Dot ∷ at 7 (t.Word (codes "Filter")) ∷ at 13 t.Open ∷ quoted 14 (codes "x > 1") ∷ at 21 t.Comma ∷ quoted 23 (codes "high x") ∷ at 31 t.Close ∷ [];
+  tokens = refl;
+  form = form.Books (codes "f") (codes "df") (form.Filter (text_at 14 (codes "x > 1")) (Some (text_at 23 (codes "high x"))));
+  is_form = record { tokens = refl; free = refl };
+  says = st.filter x_above_1_text (st.a_label refl refl);
+}
+
+-- a Vary of one column that has no name is named as the column
+vary_line : IsLine (codes "v=df.Vary(\"x\",\"{x > 1}\",[\"up\"])")
+    (says.Vary (codes "v") (codes "df") (codes "x" ∷ []) (Lists ((Bin bin.Gt (Col (codes "x")) (Lit (pos 1)) ∷ []) ∷ [])) (codes "up" ∷ []) (codes "x"))
+unfolding tokens_from lexeme word_lexeme string_lexeme is_name tokens_at first_token word_first number_first magnitude_of long_mark short_mark
+vary_line = record {
+  found = at 0 (t.Word (codes "v")) ∷ at 1 t.Equals ∷ at 2 (t.Word (codes "df")) ∷ at 4 t.Dot ∷ at 5 (t.Word (codes "Vary")) ∷ at 9 t.Open ∷ quoted 10 (codes "x") ∷ at 13 t.Comma
+      ∷ quoted 14 (codes "{x > 1}") ∷ at 23 t.Comma ∷ at 24 t.OpenBracket ∷ quoted 25 (codes "up") ∷ at 29 t.CloseBracket ∷ at 30 t.Close ∷ [];
+  tokens = refl;
+  form = form.Books (codes "v") (codes "df") (form.VaryOne (text_at 10 (codes "x")) (text_at 14 (codes "{x > 1}")) (record { first = text_at 25 (codes "up"); rest = [] }) None);
+  is_form = record { tokens = refl; free = refl };
+  says = st.vary (record { content = refl; name = refl })
+      (record {
+          found = record { token = Punct mark.OpenBrace; place = 0 } ∷ record { token = Word (codes "x"); place = 1 } ∷ record { token = Op bin.Gt; place = 3 } ∷ record { token = Number (pos 1); place = 5 } ∷ record { token = Punct mark.CloseBrace; place = 6 } ∷ [];
+          tokens_are = refl;
+          reads_as = one_list (last_item x_above_1) refl; })
+      (st.more_names (record { content = refl; name = refl }) st.no_names);
+}
+
+histogram_line : IsLine (codes "h = df.Histo1D([0, 10], \"x\", \"w\")") (says.Action (codes "h") (codes "df") (kind.Histo1D (pos 0 ∷ pos 10 ∷ []) (codes "x") (Some (codes "w"))))
+unfolding tokens_from lexeme word_lexeme string_lexeme is_name integer_of magnitude_of
+histogram_line = record {
+  found = at 0 (t.Word (codes "h")) ∷ at 2 t.Equals ∷ at 4 (t.Word (codes "df")) ∷ at 6 t.Dot ∷ at 7 (t.Word (codes "Histo1D")) ∷ at 14 t.Open ∷ at 15 t.OpenBracket ∷ at 16 (t.Number (pos 0)) ∷ at 17 t.Comma ∷ at 19 (t.Number (pos 10))
+      ∷ at 21 t.CloseBracket ∷ at 22 t.Comma ∷ quoted 24 (codes "x") ∷ at 27 t.Comma ∷ quoted 29 (codes "w") ∷ at 32 t.Close ∷ [];
+  tokens = refl;
+  form = form.Books (codes "h") (codes "df") (form.Histo1D (record { first = pos 0; rest = pos 10 ∷ [] }) (text_at 24 (codes "x")) (Some (text_at 29 (codes "w"))));
+  is_form = record { tokens = refl; free = refl };
+  says = st.action (st.histo1d (record { content = refl; name = refl }) (st.a_name (record { content = refl; name = refl })));
+}
