@@ -1,3 +1,5 @@
+pub mod Decided
+pub mod Examples
 pub mod Lists
 pub mod Numerals
 pub mod ReadOnce
@@ -15,4 +17,5 @@ pub mod Unique
 pub mod UniqueValues
 pub mod ValidTokens
 pub mod Whole
+pub mod WholeReads
 pub mod Words

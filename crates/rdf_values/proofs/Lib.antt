@@ -1,4 +1,6 @@
+pub mod Columns
 pub mod Digits
+pub mod Examples
 pub mod OneForm
 pub mod OneScript
 pub mod OneText

@@ -5,6 +5,7 @@ pub mod Canonical
 pub mod Cuts
 pub mod Depends
 pub mod Draws
+pub mod EachColumn
 pub mod ExprTree
 pub mod Fold
 pub mod FunctionNames
