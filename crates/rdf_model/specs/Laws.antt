@@ -1,10 +1,14 @@
 -- Laws of the definitions, in the words of an analysis. Each is the contract of a function of this crate, and so proved.
-use Rattle.std.specs.Prelude.{◌≡◌, ◌⊎◌, ℕ, ◌+◌, ◌*◌, ◌/◌, ◌<◌, ◌≤◌, Bool, true, false, List, [], ◌∷◌, ◌++◌, length, Option, Some, None, slice_get, All, Contains}
-use Rattle.rdf_values.specs.Path.{history, Path, Variation, Under, target_of, maker}
+use Rattle.std.specs.Prelude.{◌≡◌, ◌⊎◌, ℕ, ◌+◌, ◌*◌, ◌/◌, ◌<◌, ◌≤◌, Bool, true, false, List, [], ◌∷◌, ◌++◌, length, Option, Some, None, Ok, ⊤, slice_get, All, Contains}
+use Rattle.rdf_values.specs.Path.{history, path, Path, Variation, Under, target_of, maker}
 use Rattle.rdf_values.specs.Depends.{site_depends}
 use Rattle.rdf_values.specs.EachColumn.{EachColumn}
 use Rattle.rdf_values.specs.Bookings.{ActionAt, Pass, result_depends, is_watched}
 use Rattle.rdf_values.specs.Cuts.{stride}
+use Rattle.rdf_values.specs.Kinds.{Scope, FunctionNames, scope_of, column_kind, kind_of}
+use Rattle.rdf_values.specs.Verdict.{verdict, check, AreAccepted, visible_columns}
+use Rattle.rdf_values.specs.Tables.{FitsKind, FitsRow}
+use Rattle.rdf_values.specs.declared.value.ColType.{ColType}
 use Rattle.rdf_values.specs.Functions.{Function, fn_names}
 use Rattle.rdf_values.specs.Numbered.{ScopeColumn, numbered, number_in, callee}
 use Rattle.rdf_values.specs.Tree.{NamedTree, NumTree}
@@ -12,11 +16,14 @@ use Rattle.rdf_values.specs.declared.action.ActionKind.{ActionKind}
 use Rattle.rdf_values.specs.declared.statement.Statement.{Statement}
 use Rattle.rdf_values.specs.declared.statement.Statement.TheVariants.{Vary}
 use Rattle.rdf_values.specs.declared.script.Script.{Script}
+use Rattle.rdf_values.specs.declared.script.Line.{Line}
+use Rattle.rdf_values.specs.declared.graph_cause.GraphCause.{GraphCause}
+use Rattle.rdf_values.specs.declared.column.Column.{Column}
 use Rattle.rdf_values.specs.declared.span.Span.{Span}
 use Rattle.rdf_values.specs.declared.value.Value.{Value}
 use Rattle.rdf_values.specs.declared.fault.EntryFault.{EntryFault}
 use Rattle.rdf_values.specs.declared.fault.Fault.{Fault}
-use Rattle.rdf_model.specs.Evaluation.{Outcome, Gives, Faults, evaluate, call_outcome, named_call}
+use Rattle.rdf_model.specs.Evaluation.{Outcome, Gives, Faults, Needs, evaluate, call_outcome, named_call}
 use Rattle.rdf_model.specs.ColumnValues.{own_place, expression_value, named_value, column_value}
 use Rattle.rdf_model.specs.EntryOutcomes.{Entry, Feed, through, action_outcome, report_outcome}
 use Rattle.rdf_model.specs.Results.{Dataset, pass_result, fault_in, fault_at, first_fault, cutflow}
@@ -211,3 +218,57 @@ abbrev pub StatusTellsOfFaults : Type 0
 StatusTellsOfFaults =
     (script : Script) (d : Dataset) (course : Course)
     → ((transcript script d course).status ≡ 0) ⊎ ((transcript script d course).status ≡ 8)
+
+-- ---- kinds
+
+-- what an outcome gives meets P
+abbrev pub Meets : {M A : Type 0} → (A → Type 0) → Outcome M A → Type 0
+Meets P (Gives a) = P a
+Meets P (Faults kind) = ⊤
+Meets P (Needs m) = ⊤
+
+-- what an outcome gives is of the kind, and a vector has at most 4,096 elements
+abbrev pub FitsOutcome : {M : Type 0} → ColType → Outcome M Value → Type 0
+FitsOutcome t o = Meets (FitsKind t) o
+
+-- as many values as kinds, each of its kind
+abbrev pub FitKinds : List ColType → List Value → Type 0
+FitKinds [] [] = ⊤
+FitKinds (t ∷ ts) (v ∷ vs) = FitsKind t v × FitKinds ts vs
+FitKinds ts vs = ⊥
+
+-- a checked expression comes to a value of its kind, where the visible columns do
+abbrev pub CheckedExpressionsFit : Type 0
+CheckedExpressionsFit =
+    (fns : List Function) (scope : Scope) (look : List ℕ → Outcome ⊥ Value) (e : NamedTree) (t : ColType)
+    → kind_of scope (fn_names fns) e ≡ Ok t
+    → ((c : List ℕ) (s : ColType) → column_kind scope c ≡ Ok s → FitsOutcome s (look c))
+    → FitsOutcome t (evaluate look (named_call fns) e)
+
+-- ---- accepted scripts
+
+-- the line of that number is refused for that cause, after lines that are accepted
+pub record IsFirstRefused (names : FunctionNames) (header : List Column) (lines : List Line) (number : ℕ) (cause : GraphCause) : Type 0 where
+  pub accepted : List Line
+  pub refused : Line
+  pub rest : List Line
+  pub lines_are : lines ≡ accepted ++ refused ∷ rest
+  pub number_is : refused.number ≡ number
+  pub are_accepted : AreAccepted names (scope_of header) (history (record { lines = accepted }))
+  pub is_refused : check names (scope_of header) (history (record { lines = accepted })) refused.statement ≡ Some cause
+
+-- a script without a refusal has each statement accepted after those before it; otherwise the first that isn't is named
+abbrev pub VerdictIsTheFirstRefusal : Type 0
+VerdictIsTheFirstRefusal =
+    (names : FunctionNames) (header : List Column) (script : Script)
+    → (verdict names header script ≡ None → AreAccepted names (scope_of header) (history script))
+    × ((number : ℕ) (cause : GraphCause) → verdict names header script ≡ Some (number, cause) → IsFirstRefused names header script.lines number cause)
+
+-- in an accepted script each visible column comes at each node and under each variation to a value of its kind there
+abbrev pub AcceptedColumnsFit : Type 0
+AcceptedColumnsFit =
+    (d : Dataset) (row : List Value) (script : Script) (node : List ℕ) (u : Under) (name : List ℕ) (t : ColType)
+    → verdict (fn_names d.fns) d.columns script ≡ None
+    → FitsRow d.columns row
+    → column_kind (visible_columns (fn_names d.fns) (scope_of d.columns) (path (history script) node)) name ≡ Ok t
+    → FitsOutcome t (column_in d row (path (history script) node) u name)

@@ -1,7 +1,7 @@
 // Laws of the definitions. Each function does nothing; its contract is the law, and its proof the law's.
 ghost use Rattle.rdf_model.specs.Laws.{
     NumberedEvaluatesAlike, NothingIsNeeded, UnvariedSiteIsNominal, UnvariedEntryIsNominal,
-    UnvariedResultIsNominal, OtherVariationsAreNominal, ResultsAreOfOneVariation, ColumnsComeFromTheirMaker, FirstFaultIsLeast, NotedSetsGrow, LastSetIsWhole, FewSetsAreNoted, PassedAreAmongReached, ReportsAreFedNothing, FactsGiveResults, FactsGiveCounts, UnwatchedOutputIsOneFunction, StatusTellsOfFaults
+    UnvariedResultIsNominal, OtherVariationsAreNominal, ResultsAreOfOneVariation, ColumnsComeFromTheirMaker, FirstFaultIsLeast, NotedSetsGrow, LastSetIsWhole, FewSetsAreNoted, PassedAreAmongReached, ReportsAreFedNothing, FactsGiveResults, FactsGiveCounts, UnwatchedOutputIsOneFunction, StatusTellsOfFaults, CheckedExpressionsFit
 };
 
 /// Numbers in place of names change no evaluation.
@@ -92,4 +92,9 @@ pub fn unwatched_output_is_one_function()
 /// A run ends with status 0, or with status 8 after a fault.
 pub fn status_tells_of_faults()
     ensures { StatusTellsOfFaults }
+{}
+
+/// A checked expression comes to a value of its kind, and a vector has at most 4,096 elements.
+pub fn checked_expressions_fit()
+    ensures { CheckedExpressionsFit }
 {}
