@@ -1,12 +1,12 @@
 -- Some texts, worked out by hand.
-use Rattle.std.proofs.Common.{◌≡◌, ℕ, ℤ, pos, List, [], ◌∷◌, ◌++◌, Ok, Err, arith, refl, ap, sym}
+use Rattle.std.proofs.Common.{◌≡◌, ℕ, pos, List, [], ◌∷◌, ◌++◌, arith, refl, ap}
 use Rattle.std.specs.Prelude.{codes}
 use Rattle.std.proofs.lemmas.Fmt.{decimal_digit}
 use Rattle.rdf_values.specs.Integers.{magnitude_of}
 use Rattle.rdf_values.specs.Tree.{NamedTree, Lit, Col, Neg, Bin}
-use Rattle.rdf_values.specs.Tokens.{Token, Word, Number, Op, Punct, Placed, Refusal, tokens, tokens_at, first_token, word_first, number_first, long_mark, short_mark}
+use Rattle.rdf_values.specs.Tokens.{Token, Word, Number, Op, Punct, Placed, Refusal, tokens_at, first_token, word_first, number_first, long_mark, short_mark}
 use Rattle.rdf_values.specs.Grammar.{Reads, number, name, parenthesized, minus_sign, binary, tighter, bare}
-use Rattle.rdf_values.specs.Scans.{Whole, Partial, scan, begin_expr, ReadsText, RefusesText, at_token, at_end}
+use Rattle.rdf_values.specs.Scans.{Whole, Partial, ReadsText, RefusesText, at_token, at_end}
 use Rattle.rdf_values.specs.Canonical.{text_of}
 use Rattle.rdf_values.specs.declared.expr.BinOp.TheVariants as op
 use Rattle.rdf_values.specs.declared.expr.Mark.TheVariants as mark

@@ -1,12 +1,12 @@
 -- Tokens that a scan takes whole, with nothing left open, read by the grammar.
-use Rattle.std.proofs.Common.{◌≡◌, ◌≤◌, ◌<◌, ◌-◌, ◌+◌, ◌∙◌, ℕ, zero, suc, Bool, true, false, List, [], ◌∷◌, ◌++◌, Some, None, arith, refl, sym, ap, subst, append_assoc, append-nil}
+use Rattle.std.proofs.Common.{◌≡◌, ◌≤◌, ◌<◌, ◌∙◌, ℕ, suc, Bool, true, false, List, [], ◌∷◌, ◌++◌, arith, refl, sym, ap, subst, append_assoc, append-nil}
 use Rattle.std.specs.Prelude.{nat_le}
 use Rattle.std.proofs.lemmas.Bool.Decides.{nat_tests}
 use Rattle.rdf_values.specs.Tree.{NamedTree, Lit, Col, Neg, Not, Bin, Cond, Pick, Call, End, More}
 use Rattle.rdf_values.specs.Tree as e
 use Rattle.rdf_values.specs.Tokens.{Token, Word, Truth, Number, Op, Punct, Placed}
 use Rattle.rdf_values.specs.Grammar.{NamedTrees, Reads, ReadsArgs, ReadsList, ReadsLists, ReadsValues, number, truth, name, parenthesized, call, pick, minus_sign, not_sign, binary, conditional, tighter, no_arguments, last_argument, more_arguments, last_item, more_items, last_list, more_lists, one_list, several_lists, vector, level_of, bare}
-use Rattle.rdf_values.specs.Scans.{OpenMark, InParens, InIndex, InChoice, InCall, InList, InLists, Operand, FirstArgument, AfterName, Operator, Beginning, AfterBrace, AfterList, NextList, Nothing, ScanState, ScanEnd, Whole, Partial, Refused, operand, operator, after_name, first_argument, between_lists, next_list, after_list, beginning, after_brace, continued, scan, begin_expr, begin_values}
+use Rattle.rdf_values.specs.Scans.{OpenMark, InParens, InIndex, InChoice, InCall, InList, InLists, Operand, FirstArgument, AfterName, Operator, AfterBrace, NextList, Nothing, Whole, Partial, Refused, operand, operator, after_name, first_argument, between_lists, next_list, after_list, beginning, after_brace, continued, scan, begin_expr, begin_values}
 use Rattle.rdf_values.specs.declared.expr.BinOp.{BinOp}
 use Rattle.rdf_values.specs.declared.expr.BinOp.TheVariants as op
 use Rattle.rdf_values.specs.declared.expr.Mark.TheVariants as mark
@@ -109,18 +109,18 @@ fold {m} {s} {us} (opened o z) n k ts t r h l = record { m = m; front = us; back
 fold {m} {s} {us} (colon st c a e z) n k ts t r h l = record { m = m; front = us; back = ts; tree = t; stands = colon st c a e z; fits = omega arith; reads = at_looser n k ts t l r; split = refl }
 fold {m} {s} {us} (left {us = vs} {ts = ws} {a = a} o st f q e z) n k ts t r h l =
     elim (order m n) [
-      within w ↦ record { m = m; front = us; back = ts; tree = t; stands = left o st f q e z; fits = w; reads = at_looser n k ts t l r; split = refl }
-    | beyond b ↦ folded_as (side_front vs ws us (Op o) ts e) (fold st n (level_of o) (ws ++ Op o ∷ ts) (Bin o a t) (binary q (at_looser (suc (level_of o)) k ts t (omega arith) r) refl refl) f (omega arith))
+      | within w ↦ record { m = m; front = us; back = ts; tree = t; stands = left o st f q e z; fits = w; reads = at_looser n k ts t l r; split = refl }
+      | beyond b ↦ folded_as (side_front vs ws us (Op o) ts e) (fold st n (level_of o) (ws ++ Op o ∷ ts) (Bin o a t) (binary q (at_looser (suc (level_of o)) k ts t (omega arith) r) refl refl) f (omega arith))
     ]
 fold {m} {s} {us} (minus {us = vs} st f e z) n k ts t r h l =
     elim (order m n) [
-      within w ↦ record { m = m; front = us; back = ts; tree = t; stands = minus st f e z; fits = w; reads = at_looser n k ts t l r; split = refl }
-    | beyond b ↦ folded_as (sign_front vs us (Op op.Sub) ts e) (fold st n 7 (Op op.Sub ∷ ts) (Neg t) (minus_sign (at_looser 7 k ts t (omega arith) r)) f (omega arith))
+      | within w ↦ record { m = m; front = us; back = ts; tree = t; stands = minus st f e z; fits = w; reads = at_looser n k ts t l r; split = refl }
+      | beyond b ↦ folded_as (sign_front vs us (Op op.Sub) ts e) (fold st n 7 (Op op.Sub ∷ ts) (Neg t) (minus_sign (at_looser 7 k ts t (omega arith) r)) f (omega arith))
     ]
 fold {m} {s} {us} (bang {us = vs} st f e z) n k ts t r h l =
     elim (order m n) [
-      within w ↦ record { m = m; front = us; back = ts; tree = t; stands = bang st f e z; fits = w; reads = at_looser n k ts t l r; split = refl }
-    | beyond b ↦ folded_as (sign_front vs us (Punct mark.Bang) ts e) (fold st n 7 (Punct mark.Bang ∷ ts) (Not t) (not_sign (at_looser 7 k ts t (omega arith) r)) f (omega arith))
+      | within w ↦ record { m = m; front = us; back = ts; tree = t; stands = bang st f e z; fits = w; reads = at_looser n k ts t l r; split = refl }
+      | beyond b ↦ folded_as (sign_front vs us (Punct mark.Bang) ts e) (fold st n 7 (Punct mark.Bang ∷ ts) (Not t) (not_sign (at_looser 7 k ts t (omega arith) r)) f (omega arith))
     ]
 
 -- the tokens end with an expression directly after the innermost open mark

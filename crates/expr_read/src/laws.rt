@@ -10,8 +10,7 @@ ghost use Rattle.rdf_values.specs.Scans.{Whole, scan, begin_expr, begin_values, 
 pub fn one_tree()
     ensures expr { (text : List ℕ) (a b : NamedTree) → ReadsText text a → ReadsText text b → a ≡ b }
     ensures values { (text : List ℕ) (v w : VaryValues) → ReadsValuesText text v → ReadsValuesText text w → v ≡ w }
-{
-}
+{}
 
 /// Tokens read exactly where the scan refuses none of them and ends with nothing wanted but an operator and nothing open.
 pub fn scan_decides()
@@ -19,8 +18,7 @@ pub fn scan_decides()
     ensures reads { (ts : List Placed) → scan begin_expr ts ≡ Whole → (a : NamedTree) × Reads 0 (bare ts) a }
     ensures values_taken { (ts : List Placed) (v : VaryValues) → ReadsValues (bare ts) v → scan begin_values ts ≡ Whole }
     ensures values_read { (ts : List Placed) → scan begin_values ts ≡ Whole → (v : VaryValues) × ReadsValues (bare ts) v }
-{
-}
+{}
 
 /// Each text reads as an expression or has one refusal, and not both; so it is with values.
 pub fn one_answer()
@@ -30,5 +28,4 @@ pub fn one_answer()
     ensures values_answered { (text : List ℕ) → ((v : VaryValues) × ReadsValuesText text v) ⊎ ((r : Refusal) × RefusesValuesText text r) }
     ensures values_not_both { (text : List ℕ) (v : VaryValues) (r : Refusal) → ReadsValuesText text v → RefusesValuesText text r → ⊥ }
     ensures values_one_refusal { (text : List ℕ) (r s : Refusal) → RefusesValuesText text r → RefusesValuesText text s → r ≡ s }
-{
-}
+{}

@@ -43,12 +43,7 @@ fn op_text(op: BinOp) -> &'static [u8]
 }
 
 #[cycle(print)]
-fn write_enclosed(
-    out: &mut Text,
-    alloc: Global,
-    node: &ExprNode,
-    level: u8,
-) -> Result<(), Memory>
+fn write_enclosed(out: &mut Text, alloc: Global, node: &ExprNode, level: u8) -> Result<(), Memory>
     ensures { OnOk result (out.new ≡ out.old ++ in_parens (nat_le level (tree_level (tree_of node.now))) (text_of (tree_of node.now))) }
 {
     if level <= tree_level(node) {

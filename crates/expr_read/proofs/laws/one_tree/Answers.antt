@@ -1,6 +1,3 @@
-use Rattle.rdf_values.specs.Grammar.{Reads, ReadsValues}
-use Rattle.rdf_values.specs.Scans.{begin_expr, begin_values}
-use Rattle.expr_read.proofs.Whole.{whole, whole_values}
 use Rattle.expr_read.proofs.Reading.{one_tree, one_value}
 use Rattle.expr_read.proofs.laws.one_tree.Goals as goal
 
