@@ -1,5 +1,6 @@
 -- Kinds of numbered expressions.
-use Rattle.std.specs.Prelude.{◌≡◌, ◌≢◌, ℕ, ◌<◌, Bool, true, false, not, ◌&&◌, List, [], ◌∷◌, map, filter, length, replicate, if◌then◌else◌, nat_eq, Option, Some, None, MatchOption, Result, Ok, Err, slice_get}
+use Rattle.std.specs.Prelude.{◌≡◌, ◌≢◌, ℕ, ◌<◌, Bool, true, false, not, ◌&&◌, List, [], ◌∷◌, ◌++◌, map, filter, length, replicate, if◌then◌else◌, nat_eq, Option, Some, None, MatchOption, Result, Ok, Err, slice_get}
+use Rattle.std.specs.List.{list_any}
 use Rattle.rdf_values.specs.Tree.{Tree, Trees, NumTree, Lit, Truth, Col, Neg, Not, Bin, Cond, Pick, Call, End, More}
 use Rattle.rdf_values.specs.Depends.{columns_in}
 use Rattle.rdf_values.specs.Kinds.{Shape, shape, FunctionNames, args_count, kind_by, same_kind}
@@ -42,16 +43,27 @@ abbrev pub distinct : List ℕ → List ℕ
 distinct [] = []
 distinct (x ∷ xs) = x ∷ filter (λ y. not (nat_eq x y)) (distinct xs)
 
+-- the list with a number at its end, unless it is there
+abbrev pub with_new : List ℕ → ℕ → List ℕ
+with_new xs x = if list_any (nat_eq x) xs then xs else xs ++ x ∷ []
+
 -- an expression with its columns numbered, their kinds, and its own kind
 pub record CheckedExpr : Type 0 where
   pub tree : NumTree
   pub kinds : List (ℕ × ColType)
   pub kind : ColType
 
+abbrev pub checked_expr : NumTree → List (ℕ × ColType) → ColType → CheckedExpr
+checked_expr tree kinds kind = record { tree = tree; kinds = kinds; kind = kind }
+
 -- the expression has that kind by the kinds of its columns, of which each is given once, where it stands first
 pub record IsWellTyped (names : FunctionNames) (e : CheckedExpr) : Type 0 where
   pub typed : num_kind e.kinds names e.tree ≡ Ok e.kind
   pub columns : map (λ (c : ℕ × ColType). c.0) e.kinds ≡ distinct (columns_in e.tree)
+
+-- it is well typed by some list of functions
+abbrev pub IsTyped : CheckedExpr → Type 0
+IsTyped e = (names : FunctionNames) × IsWellTyped names e
 
 -- the callee is built in, or at a place of the list
 abbrev pub IsCallable : FunctionNames → Callee → Type 0

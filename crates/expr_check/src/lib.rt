@@ -4,9 +4,13 @@
 
 mod build;
 mod callee;
+pub mod checked;
 mod kind;
+mod part;
+mod reads;
 pub mod refusal;
 pub mod scope;
 
+pub use crate::checked::{check, Checked};
 pub use crate::refusal::CheckRefusal;
 pub use crate::scope::Scope;

@@ -1,5 +1,5 @@
 // Columns that an expression may read.
-ghost use Rattle.std.specs.Prelude.{◌≡◌, ◌≢◌, ℕ, List, [], ◌∷◌, ◌++◌, All, Ok, Err, OnOk, OnErr, MatchOption, find, nat_eq};
+ghost use Rattle.std.specs.Prelude.{◌≡◌, ◌≢◌, ℕ, List, [], ◌∷◌, ◌++◌, All, Ok, Err, IsOk, IfOk, map, OnOk, OnErr, MatchOption, find, nat_eq};
 ghost use Rattle.std.specs.Option.{option_copied};
 ghost use Rattle.rdf_values.specs.Names.{same};
 ghost use Rattle.rdf_values.specs.Kinds.{column_kind};
@@ -103,5 +103,31 @@ impl Scope {
             None => None,
             Some(column) => Some(column.kind),
         }
+    }
+
+    fn known_kind(&self, number: u32) -> ColType
+        requires { IsOk (number_kind (numbers_in self.now) number) }
+        ensures { number_kind (numbers_in self.now) number ≡ Ok result }
+    {
+        match self.number_kind(number) {
+            Some(kind) => kind,
+            None => unreachable!(),
+        }
+    }
+
+    /// The kinds of columns by their numbers, each of which a column has.
+    pub(crate) fn kinds_of(&self, numbers: &[u32]) -> Result<Vec<ColType>, Memory>
+        requires known { NumbersHaveKinds self.now → All (λ i. IsOk (number_kind (numbers_in self.now) i)) numbers.now }
+        ensures kinds { IfOk result (λ kinds. map (λ k. Ok k) kinds.items ≡ map (number_kind (numbers_in self.now)) numbers.now) }
+        ensures one_kind { NumbersHaveKinds self.now }
+    {
+        let mut kinds = Vec::new(self.alloc);
+        for number in numbers {
+            match kinds.push(self.known_kind(*number)) {
+                Ok(()) => {}
+                Err(_) => return Err(Memory),
+            }
+        }
+        Ok(kinds)
     }
 }

@@ -2,6 +2,7 @@ pub mod Accepted
 pub mod Analyses
 pub mod Chains
 pub mod Close
+pub mod EachColumns
 pub mod Evaluations
 pub mod Examples
 pub mod Faults
