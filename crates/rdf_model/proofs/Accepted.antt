@@ -31,7 +31,7 @@ use Rattle.rdf_model.proofs.Verdicts.{verdict_is_the_first_refusal}
 
 -- ---- refusals in order
 
-both_none : (o : Option GraphCause) (rest : List (Option GraphCause)) → first_refusal (o ∷ rest) ≡ None → (o ≡ None) × (first_refusal rest ≡ None)
+pub both_none : (o : Option GraphCause) (rest : List (Option GraphCause)) → first_refusal (o ∷ rest) ≡ None → (o ≡ None) × (first_refusal rest ≡ None)
 both_none None rest h = (refl, h)
 both_none (Some c) rest h = cc h
 
@@ -388,12 +388,19 @@ module _ (d : Dataset) (row : List Value) (u : Under) (fits_row : FitsRow d.colu
       (made_column_fits up s.1 name t h)
   made_column_fits (x ∷ up) s name t h = made_column_fits up s.1 name t h
 
+-- a visible column, read at a node of statements that were accepted
+pub column_fits : (d : Dataset) (row : List Value) (before : List Statement) (node : List ℕ) (u : Under) (name : List ℕ) (t : ColType)
+    → AreAccepted (fn_names d.fns) (scope_of d.columns) before → FitsRow d.columns row
+    → column_kind (visible_columns (fn_names d.fns) (scope_of d.columns) (path before node)) name ≡ Ok t
+    → FitsOutcome t (column_in d row (path before node) u name)
+column_fits d row before node u name t good fits h =
+    let sound : Sound (fn_names d.fns) (scope_of d.columns) (path before node) = sound_path (fn_names d.fns) (scope_of d.columns) before good node in
+    made_column_fits d row u fits (path before node) sound (target_of (path before node) name) t
+    (visible_resolved (fn_names d.fns) (scope_of d.columns) (path before node) sound name t h)
+
 pub accepted_columns_fit : (d : Dataset) (row : List Value) (script : Script) (node : List ℕ) (u : Under) (name : List ℕ) (t : ColType)
     → verdict (fn_names d.fns) d.columns script ≡ None → FitsRow d.columns row
     → column_kind (visible_columns (fn_names d.fns) (scope_of d.columns) (path (history script) node)) name ≡ Ok t
     → FitsOutcome t (column_in d row (path (history script) node) u name)
 accepted_columns_fit d row script node u name t good fits h =
-    let sound : Sound (fn_names d.fns) (scope_of d.columns) (path (history script) node) =
-    sound_path (fn_names d.fns) (scope_of d.columns) (history script) ((verdict_is_the_first_refusal (fn_names d.fns) d.columns script).0 good) node in
-    made_column_fits d row u fits (path (history script) node) sound (target_of (path (history script) node) name) t
-    (visible_resolved (fn_names d.fns) (scope_of d.columns) (path (history script) node) sound name t h)
+    column_fits d row (history script) node u name t ((verdict_is_the_first_refusal (fn_names d.fns) d.columns script).0 good) fits h

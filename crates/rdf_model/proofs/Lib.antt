@@ -6,6 +6,7 @@ pub mod EachColumns
 pub mod Evaluations
 pub mod Examples
 pub mod Faults
+pub mod Feeds
 pub mod Generated
 pub mod MoreExamples
 pub mod Outputs

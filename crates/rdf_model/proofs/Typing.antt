@@ -30,7 +30,7 @@ module _ (M : Type 0) where
   meets_bind P Q (Needs m) f h k = tt
 
   -- every outcome meets what is always so
-  always : {A : Type 0} (o : Outcome M A) → Meets (λ a. ⊤) o
+  pub always : {A : Type 0} (o : Outcome M A) → Meets (λ a. ⊤) o
   always (Gives a) = tt
   always (Faults e) = tt
   always (Needs m) = tt

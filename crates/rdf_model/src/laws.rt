@@ -20,7 +20,7 @@ ghost use Rattle.rdf_model.specs.Laws.{
   StatusTellsOfFaults,
   CheckedExpressionsFit,
   VerdictIsTheFirstRefusal,
-  AcceptedColumnsFit,
+  AcceptedColumnsFit, AcceptedFeedsFit,
 };
 
 /// Numbers in place of names change no evaluation.
@@ -126,4 +126,9 @@ pub fn verdict_is_the_first_refusal()
 /// In an accepted script each visible column comes to a value of its kind, or to a fault.
 pub fn accepted_columns_fit()
     ensures { AcceptedColumnsFit }
+{}
+
+/// In an accepted script what an entry feeds to an action is of kinds that the action takes.
+pub fn accepted_feeds_fit()
+    ensures { AcceptedFeedsFit }
 {}
