@@ -7,3 +7,4 @@ pub mod Typed
 pub mod Distinct
 pub mod ScopeKinds
 pub mod WellTyped
+pub mod Plain

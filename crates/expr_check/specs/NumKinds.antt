@@ -98,9 +98,13 @@ takes_no_vector fn.Abs = true
 takes_no_vector (fn.Given i) = true
 takes_no_vector f = false
 
-abbrev pub is_vector : Result ColType GraphCause → Bool
-is_vector (Ok kind.Vect) = true
+abbrev pub is_vector : ColType → Bool
+is_vector kind.Vect = true
 is_vector k = false
+
+abbrev pub gives_vector : Result ColType GraphCause → Bool
+gives_vector (Ok k) = is_vector k
+gives_vector (Err e) = false
 
 -- no part is a vector: no column is one, and nothing picks from one or calls a function of one
 module _ (kinds : List (ℕ × ColType)) where
@@ -108,7 +112,7 @@ module _ (kinds : List (ℕ × ColType)) where
     pub is_plain : NumTree → Bool
     is_plain (Lit z) = true
     is_plain (Truth b) = true
-    is_plain (Col c) = not (is_vector (number_kind kinds c))
+    is_plain (Col c) = not (gives_vector (number_kind kinds c))
     is_plain (Neg a) = is_plain a
     is_plain (Not a) = is_plain a
     is_plain (Bin o a b) = is_plain a && is_plain b
