@@ -122,65 +122,86 @@ fn kind(alloc: Global, text: &str) -> Result<Result<ColType, CheckRefusal>, Fail
     Ok(checked(alloc, text)?.map(|c| c.kind()))
 }
 
+// The place of the first expression that comes to something else.
+fn first_other(
+    alloc: Global,
+    texts: &[&str],
+    wanted: Result<ColType, CheckRefusal>,
+) -> Result<Option<usize>, Fail> {
+    for (i, text) in texts.iter().enumerate() {
+        if kind(alloc, text)? != wanted {
+            return Ok(Some(i));
+        }
+    }
+    Ok(None)
+}
+
 #[test]
-fn gives_the_kind_of_each_form(rt: HostRuntime) -> Result<(), Fail> {
-    let numbers = [
+fn numbers_are_of_these_forms(rt: HostRuntime) -> Result<(), Fail> {
+    let texts = [
         "7", "i", "i neg", "i j *", "i j /", "i j %", "i j +", "i j -", "b i j if", "v i pick",
         "v Sum/1", "v Min/1", "v Max/1", "v Size/1", "v i At/2", "i abs/1", "i j f/2",
     ];
-    for text in numbers {
-        assert_eq!(rt; kind(rt.alloc(), text)?, Ok(ColType::Int), "{text}");
-    }
-    let truths = [
-        "true", "b", "b not", "i j <", "i j <=", "i j >", "i j >=", "i j ==", "i j !=", "b b ==",
-        "b b !=", "b b &&", "b b ||", "b b b if", "v Any/1", "v All/1",
-    ];
-    for text in truths {
-        assert_eq!(rt; kind(rt.alloc(), text)?, Ok(ColType::Bool), "{text}");
-    }
-    let vectors = [
-        "v", "v neg", "v not", "i v *", "v i /", "v v %", "i v <", "v i >=", "v v ==", "i v !=",
-        "v v &&", "v v ||", "b v v if", "v v pick",
-    ];
-    for text in vectors {
-        assert_eq!(rt; kind(rt.alloc(), text)?, Ok(ColType::Vect), "{text}");
-    }
+    assert_eq!(rt; first_other(rt.alloc(), &texts, Ok(ColType::Int))?, None);
     Ok(())
 }
 
 #[test]
-fn refuses_what_has_no_kind(rt: HostRuntime) -> Result<(), Fail> {
-    assert_eq!(rt; kind(rt.alloc(), "x")?, Err(CheckRefusal::UnknownColumn));
-    assert_eq!(rt; kind(rt.alloc(), "i g/1")?, Err(CheckRefusal::UnknownFunction));
-    let counts = ["Sum/0", "v v Sum/2", "v At/1", "i j abs/2", "i f/1", "i i i f/3"];
-    for text in counts {
-        assert_eq!(rt; kind(rt.alloc(), text)?, Err(CheckRefusal::WrongCount), "{text}");
-    }
-    let kinds = [
+fn truth_values_are_of_these_forms(rt: HostRuntime) -> Result<(), Fail> {
+    let texts = [
+        "true", "b", "b not", "i j <", "i j <=", "i j >", "i j >=", "i j ==", "i j !=", "b b ==",
+        "b b !=", "b b &&", "b b ||", "b b b if", "v Any/1", "v All/1",
+    ];
+    assert_eq!(rt; first_other(rt.alloc(), &texts, Ok(ColType::Bool))?, None);
+    Ok(())
+}
+
+#[test]
+fn vectors_are_of_these_forms(rt: HostRuntime) -> Result<(), Fail> {
+    let texts = [
+        "v", "v neg", "v not", "i v *", "v i /", "v v %", "i v <", "v i >=", "v v ==", "i v !=",
+        "v v &&", "v v ||", "b v v if", "v v pick",
+    ];
+    assert_eq!(rt; first_other(rt.alloc(), &texts, Ok(ColType::Vect))?, None);
+    Ok(())
+}
+
+#[test]
+fn other_kinds_are_refused(rt: HostRuntime) -> Result<(), Fail> {
+    let texts = [
         "b neg", "i not", "b i +", "i b *", "b b <", "b i ==", "v b !=", "i j &&", "b v ||",
         "i j j if", "v i i if", "b i v if", "i i pick", "v b pick", "i Sum/1", "i i At/2",
         "v v At/2", "v abs/1", "i b f/2",
     ];
-    for text in kinds {
-        assert_eq!(rt; kind(rt.alloc(), text)?, Err(CheckRefusal::WrongType), "{text}");
-    }
+    let refusal = Err(CheckRefusal::WrongType);
+    assert_eq!(rt; first_other(rt.alloc(), &texts, refusal)?, None);
     Ok(())
 }
 
 #[test]
-fn gives_the_first_refusal(rt: HostRuntime) -> Result<(), Fail> {
-    let cases = [
-        ("b neg x +", CheckRefusal::WrongType),
-        ("x b neg +", CheckRefusal::UnknownColumn),
-        ("b x +", CheckRefusal::UnknownColumn),
-        ("x g/1", CheckRefusal::UnknownFunction),
-        ("x f/1", CheckRefusal::WrongCount),
-        ("b x f/2", CheckRefusal::UnknownColumn),
-        ("b neg x g/1 f/2", CheckRefusal::WrongType),
-    ];
-    for (text, refusal) in cases {
-        assert_eq!(rt; kind(rt.alloc(), text)?, Err(refusal), "{text}");
-    }
+fn other_counts_are_refused(rt: HostRuntime) -> Result<(), Fail> {
+    let texts = ["Sum/0", "v v Sum/2", "v At/1", "i j abs/2", "i f/1", "i i i f/3", "x f/1"];
+    let refusal = Err(CheckRefusal::WrongCount);
+    assert_eq!(rt; first_other(rt.alloc(), &texts, refusal)?, None);
+    Ok(())
+}
+
+#[test]
+fn unknown_names_are_refused(rt: HostRuntime) -> Result<(), Fail> {
+    let columns = ["x", "b x +", "x b neg +", "b x f/2"];
+    let refusal = Err(CheckRefusal::UnknownColumn);
+    assert_eq!(rt; first_other(rt.alloc(), &columns, refusal)?, None);
+    let functions = ["i g/1", "x g/1"];
+    let refusal = Err(CheckRefusal::UnknownFunction);
+    assert_eq!(rt; first_other(rt.alloc(), &functions, refusal)?, None);
+    Ok(())
+}
+
+#[test]
+fn the_left_side_is_refused_first(rt: HostRuntime) -> Result<(), Fail> {
+    let texts = ["b neg x +", "b neg x g/1 f/2"];
+    let refusal = Err(CheckRefusal::WrongType);
+    assert_eq!(rt; first_other(rt.alloc(), &texts, refusal)?, None);
     Ok(())
 }
 
