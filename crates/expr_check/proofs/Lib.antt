@@ -8,3 +8,4 @@ pub mod Distinct
 pub mod ScopeKinds
 pub mod WellTyped
 pub mod Plain
+pub mod Parts

@@ -113,11 +113,11 @@ called_scalar names fn.At s ts h each fit = absurd (vector_taken s ts (kind.Int 
 called_scalar names fn.Abs s ts h each fit = (refl, let same_shape : shape (kind.Int ∷ []) kind.Int ≡ s = cc h in ap (λ (t : Shape). is_vector t.gives) (sym same_shape))
 called_scalar names (fn.Given i) s ts h each fit = (refl, given_scalar (slice_get names i) s h)
 
-and_left : (a b : Bool) → (a && b) ≡ true → a ≡ true
+pub and_left : (a b : Bool) → (a && b) ≡ true → a ≡ true
 and_left true b h = refl
 and_left false b h = cc h
 
-and_right : (a b : Bool) → (a && b) ≡ true → b ≡ true
+pub and_right : (a b : Bool) → (a && b) ≡ true → b ≡ true
 and_right true b h = h
 and_right false b h = cc h
 
@@ -137,7 +137,7 @@ call_gives true (Ok ts) takes gives k h p = if_scalar (same_kinds ts takes) give
 -- no column is a vector, so no part is one
 module _ (kinds : List (ℕ × ColType)) (names : FunctionNames) where
   mutual
-    plain_typed : (e : NumTree) (k : ColType) → num_kind kinds names e ≡ Ok k → AllByRecursion (λ i. gives_vector (number_kind kinds i) ≡ false) (columns_in e) → (is_plain kinds e ≡ true) × (is_vector k ≡ false)
+    pub plain_typed : (e : NumTree) (k : ColType) → num_kind kinds names e ≡ Ok k → AllByRecursion (λ i. gives_vector (number_kind kinds i) ≡ false) (columns_in e) → (is_plain kinds e ≡ true) × (is_vector k ≡ false)
     plain_typed (Lit z) k h each = (refl, ap gives_vector (sym h))
     plain_typed (Truth b) k h each = (refl, ap gives_vector (sym h))
     plain_typed (Col c) k h each = (ap not each.0, ap gives_vector (sym h) ∙ each.0)
@@ -190,7 +190,7 @@ module _ (kinds : List (ℕ × ColType)) (names : FunctionNames) where
 -- each column of a plain expression is no vector
 module _ (kinds : List (ℕ × ColType)) where
   mutual
-    columns_scalar : (e : NumTree) → is_plain kinds e ≡ true → AllByRecursion (λ i. gives_vector (number_kind kinds i) ≡ false) (columns_in e)
+    pub columns_scalar : (e : NumTree) → is_plain kinds e ≡ true → AllByRecursion (λ i. gives_vector (number_kind kinds i) ≡ false) (columns_in e)
     columns_scalar (Lit z) h = tt
     columns_scalar (Truth b) h = tt
     columns_scalar (Col c) h = (not_true (gives_vector (number_kind kinds c)) h, tt)

@@ -1,10 +1,10 @@
 // Expressions that have a kind.
-ghost use Rattle.std.specs.Prelude.{◌≡◌, All, Ok, map, IfOk, IfErr};
+ghost use Rattle.std.specs.Prelude.{◌≡◌, ◌↔◌, IsTrue, All, Ok, map, IfOk, IfErr};
 ghost use Rattle.std.specs.List.{list_any};
 ghost use Rattle.rdf_values.specs.Depends.{columns_in};
 ghost use Rattle.rdf_values.specs.Kinds.{kind_of};
 ghost use Rattle.rdf_values.specs.Numbered.{kinds_in, numbered};
-ghost use Rattle.expr_check.specs.NumKinds.{number_kind, distinct, IsTyped, IsWellTyped, CallsFit, is_vector, is_plain};
+ghost use Rattle.expr_check.specs.NumKinds.{number_kind, distinct, IsTyped, IsWellTyped, CallsFit, HasNoVector, is_vector, is_plain};
 ghost use Rattle.expr_check.specs.Scopes.{numbers_in};
 ghost use Rattle.expr_check.specs.CheckAnswers.{RefusedAs};
 
@@ -59,7 +59,8 @@ impl Checked {
 
     /// Whether no part of the expression is a vector.
     pub fn plain(&self) -> bool
-        ensures { result ≡ is_plain self.now.kinds self.now.tree }
+        ensures value { result ≡ is_plain self.now.kinds self.now.tree }
+        ensures parts { (names : _) → IsWellTyped names self.now → (IsTrue result ↔ HasNoVector self.now.kinds names self.now.tree) }
     {
         !has_vector(self.kinds.as_slice())
     }
