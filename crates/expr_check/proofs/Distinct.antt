@@ -21,7 +21,7 @@ module _ (P : ℕ → Type 0) where
   each_kept true x ys here h = (here, h)
   each_kept false x ys here h = h
 
-  each_filter : (xs : List ℕ) (p : ℕ → Bool) → AllByRecursion P xs → AllByRecursion P (filter p xs)
+  pub each_filter : (xs : List ℕ) (p : ℕ → Bool) → AllByRecursion P xs → AllByRecursion P (filter p xs)
   each_filter [] p h = tt
   each_filter (x ∷ xs) p h = each_kept (p x) x (filter p xs) h.0 (each_filter xs p h.1)
 
@@ -45,3 +45,28 @@ module _ (P : ℕ → Type 0) where
 
 pub distinct_more : (xs : List ℕ) (i d : ℕ) → i < length xs → distinct (take (i + 1) xs) ≡ with_new (distinct (take i xs)) (get_or xs i d)
 distinct_more xs i d within = ap distinct (take_more xs i d within) ∙ distinct-push (take i xs) (get_or xs i d)
+
+-- no number stands twice
+abbrev pub NoTwice : List ℕ → Type 0
+NoTwice [] = Unit {0}
+NoTwice (x ∷ xs) = AllByRecursion (λ y. nat_eq x y ≡ false) xs × NoTwice xs
+
+none_left : (xs : List ℕ) (x : ℕ) → AllByRecursion (λ y. nat_eq x y ≡ false) (filter (λ y. not (nat_eq x y)) xs)
+none_left [] x = tt
+none_left (y ∷ ys) x = left_by (nat_eq x y) y (filter (λ z. not (nat_eq x z)) ys) refl (none_left ys x)
+  where
+    left_by : (b : Bool) (y : ℕ) (ys : List ℕ) → nat_eq x y ≡ b → AllByRecursion (λ z. nat_eq x z ≡ false) ys → AllByRecursion (λ z. nat_eq x z ≡ false) (cond (not b) (y ∷ ys) ys)
+    left_by true y ys is below = below
+    left_by false y ys is below = (is, below)
+
+NoTwice-filter : (xs : List ℕ) (p : ℕ → Bool) → NoTwice xs → NoTwice (filter p xs)
+NoTwice-filter [] p h = tt
+NoTwice-filter (x ∷ xs) p h = kept_by (p x) x (filter p xs) (each_filter (λ y. nat_eq x y ≡ false) xs p h.0) (NoTwice-filter xs p h.1)
+  where
+    kept_by : (b : Bool) (x : ℕ) (ys : List ℕ) → AllByRecursion (λ y. nat_eq x y ≡ false) ys → NoTwice ys → NoTwice (cond b (x ∷ ys) ys)
+    kept_by true x ys here below = (here, below)
+    kept_by false x ys here below = below
+
+pub NoTwice-distinct : (xs : List ℕ) → NoTwice (distinct xs)
+NoTwice-distinct [] = tt
+NoTwice-distinct (x ∷ xs) = (none_left (distinct xs) x, NoTwice-filter (distinct xs) (λ y. not (nat_eq x y)) (NoTwice-distinct xs))

@@ -7,3 +7,5 @@ pub mod Refused
 pub mod ScopeKinds
 pub mod Typed
 pub mod WellTyped
+pub mod Plain
+pub mod Parts

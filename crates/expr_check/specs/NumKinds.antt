@@ -1,5 +1,5 @@
 -- Kinds of numbered expressions.
-use Rattle.std.specs.Prelude.{◌≡◌, ◌≢◌, ℕ, ◌<◌, Bool, true, false, not, ◌&&◌, List, [], ◌∷◌, ◌++◌, map, filter, length, replicate, if◌then◌else◌, nat_eq, Option, Some, None, MatchOption, Result, Ok, Err, slice_get}
+use Rattle.std.specs.Prelude.{◌≡◌, ◌≢◌, ℕ, ◌<◌, Bool, true, false, not, ◌&&◌, List, [], ◌∷◌, ◌++◌, map, filter, length, replicate, if◌then◌else◌, nat_eq, All, Option, Some, None, MatchOption, Result, Ok, Err, slice_get}
 use Rattle.std.specs.List.{list_any}
 use Rattle.rdf_values.specs.Tree.{Tree, Trees, NumTree, Lit, Truth, Col, Neg, Not, Bin, Cond, Pick, Call, End, More}
 use Rattle.rdf_values.specs.Depends.{columns_in}
@@ -92,23 +92,48 @@ abbrev mutual
   AllCallsFit names End = Unit {0}
   AllCallsFit names (More a rest) = CallsFit names a × AllCallsFit names rest
 
+abbrev pub is_vector : ColType → Bool
+is_vector kind.Vect = true
+is_vector k = false
+
+abbrev pub gives_vector : Result ColType GraphCause → Bool
+gives_vector (Ok k) = is_vector k
+gives_vector (Err e) = false
+
+-- the expression and all that stands in it
+abbrev mutual
+  pub parts : {C F : Type 0} → Tree C F → List (Tree C F)
+  parts (Lit z) = Lit z ∷ []
+  parts (Truth b) = Truth b ∷ []
+  parts (Col c) = Col c ∷ []
+  parts (Neg a) = Neg a ∷ parts a
+  parts (Not a) = Not a ∷ parts a
+  parts (Bin o a b) = Bin o a b ∷ (parts a ++ parts b)
+  parts (Cond c a b) = Cond c a b ∷ (parts c ++ parts a ++ parts b)
+  parts (Pick v i) = Pick v i ∷ (parts v ++ parts i)
+  parts (Call f args) = Call f args ∷ parts_of_all args
+
+  pub parts_of_all : {C F : Type 0} → Trees C F → List (Tree C F)
+  parts_of_all End = []
+  parts_of_all (More a rest) = parts a ++ parts_of_all rest
+
+-- no part of the expression is a vector
+abbrev pub HasNoVector : List (ℕ × ColType) → FunctionNames → NumTree → Type 0
+HasNoVector kinds names e = All (λ p. gives_vector (num_kind kinds names p) ≡ false) (parts e)
+
 -- the function takes no vector
 abbrev pub takes_no_vector : Callee → Bool
 takes_no_vector fn.Abs = true
 takes_no_vector (fn.Given i) = true
 takes_no_vector f = false
 
-abbrev pub is_vector : Result ColType GraphCause → Bool
-is_vector (Ok kind.Vect) = true
-is_vector k = false
-
--- no part is a vector: no column is one, and nothing picks from one or calls a function of one
+-- no column is a vector, and nothing picks from one or calls a function of one
 module _ (kinds : List (ℕ × ColType)) where
   abbrev mutual
     pub is_plain : NumTree → Bool
     is_plain (Lit z) = true
     is_plain (Truth b) = true
-    is_plain (Col c) = not (is_vector (number_kind kinds c))
+    is_plain (Col c) = not (gives_vector (number_kind kinds c))
     is_plain (Neg a) = is_plain a
     is_plain (Not a) = is_plain a
     is_plain (Bin o a b) = is_plain a && is_plain b

@@ -1,9 +1,10 @@
 // Expressions that have a kind.
-ghost use Rattle.std.specs.Prelude.{◌≡◌, All, Ok, map, IfOk, IfErr};
+ghost use Rattle.std.specs.Prelude.{◌≡◌, ◌↔◌, IsTrue, All, Ok, map, IfOk, IfErr};
+ghost use Rattle.std.specs.List.{list_any};
 ghost use Rattle.rdf_values.specs.Depends.{columns_in};
 ghost use Rattle.rdf_values.specs.Kinds.{kind_of};
 ghost use Rattle.rdf_values.specs.Numbered.{kinds_in, numbered};
-ghost use Rattle.expr_check.specs.NumKinds.{number_kind, distinct, IsTyped, IsWellTyped, CallsFit};
+ghost use Rattle.expr_check.specs.NumKinds.{number_kind, distinct, IsTyped, IsWellTyped, CallsFit, HasNoVector, is_vector, is_plain};
 ghost use Rattle.expr_check.specs.Scopes.{numbers_in};
 ghost use Rattle.expr_check.specs.CheckAnswers.{RefusedAs};
 
@@ -56,6 +57,14 @@ impl Checked {
         self.kind
     }
 
+    /// Whether no part of the expression is a vector.
+    pub fn plain(&self) -> bool
+        ensures value { result ≡ is_plain self.now.kinds self.now.tree }
+        ensures parts { (names : _) → IsWellTyped names self.now → (IsTrue result ↔ HasNoVector self.now.kinds names self.now.tree) }
+    {
+        !has_vector(self.kinds.as_slice())
+    }
+
     /// The numbers of the columns that the expression names, each once, where it stands first.
     pub fn reads(&self) -> &[u32]
         ensures columns { result.now ≡ map (λ c. c.0) self.now.kinds }
@@ -63,6 +72,18 @@ impl Checked {
     {
         self.reads.as_slice()
     }
+}
+
+fn is_vector(kind: ColType) -> bool
+    ensures { result ≡ is_vector kind }
+{
+    matches!(kind, ColType::Vect)
+}
+
+fn has_vector(kinds: &[ColType]) -> bool
+    ensures { result ≡ list_any is_vector kinds.now }
+{
+    kinds.iter().any(|kind| is_vector(*kind))
 }
 
 /// The expression with its columns and functions numbered, or the first refusal: the parts of a node come from

@@ -11,6 +11,9 @@ mod reads;
 pub mod refusal;
 pub mod scope;
 
+#[cfg(test)]
+mod tests;
+
 pub use crate::checked::{check, Checked};
 pub use crate::refusal::CheckRefusal;
 pub use crate::scope::Scope;

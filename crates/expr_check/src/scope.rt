@@ -1,5 +1,5 @@
 // Columns that an expression may read.
-ghost use Rattle.std.specs.Prelude.{◌≡◌, ◌≢◌, ℕ, List, [], ◌∷◌, ◌++◌, All, Ok, Err, IsOk, IfOk, map, OnOk, OnErr, MatchOption, find, nat_eq};
+ghost use Rattle.std.specs.Prelude.{◌≡◌, ◌≢◌, ℕ, List, [], ◌∷◌, ◌++◌, All, Ok, Err, IsOk, IfOk, IfNone, map, OnOk, OnErr, MatchOption, find, nat_eq};
 ghost use Rattle.std.specs.Option.{option_copied};
 ghost use Rattle.rdf_values.specs.Names.{same};
 ghost use Rattle.rdf_values.specs.Kinds.{column_kind};
@@ -85,8 +85,9 @@ impl Scope {
 
     /// The kind and the number of the column of that name.
     pub fn find(&self, name: &Name) -> Option<(ColType, u32)>
-        ensures { MatchOption result (column_kind (kinds_in self.now) name.now ≡ Err UnknownColumn)
+        ensures found { MatchOption result (column_kind (kinds_in self.now) name.now ≡ Err UnknownColumn)
             (λ c. (column_kind (kinds_in self.now) name.now ≡ Ok c.0) × (number_in self.now name.now ≡ c.1)) }
+        ensures absent { IfNone result (LacksColumn name.now self.now) }
     {
         match self.named(name) {
             None => None,
@@ -96,8 +97,9 @@ impl Scope {
 
     /// The kind of the columns of that number.
     pub(crate) fn number_kind(&self, number: u32) -> Option<ColType>
-        ensures { MatchOption result (number_kind (numbers_in self.now) number ≡ Err UnknownColumn)
+        ensures found { MatchOption result (number_kind (numbers_in self.now) number ≡ Err UnknownColumn)
             (λ kind. number_kind (numbers_in self.now) number ≡ Ok kind) }
+        ensures absent { IfNone result ((kind : _) → NumberHasKind number kind self.now) }
     {
         match self.numbered(number) {
             None => None,
