@@ -1,3 +1,6 @@
 pub mod Faults
+pub mod Folds
+pub mod Order
 pub mod Points
+pub mod States
 pub mod Sums

@@ -1,3 +1,4 @@
 pub mod Extremes
 pub mod Feeding
+pub mod Holding
 pub mod Parts

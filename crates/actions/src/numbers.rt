@@ -6,6 +6,13 @@ ghost use Rattle.actions.specs.Extremes.{better_of};
 
 use rdf_values::ReduceOp;
 
+/// An operation, and what it made of the numbers so far.
+#[derive(Clone, Copy, Debug)]
+pub struct Reduction {
+    pub op: ReduceOp,
+    pub value: i64,
+}
+
 /// The sum with more numbers.
 pub fn sum_with(sum: i128, numbers: &[i64]) -> i128
     requires { nat_abs sum + length numbers.now * 2 ^ 63 < 2 ^ 127 }
