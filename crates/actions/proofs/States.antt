@@ -1,6 +1,6 @@
 -- What an accumulator holds after one more entry.
-use Rattle.std.proofs.Common.{ℕ, ◌≡◌, ◌≤◌, ◌+◌, map, length, All, List, [], ◌∷◌, ◌++◌, ℤ, pos, ◌+ℤ◌, arith, refl, ap, sym, ◌∙◌, length-append}
-use Rattle.std.specs.Prelude.{Option, Some, None, fold}
+use Rattle.std.proofs.Common.{ℕ, ◌≡◌, ◌≤◌, ◌+◌, map, length, All, List, [], ◌∷◌, ◌++◌, ℤ, pos, ◌+ℤ◌, arith, refl, ap, sym, ◌∙◌, length-append, lit≤}
+use Rattle.std.specs.Prelude.{Option, Some, None, Result, Ok, Err, OnOk, fold}
 use Rattle.std.specs.Option.{option_to_list}
 use Rattle.std.proofs.lemmas.List.{map-append}
 use Rattle.std.specs.Int.{int_max, int_min}
@@ -12,7 +12,7 @@ use Rattle.rdf_values.specs.declared.value.Scalar.{Scalar}
 use Rattle.rdf_values.specs.declared.item.Item.{Item}
 use Rattle.rdf_values.specs.declared.item.Item.TheVariants.{Number, Single, Unit}
 use Rattle.rdf_values.specs.Fold.{Cell, Count, Extreme, Filled, Flat, Reduced, Square, Sum, Taken, extreme, flat_items, fold_items, integer_sum, number_of, reduce_start, reduce_step, single_of}
-use Rattle.rdf_values.specs.Spread.{numbers, spread}
+use Rattle.rdf_values.specs.Spread.{numbers, points, points2, spread, weights}
 use Rattle.histograms.specs.OneAxis.{HasFilled, flat_cells}
 use Rattle.histograms.specs.OneAxis as one
 use Rattle.histograms.specs.TwoAxes.{HasFilled2, square_cells}
@@ -20,10 +20,14 @@ use Rattle.histograms.specs.TwoAxes as two
 use Rattle.actions.specs.declared.taken.TakenValue.{TakenValue}
 use Rattle.actions.specs.declared.state.State.{State}
 use Rattle.actions.specs.declared.state.State.TheVariants as state
+use Rattle.actions.specs.declared.items.Part.{Part}
+use Rattle.actions.specs.declared.items.Part.TheVariants as part
+use Rattle.actions.specs.declared.items.Items.{Items}
+use Rattle.actions.specs.declared.items.Items.TheVariants.{Entry, One, Weighted, Pair, WeightedPair}
 use Rattle.actions.specs.Extremes.{better_of}
 use Rattle.actions.specs.Feeding.{Fed, by_cluster, from_cluster, in_file_order}
 use Rattle.actions.specs.Holding.{Holds, fed_value, kind_of, made}
-use Rattle.actions.specs.Parts.{first_numbers, first_scalar}
+use Rattle.actions.specs.Parts.{Suits, first_numbers, first_scalar, part_values, second_part, values_of, weight_part}
 use Rattle.actions.proofs.Folds.{extreme_numbers, fold_numbers, taken_singles}
 use Rattle.actions.proofs.Order.{by_cluster-feed, in_file_order-feed}
 
@@ -148,3 +152,35 @@ module _ (fed : List Fed) (cluster : ℕ) (below : All (λ f. f.cluster ≤ clus
     made = ap Square ((fill (in_file_order fed) (record { cells = ap the_square h.made })).cells ∙ sym (ap (square_cells g'.x_edges g'.y_edges) (after is js e)));
     kept = refl;
   }
+
+-- one column gives at most 4,096 numbers
+pub first_short : (c : List ℕ) (items : Items) → Suits (kind.Sum c) items → length (first_numbers (values_of items)) ≤ 4096
+first_short c Entry h = absurd h
+first_short c (One (part.Int z)) h = lit≤ tt
+first_short c (One (part.Bool b)) h = absurd h
+first_short c (One (part.Vect zs)) h = h
+first_short c (Weighted x w) h = absurd h
+first_short c (Pair x y) h = absurd h
+first_short c (WeightedPair x y w) h = absurd h
+
+-- the points of an entry
+pub spread_flat : (edges : List ℤ) (x : List ℕ) (o : Option (List ℕ)) (items : Items) → Suits (kind.Histo1D edges x o) items
+    → spread (kind.Histo1D edges x o) (values_of items) ≡ points (first_numbers (values_of items)) (weights (length (first_numbers (values_of items))) (part_values (weight_part items)))
+spread_flat edges x o Entry h = absurd h
+spread_flat edges x o (One p) h = refl
+spread_flat edges x o (Weighted p w) h = refl
+spread_flat edges x o (Pair p q) h = absurd h
+spread_flat edges x o (WeightedPair p q w) h = absurd h
+
+pub spread_square : (xs ys : List ℤ) (x y : List ℕ) (o : Option (List ℕ)) (items : Items) → Suits (kind.Histo2D xs ys x y o) items
+    → spread (kind.Histo2D xs ys x y o) (values_of items) ≡ points2 (first_numbers (values_of items)) (second_part items) (weights (length (first_numbers (values_of items))) (part_values (weight_part items)))
+spread_square xs ys x y o Entry h = absurd h
+spread_square xs ys x y o (One p) h = absurd h
+spread_square xs ys x y o (Weighted p w) h = absurd h
+spread_square xs ys x y o (Pair p q) h = refl
+spread_square xs ys x y o (WeightedPair p q w) h = refl
+
+-- what follows where a call succeeds
+pub on_ok : {T E : Type 0} (r : Result T E) (P Q : Type 0) → OnOk r P → (P → Q) → OnOk r Q
+on_ok (Ok x) P Q h f = f h
+on_ok (Err e) P Q h f = h

@@ -16,7 +16,8 @@ pub struct Reduction {
 /// The sum with more numbers.
 pub fn sum_with(sum: i128, numbers: &[i64]) -> i128
     requires { nat_abs sum + length numbers.now * 2 ^ 63 < 2 ^ 127 }
-    ensures { result ≡ fold ◌+ℤ◌ sum numbers.now }
+    ensures value { result ≡ fold ◌+ℤ◌ sum numbers.now }
+    ensures bounded { nat_abs result ≤ nat_abs sum + length numbers.now * 2 ^ 63 }
 {
     let mut sum = sum;
     for number in numbers {
