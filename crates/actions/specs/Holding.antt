@@ -1,10 +1,11 @@
 -- What an accumulator holds.
-use Rattle.std.specs.Prelude.{ℕ, ◌≡◌, ◌≤◌, ◌+◌, ◌*◌, ◌^◌, ⊤, List, [], map, All, nat_abs}
+use Rattle.std.specs.Prelude.{ℕ, ◌≡◌, ◌≤◌, ◌+◌, ◌*◌, ◌^◌, ⊤, List, [], length, map, All, nat_abs}
 use Rattle.rdf_values.specs.declared.action.ActionKind.{ActionKind}
 use Rattle.rdf_values.specs.declared.action.ActionKind.TheVariants as kind
 use Rattle.rdf_values.specs.declared.item.Item.{Item}
 use Rattle.rdf_values.specs.declared.item.Item.TheVariants.{Single}
 use Rattle.rdf_values.specs.Fold.{Filled, fold_items, Count, Sum, Extreme, Taken, Reduced, Flat, Square}
+use Rattle.histograms.specs.Axis.{IsAxis}
 use Rattle.actions.specs.declared.taken.TakenValue.{TakenValue}
 use Rattle.actions.specs.declared.state.State.{State}
 use Rattle.actions.specs.declared.state.State.TheVariants as state
@@ -59,6 +60,13 @@ IsTake k = ⊥
 abbrev pub IsWithin : ℕ → State → Type 0
 IsWithin n (state.Count m) = m ≤ n
 IsWithin n (state.Sum c z) = nat_abs z ≤ n * 37778931862957161709568
+IsWithin n (state.Take c vs) = length vs ≤ n
 IsWithin n (state.Histo1D h x w) = h.fills ≤ n * 4096
 IsWithin n (state.Histo2D h x y w) = h.fills ≤ n * 4096
 IsWithin n s = ⊤
+
+-- the edges of each axis are at least two, strictly rise, and are few enough
+abbrev pub HasEdges : ActionKind → Type 0
+HasEdges (kind.Histo1D edges x w) = IsAxis edges
+HasEdges (kind.Histo2D xs ys x y w) = IsAxis xs × IsAxis ys
+HasEdges k = ⊤

@@ -1,4 +1,6 @@
+pub mod Accumulators
 pub mod Extremes
 pub mod Feeding
+pub mod Fillings
 pub mod Holding
 pub mod Parts

@@ -1,10 +1,15 @@
 // What an accumulator holds.
+ghost use Rattle.std.specs.Prelude.{◌≡◌, IfOk};
+ghost use Rattle.histograms.specs.Axis.{IsAxis};
+
+use crate::filled::Filled;
 use crate::fills::{fill_pairs, fill_points};
 use crate::items::Items;
-use crate::numbers::{Reduction, greatest_with, least_with, reduce_with, sum_with};
-use crate::taken::TakenValue;
-use histograms::{Hist1, Hist2};
-use rdf_values::{ListOf, Memory, Name};
+use crate::numbers::{Reduction, greatest_with, least_with, reduce_with, start, sum_with};
+use crate::taken::{Taken, TakenValue};
+use histograms::{EdgeRefusal, Edges, Hist1, Hist2};
+use rdf_values::{ActionKind, IntList, ListOf, Memory, Name};
+use std::alloc::Global;
 
 /// The action with the names of its columns, and what it made of the items so far.
 #[derive(Drop)]
@@ -44,12 +49,85 @@ pub enum State {
     },
 }
 
+// The axis of edges that make one.
+fn axis(alloc: Global, edges: &IntList) -> Result<Edges, Memory>
+    requires { IsAxis edges.now }
+    ensures { IfOk result (λ axis. axis ≡ edges.now) }
+{
+    match Edges::new(alloc, edges.as_slice()) {
+        Ok(axis) => Ok(axis),
+        Err(EdgeRefusal::Memory) => Err(Memory),
+        Err(EdgeRefusal::BadEdges) => unreachable!(),
+    }
+}
+
+// A copy of a name that may be missing.
+fn copy_of(alloc: Global, name: &Option<Name>) -> Result<Option<Name>, Memory>
+    ensures { IfOk result (λ copy. copy ≡ name.now) }
+{
+    match name {
+        Some(name) => Ok(Some(name.copy(alloc)?)),
+        None => Ok(None),
+    }
+}
+
 impl State {
-    ghost use Rattle.std.specs.Prelude.{◌≡◌, ◌≤◌, ◌+◌, ◌++◌, ℕ, List, All, None, Err, OnErr, OnOk};
+    ghost use Rattle.std.specs.Prelude.{◌≡◌, ◌≤◌, ◌+◌, ◌++◌, [], ℕ, List, All, None, IfOk, OnErr, OnOk};
     ghost use Rattle.rdf_values.specs.Spread.{feed_fault, spread};
     ghost use Rattle.actions.specs.Feeding.{Fed, from_cluster};
-    ghost use Rattle.actions.specs.Holding.{Holds, IsTake, IsWithin, kind_of};
+    ghost use Rattle.actions.specs.Holding.{HasEdges, Holds, IsTake, IsWithin, kind_of, made};
+    ghost use Rattle.actions.specs.Fillings.{filled_seen};
     ghost use Rattle.actions.specs.Parts.{Suits, values_of};
+
+    /// The state of an action to which nothing was fed.
+    pub fn new(alloc: Global, kind: &ActionKind) -> Result<State, Memory>
+        requires { HasEdges kind.now }
+        ensures { IfOk result (λ state. (kind_of state ≡ kind.now) × Holds state [] × IsWithin 0 state) }
+    {
+        match kind {
+            ActionKind::Count => Ok(State::Count(0)),
+            ActionKind::Sum(column) => Ok(State::Sum {
+                column: column.copy(alloc)?,
+                sum: 0,
+            }),
+            ActionKind::Min(column) => Ok(State::Min {
+                column: column.copy(alloc)?,
+                least: None,
+            }),
+            ActionKind::Max(column) => Ok(State::Max {
+                column: column.copy(alloc)?,
+                greatest: None,
+            }),
+            ActionKind::Take(column) => Ok(State::Take {
+                column: column.copy(alloc)?,
+                values: ListOf::new(alloc),
+            }),
+            ActionKind::Reduce(op, column) => Ok(State::Reduce {
+                column: column.copy(alloc)?,
+                reduction: Reduction {
+                    op: *op,
+                    value: start(*op),
+                },
+            }),
+            ActionKind::Histo1D { x_edges, x, weight } => Ok(State::Histo1D {
+                hist: Hist1::new(alloc, axis(alloc, x_edges)?)?,
+                x: x.copy(alloc)?,
+                weight: copy_of(alloc, weight)?,
+            }),
+            ActionKind::Histo2D {
+                x_edges,
+                y_edges,
+                x,
+                y,
+                weight,
+            } => Ok(State::Histo2D {
+                hist: Hist2::new(alloc, axis(alloc, x_edges)?, axis(alloc, y_edges)?)?,
+                x: x.copy(alloc)?,
+                y: y.copy(alloc)?,
+                weight: copy_of(alloc, weight)?,
+            }),
+        }
+    }
 
     /// Takes in what an entry of a cluster feeds.
     pub fn feed(&mut self, cluster: u32, items: &Items<'_>) -> Result<(), Memory>
@@ -95,6 +173,23 @@ impl State {
                 fill_pairs(hist, items.first(), items.second(), &items.weight());
                 Ok(())
             }
+        }
+    }
+
+    /// What was made of the items so far.
+    pub fn filled(&self) -> Filled<'_>
+        requires { IsWithin 1000000 self.now }
+        ensures { filled_seen result ≡ made self.now }
+    {
+        match self {
+            State::Count(entries) => Filled::Count(*entries),
+            State::Sum { sum, .. } => Filled::Sum(*sum),
+            State::Min { least, .. } => Filled::Extreme(*least),
+            State::Max { greatest, .. } => Filled::Extreme(*greatest),
+            State::Take { values, .. } => Filled::Taken(Taken::new(values.as_slice())),
+            State::Reduce { reduction, .. } => Filled::Number(reduction.value),
+            State::Histo1D { hist, .. } => Filled::Flat(hist),
+            State::Histo2D { hist, .. } => Filled::Square(hist),
         }
     }
 }
