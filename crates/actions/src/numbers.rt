@@ -1,6 +1,6 @@
 // Folds of numbers.
-ghost use Rattle.std.specs.Prelude.{◌≡◌, ◌+◌, ◌*◌, ◌≤◌, ◌<◌, ◌^◌, ◌+ℤ◌, nat_abs, length, fold};
-ghost use Rattle.std.specs.Int.{int_max, int_min};
+ghost use Rattle.std.specs.Prelude.{◌≡◌, ◌+◌, ◌*◌, ◌≤◌, ◌<◌, ◌^◌, ◌+ℤ◌, nat_abs, All, FitsSigned, length, fold};
+ghost use Rattle.std.specs.Int.{int_max, int_min, w64};
 ghost use Rattle.rdf_values.specs.Fold.{reduce_start, reduce_step};
 ghost use Rattle.actions.specs.Extremes.{better_of};
 
@@ -96,7 +96,8 @@ pub fn reduce(op: ReduceOp, a: i64, b: i64) -> i64
 
 /// The operation over more numbers, from left to right.
 pub fn reduce_with(op: ReduceOp, value: i64, numbers: &[i64]) -> i64
-    ensures { result ≡ fold (reduce_step op) value numbers.now }
+    ensures value { result ≡ fold (reduce_step op) value numbers.now }
+    ensures fit { All (λ z. FitsSigned w64 z) numbers.now }
 {
     let mut value = value;
     for number in numbers {
