@@ -3,6 +3,7 @@ pub mod Folds
 pub mod Operations
 pub mod Order
 pub mod Points
+pub mod Reductions
 pub mod States
 pub mod Sums
 pub mod Unordered

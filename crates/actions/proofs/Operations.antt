@@ -16,10 +16,10 @@ min_swap a x y = omega (arith, ints, clamps)
 pub max_swap : (a x y : ℤ) → int_max (int_max a x) y ≡ int_max (int_max a y) x
 max_swap a x y = omega (arith, ints, clamps)
 
-min_comm : (x y : ℤ) → int_min x y ≡ int_min y x
+pub min_comm : (x y : ℤ) → int_min x y ≡ int_min y x
 min_comm x y = omega (arith, ints, clamps)
 
-max_comm : (x y : ℤ) → int_max x y ≡ int_max y x
+pub max_comm : (x y : ℤ) → int_max x y ≡ int_max y x
 max_comm x y = omega (arith, ints, clamps)
 
 module _ (better : ℤ → ℤ → ℤ) (swap : (a x y : ℤ) → better (better a x) y ≡ better (better a y) x) (comm : (x y : ℤ) → better x y ≡ better y x) where

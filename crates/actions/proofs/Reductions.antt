@@ -1,0 +1,90 @@
+-- The operations of a Reduce over two lists of numbers that have 64 bits.
+use Rattle.std.proofs.Common.{ℕ, ◌≡◌, ◌≤◌, ◌+◌, ◌<◌, ◌^◌, ◌%◌, Bool, true, false, List, [], ◌∷◌, ◌++◌, map, ℤ, pos, negsuc, arith, refl, ap, sym, ◌∙◌, w64, FitsSigned}
+use Rattle.std.specs.Prelude.{fold, bit_and, bit_or, bit_xor, if◌then◌else◌, nat_le}
+use Rattle.std.specs.Int.{bit_at, cast_signed, cast_unsigned, int_max, int_min, int_wrapping_add}
+use Rattle.std.proofs.lemmas.Int.{clamps, ints, of_z-to_z}
+use Rattle.std.proofs.lemmas.Nat.{and_comm, and_le_l, or_comm, or_lt, xor_comm, xor_lt}
+use Rattle.std.proofs.lemmas.Nat.Bits.{bit_at_and, bit_at_or, bit_at_xor, same_from_bits}
+use Rattle.std.proofs.Math.Nat.{mod-eq_of_lt, mod-add-mod}
+use Rattle.rdf_values.specs.declared.action.ReduceOp.{ReduceOp}
+use Rattle.rdf_values.specs.declared.action.ReduceOp.TheVariants as op
+use Rattle.rdf_values.specs.declared.item.Item.{Item}
+use Rattle.rdf_values.specs.declared.item.Item.TheVariants as item
+use Rattle.rdf_values.specs.Fold.{flat_items, number_of, on_bits, reduce_start, reduce_step}
+use Rattle.actions.specs.Feeding.{Fed, by_cluster, in_file_order, put}
+use Rattle.actions.specs.Holding.{NumberFits, NumbersFit}
+use Rattle.actions.proofs.Operations.{fold_both, max_swap, min_swap, min_comm, max_comm}
+use Rattle.actions.proofs.States.{numbers_fit-append}
+use Rattle.actions.proofs.Unordered.{both_same, items_of}
+
+-- an operation on the bits of any two numbers, the bits above 64 dropped
+abbrev total_bits : (ℕ → ℕ → ℕ) → ℤ → ℤ → ℤ
+total_bits f x y = cast_signed w64 (f (cast_unsigned w64 x % 2 ^ 64) (cast_unsigned w64 y % 2 ^ 64))
+
+abbrev total_step : ReduceOp → ℤ → ℤ → ℤ
+total_step op.Min = int_min
+total_step op.Max = int_max
+total_step op.And = total_bits bit_and
+total_step op.Or = total_bits bit_or
+total_step op.Xor = total_bits bit_xor
+total_step op.WrapAdd = int_wrapping_add w64
+
+-- the bits of a number come back
+back : (n : ℕ) → n < 2 ^ 64 → cast_unsigned w64 (cast_signed w64 n) % 2 ^ 64 ≡ n
+back n h = ap (λ m. m % 2 ^ 64) (of_z-to_z w64 n h) ∙ mod-eq_of_lt h
+
+module _ (f : ℕ → ℕ → ℕ) (below : (m n : ℕ) → m < 2 ^ 64 → n < 2 ^ 64 → f m n < 2 ^ 64) (swap : (a x y : ℕ) → f (f a x) y ≡ f (f a y) x) where
+  total_swap : (a x y : ℤ) → total_bits f (total_bits f a x) y ≡ total_bits f (total_bits f a y) x
+  total_swap a x y =
+      let p = cast_unsigned w64 a % 2 ^ 64 in
+      let q = cast_unsigned w64 x % 2 ^ 64 in
+      let r = cast_unsigned w64 y % 2 ^ 64 in
+      let p_small : p < 2 ^ 64 = omega arith in
+      let q_small : q < 2 ^ 64 = omega arith in
+      let r_small : r < 2 ^ 64 = omega arith in
+      ap (λ n. cast_signed w64 (f n r)) (back (f p q) (below p q p_small q_small)) ∙ ap (cast_signed w64) (swap p q r) ∙ sym (ap (λ n. cast_signed w64 (f n q)) (back (f p r) (below p r p_small r_small)))
+
+and_lt : (m n : ℕ) → m < 2 ^ 64 → n < 2 ^ 64 → bit_and m n < 2 ^ 64
+and_lt m n h k = let le = and_le_l m n in omega arith
+
+and_swap : (a x y : ℕ) → bit_and (bit_and a x) y ≡ bit_and (bit_and a y) x
+and_swap a x y = same_from_bits _ _ (λ i. simp (bit_at_and) (omega arith))
+
+or_swap : (a x y : ℕ) → bit_or (bit_or a x) y ≡ bit_or (bit_or a y) x
+or_swap a x y = same_from_bits _ _ (λ i. simp (bit_at_or) (omega arith))
+
+xor_swap : (a x y : ℕ) → bit_xor (bit_xor a x) y ≡ bit_xor (bit_xor a y) x
+xor_swap a x y = same_from_bits _ _ (λ i. simp (bit_at_xor) (omega arith))
+
+wrap_swap : (a x y : ℤ) → int_wrapping_add w64 (int_wrapping_add w64 a x) y ≡ int_wrapping_add w64 (int_wrapping_add w64 a y) x
+wrap_swap a x y =
+    let p = cast_unsigned w64 a in
+    let q = cast_unsigned w64 x in
+    let r = cast_unsigned w64 y in
+    ap (λ n. cast_signed w64 ((n + r) % 2 ^ 64)) (of_z-to_z w64 ((p + q) % 2 ^ 64) (omega arith))
+    ∙ ap (cast_signed w64) (mod-add-mod (p + q) (2 ^ 64) r ∙ ap (λ n. n % 2 ^ 64) (let e : p + q + r ≡ p + r + q = omega arith in e) ∙ sym (mod-add-mod (p + r) (2 ^ 64) q))
+    ∙ sym (ap (λ n. cast_signed w64 ((n + q) % 2 ^ 64)) (of_z-to_z w64 ((p + r) % 2 ^ 64) (omega arith)))
+
+step_swap : (o : ReduceOp) (a x y : ℤ) → total_step o (total_step o a x) y ≡ total_step o (total_step o a y) x
+step_swap op.Min a x y = min_swap a x y
+step_swap op.Max a x y = max_swap a x y
+step_swap op.And a x y = total_swap bit_and and_lt and_swap a x y
+step_swap op.Or a x y = total_swap bit_or (or_lt 64) or_swap a x y
+step_swap op.Xor a x y = total_swap bit_xor (xor_lt 64) xor_swap a x y
+step_swap op.WrapAdd a x y = wrap_swap a x y
+
+step_comm : (o : ReduceOp) (x y : ℤ) → total_step o x y ≡ total_step o y x
+step_comm op.Min x y = min_comm x y
+step_comm op.Max x y = max_comm x y
+step_comm op.And x y = ap (cast_signed w64) (and_comm (cast_unsigned w64 x % 2 ^ 64) (cast_unsigned w64 y % 2 ^ 64))
+step_comm op.Or x y = ap (cast_signed w64) (or_comm (cast_unsigned w64 x % 2 ^ 64) (cast_unsigned w64 y % 2 ^ 64))
+step_comm op.Xor x y = ap (cast_signed w64) (xor_comm (cast_unsigned w64 x % 2 ^ 64) (cast_unsigned w64 y % 2 ^ 64))
+step_comm op.WrapAdd x y = ap (λ n. cast_signed w64 (n % 2 ^ 64)) (let e : cast_unsigned w64 x + cast_unsigned w64 y ≡ cast_unsigned w64 y + cast_unsigned w64 x = omega arith in e)
+
+start_stays : (o : ReduceOp) → total_step o (reduce_start o) (reduce_start o) ≡ reduce_start o
+start_stays op.Min = refl
+start_stays op.Max = refl
+start_stays op.And = refl
+start_stays op.Or = refl
+start_stays op.Xor = refl
+start_stays op.WrapAdd = refl
