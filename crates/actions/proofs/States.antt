@@ -27,7 +27,8 @@ use Rattle.actions.specs.declared.items.Items.{Items}
 use Rattle.actions.specs.declared.items.Items.TheVariants.{Entry, One, Weighted, Pair, WeightedPair}
 use Rattle.actions.specs.Extremes.{better_of}
 use Rattle.actions.specs.Feeding.{Fed, by_cluster, from_cluster, in_file_order}
-use Rattle.actions.specs.Holding.{Holds, NumbersFit, fed_value, kind_of, made}
+use Rattle.actions.specs.Holding.{Holds, NumbersFit, kind_of, made}
+use Rattle.actions.specs.Values.{fed_value}
 use Rattle.actions.specs.Parts.{Suits, first_numbers, first_scalar, part_values, second_part, values_of, weight_part}
 use Rattle.actions.proofs.Folds.{extreme_numbers, fold_numbers, taken_singles}
 use Rattle.actions.proofs.Order.{by_cluster-feed, in_file_order-feed}

@@ -4,13 +4,13 @@ use Rattle.std.specs.Int.{w64}
 use Rattle.rdf_values.specs.declared.action.ActionKind.{ActionKind}
 use Rattle.rdf_values.specs.declared.action.ActionKind.TheVariants as kind
 use Rattle.rdf_values.specs.declared.item.Item.{Item}
-use Rattle.rdf_values.specs.declared.item.Item.TheVariants.{Number, Single}
+use Rattle.rdf_values.specs.declared.item.Item.TheVariants.{Number}
 use Rattle.rdf_values.specs.Fold.{Filled, fold_items, Count, Sum, Extreme, Taken, Reduced, Flat, Square}
 use Rattle.histograms.specs.Axis.{IsAxis}
-use Rattle.actions.specs.declared.taken.TakenValue.{TakenValue}
 use Rattle.actions.specs.declared.state.State.{State}
 use Rattle.actions.specs.declared.state.State.TheVariants as state
 use Rattle.actions.specs.Feeding.{Fed, by_cluster, in_file_order}
+use Rattle.actions.specs.Values.{fed_value}
 
 -- the action
 abbrev pub kind_of : State → ActionKind
@@ -33,10 +33,6 @@ made (state.Take c vs) = Taken (map (λ v. v.value) vs)
 made (state.Reduce c r) = Reduced r.value
 made (state.Histo1D h x w) = Flat h.cells
 made (state.Histo2D h x y w) = Square h.cells
-
--- a value of a Take as the item that it was
-abbrev pub fed_value : TakenValue → Fed
-fed_value v = record { cluster = v.cluster; item = Single v.value }
 
 -- the values of a Take, with their clusters
 abbrev pub kept : State → List Fed

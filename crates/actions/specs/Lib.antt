@@ -4,3 +4,4 @@ pub mod Feeding
 pub mod Fillings
 pub mod Holding
 pub mod Parts
+pub mod Values
