@@ -2,10 +2,15 @@
 //! It stands on `rdf_values`, whose definitions say what is made, and on `histograms`.
 #![tactic(auto)]
 
+pub mod acc;
 pub mod fills;
+pub mod filled;
 pub mod items;
 pub mod numbers;
 pub mod state;
 pub mod taken;
 
+pub use crate::acc::{Acc, FeedStop};
+pub use crate::filled::Filled;
 pub use crate::items::{Items, Part};
+pub use crate::taken::Taken;

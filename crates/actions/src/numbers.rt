@@ -1,15 +1,23 @@
 // Folds of numbers.
-ghost use Rattle.std.specs.Prelude.{◌≡◌, ◌+◌, ◌*◌, ◌≤◌, ◌<◌, ◌^◌, ◌+ℤ◌, nat_abs, length, fold};
-ghost use Rattle.std.specs.Int.{int_max, int_min};
+ghost use Rattle.std.specs.Prelude.{◌≡◌, ◌+◌, ◌*◌, ◌≤◌, ◌<◌, ◌^◌, ◌+ℤ◌, nat_abs, All, FitsSigned, length, fold};
+ghost use Rattle.std.specs.Int.{int_max, int_min, w64};
 ghost use Rattle.rdf_values.specs.Fold.{reduce_start, reduce_step};
 ghost use Rattle.actions.specs.Extremes.{better_of};
 
 use rdf_values::ReduceOp;
 
+/// An operation, and what it made of the numbers so far.
+#[derive(Clone, Copy, Debug)]
+pub struct Reduction {
+    pub op: ReduceOp,
+    pub value: i64,
+}
+
 /// The sum with more numbers.
 pub fn sum_with(sum: i128, numbers: &[i64]) -> i128
     requires { nat_abs sum + length numbers.now * 2 ^ 63 < 2 ^ 127 }
-    ensures { result ≡ fold ◌+ℤ◌ sum numbers.now }
+    ensures value { result ≡ fold ◌+ℤ◌ sum numbers.now }
+    ensures bounded { nat_abs result ≤ nat_abs sum + length numbers.now * 2 ^ 63 }
 {
     let mut sum = sum;
     for number in numbers {
@@ -88,7 +96,8 @@ pub fn reduce(op: ReduceOp, a: i64, b: i64) -> i64
 
 /// The operation over more numbers, from left to right.
 pub fn reduce_with(op: ReduceOp, value: i64, numbers: &[i64]) -> i64
-    ensures { result ≡ fold (reduce_step op) value numbers.now }
+    ensures value { result ≡ fold (reduce_step op) value numbers.now }
+    ensures fit { All (λ z. FitsSigned w64 z) numbers.now }
 {
     let mut value = value;
     for number in numbers {
