@@ -1,0 +1,7 @@
+use Rattle.std.proofs.Common.{◌≡◌, take}
+use Rattle.std.specs.Prelude.{fold}
+use Rattle.rdf_values.specs.Fold.{reduce_step}
+use Rattle.actions.proofs.numbers.reduce_with.Given as goal
+
+abbrev pub invariant-loop-number : goal.invariant-loop-number
+invariant-loop-number l = l.value ≡ fold (reduce_step l.op) l.initial.value (take l.number-index l.numbers)

@@ -1,0 +1,9 @@
+pub mod Callees
+pub mod Calls
+pub mod Distinct
+pub mod Each
+pub mod Found
+pub mod Refused
+pub mod ScopeKinds
+pub mod Typed
+pub mod WellTyped

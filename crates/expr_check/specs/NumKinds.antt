@@ -1,0 +1,121 @@
+-- Kinds of numbered expressions.
+use Rattle.std.specs.Prelude.{◌≡◌, ◌≢◌, ℕ, ◌<◌, Bool, true, false, not, ◌&&◌, List, [], ◌∷◌, ◌++◌, map, filter, length, replicate, if◌then◌else◌, nat_eq, Option, Some, None, MatchOption, Result, Ok, Err, slice_get}
+use Rattle.std.specs.List.{list_any}
+use Rattle.rdf_values.specs.Tree.{Tree, Trees, NumTree, Lit, Truth, Col, Neg, Not, Bin, Cond, Pick, Call, End, More}
+use Rattle.rdf_values.specs.Depends.{columns_in}
+use Rattle.rdf_values.specs.Kinds.{Shape, shape, FunctionNames, args_count, kind_by, same_kind}
+use Rattle.rdf_values.specs.declared.fn_names.FnName.{FnName}
+use Rattle.rdf_values.specs.declared.value.ColType.{ColType}
+use Rattle.rdf_values.specs.declared.value.ColType.TheVariants as kind
+use Rattle.rdf_values.specs.declared.graph_cause.GraphCause.{GraphCause}
+use Rattle.rdf_values.specs.declared.graph_cause.GraphCause.TheVariants.{UnknownColumn, UnknownFunction}
+use Rattle.rdf_values.specs.declared.num_expr.Callee.{Callee}
+use Rattle.rdf_values.specs.declared.num_expr.Callee.TheVariants as fn
+
+-- the kind of the column of that number
+abbrev pub number_kind : List (ℕ × ColType) → ℕ → Result ColType GraphCause
+number_kind [] number = Err UnknownColumn
+number_kind (c ∷ cs) number = if nat_eq c.0 number then Ok c.1 else number_kind cs number
+
+-- what a function of the list takes and gives
+abbrev pub given_shape : Option FnName → Result Shape GraphCause
+given_shape None = Err UnknownFunction
+given_shape (Some f) = Ok (shape (replicate f.arity kind.Int) kind.Int)
+
+-- what a call takes and gives
+abbrev pub callee_shape : FunctionNames → Callee → Result Shape GraphCause
+callee_shape names fn.Sum = Ok (shape (kind.Vect ∷ []) kind.Int)
+callee_shape names fn.Min = Ok (shape (kind.Vect ∷ []) kind.Int)
+callee_shape names fn.Max = Ok (shape (kind.Vect ∷ []) kind.Int)
+callee_shape names fn.Size = Ok (shape (kind.Vect ∷ []) kind.Int)
+callee_shape names fn.Any = Ok (shape (kind.Vect ∷ []) kind.Bool)
+callee_shape names fn.All = Ok (shape (kind.Vect ∷ []) kind.Bool)
+callee_shape names fn.At = Ok (shape (kind.Vect ∷ kind.Int ∷ []) kind.Int)
+callee_shape names fn.Abs = Ok (shape (kind.Int ∷ []) kind.Int)
+callee_shape names (fn.Given i) = given_shape (slice_get names i)
+
+-- the kind of a numbered expression, by the kinds of its columns and the functions that it may call
+abbrev pub num_kind : List (ℕ × ColType) → FunctionNames → NumTree → Result ColType GraphCause
+num_kind kinds names e = kind_by (number_kind kinds) (callee_shape names) e
+
+-- the numbers of a list, each once, in the order of their first places
+abbrev pub distinct : List ℕ → List ℕ
+distinct [] = []
+distinct (x ∷ xs) = x ∷ filter (λ y. not (nat_eq x y)) (distinct xs)
+
+-- the list with a number at its end, unless it is there
+abbrev pub with_new : List ℕ → ℕ → List ℕ
+with_new xs x = if list_any (nat_eq x) xs then xs else xs ++ x ∷ []
+
+-- an expression with its columns numbered, their kinds, and its own kind
+pub record CheckedExpr : Type 0 where
+  pub tree : NumTree
+  pub kinds : List (ℕ × ColType)
+  pub kind : ColType
+
+abbrev pub checked_expr : NumTree → List (ℕ × ColType) → ColType → CheckedExpr
+checked_expr tree kinds kind = record { tree = tree; kinds = kinds; kind = kind }
+
+-- the expression has that kind by the kinds of its columns, of which each is given once, where it stands first
+pub record IsWellTyped (names : FunctionNames) (e : CheckedExpr) : Type 0 where
+  pub typed : num_kind e.kinds names e.tree ≡ Ok e.kind
+  pub columns : map (λ (c : ℕ × ColType). c.0) e.kinds ≡ distinct (columns_in e.tree)
+
+-- it is well typed by some list of functions
+abbrev pub IsTyped : CheckedExpr → Type 0
+IsTyped e = (names : FunctionNames) × IsWellTyped names e
+
+-- the callee is built in, or at a place of the list
+abbrev pub IsCallable : FunctionNames → Callee → Type 0
+IsCallable names (fn.Given i) = i < length names
+IsCallable names f = Unit {0}
+
+-- a call of the list is at a place of the list, with as many arguments as its function takes
+abbrev pub IsCallOf : FunctionNames → Callee → ℕ → Type 0
+IsCallOf names (fn.Given i) count = MatchOption (slice_get names i) ⊥ (λ f. f.arity ≡ count)
+IsCallOf names f count = Unit {0}
+
+-- each call of the list is so
+abbrev mutual
+  pub CallsFit : FunctionNames → NumTree → Type 0
+  CallsFit names (Lit z) = Unit {0}
+  CallsFit names (Truth b) = Unit {0}
+  CallsFit names (Col c) = Unit {0}
+  CallsFit names (Neg a) = CallsFit names a
+  CallsFit names (Not a) = CallsFit names a
+  CallsFit names (Bin o a b) = CallsFit names a × CallsFit names b
+  CallsFit names (Cond c a b) = CallsFit names c × CallsFit names a × CallsFit names b
+  CallsFit names (Pick v i) = CallsFit names v × CallsFit names i
+  CallsFit names (Call f args) = IsCallOf names f (args_count args) × AllCallsFit names args
+
+  pub AllCallsFit : FunctionNames → Trees ℕ Callee → Type 0
+  AllCallsFit names End = Unit {0}
+  AllCallsFit names (More a rest) = CallsFit names a × AllCallsFit names rest
+
+-- the function takes no vector
+abbrev pub takes_no_vector : Callee → Bool
+takes_no_vector fn.Abs = true
+takes_no_vector (fn.Given i) = true
+takes_no_vector f = false
+
+abbrev pub is_vector : Result ColType GraphCause → Bool
+is_vector (Ok kind.Vect) = true
+is_vector k = false
+
+-- no part is a vector: no column is one, and nothing picks from one or calls a function of one
+module _ (kinds : List (ℕ × ColType)) where
+  abbrev mutual
+    pub is_plain : NumTree → Bool
+    is_plain (Lit z) = true
+    is_plain (Truth b) = true
+    is_plain (Col c) = not (is_vector (number_kind kinds c))
+    is_plain (Neg a) = is_plain a
+    is_plain (Not a) = is_plain a
+    is_plain (Bin o a b) = is_plain a && is_plain b
+    is_plain (Cond c a b) = is_plain c && is_plain a && is_plain b
+    is_plain (Pick v i) = false
+    is_plain (Call f args) = takes_no_vector f && all_are_plain args
+
+    pub all_are_plain : Trees ℕ Callee → Bool
+    all_are_plain End = true
+    all_are_plain (More a rest) = is_plain a && all_are_plain rest

@@ -1,0 +1,133 @@
+// Columns that an expression may read.
+ghost use Rattle.std.specs.Prelude.{◌≡◌, ◌≢◌, ℕ, List, [], ◌∷◌, ◌++◌, All, Ok, Err, IsOk, IfOk, map, OnOk, OnErr, MatchOption, find, nat_eq};
+ghost use Rattle.std.specs.Option.{option_copied};
+ghost use Rattle.rdf_values.specs.Names.{same};
+ghost use Rattle.rdf_values.specs.Kinds.{column_kind};
+ghost use Rattle.rdf_values.specs.Numbered.{ScopeColumn, kinds_in, number_in};
+ghost use Rattle.rdf_values.specs.declared.graph_cause.GraphCause.TheVariants.{UnknownColumn};
+ghost use Rattle.expr_check.specs.NumKinds.{number_kind};
+ghost use Rattle.expr_check.specs.Scopes.{LacksColumn, NumberHasKind, NumbersHaveKinds, numbers_in};
+
+use rdf_values::{ColType, Memory, Name};
+use std::alloc::Global;
+use std::marker::Model;
+
+#[derive(Drop)]
+struct Known {
+    name: Name,
+    kind: ColType,
+    number: u32,
+}
+
+impl Model for Known {
+    ghost use Rattle.rdf_values.specs.Numbered.{ScopeColumn};
+
+    ghost Value = { ScopeColumn };
+
+    ghost view = { λ c. record { name = c.name; kind = c.kind; number = c.number } };
+}
+
+/// Columns by their names, each with its kind and a number. Columns of one number have one kind.
+#[derive(Drop)]
+pub struct Scope {
+    alloc: Global,
+    columns: Vec<Known>,
+}
+
+impl Model for Scope {
+    ghost use Rattle.std.specs.Prelude.{List};
+    ghost use Rattle.rdf_values.specs.Numbered.{ScopeColumn};
+    ghost use Rattle.expr_check.specs.Scopes.{NumbersHaveKinds};
+
+    ghost Value = { List ScopeColumn };
+
+    ghost view = { λ s. s.columns.items };
+
+    ghost invariant = { λ s. NumbersHaveKinds s.columns.items };
+}
+
+impl Scope {
+    /// No columns.
+    pub fn new(alloc: Global) -> Scope
+        ensures { result ≡ [] }
+    {
+        Scope {
+            alloc,
+            columns: Vec::new(alloc),
+        }
+    }
+
+    /// Adds a column. After want of memory the scope is as before.
+    pub fn add(&mut self, name: &Name, kind: ColType, number: u32) -> Result<(), Memory>
+        requires new { LacksColumn name.now self.old }
+        requires one_kind { NumberHasKind number kind self.old }
+        ensures ok { OnOk result (self.new ≡ self.old ++ record { name = name.now; kind = kind; number = number } ∷ []) }
+        ensures err { OnErr result (self.new ≡ self.old) }
+    {
+        let name = name.copy(self.alloc)?;
+        match self.columns.push(Known { name, kind, number }) {
+            Ok(()) => Ok(()),
+            Err(_) => Err(Memory),
+        }
+    }
+
+    fn named(&self, name: &Name) -> Option<&Known>
+        ensures { option_copied result ≡ find (λ c. same c.name name.now) self.now }
+    {
+        self.columns.iter().find(|c| c.name.is(name))
+    }
+
+    fn numbered(&self, number: u32) -> Option<&Known>
+        ensures { option_copied result ≡ find (λ c. nat_eq c.number number) self.now }
+    {
+        self.columns.iter().find(|c| c.number == number)
+    }
+
+    /// The kind and the number of the column of that name.
+    pub fn find(&self, name: &Name) -> Option<(ColType, u32)>
+        ensures { MatchOption result (column_kind (kinds_in self.now) name.now ≡ Err UnknownColumn)
+            (λ c. (column_kind (kinds_in self.now) name.now ≡ Ok c.0) × (number_in self.now name.now ≡ c.1)) }
+    {
+        match self.named(name) {
+            None => None,
+            Some(column) => Some((column.kind, column.number)),
+        }
+    }
+
+    /// The kind of the columns of that number.
+    pub(crate) fn number_kind(&self, number: u32) -> Option<ColType>
+        ensures { MatchOption result (number_kind (numbers_in self.now) number ≡ Err UnknownColumn)
+            (λ kind. number_kind (numbers_in self.now) number ≡ Ok kind) }
+    {
+        match self.numbered(number) {
+            None => None,
+            Some(column) => Some(column.kind),
+        }
+    }
+
+    fn known_kind(&self, number: u32) -> ColType
+        requires { IsOk (number_kind (numbers_in self.now) number) }
+        ensures { number_kind (numbers_in self.now) number ≡ Ok result }
+    {
+        match self.number_kind(number) {
+            Some(kind) => kind,
+            None => unreachable!(),
+        }
+    }
+
+    /// The kinds of columns by their numbers, each of which a column has.
+    pub(crate) fn kinds_of(&self, numbers: &[u32]) -> Result<Vec<ColType>, Memory>
+        requires known { NumbersHaveKinds self.now → All (λ i. IsOk (number_kind (numbers_in self.now) i)) numbers.now }
+        ensures kinds { IfOk result (λ kinds. map (λ k. Ok k) kinds.items ≡ map (number_kind (numbers_in self.now)) numbers.now) }
+        ensures one_kind { NumbersHaveKinds self.now }
+    {
+        let mut kinds = Vec::new(self.alloc);
+        for number in numbers {
+            match kinds.push(self.known_kind(*number)) {
+                Ok(()) => {}
+                Err(_) => return Err(Memory),
+            }
+        }
+        Ok(kinds)
+    }
+}

@@ -1,0 +1,13 @@
+pub mod Analyses
+pub mod Chains
+pub mod Close
+pub mod EachColumns
+pub mod Evaluations
+pub mod Examples
+pub mod Faults
+pub mod MoreExamples
+pub mod Outputs
+pub mod Parts
+pub mod Refusals
+pub mod Reports
+pub mod Variations

@@ -1,0 +1,5 @@
+pub mod Adding
+pub mod Answering
+pub mod Books
+pub mod Entries
+pub mod Prints
