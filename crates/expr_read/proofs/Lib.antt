@@ -2,6 +2,7 @@ pub mod Decided
 pub mod Examples
 pub mod Lists
 pub mod Numerals
+pub mod ReadOnce
 pub mod Readable
 pub mod Reading
 pub mod ReadsBack

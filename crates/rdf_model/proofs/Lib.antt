@@ -1,3 +1,4 @@
+pub mod Accepted
 pub mod Analyses
 pub mod Chains
 pub mod Close
@@ -5,9 +6,12 @@ pub mod EachColumns
 pub mod Evaluations
 pub mod Examples
 pub mod Faults
+pub mod Generated
 pub mod MoreExamples
 pub mod Outputs
 pub mod Parts
 pub mod Refusals
 pub mod Reports
+pub mod Typing
 pub mod Variations
+pub mod Verdicts

@@ -2,4 +2,5 @@ pub mod Adding
 pub mod Answering
 pub mod Books
 pub mod Entries
+pub mod OneDue
 pub mod Prints

@@ -6,6 +6,7 @@ mod answer;
 mod booking;
 mod counting;
 mod fetch;
+mod one_due;
 mod over_table;
 mod printing;
 mod quantity;
@@ -14,5 +15,9 @@ mod tally;
 mod to_words;
 mod top;
 
+pub use crate::one_due::at_most_one_due;
 pub use crate::status::Status;
 pub use crate::top::rdf_top;
+
+#[cfg(test)]
+mod tests;

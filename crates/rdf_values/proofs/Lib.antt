@@ -7,3 +7,4 @@ pub mod OneText
 pub mod Pushing
 pub mod Rows
 pub mod ScriptExamples
+pub mod ScriptSteps
