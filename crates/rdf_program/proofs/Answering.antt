@@ -1,5 +1,5 @@
 -- Answers to two files, and what is due to the words.
-use Rattle.std.proofs.Common.{Result, Ok, Err, IfOk, ◌≡◌, ◌≤◌, ◌⊎◌, ℕ, List, [], ◌∷◌, length, HoldsAt, Option, None, Some, IfSome, arith, sym, ◌∙◌, ap, inr, inl, refl, ⊎_elim}
+use Rattle.std.proofs.Common.{Result, Ok, Err, IfOk, ◌≡◌, ◌≤◌, ◌⊎◌, ℕ, List, [], ◌∷◌, length, HoldsAt, Option, None, Some, IfSome, arith, ap, inr, inl, refl, ⊎_elim}
 use Rattle.rdf_outside.specs.Outside.{Appends, AppendsPart, Rose}
 use Rattle.rdf_program.specs.declared.answer.Answer.{Answer}
 use Rattle.rdf_program.specs.declared.status.Status.{Status}

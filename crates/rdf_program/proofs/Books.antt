@@ -1,18 +1,16 @@
 -- Tallies and the bookings that they stand for.
-use Rattle.std.proofs.Common.{◌≡◌, ◌<◌, ℕ, suc, Bool, true, false, ◌||◌, ◌&&◌, not, nat_lt, is_some, List, [], ◌∷◌, ◌++◌, length, Some, None, Option, refl, ap, sym, ◌∙◌, codes, pos, append-nil, append_assoc, ◌≤◌, zero, drop, get_or, ◌+◌, arith}
-use Rattle.std.specs.List.{AllZip, list_any}
+use Rattle.std.proofs.Common.{◌≡◌, ◌<◌, ℕ, suc, Bool, true, false, ◌&&◌, not, nat_lt, List, [], ◌∷◌, ◌++◌, length, Some, refl, ap, sym, ◌∙◌, codes, pos, append-nil, append_assoc, ◌≤◌, zero, drop, get_or, arith}
+use Rattle.std.specs.List.{list_any}
 use Rattle.std.proofs.Math.ListN.{drop_of_length-le}
 use Rattle.rdf_values.specs.Names.{same}
 use Rattle.rdf_values.specs.declared.column.Column.{Column}
 use Rattle.rdf_values.specs.declared.action.ActionKind.{ActionKind}
-use Rattle.rdf_program.specs.Results.{Booking, fits_behind, is_booked, quantity}
+use Rattle.rdf_program.specs.Results.{Booking, is_booked, quantity}
 use Rattle.rdf_program.specs.Plan.{AreTallies, BooksAction, IsTally, is_tally_of}
 use Rattle.rdf_values.specs.declared.script.Line.{Line}
-use Rattle.rdf_values.specs.declared.statement.Statement.{Statement}
 use Rattle.rdf_values.specs.declared.statement.Statement.TheVariants as says
 use Rattle.rdf_program.specs.Results.{booking_of, bookings, names_fit}
 use Rattle.rdf_program.specs.Plan.{BooksLine}
-use Rattle.rdf_program.specs.declared.quantity.Quantity.{Quantity}
 use Rattle.rdf_program.specs.declared.tally.Tally.{Tally}
 
 -- a name is among the tallies where it is among the bookings
@@ -44,9 +42,10 @@ not_free columns name action ts after e bs h = (rw (same_names columns name bs t
 
 pub booked : (columns : List Column) (name : List ℕ) (action : ActionKind) (ts after : List Tally) (t : Tally) → true ≡ is_free name ts → Some t.quantity ≡ quantity columns action
     → t.name ≡ name → t.sum ≡ pos 0 → after ≡ ts ++ t ∷ [] → (bs : List Booking) → AreTallies columns bs ts → BooksAction columns bs name action true after
-booked columns name action ts after t e q named starts push bs h =
-    (rw (same_names columns name bs ts h, same_count columns bs ts h, ← e, ← q) refl,
-      λ f. rw push (push_tally columns bs ts _ t h (record { named = named; asked = sym q; starts = starts })))
+booked columns name action ts after t e q named starts push bs h = (
+  rw (same_names columns name bs ts h, same_count columns bs ts h, ← e, ← q) refl,
+  λ f. rw push (push_tally columns bs ts _ t h (record { named = named; asked = sym q; starts = starts })),
+)
 
 pub printed_line : (columns : List Column) (name : List ℕ) (ts : List Tally) (r : Bool) → r ≡ list_any (is_tally_of name) ts
     → (bs : List Booking) → AreTallies columns bs ts → BooksLine columns bs (says.Print name) r ts

@@ -12,7 +12,7 @@ use Rattle.rdf_values.specs.declared.column.Column.{Column}
 use Rattle.rdf_values.specs.declared.value.Value.{Value}
 use Rattle.rdf_values.specs.declared.value.Value.TheVariants as v
 use Rattle.rdf_program.specs.Results.{number_of}
-use Rattle.rdf_values.specs.Tables.{FitsRow, FitRows, IsTable, TableView}
+use Rattle.rdf_values.specs.Tables.{FitRows, IsTable, TableView}
 use Rattle.rdf_values.proofs.Rows.{fits_length}
 
 row_fits : (cols : List Column) (rows : List (List Value)) (i : ℕ) → FitRows cols rows → i < length rows → length (get_or rows i []) ≡ length cols

@@ -1,5 +1,5 @@
 -- To the same words and files at most one answer is due.
-use Rattle.std.proofs.Common.{◌≡◌, ◌⊎◌, ℕ, suc, Bool, true, false, List, [], ◌∷◌, ◌++◌, length, Option, None, Some, Result, Ok, Err, MatchResult, nat_lt, inl, inr, refl, ap, sym, subst, ◌∙◌, arith, length-append}
+use Rattle.std.proofs.Common.{◌≡◌, ℕ, suc, Bool, true, false, List, [], ◌∷◌, ◌++◌, length, Option, None, Some, Result, Ok, Err, MatchResult, nat_lt, inl, inr, refl, ap, sym, subst, ◌∙◌, arith, length-append}
 use Rattle.std.specs.Bool.{MatchBool}
 use Rattle.rdf_values.specs.TableText.{table_of}
 use Rattle.rdf_values.specs.Tables.{TableView}
@@ -11,7 +11,7 @@ use Rattle.script_read.specs.PlainScript.{ArePlainLines, IsPlainScript, none, mo
 use Rattle.script_read.proofs.PlainLines.{line_in_line, one_line}
 use Rattle.script_read.proofs.PlainScripts.{begun}
 use Rattle.table_csv.specs.Csv.{csv_records}
-use Rattle.rdf_program.specs.Due.{Due, IsDue, IsDueOverTable, IsDueToBytes, IsDueToScript, ReadsScript, WithFile, WithScript, WithTable, answered, cause_line, due_of, long_script_line, long_table_line, max_script, max_table, not_built_line}
+use Rattle.rdf_program.specs.Due.{Due, IsDue, IsDueOverTable, IsDueToBytes, IsDueToScript, ReadsScript, WithFile, answered, cause_line, due_of, long_script_line, long_table_line, max_script, max_table}
 use Rattle.rdf_program.specs.declared.status.Status.TheVariants.{ScriptRefused, TableRefused}
 
 -- ---- a text is one script at most

@@ -59,20 +59,20 @@ fn cause_line(alloc: Global, cause: TableCause) -> Result<String, Memory>
     ensures { IfOk result (λ line. string_bytes line ≡ cause_line cause) }
 {
     match cause {
-        TableCause::Header { field } => Ok(
-            format!(in alloc; "table refused at header field {field}: B1 Header\n")?,
-        ),
-        TableCause::FieldCount { entry } => Ok(
-            format!(in alloc; "table refused at entry {entry}: B2 FieldCount\n")?,
-        ),
-        TableCause::BadInt { entry, field } => Ok(
-            format!(in alloc; "table refused at entry {entry} field {field}: B3 BadInt\n")?,
-        ),
-        TableCause::BadVec { entry, field } => Ok(
-            format!(in alloc; "table refused at entry {entry} field {field}: B4 BadVec\n")?,
-        ),
-        TableCause::TooMany { entry } => Ok(
-            format!(in alloc; "table refused at entry {entry}: B5 TooMany\n")?,
-        ),
+        TableCause::Header { field } => Ok(format!(in alloc;
+            "table refused at header field {field}: B1 Header\n"
+        )?),
+        TableCause::FieldCount { entry } => Ok(format!(in alloc;
+            "table refused at entry {entry}: B2 FieldCount\n"
+        )?),
+        TableCause::BadInt { entry, field } => Ok(format!(in alloc;
+            "table refused at entry {entry} field {field}: B3 BadInt\n"
+        )?),
+        TableCause::BadVec { entry, field } => Ok(format!(in alloc;
+            "table refused at entry {entry} field {field}: B4 BadVec\n"
+        )?),
+        TableCause::TooMany { entry } => Ok(format!(in alloc;
+            "table refused at entry {entry}: B5 TooMany\n"
+        )?),
     }
 }

@@ -1,4 +1,4 @@
-use Rattle.std.proofs.Common.{arith, refl, get_or, [], length, ◌<◌}
+use Rattle.std.proofs.Common.{arith, refl, length, ◌<◌}
 use Rattle.rdf_program.proofs.Entries.{all_added, entry_added, reads_stay}
 use Rattle.rdf_program.proofs.counting.add_entries.Goals as goal
 

@@ -1,6 +1,4 @@
-use Rattle.std.proofs.Common.{add-one, get_or, [], length, ◌+◌, arith}
-use Rattle.rdf_program.specs.Plan.{IsBounded, ReadsColumn, tally_with}
-use Rattle.rdf_program.specs.declared.tally.Tally.{Tally}
+use Rattle.std.proofs.Common.{add-one, arith}
 use Rattle.rdf_program.proofs.Adding.{partly_all, partly_at, partly_more, partly_start}
 use Rattle.rdf_program.proofs.counting.add_entry.Goals as goal
 

@@ -1,4 +1,4 @@
-use Rattle.std.proofs.Common.{◌≡◌, ap, ◌∙◌, map, length, sym, arith, rules}
+use Rattle.std.proofs.Common.{◌≡◌, ap, ◌∙◌, map, length, rules}
 use Rattle.std.proofs.lemmas.List.{length-map}
 use Rattle.rdf_program.specs.Due.{due_of}
 use Rattle.rdf_program.specs.Plan.{tally_over}

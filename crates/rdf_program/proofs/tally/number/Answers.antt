@@ -1,4 +1,4 @@
-use Rattle.std.proofs.Common.{◌<◌, length, get_or, [], rules, arith, to_z-of_z, SFits, w64}
+use Rattle.std.proofs.Common.{get_or, [], rules, arith, to_z-of_z, SFits, w64}
 use Rattle.rdf_program.proofs.Entries.{found_at, no_number, row_length}
 use Rattle.rdf_program.proofs.tally.number.Goals as goal
 
