@@ -71,7 +71,7 @@ none_past (f ∷ fs) = none_past fs
 pub callee_shape-callee : (names : FunctionNames) (name : List ℕ) → callee_shape names (callee names name) ≡ shape_of names name
 callee_shape-callee names name =
     callee_shape-callee_in built_in built_in_shapes names name _ _ (refl, refl, (refl, refl, (refl, refl, (refl, refl, (refl, refl, (refl, refl, (refl, refl, (refl, refl, tt))))))))
-    (callee_shape-callee_in (given_from 0 names) (shapes names) names name (fn.Given (length names)) (Err UnknownFunction) (given_are_shaped names names 0 (λ k. grind arith)) (ap given_shape (none_past names)))
+      (callee_shape-callee_in (given_from 0 names) (shapes names) names name (fn.Given (length names)) (Err UnknownFunction) (given_are_shaped names names 0 (λ k. grind arith)) (ap given_shape (none_past names)))
 
 pub found_built_in : (names : FunctionNames) (name text : List ℕ) (f : Callee) → text ≡ name → ((other : Callee) → f ≡ callee_in built_in text other) → callee names name ≡ f
 found_built_in names name text f is found = rw (← is) (sym (found _))
@@ -79,8 +79,8 @@ found_built_in names name text f is found = rw (← is) (sym (found _))
 pub found_none : (names : FunctionNames) (name text : List ℕ) → text ≡ name → ((other : Callee) → other ≡ callee_in built_in text other) → LacksName name names → shape_of names name ≡ Err UnknownFunction
 found_none names name text is found lacks =
     let e : callee names name ≡ fn.Given (length names) =
-    ap (λ x. callee_in built_in x (callee_in (given_from 0 names) name (fn.Given (length names)))) (sym is)
-    ∙ sym (found _) ∙ callee_in-none names 0 name (fn.Given (length names)) lacks in
+      ap (λ x. callee_in built_in x (callee_in (given_from 0 names) name (fn.Given (length names)))) (sym is)
+      ∙ sym (found _) ∙ callee_in-none names 0 name (fn.Given (length names)) lacks in
     sym (callee_shape-callee names name) ∙ ap (callee_shape names) e ∙ ap given_shape (none_past names)
 
 pub found_given : (names : FunctionNames) (name text : List ℕ) (i : ℕ) → text ≡ name → ((other : Callee) → other ≡ callee_in built_in text other) → AreFnNames names → i < length names → HoldsAt (λ (f : FnName). f.name ≡ name) names i → callee names name ≡ fn.Given i
@@ -89,7 +89,7 @@ found_given names name text i is found valid within at =
     ∙ sym (found _) ∙ callee_in-at names 0 i name (fn.Given (length names)) valid.distinct within at ∙ (let none_before : 0 + i ≡ i = omega arith in ap fn.Given none_before)
 
 pub given_shape-take : (names : FunctionNames) (i n : ℕ) → n ≤ 8 → given_shape (slice_get names i) ≡ Ok (shape (replicate n kind.Int) kind.Int)
-    → given_shape (slice_get names i) ≡ Ok (shape (take n (replicate 8 kind.Int)) kind.Int)
+  → given_shape (slice_get names i) ≡ Ok (shape (take n (replicate 8 kind.Int)) kind.Int)
 given_shape-take names i n few is = rw (take-replicate n 8 kind.Int few) is
 
 pub shape_of-callee : (names : FunctionNames) (name : List ℕ) (f : Callee) (s : Result Shape GraphCause) → callee names name ≡ f → callee_shape names f ≡ s → shape_of names name ≡ s

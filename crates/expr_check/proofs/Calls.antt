@@ -21,7 +21,7 @@ given_by counted kinds takes gives =
     if counted then (kinds >>= λ ts. if same_kinds ts takes then Ok gives else Err cause.WrongType) else Err cause.WrongCount
 
 by_fit : (kinds : Result (List ColType) GraphCause) (takes : List ColType) (gives : ColType) (fit : Bool) → arguments_fit kinds takes ≡ Ok fit
-    → (kinds >>= λ ts. if same_kinds ts takes then Ok gives else Err cause.WrongType) ≡ (if fit then Ok gives else Err cause.WrongType)
+  → (kinds >>= λ ts. if same_kinds ts takes then Ok gives else Err cause.WrongType) ≡ (if fit then Ok gives else Err cause.WrongType)
 by_fit (Ok ts) takes gives fit is = let e : same_kinds ts takes ≡ fit = cc is in ap (λ b. if b then Ok gives else Err cause.WrongType) e
 by_fit (Err e) takes gives fit is = cc is
 
@@ -33,7 +33,7 @@ module _ (column : List ℕ → Result ColType GraphCause) (names : FunctionName
   call_miscounted counted is no' = kind_of_call counted is ∙ ap (λ b. given_by b (kinds_by column (shape_of names) args) takes gives) no'
 
   counted_call : (counted : Bool) → counted ≡ nat_eq (args_count args) (length takes) → counted ≡ true
-      → kind_by column (shape_of names) (Call name args) ≡ (kinds_by column (shape_of names) args >>= λ ts. if same_kinds ts takes then Ok gives else Err cause.WrongType)
+    → kind_by column (shape_of names) (Call name args) ≡ (kinds_by column (shape_of names) args >>= λ ts. if same_kinds ts takes then Ok gives else Err cause.WrongType)
   counted_call counted is yes' = kind_of_call counted is ∙ ap (λ b. given_by b (kinds_by column (shape_of names) args) takes gives) yes'
 
   pub call_refused : (counted : Bool) (e : CheckRefusal) → counted ≡ nat_eq (args_count args) (length takes) → counted ≡ true → RefusedAs e (kinds_by column (shape_of names) args) → RefusedAs e (kind_by column (shape_of names) (Call name args))
