@@ -1,5 +1,5 @@
 -- What a contract sees of columns: a table, and how its entries are cut.
-use Rattle.std.specs.Prelude.{◌≡◌, ℕ, ℤ, List, Option, Some, length, map, option_and_then, option_map, slice_get}
+use Rattle.std.specs.Prelude.{◌≡◌, ℕ, ℤ, List, Option, Some, map, option_and_then, option_map, slice_get}
 use Rattle.rdf_values.specs.Tables.{TableView}
 use Rattle.rdf_values.specs.declared.column.Column.{Column}
 use Rattle.rdf_values.specs.declared.value.ColType.{ColType}

@@ -1,7 +1,6 @@
 -- How the values of columns are kept.
-use Rattle.std.specs.Prelude.{◌≡◌, ◌<◌, ℕ, ℤ, pos, ⊤, List, [], ◌∷◌, ◌++◌, length, map, slice_index_or, Some}
+use Rattle.std.specs.Prelude.{◌≡◌, ℕ, pos, ⊤, List, [], ◌∷◌, ◌++◌, length, map, slice_index_or}
 use Rattle.rdf_values.specs.Cuts.{below}
-use Rattle.rdf_values.specs.Tables.{TableView}
 use Rattle.rdf_values.specs.declared.column.Column.{Column}
 use Rattle.rdf_values.specs.declared.value.ColType.{ColType}
 use Rattle.rdf_values.specs.declared.value.ColType.TheVariants as k
@@ -10,7 +9,6 @@ use Rattle.rdf_values.specs.declared.value.Value.TheVariants as v
 use Rattle.clusters.specs.CutsView.{CutsView}
 use Rattle.columns.specs.declared.cells.Cells.{Cells}
 use Rattle.columns.specs.declared.cells.Cells.TheVariants as kept
-use Rattle.columns.specs.ColumnsView.{cell}
 
 -- so many values of this type are kept
 abbrev pub IsKept : ColType → ℕ → Cells → Type 0

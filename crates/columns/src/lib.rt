@@ -8,3 +8,6 @@ pub mod columns;
 mod vects;
 
 pub use crate::columns::Columns;
+
+#[cfg(test)]
+mod tests;

@@ -1,5 +1,4 @@
-use Rattle.std.proofs.Common.{arith}
-use Rattle.columns.proofs.BuildSteps.{partly_end, partly_start, partly_step}
+use Rattle.columns.proofs.BuildSteps.{partly_step}
 use Rattle.columns.proofs.building.push_entry.Goals as goal
 
 pub loop-col-preserved : goal.loop-col-preserved

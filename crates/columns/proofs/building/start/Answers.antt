@@ -1,4 +1,4 @@
-use Rattle.std.proofs.Common.{[], arith, take}
+use Rattle.std.proofs.Common.{[], arith}
 use Rattle.columns.proofs.BuildSteps.{kept_more, stored_at, take_next}
 use Rattle.columns.proofs.building.start.Goals as goal
 

@@ -1,4 +1,3 @@
-use Rattle.std.proofs.Common.{◌∙◌, arith}
 use Rattle.columns.proofs.PieceLemmas.{length-pieces}
 use Rattle.columns.proofs.vects.Vects.at.Goals as goal
 
