@@ -1,11 +1,11 @@
 -- What an evaluation answers, as an outcome.
-use Rattle.std.specs.Prelude.{◌≡◌, ℕ, ℤ, Result, Ok, Err}
+use Rattle.std.specs.Prelude.{ℕ, ℤ, pos, List, Result, Ok, Err}
 use Rattle.rdf_values.specs.declared.value.Value.{Value}
 use Rattle.rdf_values.specs.declared.value.Value.TheVariants as val
 use Rattle.rdf_values.specs.declared.value.Scalar.{Scalar}
 use Rattle.rdf_values.specs.declared.value.Scalar.TheVariants as scalar
 use Rattle.rdf_values.specs.declared.fault.EntryFault.{EntryFault}
-use Rattle.rdf_model.specs.Evaluation.{Outcome, Gives, Faults, Needs}
+use Rattle.rdf_model.specs.Evaluation.{Outcome, Gives, Faults, Needs, ◌>>=◌, gives_int, sum_from}
 use Rattle.expr_eval.specs.declared.stop.ScalarStop.{ScalarStop}
 use Rattle.expr_eval.specs.declared.stop.ScalarStop.TheVariants.{Fault, Need}
 
@@ -29,3 +29,7 @@ number_outcome (Err kind) = Faults kind
 abbrev pub number_value : Result ℤ EntryFault → Outcome ℕ Value
 number_value (Ok z) = Gives (val.Int z)
 number_value (Err kind) = Faults kind
+
+-- the sum of a vector, as a value
+abbrev pub sum_of : List ℤ → Outcome ℕ Value
+sum_of zs = sum_from (pos 0) zs >>= gives_int

@@ -6,6 +6,11 @@ use Rattle.rdf_values.specs.Tree.{NumTree, Trees, Lit, Truth, Col, Neg, Not, Bin
 use Rattle.rdf_values.specs.declared.num_expr.Callee.{Callee}
 use Rattle.rdf_values.specs.declared.num_expr.Callee.TheVariants as fn
 
+-- a call of a built-in function
+abbrev pub IsBuiltIn : Callee → Type 0
+IsBuiltIn (fn.Given i) = ⊥
+IsBuiltIn callee = Unit {0}
+
 -- a function of the list is one of its places, and takes that many numbers
 abbrev pub CallFits : List Function → Callee → ℕ → Type 0
 CallFits functions (fn.Given i) count = (i < length functions) × HoldsAt (λ f. count ≡ f.arity) functions i

@@ -3,13 +3,17 @@
 #![tactic(auto)]
 
 mod calls;
+mod elements;
 pub mod inputs;
 mod number;
+mod operand;
 mod scalar;
 pub mod steps;
 pub mod stop;
+mod vector;
 
 pub use crate::inputs::{Input, Inputs};
 pub use crate::scalar::eval_int;
 pub use crate::steps::Steps;
-pub use crate::stop::ScalarStop;
+pub use crate::stop::{EvalStop, ScalarStop};
+pub use crate::vector::eval;

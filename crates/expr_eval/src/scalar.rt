@@ -10,7 +10,7 @@ ghost use Rattle.expr_eval.specs.CallsFit.{CallFits, CallsFit, ArgumentsFit};
 ghost use Rattle.expr_eval.specs.Inputs.{input_outcome};
 ghost use Rattle.expr_eval.specs.Scalars.{GivesScalar, Gathers, number_call};
 
-use crate::calls::Calls;
+use crate::calls::{Calls, answer};
 use crate::inputs::{Input, Inputs};
 use crate::number::{absolute, is_arithmetic, mark, negate, operate};
 use crate::steps::Steps;
@@ -188,10 +188,7 @@ fn call<C: Calls>(callee: Callee, numbers: &[i64], calls: &C) -> Result<Scalar, 
 {
     match (callee, numbers) {
         (Callee::Abs, [z]) => number_answer(absolute(*z)),
-        (Callee::Given(i), _) => match calls.call_at(i, numbers) {
-            Some(z) => Ok(Scalar::Int(z)),
-            None => Err(ScalarStop::Fault(EntryFault::Function)),
-        },
+        (Callee::Given(i), _) => number_answer(answer(calls, i, numbers)),
         _ => Ok(Scalar::Int(0)),
     }
 }
