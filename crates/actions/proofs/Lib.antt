@@ -1,5 +1,6 @@
 pub mod Faults
 pub mod Folds
+pub mod Merges
 pub mod Merging
 pub mod Operations
 pub mod Order

@@ -34,28 +34,28 @@ use Rattle.actions.proofs.Folds.{extreme_numbers, fold_numbers, taken_singles}
 use Rattle.actions.proofs.Order.{by_cluster-feed, in_file_order-feed}
 
 -- numbers out of a result
-abbrev the_count : Filled → ℕ
+abbrev pub the_count : Filled → ℕ
 the_count (Count n) = n
 the_count f = 0
 
-abbrev the_sum : Filled → ℤ → ℤ
+abbrev pub the_sum : Filled → ℤ → ℤ
 the_sum (Sum z) d = z
 the_sum (Reduced z) d = z
 the_sum f d = d
 
-abbrev the_extreme : Filled → Option ℤ
+abbrev pub the_extreme : Filled → Option ℤ
 the_extreme (Extreme o) = o
 the_extreme f = None
 
-abbrev the_taken : Filled → List Scalar
+abbrev pub the_taken : Filled → List Scalar
 the_taken (Taken xs) = xs
 the_taken f = []
 
-abbrev the_flat : Filled → List Cell
+abbrev pub the_flat : Filled → List Cell
 the_flat (Flat cells) = cells
 the_flat f = []
 
-abbrev the_square : Filled → List (List Cell)
+abbrev pub the_square : Filled → List (List Cell)
 the_square (Square cells) = cells
 the_square f = []
 

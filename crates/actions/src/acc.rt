@@ -36,7 +36,7 @@ impl Model for Acc {
 }
 
 impl Acc {
-    ghost use Rattle.std.specs.Prelude.{◌≡◌, ◌↔◌, ◌≤◌, ◌<◌, ◌+◌, ◌++◌, [], List, None, Some, Err, IfOk, OnErr, OnOk};
+    ghost use Rattle.std.specs.Prelude.{◌≡◌, ◌↔◌, ◌≤◌, ◌<◌, ◌+◌, ◌++◌, [], List, None, Some, Err, IfOk, OnErr, OnOk, max};
     ghost use Rattle.rdf_values.specs.declared.fault.EntryFault.{EntryFault};
     ghost use Rattle.rdf_values.specs.Spread.{feed_fault, spread};
     ghost use Rattle.rdf_values.specs.Fold.{fold_items};
@@ -83,6 +83,27 @@ impl Acc {
                 Ok(())
             }
             Err(Memory) => Err(FeedStop::Memory),
+        }
+    }
+
+    /// Takes in all that was fed to another accumulator of the same action; after `Memory` nothing has changed.
+    pub fn merge(&mut self, other: Acc) -> Result<(), Memory>
+        requires kind { other.kind ≡ self.old.kind }
+        requires room { self.old.entries + other.entries ≤ 1000000 }
+        ensures memory { OnErr result (IsTake self.old.kind) }
+        ensures err { OnErr result (self.new ≡ self.old) }
+        ensures kind { self.new.kind ≡ self.old.kind }
+        ensures entries { OnOk result (self.new.entries ≡ self.old.entries + other.entries) }
+        ensures last { OnOk result (self.new.last ≡ max self.old.last other.last) }
+        ensures fed { (fed more : List Fed) → HasFed self.old fed → HasFed other more → OnOk result (HasFed self.new (fed ++ more)) }
+    {
+        match self.state.merge(self.alloc, &other.state) {
+            Ok(()) => {
+                self.entries += other.entries;
+                self.last = self.last.max(other.last);
+                Ok(())
+            }
+            Err(Memory) => Err(Memory),
         }
     }
 

@@ -2,7 +2,7 @@
 ghost use Rattle.std.specs.Prelude.{◌≡◌, ◌+◌, ◌*◌, ◌≤◌, ◌<◌, ◌^◌, ◌+ℤ◌, nat_abs, All, FitsSigned, length, fold};
 ghost use Rattle.std.specs.Int.{int_max, int_min, w64};
 ghost use Rattle.rdf_values.specs.Fold.{reduce_start, reduce_step};
-ghost use Rattle.actions.specs.Extremes.{better_of};
+ghost use Rattle.actions.specs.Extremes.{better_of, better_of_two};
 
 use rdf_values::ReduceOp;
 
@@ -66,6 +66,26 @@ pub fn greatest_with(best: Option<i64>, numbers: &[i64]) -> Option<i64>
         best = Some(greatest(best, *number));
     }
     best
+}
+
+/// The lesser of two numbers that may both be missing.
+pub fn least_of(a: Option<i64>, b: Option<i64>) -> Option<i64>
+    ensures { result ≡ better_of_two int_min a b }
+{
+    match b {
+        Some(b) => Some(least(a, b)),
+        None => a,
+    }
+}
+
+/// The greater of two numbers that may both be missing.
+pub fn greatest_of(a: Option<i64>, b: Option<i64>) -> Option<i64>
+    ensures { result ≡ better_of_two int_max a b }
+{
+    match b {
+        Some(b) => Some(greatest(a, b)),
+        None => a,
+    }
 }
 
 /// The number from which an operation starts: it changes no number.

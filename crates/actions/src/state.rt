@@ -5,8 +5,10 @@ ghost use Rattle.histograms.specs.Axis.{IsAxis};
 use crate::filled::Filled;
 use crate::fills::{fill_pairs, fill_points};
 use crate::items::Items;
-use crate::numbers::{Reduction, greatest_with, least_with, reduce_with, start, sum_with};
-use crate::taken::{Taken, TakenValue};
+use crate::numbers::{
+    Reduction, greatest_of, greatest_with, least_of, least_with, reduce, reduce_with, start, sum_with,
+};
+use crate::taken::{Taken, TakenValue, merged};
 use histograms::{EdgeRefusal, Edges, Hist1, Hist2};
 use rdf_values::{ActionKind, IntList, ListOf, Memory, Name};
 use std::alloc::Global;
@@ -173,6 +175,79 @@ impl State {
                 fill_pairs(hist, items.first(), items.second(), &items.weight());
                 Ok(())
             }
+        }
+    }
+
+    /// Takes in all that another state of the same action holds.
+    pub fn merge(&mut self, alloc: Global, other: &State) -> Result<(), Memory>
+        requires kind { kind_of other.now ≡ kind_of self.old }
+        requires room { IsWithin 1000000 self.old }
+        requires other_room { IsWithin 1000000 other.now }
+        ensures kind { kind_of self.new ≡ kind_of self.old }
+        ensures memory { OnErr result (IsTake (kind_of self.old)) }
+        ensures err { OnErr result (self.new ≡ self.old) }
+        ensures within { (n m : ℕ) → IsWithin n self.old → IsWithin m other.now → OnOk result (IsWithin (n + m) self.new) }
+        ensures fed { (a b : List Fed) → Holds self.old a → Holds other.now b → OnOk result (Holds self.new (a ++ b)) }
+    {
+        match self {
+            State::Count(entries) => match other {
+                State::Count(more) => {
+                    *entries += *more;
+                    Ok(())
+                }
+                _ => unreachable!(),
+            },
+            State::Sum { sum, .. } => match other {
+                State::Sum { sum: more, .. } => {
+                    *sum += *more;
+                    Ok(())
+                }
+                _ => unreachable!(),
+            },
+            State::Min { least, .. } => match other {
+                State::Min { least: more, .. } => {
+                    *least = least_of(*least, *more);
+                    Ok(())
+                }
+                _ => unreachable!(),
+            },
+            State::Max { greatest, .. } => match other {
+                State::Max { greatest: more, .. } => {
+                    *greatest = greatest_of(*greatest, *more);
+                    Ok(())
+                }
+                _ => unreachable!(),
+            },
+            State::Take { values, .. } => match other {
+                State::Take { values: more, .. } => {
+                    *values = merged(alloc, values.as_slice(), more.as_slice())?;
+                    Ok(())
+                }
+                _ => unreachable!(),
+            },
+            State::Reduce { reduction, .. } => match other {
+                State::Reduce {
+                    reduction: more, ..
+                } => {
+                    reduction.value = reduce(reduction.op, reduction.value, more.value);
+                    Ok(())
+                }
+                _ => unreachable!(),
+            },
+            State::Histo1D { hist, .. } => match other {
+                State::Histo1D { hist: more, .. } => {
+                    hist.merge(more);
+                    Ok(())
+                }
+                _ => unreachable!(),
+            },
+            State::Histo2D { hist, .. } => match other {
+                State::Histo2D { hist: more, .. } => {
+                    hist.merge(more);
+                    Ok(())
+                }
+                _ => unreachable!(),
+            },
         }
     }
 
