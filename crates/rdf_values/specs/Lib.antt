@@ -5,6 +5,7 @@ pub mod Canonical
 pub mod Cuts
 pub mod Depends
 pub mod Draws
+pub mod EachColumn
 pub mod ExprTree
 pub mod Fold
 pub mod FunctionNames
@@ -12,13 +13,18 @@ pub mod Functions
 pub mod Grammar
 pub mod Integers
 pub mod Kinds
+pub mod LineForms
+pub mod LineTokens
 pub mod Machine
 pub mod Names
 pub mod NumExprTree
 pub mod Numbered
 pub mod Path
 pub mod Scans
+pub mod ScriptLines
+pub mod Scripts
 pub mod Spread
+pub mod Statements
 pub mod TableText
 pub mod Tables
 pub mod Tokens

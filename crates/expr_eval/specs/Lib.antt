@@ -1,0 +1,4 @@
+pub mod Answers
+pub mod CallsFit
+pub mod Inputs
+pub mod Scalars

@@ -1,0 +1,15 @@
+//! Evaluates numbered expressions: with numbers and truth values alone, or with vectors.
+//! It stands on `rdf_model`, whose definition of evaluation its calls meet, and on `entry_fns`, whose functions they call.
+#![tactic(auto)]
+
+mod calls;
+pub mod inputs;
+mod number;
+mod scalar;
+pub mod steps;
+pub mod stop;
+
+pub use crate::inputs::{Input, Inputs};
+pub use crate::scalar::eval_int;
+pub use crate::steps::Steps;
+pub use crate::stop::ScalarStop;
