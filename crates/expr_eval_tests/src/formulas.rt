@@ -80,3 +80,16 @@ pub fn call(alloc: Global, callee: Callee) -> Result<NumExpr, Memory>
         node: NumNode::Call(callee, NumArgs::More(column, rest)),
     })
 }
+
+/// `At` of columns 0 and 1.
+pub fn at(alloc: Global) -> Result<NumExpr, Memory>
+    ensures { IfOk result (λ e. CallsFit [] e) }
+{
+    let place = Box::new(alloc, NumNode::Col(1))?;
+    let end = Box::new(alloc, NumArgs::End)?;
+    let vector = Box::new(alloc, NumNode::Col(0))?;
+    let rest = Box::new(alloc, NumArgs::More(place, end))?;
+    Ok(NumExpr {
+        node: NumNode::Call(Callee::At, NumArgs::More(vector, rest)),
+    })
+}

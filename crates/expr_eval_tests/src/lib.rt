@@ -5,3 +5,5 @@ pub mod formulas;
 pub mod rows;
 #[cfg(test)]
 mod scalar_tests;
+#[cfg(test)]
+mod vector_tests;

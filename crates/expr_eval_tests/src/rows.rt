@@ -4,8 +4,8 @@ ghost use Rattle.expr_eval.specs.CallsFit.{CallsFit};
 ghost use Rattle.expr_eval_tests.specs.Rows.{row_outcome, scalar_row_outcome};
 
 use entry_fns::FnList;
-use expr_eval::{Input, Inputs, ScalarStop, Steps, eval_int};
-use rdf_values::{NumExpr, Scalar};
+use expr_eval::{EvalStop, Input, Inputs, ScalarStop, Steps, eval, eval_int};
+use rdf_values::{NumExpr, Scalar, Value};
 use std::alloc::Global;
 use std::marker::Brand;
 use std::sync::ledger::{Blank, Ledger};
@@ -74,4 +74,59 @@ pub fn scalar_answer(
     requires { CallsFit [] expr.now }
 {
     counted_scalar::<Brand>(Blank::new(1), alloc, expr, cells)
+}
+
+fn counted_value<L: Ledger>(
+    blank: Blank,
+    alloc: Global,
+    expr: &NumExpr,
+    cells: &[Input<'_>],
+) -> Result<Value, EvalStop>
+    requires name { blank.name ≡ L.name }
+    requires parts { blank.parts ≡ L.parts }
+    requires some { 0 < L.parts }
+    requires calls { CallsFit [] expr.now }
+{
+    let functions = FnList::new(alloc);
+    let mut steps: Steps<L> = Steps::open(blank);
+    eval(alloc, expr, &Row { cells }, &functions, &mut steps)
+}
+
+/// The value of an expression.
+pub fn value_answer(alloc: Global, expr: &NumExpr, cells: &[Input<'_>]) -> Result<Value, EvalStop>
+    requires { CallsFit [] expr.now }
+{
+    counted_value::<Brand>(Blank::new(1), alloc, expr, cells)
+}
+
+/// Whether the answer is that vector.
+pub fn is_vector(answer: Result<Value, EvalStop>, elements: &[i64]) -> bool {
+    match answer {
+        Ok(Value::Vect(list)) => list.as_slice() == elements,
+        _ => false,
+    }
+}
+
+/// Whether the answer is that number.
+pub fn is_number(answer: Result<Value, EvalStop>, number: i64) -> bool {
+    match answer {
+        Ok(Value::Int(z)) => z == number,
+        _ => false,
+    }
+}
+
+/// Whether the answer is that truth value.
+pub fn is_truth(answer: Result<Value, EvalStop>, truth: bool) -> bool {
+    match answer {
+        Ok(Value::Bool(b)) => b == truth,
+        _ => false,
+    }
+}
+
+/// Whether there is no value for that reason.
+pub fn is_stop(answer: Result<Value, EvalStop>, expected: EvalStop) -> bool {
+    match answer {
+        Err(stop) => stop == expected,
+        _ => false,
+    }
 }

@@ -1,0 +1,5 @@
+use Rattle.rdf_model.proofs.EachColumns.{all_columns}
+use Rattle.expr_eval_tests.proofs.rows.counted_value.Goals as goal
+
+pub eval-requires-clause-can : goal.eval-requires-clause-can
+eval-requires-clause-can g c = all_columns (λ d. tt) c.args.expr.now
