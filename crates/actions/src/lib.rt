@@ -3,8 +3,8 @@
 #![tactic(auto)]
 
 pub mod acc;
-pub mod fills;
 pub mod filled;
+pub mod fills;
 pub mod items;
 pub mod numbers;
 pub mod state;

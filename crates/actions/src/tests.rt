@@ -3,8 +3,7 @@ use rdf_values::{ActionKind, EntryFault, IntList, Name, ReduceOp, Scalar};
 use std::alloc::Global;
 use std::test::Fail;
 
-fn name(alloc: Global, bytes: &[u8]) -> Result<Name, Fail>
-{
+fn name(alloc: Global, bytes: &[u8]) -> Result<Name, Fail> {
     Ok(Name::read(alloc, bytes)?.ok_or("a name")?)
 }
 
@@ -38,8 +37,18 @@ fn without_entries_there_is_no_least_number_and_each_start(rt: HostRuntime) -> R
 #[test]
 fn a_sum_leaves_64_bits(rt: HostRuntime) -> Result<(), Fail> {
     let mut acc = Acc::new(rt.alloc(), &ActionKind::Sum(name(rt.alloc(), b"x")?))?;
-    acc.feed(0, &Items::One { x: Part::Int(i64::MAX) })?;
-    acc.feed(0, &Items::One { x: Part::Int(i64::MAX) })?;
+    acc.feed(
+        0,
+        &Items::One {
+            x: Part::Int(i64::MAX),
+        },
+    )?;
+    acc.feed(
+        0,
+        &Items::One {
+            x: Part::Int(i64::MAX),
+        },
+    )?;
     assert!(rt; matches!(acc.filled(), Filled::Sum(18446744073709551614)));
     Ok(())
 }
@@ -78,11 +87,29 @@ fn lengths_come_before_weights(rt: HostRuntime) -> Result<(), Fail> {
     };
     let mut acc = Acc::new(rt.alloc(), &kind)?;
     let none: &[i64] = &[];
-    let heavy = acc.feed(0, &Items::Weighted { x: Part::Vect(none), w: Part::Int(2147483648) });
+    let heavy = acc.feed(
+        0,
+        &Items::Weighted {
+            x: Part::Vect(none),
+            w: Part::Int(2147483648),
+        },
+    );
     assert_eq!(rt; heavy, Err(FeedStop::Fault(EntryFault::Weight)));
-    let longer = acc.feed(0, &Items::Weighted { x: Part::Vect(&[3, 4]), w: Part::Vect(&[1, 1, 2147483648]) });
+    let longer = acc.feed(
+        0,
+        &Items::Weighted {
+            x: Part::Vect(&[3, 4]),
+            w: Part::Vect(&[1, 1, 2147483648]),
+        },
+    );
     assert_eq!(rt; longer, Err(FeedStop::Fault(EntryFault::Lengths)));
-    let light = acc.feed(0, &Items::Weighted { x: Part::Vect(&[3, 4]), w: Part::Int(-2147483647) });
+    let light = acc.feed(
+        0,
+        &Items::Weighted {
+            x: Part::Vect(&[3, 4]),
+            w: Part::Int(-2147483647),
+        },
+    );
     assert_eq!(rt; light, Ok(()));
     Ok(())
 }
@@ -96,10 +123,30 @@ fn the_elements_of_vectors_are_filled(rt: HostRuntime) -> Result<(), Fail> {
     };
     let mut acc = Acc::new(rt.alloc(), &kind)?;
     let none: &[i64] = &[];
-    acc.feed(0, &Items::One { x: Part::Vect(&[3, 4]) })?;
-    acc.feed(0, &Items::One { x: Part::Vect(none) })?;
-    acc.feed(0, &Items::One { x: Part::Vect(&[50]) })?;
-    acc.feed(0, &Items::One { x: Part::Vect(&[1, 1, 1]) })?;
+    acc.feed(
+        0,
+        &Items::One {
+            x: Part::Vect(&[3, 4]),
+        },
+    )?;
+    acc.feed(
+        0,
+        &Items::One {
+            x: Part::Vect(none),
+        },
+    )?;
+    acc.feed(
+        0,
+        &Items::One {
+            x: Part::Vect(&[50]),
+        },
+    )?;
+    acc.feed(
+        0,
+        &Items::One {
+            x: Part::Vect(&[1, 1, 1]),
+        },
+    )?;
     match acc.filled() {
         Filled::Flat(hist) => {
             if hist.cells() == 4 {
