@@ -37,4 +37,4 @@ pub points2_filled : (xs ys ws : List ℤ) (i : ℕ) (before : List Item) (x y w
 points2_filled xs ys ws i before x y w l d e p r q =
     append_assoc before (points2 (take i xs) ys ws) (Point2 x y w ∷ [])
     ∙ ap (λ ps. before ++ ps) (ap (λ a. points2 (take i xs) ys ws ++ Point2 a y w ∷ []) p ∙ ap (λ b. points2 (take i xs) ys ws ++ Point2 (get_or xs i (pos 0)) b w ∷ []) r
-      ∙ ap (λ b. points2 (take i xs) ys ws ++ Point2 (get_or xs i (pos 0)) (get_or ys i (pos 0)) b ∷ []) q ∙ sym (points2_more xs ys ws i l d e))
+    ∙ ap (λ b. points2 (take i xs) ys ws ++ Point2 (get_or xs i (pos 0)) (get_or ys i (pos 0)) b ∷ []) q ∙ sym (points2_more xs ys ws i l d e))

@@ -163,7 +163,7 @@ numbers_fit-by_cluster (f ∷ fs) h = numbers_fit-put f (by_cluster fs) h.0 (num
 -- a Reduce of the items of two lists
 pub reduce_both : (o : ReduceOp) (a b : List Fed) → NumbersFit a → NumbersFit b
     → fold (reduce_step o) (reduce_start o) (flat_items number_of (in_file_order (a ++ b)))
-      ≡ reduce_step o (fold (reduce_step o) (reduce_start o) (flat_items number_of (in_file_order a))) (fold (reduce_step o) (reduce_start o) (flat_items number_of (in_file_order b)))
+    ≡ reduce_step o (fold (reduce_step o) (reduce_start o) (flat_items number_of (in_file_order a))) (fold (reduce_step o) (reduce_start o) (flat_items number_of (in_file_order b)))
 reduce_both o a b h k =
     let s = reduce_start o in
     let xs = flat_items number_of (in_file_order a) in

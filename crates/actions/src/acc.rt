@@ -49,7 +49,8 @@ impl Acc {
     /// An accumulator of the action, to which nothing was fed.
     pub fn new(alloc: Global, kind: &ActionKind) -> Result<Acc, Memory>
         requires { HasEdges kind.now }
-        ensures { IfOk result (λ acc. acc ≡ record { kind = kind.now; entries = 0; last = 0; filled = fold_items kind.now []; kept = kept_of kind.now [] }) }
+        ensures made { IfOk result (λ acc. acc ≡ record { kind = kind.now; entries = 0; last = 0; filled = fold_items kind.now []; kept = kept_of kind.now [] }) }
+        ensures fed { IfOk result (λ acc. HasFed acc []) }
     {
         let state = State::new(alloc, kind)?;
         Ok(Acc {
@@ -109,7 +110,8 @@ impl Acc {
 
     /// What was made of the items so far.
     pub fn filled(&self) -> Filled<'_>
-        ensures { filled_seen result ≡ self.now.filled }
+        ensures value { filled_seen result ≡ self.now.filled }
+        ensures fed { (fed : List Fed) → HasFed self.now fed → filled_seen result ≡ fold_items self.now.kind (in_file_order fed) }
     {
         self.state.filled()
     }

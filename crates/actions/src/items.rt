@@ -21,10 +21,22 @@ pub enum Part<'a> {
 #[derive(Clone, Copy, Debug)]
 pub enum Items<'a> {
     Entry,
-    One { x: Part<'a> },
-    Weighted { x: Part<'a>, w: Part<'a> },
-    Pair { x: Part<'a>, y: Part<'a> },
-    WeightedPair { x: Part<'a>, y: Part<'a>, w: Part<'a> },
+    One {
+        x: Part<'a>,
+    },
+    Weighted {
+        x: Part<'a>,
+        w: Part<'a>,
+    },
+    Pair {
+        x: Part<'a>,
+        y: Part<'a>,
+    },
+    WeightedPair {
+        x: Part<'a>,
+        y: Part<'a>,
+        w: Part<'a>,
+    },
 }
 
 impl Part<'_> {

@@ -3,8 +3,8 @@
 #![tactic(auto)]
 
 pub mod acc;
-pub mod fills;
 pub mod filled;
+pub mod fills;
 pub mod items;
 pub mod numbers;
 pub mod state;
@@ -14,3 +14,6 @@ pub use crate::acc::{Acc, FeedStop};
 pub use crate::filled::Filled;
 pub use crate::items::{Items, Part};
 pub use crate::taken::Taken;
+
+#[cfg(test)]
+mod tests;

@@ -6,7 +6,8 @@ use crate::filled::Filled;
 use crate::fills::{fill_pairs, fill_points};
 use crate::items::Items;
 use crate::numbers::{
-    Reduction, greatest_of, greatest_with, least_of, least_with, reduce, reduce_with, start, sum_with,
+    Reduction, greatest_of, greatest_with, least_of, least_with, reduce, reduce_with, start,
+    sum_with,
 };
 use crate::taken::{Taken, TakenValue, merged};
 use histograms::{EdgeRefusal, Edges, Hist1, Hist2};
@@ -227,7 +228,8 @@ impl State {
             },
             State::Reduce { reduction, .. } => match other {
                 State::Reduce {
-                    reduction: more, ..
+                    reduction: more,
+                    ..
                 } => {
                     reduction.value = reduce(reduction.op, reduction.value, more.value);
                     Ok(())

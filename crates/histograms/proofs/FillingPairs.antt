@@ -151,3 +151,7 @@ length-row xs ys cells i size l =
     let long : length (map cell_seen cells) ≡ (length xs + 1) * w = length-map cells cell_seen ∙ size in
     let room : w ≤ length (drop (i * w) (map cell_seen cells)) = rw (length-drop (i * w) (map cell_seen cells), long) (omega arith) in
     ap length (get_or-up_to (λ k. take w (drop (k * w) (map cell_seen cells))) (length xs) i [] l) ∙ length-take-le w (drop (i * w) (map cell_seen cells)) room
+
+-- as many rows as the first axis has cells
+pub length-rows : (xs ys : List ℤ) (cells : List CellSum) → length (rows_up_to (length xs) (length ys + 1) (map cell_seen cells)) ≡ length xs + 1
+length-rows xs ys cells = length-map (up_to (length xs)) (λ i. take (length ys + 1) (drop (i * (length ys + 1)) (map cell_seen cells))) ∙ length-up_to (length xs)

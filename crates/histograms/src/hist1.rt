@@ -70,9 +70,17 @@ impl Hist1 {
         self.fills += other.fills;
     }
 
+    /// The number of cells: that of the edges plus one.
+    pub fn cells(&self) -> u32
+        ensures edges { result ≡ length self.now.edges + 1 }
+        ensures cells { result ≡ length self.now.cells }
+    {
+        self.x.cells()
+    }
+
     /// A cell by its place: 0 for underflow, then the bins in order, then overflow.
     pub fn cell(&self, i: u32) -> CellSum
-        requires { i ≤ length self.now.edges }
+        requires { i < length self.now.cells }
         ensures { slice_get self.now.cells i ≡ Some (cell_seen result) }
     {
         self.cells[i as usize]

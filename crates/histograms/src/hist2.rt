@@ -31,7 +31,7 @@ impl Model for Hist2 {
 }
 
 impl Hist2 {
-    ghost use Rattle.std.specs.Prelude.{◌≡◌, ◌<◌, ◌≤◌, ◌+◌, ◌∷◌, ◌++◌, [], List, IfOk, length, slice_get, slice_index_or, Some};
+    ghost use Rattle.std.specs.Prelude.{◌≡◌, ◌<◌, ◌≤◌, ◌+◌, ◌∷◌, ◌++◌, [], ℕ, List, IfOk, length, slice_get, slice_index_or, Some};
     ghost use Rattle.rdf_values.specs.declared.item.Item.{Item};
     ghost use Rattle.rdf_values.specs.declared.item.Item.TheVariants.{Point2};
     ghost use Rattle.histograms.specs.Cells.{IsWeight, cell_seen};
@@ -79,10 +79,20 @@ impl Hist2 {
         self.fills += other.fills;
     }
 
+    /// The numbers of cells of the first and of the second axis.
+    pub fn cells(&self) -> (u32, u32)
+        ensures x_edges { result.0 ≡ length self.now.x_edges + 1 }
+        ensures y_edges { result.1 ≡ length self.now.y_edges + 1 }
+        ensures rows { result.0 ≡ length self.now.cells }
+        ensures columns { (i : ℕ) → i < result.0 → length (slice_index_or self.now.cells i []) ≡ result.1 }
+    {
+        (self.x.cells(), self.y.cells())
+    }
+
     /// A cell by its places on the axes: 0 for underflow, then the bins in order, then overflow.
     pub fn cell(&self, i: u32, j: u32) -> CellSum
-        requires x { i ≤ length self.now.x_edges }
-        requires y { j ≤ length self.now.y_edges }
+        requires x { i < length self.now.cells }
+        requires y { j < length (slice_index_or self.now.cells i []) }
         ensures { slice_get (slice_index_or self.now.cells i []) j ≡ Some (cell_seen result) }
     {
         let at = place(self.y.cells(), i, j);

@@ -20,7 +20,7 @@ fn weighted_values_fall_into_their_bins(rt: HostRuntime) -> Result<(), Fail> {
     hist.fill(40, 1);
     hist.fill(5, -3);
     for (i, sum, squares) in [(0, 0, 0), (1, -3, 9), (2, 1, 1), (3, 3, 5)] {
-        if i < 4 {
+        if i < hist.cells() {
             let cell = hist.cell(i);
             assert_eq!(rt; (cell.sum, cell.squares), (sum, squares));
         }
@@ -40,7 +40,7 @@ fn values_of_several_fills_add_up_after_a_merge(rt: HostRuntime) -> Result<(), F
     other.fill(1, 1);
     hist.merge(&other);
     for (i, sum, squares) in [(0, 0, 0), (1, 3, 3), (2, 2, 2), (3, 1, 1)] {
-        if i < 4 {
+        if i < hist.cells() {
             let cell = hist.cell(i);
             assert_eq!(rt; (cell.sum, cell.squares), (sum, squares));
         }
@@ -57,8 +57,10 @@ fn pairs_fall_into_the_cells_of_both_axes(rt: HostRuntime) -> Result<(), Fail> {
     hist.fill(25, 2, 1);
     hist.fill(40, 1, 1);
     hist.fill(5, -3, 1);
-    for i in 0..4 {
-        for j in 0..3 {
+    let (rows, columns) = hist.cells();
+    assert_eq!(rt; (rows, columns), (4, 3));
+    for i in 0..rows {
+        for j in 0..columns {
             let cell = hist.cell(i, j);
             let filled = [(1, 0), (1, 1), (2, 1), (2, 2)].contains(&(i, j));
             let wanted = if filled { 1 } else { 0 };

@@ -26,6 +26,6 @@ loop-i-preserved c =
       y_edges = c.fill.ensures.y_edges ∙ c.loop-i.invariant.y_edges;
       fills = c.fill.ensures.fills ∙ (let f = c.loop-i.invariant.fills in omega arith);
       filled = λ before held. subst (HasFilled2 c.fill.new.self)
-        (points2_filled xs ys ws i before _ _ _ below c.requires.pairs c.requires.lengths (to_z-of_z w64 x fits_x) (to_z-of_z w64 y fits_y) (to_z-of_z w64 c.weight_at.result fits_w ∙ sym weight))
-        (c.fill.ensures.filled (before ++ points2 (take i xs) ys ws) (c.loop-i.invariant.filled before held));
+          (points2_filled xs ys ws i before _ _ _ below c.requires.pairs c.requires.lengths (to_z-of_z w64 x fits_x) (to_z-of_z w64 y fits_y) (to_z-of_z w64 c.weight_at.result fits_w ∙ sym weight))
+          (c.fill.ensures.filled (before ++ points2 (take i xs) ys ws) (c.loop-i.invariant.filled before held));
     }

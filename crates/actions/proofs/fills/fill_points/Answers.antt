@@ -22,6 +22,6 @@ loop-i-preserved c =
       edges = c.fill.ensures.edges ∙ c.loop-i.invariant.edges;
       fills = c.fill.ensures.fills ∙ (let f = c.loop-i.invariant.fills in omega arith);
       filled = λ before held. subst (HasFilled c.fill.new.self)
-        (points_filled xs ws i before _ _ below c.requires.lengths (to_z-of_z w64 x fits_x) (to_z-of_z w64 c.weight_at.result fits_w ∙ sym weight))
-        (c.fill.ensures.filled (before ++ points (take i xs) ws) (c.loop-i.invariant.filled before held));
+          (points_filled xs ws i before _ _ below c.requires.lengths (to_z-of_z w64 x fits_x) (to_z-of_z w64 c.weight_at.result fits_w ∙ sym weight))
+          (c.fill.ensures.filled (before ++ points (take i xs) ws) (c.loop-i.invariant.filled before held));
     }

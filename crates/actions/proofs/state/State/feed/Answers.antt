@@ -25,7 +25,7 @@ returns-in-Sum-clause-fed c = λ fed below held.
     let fits : FitsSigned w128 c.sum_with.result = search rules in
     let fits_sum : FitsSigned w128 c.in-Sum.sum = search rules in
     rw c.in-Sum.is (holds_sum fed c.args.cluster below c.in-Sum.column c.in-Sum.sum _ _
-      (to_z-of_z w128 c.sum_with.result fits ∙ c.sum_with.ensures.value ∙ ap (λ z. fold ◌+ℤ◌ z c.first.result.now) (to_z-of_z w128 c.in-Sum.sum fits_sum) ∙ ap (fold ◌+ℤ◌ c.in-Sum.sum) c.first.ensures) (rw c.in-Sum.is at held))
+    (to_z-of_z w128 c.sum_with.result fits ∙ c.sum_with.ensures.value ∙ ap (λ z. fold ◌+ℤ◌ z c.first.result.now) (to_z-of_z w128 c.in-Sum.sum fits_sum) ∙ ap (fold ◌+ℤ◌ c.in-Sum.sum) c.first.ensures) (rw c.in-Sum.is at held))
 
 pub returns-in-Min-clause-fed : goal.returns-in-Min-clause-fed
 returns-in-Min-clause-fed c = λ fed below held.
@@ -44,19 +44,19 @@ returns-in-Reduce-clause-fed c = λ fed below held.
     let fits : FitsSigned w64 c.reduce_with-reduction.result = search rules in
     let fits_value : FitsSigned w64 c.in-Reduce.reduction.value = search rules in
     rw c.in-Reduce.is (holds_reduce fed c.args.cluster below c.in-Reduce.column c.in-Reduce.reduction.op c.in-Reduce.reduction.value _ _
-      (to_z-of_z w64 c.reduce_with-reduction.result fits ∙ c.reduce_with-reduction.ensures.value ∙ ap (λ z. fold (reduce_step c.in-Reduce.reduction.op) z c.first-in-Reduce.result.now) (to_z-of_z w64 c.in-Reduce.reduction.value fits_value)
-        ∙ ap (fold (reduce_step c.in-Reduce.reduction.op) c.in-Reduce.reduction.value) c.first-in-Reduce.ensures) (rw c.first-in-Reduce.ensures at c.reduce_with-reduction.ensures.fit) (rw c.in-Reduce.is at held))
+    (to_z-of_z w64 c.reduce_with-reduction.result fits ∙ c.reduce_with-reduction.ensures.value ∙ ap (λ z. fold (reduce_step c.in-Reduce.reduction.op) z c.first-in-Reduce.result.now) (to_z-of_z w64 c.in-Reduce.reduction.value fits_value)
+    ∙ ap (fold (reduce_step c.in-Reduce.reduction.op) c.in-Reduce.reduction.value) c.first-in-Reduce.ensures) (rw c.first-in-Reduce.ensures at c.reduce_with-reduction.ensures.fit) (rw c.in-Reduce.is at held))
 
 pub returns-in-Histo1D-clause-fed : goal.returns-in-Histo1D-clause-fed
 returns-in-Histo1D-clause-fed c = λ fed below held.
     let suits = rw c.in-Histo1D.is at c.requires.suits in
     rw c.in-Histo1D.is (holds_flat fed c.args.cluster below c.in-Histo1D.hist c.fill_points.new.hist c.in-Histo1D.x c.in-Histo1D.weight _ _
-      (spread_flat c.in-Histo1D.hist.edges c.in-Histo1D.x c.in-Histo1D.weight c.args.items.now suits ∙ rw (← c.first-in-Histo1D.ensures, ← c.weight.ensures) refl)
-      c.fill_points.ensures.filled (rw c.in-Histo1D.is at held))
+    (spread_flat c.in-Histo1D.hist.edges c.in-Histo1D.x c.in-Histo1D.weight c.args.items.now suits ∙ rw (← c.first-in-Histo1D.ensures, ← c.weight.ensures) refl)
+    c.fill_points.ensures.filled (rw c.in-Histo1D.is at held))
 
 pub returns-in-Histo2D-clause-fed : goal.returns-in-Histo2D-clause-fed
 returns-in-Histo2D-clause-fed c = λ fed below held.
     let suits = rw c.in-Histo2D.is at c.requires.suits in
     rw c.in-Histo2D.is (holds_square fed c.args.cluster below c.in-Histo2D.hist c.fill_pairs.new.hist c.in-Histo2D.x c.in-Histo2D.y c.in-Histo2D.weight _ _
-      (spread_square c.in-Histo2D.hist.x_edges c.in-Histo2D.hist.y_edges c.in-Histo2D.x c.in-Histo2D.y c.in-Histo2D.weight c.args.items.now suits ∙ rw (← c.first-in-Histo2D.ensures, ← c.second.ensures, ← c.weight-in-Histo2D.ensures) refl)
-      c.fill_pairs.ensures.filled (rw c.in-Histo2D.is at held))
+    (spread_square c.in-Histo2D.hist.x_edges c.in-Histo2D.hist.y_edges c.in-Histo2D.x c.in-Histo2D.y c.in-Histo2D.weight c.args.items.now suits ∙ rw (← c.first-in-Histo2D.ensures, ← c.second.ensures, ← c.weight-in-Histo2D.ensures) refl)
+    c.fill_pairs.ensures.filled (rw c.in-Histo2D.is at held))
