@@ -2,7 +2,7 @@
 use Rattle.std.proofs.Common.{◌≡◌, ℕ, Bool, true, false, List, length, Result, Ok, Err, ap, subst, ◌∙◌, sym, refl}
 use Rattle.std.specs.Prelude.{nat_eq, if◌then◌else◌}
 use Rattle.rdf_values.specs.Tree.{Trees, Call}
-use Rattle.rdf_values.specs.Kinds.{Shape, shape, FunctionNames, shape_of, kind_by, kinds_by, args_count, same_kinds, ◌>>=◌}
+use Rattle.rdf_values.specs.Kinds.{shape, FunctionNames, shape_of, kind_by, kinds_by, args_count, same_kinds, ◌>>=◌}
 use Rattle.rdf_values.specs.Numbered.{callee}
 use Rattle.rdf_values.specs.declared.value.ColType.{ColType}
 use Rattle.rdf_values.specs.declared.num_expr.Callee.{Callee}
@@ -21,7 +21,7 @@ given_by counted kinds takes gives =
     if counted then (kinds >>= λ ts. if same_kinds ts takes then Ok gives else Err cause.WrongType) else Err cause.WrongCount
 
 by_fit : (kinds : Result (List ColType) GraphCause) (takes : List ColType) (gives : ColType) (fit : Bool) → arguments_fit kinds takes ≡ Ok fit
-  → (kinds >>= λ ts. if same_kinds ts takes then Ok gives else Err cause.WrongType) ≡ (if fit then Ok gives else Err cause.WrongType)
+    → (kinds >>= λ ts. if same_kinds ts takes then Ok gives else Err cause.WrongType) ≡ (if fit then Ok gives else Err cause.WrongType)
 by_fit (Ok ts) takes gives fit is = let e : same_kinds ts takes ≡ fit = cc is in ap (λ b. if b then Ok gives else Err cause.WrongType) e
 by_fit (Err e) takes gives fit is = cc is
 
@@ -33,7 +33,7 @@ module _ (column : List ℕ → Result ColType GraphCause) (names : FunctionName
   call_miscounted counted is no' = kind_of_call counted is ∙ ap (λ b. given_by b (kinds_by column (shape_of names) args) takes gives) no'
 
   counted_call : (counted : Bool) → counted ≡ nat_eq (args_count args) (length takes) → counted ≡ true
-    → kind_by column (shape_of names) (Call name args) ≡ (kinds_by column (shape_of names) args >>= λ ts. if same_kinds ts takes then Ok gives else Err cause.WrongType)
+      → kind_by column (shape_of names) (Call name args) ≡ (kinds_by column (shape_of names) args >>= λ ts. if same_kinds ts takes then Ok gives else Err cause.WrongType)
   counted_call counted is yes' = kind_of_call counted is ∙ ap (λ b. given_by b (kinds_by column (shape_of names) args) takes gives) yes'
 
   pub call_refused : (counted : Bool) (e : CheckRefusal) → counted ≡ nat_eq (args_count args) (length takes) → counted ≡ true → RefusedAs e (kinds_by column (shape_of names) args) → RefusedAs e (kind_by column (shape_of names) (Call name args))

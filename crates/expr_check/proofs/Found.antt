@@ -1,5 +1,5 @@
 -- The first column of a scope with a name or a number.
-use Rattle.std.proofs.Common.{◌≡◌, ◌≢◌, ℕ, Bool, true, false, cond, List, [], ◌∷◌, Option, Some, None, Result, Ok, Err, refl, nat_eq, arith}
+use Rattle.std.proofs.Common.{◌≡◌, ◌≢◌, ℕ, Bool, true, false, cond, List, [], ◌∷◌, Option, Some, None, Ok, Err, refl, nat_eq, arith}
 use Rattle.std.specs.Prelude.{find}
 use Rattle.std.specs.List.{AllByRecursion}
 use Rattle.std.proofs.lemmas.Bool.Decides.{Decides-eqb}
@@ -41,7 +41,7 @@ lacks_by_recursion [] name is = tt
 lacks_by_recursion (c ∷ cs) name is = lacks_by (same c.name name) (λ e. (bytes_eq-Decides c.name name).1 e) (lacks_by_recursion cs name) is
   where
     lacks_by : (b : Bool) → (c.name ≡ name → b ≡ true) → (column_kind (kinds_in cs) name ≡ Err UnknownColumn → AllByRecursion (λ (d : ScopeColumn). d.name ≢ name) cs)
-      → cond b (Ok c.kind) (column_kind (kinds_in cs) name) ≡ Err UnknownColumn → (c.name ≢ name) × AllByRecursion (λ (d : ScopeColumn). d.name ≢ name) cs
+        → cond b (Ok c.kind) (column_kind (kinds_in cs) name) ≡ Err UnknownColumn → (c.name ≢ name) × AllByRecursion (λ (d : ScopeColumn). d.name ≢ name) cs
     lacks_by true here below is = cc is
     lacks_by false here below is = (λ e. let f = here e in cc f, below is)
 
@@ -54,7 +54,7 @@ no_number_by_recursion [] number k is = tt
 no_number_by_recursion (c ∷ cs) number k is = no_number_by (nat_eq c.number number) (λ e. (Decides-eqb c.number number).1 e) (no_number_by_recursion cs number k) is
   where
     no_number_by : (b : Bool) → (c.number ≡ number → b ≡ true) → (number_kind (numbers_in cs) number ≡ Err UnknownColumn → AllByRecursion (λ (d : ScopeColumn). d.number ≡ number → d.kind ≡ k) cs)
-      → cond b (Ok c.kind) (number_kind (numbers_in cs) number) ≡ Err UnknownColumn → (c.number ≡ number → c.kind ≡ k) × AllByRecursion (λ (d : ScopeColumn). d.number ≡ number → d.kind ≡ k) cs
+        → cond b (Ok c.kind) (number_kind (numbers_in cs) number) ≡ Err UnknownColumn → (c.number ≡ number → c.kind ≡ k) × AllByRecursion (λ (d : ScopeColumn). d.number ≡ number → d.kind ≡ k) cs
     no_number_by true here below is = cc is
     no_number_by false here below is = (λ e. let f = here e in cc f, below is)
 

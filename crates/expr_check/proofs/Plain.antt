@@ -1,13 +1,13 @@
 -- A well typed expression is plain where none of its columns is a vector.
-use Rattle.std.proofs.Common.{◌≡◌, ℕ, ◌+◌, Bool, true, false, List, [], ◌∷◌, ◌++◌, length, map, Option, Some, None, Result, Ok, Err, refl, ap, sym, ◌∙◌, subst, cond, arith}
+use Rattle.std.proofs.Common.{◌≡◌, ℕ, Bool, true, false, List, [], ◌∷◌, ◌++◌, length, Option, Some, None, Result, Ok, Err, refl, ap, sym, ◌∙◌, subst, cond, arith}
 use Rattle.std.specs.Prelude.{nat_eq, not, ◌&&◌, ◌||◌, slice_get, replicate, if◌then◌else◌}
-use Rattle.std.specs.List.{AllByRecursion, zip, list_any, filter}
+use Rattle.std.specs.List.{AllByRecursion, zip, list_any}
 use Rattle.std.proofs.lemmas.Bool.{false_from_ne_true}
 use Rattle.std.proofs.lemmas.Bool.Decides.{Decides-eqb}
 use Rattle.std.proofs.lemmas.Slice.Zip.{firsts-zip}
-use Rattle.rdf_values.specs.Tree.{Tree, Trees, NumTree, Lit, Truth, Col, Neg, Not, Bin, Cond, Pick, Call, End, More}
+use Rattle.rdf_values.specs.Tree.{Trees, NumTree, Lit, Truth, Col, Neg, Not, Bin, Cond, Pick, Call, End, More}
 use Rattle.rdf_values.specs.Depends.{columns_in, columns_in_all}
-use Rattle.rdf_values.specs.Kinds.{Shape, shape, ◌>>=◌, FunctionNames, kind_by, kinds_by, args_count, same_kind, same_kinds, arithmetic_kind, logical_kind, equality_kind, operator_kind, negated_kind, inverted_kind, chosen_kind, picked_kind}
+use Rattle.rdf_values.specs.Kinds.{Shape, shape, ◌>>=◌, FunctionNames, kinds_by, args_count, same_kind, same_kinds, arithmetic_kind, logical_kind, equality_kind, operator_kind, negated_kind, inverted_kind, chosen_kind, picked_kind}
 use Rattle.rdf_values.specs.declared.expr.BinOp.{BinOp}
 use Rattle.rdf_values.specs.declared.expr.BinOp.TheVariants as op
 use Rattle.rdf_values.specs.declared.value.ColType.{ColType}
@@ -129,7 +129,7 @@ not_true true h = cc h
 not_true false h = refl
 
 call_gives : (counted : Bool) (kinds : Result (List ColType) GraphCause) (takes : List ColType) (gives k : ColType)
-  → (if counted then (kinds >>= λ ts. if same_kinds ts takes then Ok gives else Err WrongType) else Err WrongCount) ≡ Ok k → is_vector gives ≡ false → is_vector k ≡ false
+    → (if counted then (kinds >>= λ ts. if same_kinds ts takes then Ok gives else Err WrongType) else Err WrongCount) ≡ Ok k → is_vector gives ≡ false → is_vector k ≡ false
 call_gives false kinds takes gives k h p = cc h
 call_gives true (Err e) takes gives k h p = cc h
 call_gives true (Ok ts) takes gives k h p = if_scalar (same_kinds ts takes) gives k h p
@@ -177,7 +177,7 @@ module _ (kinds : List (ℕ × ColType)) (names : FunctionNames) where
         (both (takes_no_vector f) (all_are_plain kinds args) q.0 p.0, call_gives (nat_eq (args_count args) (length s.0.takes)) (kinds_by (number_kind kinds) (callee_shape names) args) s.0.takes s.0.gives k s.2 q.1)
 
     all_plain_typed : (args : Trees ℕ Callee) (ks : List ColType) → kinds_by (number_kind kinds) (callee_shape names) args ≡ Ok ks → AllByRecursion (λ i. gives_vector (number_kind kinds i) ≡ false) (columns_in_all args)
-      → (all_are_plain kinds args ≡ true) × AllByRecursion (λ t. is_vector t ≡ false) ks
+        → (all_are_plain kinds args ≡ true) × AllByRecursion (λ t. is_vector t ≡ false) ks
     all_plain_typed End ks h each = let none : [] ≡ ks = cc h in (refl, subst (AllByRecursion (λ t. is_vector t ≡ false)) none tt)
     all_plain_typed (More a rest) ks h each =
         let w = bind_ok (num_kind kinds names a) _ ks h in
@@ -201,8 +201,8 @@ module _ (kinds : List (ℕ × ColType)) where
     columns_scalar (Cond c a b) h =
         let first = and_left (is_plain kinds c && is_plain kinds a) (is_plain kinds b) h in
         each_append (λ i. gives_vector (number_kind kinds i) ≡ false) (columns_in c ++ columns_in a) (columns_in b)
-          (each_append (λ i. gives_vector (number_kind kinds i) ≡ false) (columns_in c) (columns_in a) (columns_scalar c (and_left (is_plain kinds c) (is_plain kinds a) first)) (columns_scalar a (and_right (is_plain kinds c) (is_plain kinds a) first)))
-          (columns_scalar b (and_right (is_plain kinds c && is_plain kinds a) (is_plain kinds b) h))
+        (each_append (λ i. gives_vector (number_kind kinds i) ≡ false) (columns_in c) (columns_in a) (columns_scalar c (and_left (is_plain kinds c) (is_plain kinds a) first)) (columns_scalar a (and_right (is_plain kinds c) (is_plain kinds a) first)))
+        (columns_scalar b (and_right (is_plain kinds c && is_plain kinds a) (is_plain kinds b) h))
     columns_scalar (Pick v i) h = cc h
     columns_scalar (Call f args) h = all_columns_scalar args (and_right (takes_no_vector f) (all_are_plain kinds args) h)
 
@@ -247,13 +247,13 @@ none_vector (n ∷ ns) (k ∷ ks) once beside each =
     let itself : nat_eq n n ≡ true = (Decides-eqb n n).1 refl in
     let here : is_vector k ≡ false = sym (ap (λ b. gives_vector (cond b (Ok k) (number_kind (zip ns ks) n))) itself) ∙ each.0 in
     let below : AllByRecursion (λ i. gives_vector (number_kind (zip ns ks) i) ≡ false) ns =
-      each_of_two (λ i. nat_eq n i ≡ false) (λ i. gives_vector (number_kind (zip (n ∷ ns) (k ∷ ks)) i) ≡ false) (λ i. gives_vector (number_kind (zip ns ks) i) ≡ false)
-        (λ i differ scalar. sym (ap (λ b. gives_vector (cond b (Ok k) (number_kind (zip ns ks) i))) differ) ∙ scalar) ns once.0 each.1 in
+    each_of_two (λ i. nat_eq n i ≡ false) (λ i. gives_vector (number_kind (zip (n ∷ ns) (k ∷ ks)) i) ≡ false) (λ i. gives_vector (number_kind (zip ns ks) i) ≡ false)
+    (λ i differ scalar. sym (ap (λ b. gives_vector (cond b (Ok k) (number_kind (zip ns ks) i))) differ) ∙ scalar) ns once.0 each.1 in
     rw (here, none_vector ns ks once.1 (omega arith) below) refl
 
 -- a well typed expression is plain exactly where none of its columns is a vector
 pub plain_by_kinds : (names : FunctionNames) (tree : NumTree) (numbers : List ℕ) (kinds : List ColType) (k : ColType) → length kinds ≡ length numbers → IsWellTyped names (checked_expr tree (zip numbers kinds) k)
-  → not (list_any is_vector kinds) ≡ is_plain (zip numbers kinds) tree
+    → not (list_any is_vector kinds) ≡ is_plain (zip numbers kinds) tree
 plain_by_kinds names tree numbers kinds k beside typed = by_test (list_any is_vector kinds) refl
   where
     are : numbers ≡ distinct (columns_in tree)
@@ -263,7 +263,7 @@ plain_by_kinds names tree numbers kinds k beside typed = by_test (list_any is_ve
     vectors plain =
         let P : List ℕ → Type 0 = AllByRecursion (λ i. gives_vector (number_kind (zip numbers kinds) i) ≡ false) in
         none_vector numbers kinds (subst NoTwice (sym are) (NoTwice-distinct (columns_in tree))) beside
-          (subst P (sym are) (each_distinct (λ i. gives_vector (number_kind (zip numbers kinds) i) ≡ false) (columns_in tree) (columns_scalar (zip numbers kinds) tree plain)))
+        (subst P (sym are) (each_distinct (λ i. gives_vector (number_kind (zip numbers kinds) i) ≡ false) (columns_in tree) (columns_scalar (zip numbers kinds) tree plain)))
 
     by_test : (b : Bool) → list_any is_vector kinds ≡ b → not b ≡ is_plain (zip numbers kinds) tree
     by_test true is = sym (false_from_ne_true (is_plain (zip numbers kinds) tree) (λ plain. let none = vectors plain in cc (is, none)))

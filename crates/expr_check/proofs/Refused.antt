@@ -1,8 +1,7 @@
 -- A refusal of the first step is the refusal of the whole.
-use Rattle.std.proofs.Common.{◌≡◌, Result, Ok, Err, ap}
+use Rattle.std.proofs.Common.{Result, ap}
 use Rattle.rdf_values.specs.Kinds.{◌>>=◌}
 use Rattle.rdf_values.specs.declared.graph_cause.GraphCause.{GraphCause}
-use Rattle.rdf_values.specs.declared.graph_cause.GraphCause.TheVariants as cause
 use Rattle.expr_check.specs.declared.refusal.CheckRefusal.{CheckRefusal}
 use Rattle.expr_check.specs.declared.refusal.CheckRefusal.TheVariants.{UnknownColumn, UnknownFunction, WrongType, WrongCount, Memory}
 use Rattle.expr_check.specs.CheckAnswers.{RefusedAs}

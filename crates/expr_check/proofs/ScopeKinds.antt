@@ -1,10 +1,9 @@
 -- The kinds of a scope's columns by their names and by their numbers.
-use Rattle.std.proofs.Common.{◌≡◌, ℕ, Bool, true, false, List, [], ◌∷◌, length, map, Result, Ok, Err, IsOk, refl, ap, sym, ◌∙◌, cond, subst, arith}
-use Rattle.std.specs.Prelude.{nat_eq, All, if◌then◌else◌}
+use Rattle.std.proofs.Common.{◌≡◌, ℕ, Bool, true, false, List, [], ◌∷◌, map, Result, Ok, Err, IsOk, refl, ap, sym, ◌∙◌, cond}
+use Rattle.std.specs.Prelude.{nat_eq}
 use Rattle.std.specs.List.{AllByRecursion, zip}
-use Rattle.std.proofs.lemmas.Grind.{common_steps}
 use Rattle.std.proofs.lemmas.Bool.Decides.{Decides-eqb}
-use Rattle.std.proofs.lemmas.List.Elements.{recursion_from_All, All-from_recursion}
+use Rattle.std.proofs.lemmas.List.Elements.{recursion_from_All}
 use Rattle.rdf_values.specs.Names.{same}
 use Rattle.rdf_values.specs.Kinds.{column_kind}
 use Rattle.rdf_values.specs.Numbered.{ScopeColumn, kinds_in, number_in}
@@ -18,13 +17,13 @@ nat_eq-itself n = (Decides-eqb n n).1 refl
 
 -- the column that a name means, with all that holds of each column
 named : (cs : List ScopeColumn) (name : List ℕ) (k : ColType) (P : ScopeColumn → Type 0) → AllByRecursion P cs → column_kind (kinds_in cs) name ≡ Ok k
-  → (c : ScopeColumn) × (c.kind ≡ k) × (c.number ≡ number_in cs name) × P c
+    → (c : ScopeColumn) × (c.kind ≡ k) × (c.number ≡ number_in cs name) × P c
 named [] name k P each is = cc is
 named (c ∷ cs) name k P each is = named_by (same c.name name) c cs k (number_in cs name) (column_kind (kinds_in cs) name) P each.0 (named cs name k P each.1) is
   where
     named_by : (b : Bool) (c : ScopeColumn) (cs : List ScopeColumn) (k : ColType) (n : ℕ) (r : Result ColType GraphCause) (P : ScopeColumn → Type 0) → P c
-      → (r ≡ Ok k → (d : ScopeColumn) × (d.kind ≡ k) × (d.number ≡ n) × P d) → cond b (Ok c.kind) r ≡ Ok k
-      → (d : ScopeColumn) × (d.kind ≡ k) × (d.number ≡ cond b c.number n) × P d
+        → (r ≡ Ok k → (d : ScopeColumn) × (d.kind ≡ k) × (d.number ≡ n) × P d) → cond b (Ok c.kind) r ≡ Ok k
+        → (d : ScopeColumn) × (d.kind ≡ k) × (d.number ≡ cond b c.number n) × P d
     named_by true c cs k n r P here below is = (c, cc is, refl, here)
     named_by false c cs k n r P here below is = below is
 
@@ -38,7 +37,7 @@ number_known (c ∷ cs) name k is = known_at (same c.name name) c.number c.kind 
     below_known false kind r below = below
 
     known_at : (b : Bool) (number : ℕ) (kind : ColType) (n : ℕ) (kind_at : ℕ → Result ColType GraphCause) (r : Result ColType GraphCause) (k : ColType) → cond b (Ok kind) r ≡ Ok k
-      → (r ≡ Ok k → (l : ColType) × (kind_at n ≡ Ok l)) → (l : ColType) × (cond (nat_eq number (cond b number n)) (Ok kind) (kind_at (cond b number n)) ≡ Ok l)
+        → (r ≡ Ok k → (l : ColType) × (kind_at n ≡ Ok l)) → (l : ColType) × (cond (nat_eq number (cond b number n)) (Ok kind) (kind_at (cond b number n)) ≡ Ok l)
     known_at true number kind n kind_at r k is below = (kind, rw (nat_eq-itself number) refl)
     known_at false number kind n kind_at r k is below = below_known (nat_eq number n) kind (kind_at n) (below is)
 
@@ -60,7 +59,7 @@ number_kind-number_in cs name one known = by_kind (column_kind (kinds_in cs) nam
         let c = named cs name k (λ (d : ScopeColumn). NumberHasKind d.number d.kind cs) (recursion_from_All (λ (d : ScopeColumn). NumberHasKind d.number d.kind cs) cs one) is in
         let l = number_known cs name k is in
         let each : AllByRecursion (λ (d : ScopeColumn). d.number ≡ number_in cs name → d.kind ≡ k) cs =
-          recursion_from_All (λ (d : ScopeColumn). d.number ≡ number_in cs name → d.kind ≡ k) cs (rw (c.1, c.2) at c.3) in
+        recursion_from_All (λ (d : ScopeColumn). d.number ≡ number_in cs name → d.kind ≡ k) cs (rw (c.1, c.2) at c.3) in
         ap Ok (sym (number_kind-of_all cs (number_in cs name) k l.0 each l.1)) ∙ sym l.1
 
     by_kind : (r : Result ColType GraphCause) → column_kind (kinds_in cs) name ≡ r → IsOk r → r ≡ number_kind (numbers_in cs) (number_in cs name)
@@ -81,7 +80,8 @@ each_by_zip [] kinds kind_at is = tt
 each_by_zip (n ∷ ns) [] kind_at is = cc is
 each_by_zip (n ∷ ns) (k ∷ ks) kind_at is =
     let head : kind_at n ≡ Ok k = cc is in
-    let tail : map (λ (k : ColType). Ok k) ks ≡ map kind_at ns = cc is in
-    (rw (nat_eq-itself n) head,
+    let tail : map (λ (k : ColType). Ok k) ks ≡ map kind_at ns = cc is in (
+      rw (nat_eq-itself n) head,
       each_weaker (λ i. kind_at i ≡ number_kind (zip ns ks) i) (λ i. kind_at i ≡ number_kind (zip (n ∷ ns) (k ∷ ks)) i)
-        (λ i below. in_front (nat_eq n i) k (number_kind (zip ns ks) i) (kind_at i) (λ e. ap kind_at (sym ((Decides-eqb n i).0 e)) ∙ head) below) ns (each_by_zip ns ks kind_at tail))
+          (λ i below. in_front (nat_eq n i) k (number_kind (zip ns ks) i) (kind_at i) (λ e. ap kind_at (sym ((Decides-eqb n i).0 e)) ∙ head) below) ns (each_by_zip ns ks kind_at tail),
+    )

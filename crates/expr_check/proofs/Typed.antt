@@ -1,5 +1,5 @@
 -- Kinds of an expression under other kinds of columns, and of the expression numbered.
-use Rattle.std.proofs.Common.{◌≡◌, ℕ, ◌+◌, Bool, true, false, List, [], ◌∷◌, ◌++◌, length, map, Result, Ok, Err, IsOk, refl, ap, sym, ◌∙◌}
+use Rattle.std.proofs.Common.{◌≡◌, ◌+◌, Bool, true, false, List, ◌++◌, length, Result, Ok, Err, IsOk, refl, ap}
 use Rattle.std.specs.Prelude.{nat_eq, if◌then◌else◌}
 use Rattle.std.specs.List.{AllByRecursion}
 use Rattle.rdf_values.specs.Tree.{Tree, Trees, Lit, Truth, Col, Neg, Not, Bin, Cond, Pick, Call, End, More}
@@ -77,8 +77,8 @@ typed_ok false gives k h = cc h
 
 -- a call that has a kind has as many arguments as its function takes, of these kinds
 pub call_ok : (counted : Bool) (kinds : Result (List ColType) GraphCause) (takes : List ColType) (gives k : ColType)
-  → (if counted then (kinds >>= λ ts. if same_kinds ts takes then Ok gives else Err WrongType) else Err WrongCount) ≡ Ok k
-  → (ts : List ColType) × (kinds ≡ Ok ts) × (counted ≡ true) × (same_kinds ts takes ≡ true)
+    → (if counted then (kinds >>= λ ts. if same_kinds ts takes then Ok gives else Err WrongType) else Err WrongCount) ≡ Ok k
+    → (ts : List ColType) × (kinds ≡ Ok ts) × (counted ≡ true) × (same_kinds ts takes ≡ true)
 call_ok false kinds takes gives k h = cc h
 call_ok true (Err e) takes gives k h = cc h
 call_ok true (Ok ts) takes gives k h = (ts, refl, refl, typed_ok (same_kinds ts takes) gives k h)
@@ -101,7 +101,7 @@ module _ {C F : Type 0} (col : C → Result ColType GraphCause) (fun : F → Res
         let w = bind_ok (kind_by col fun a) _ k u.2 in
         let v = bind_ok (kind_by col fun b) _ k w.2 in
         each_append (λ c. IsOk (col c)) (columns_in c ++ columns_in a) (columns_in b)
-          (each_append (λ c. IsOk (col c)) (columns_in c) (columns_in a) (columns_known c u.0 u.1) (columns_known a w.0 w.1)) (columns_known b v.0 v.1)
+        (each_append (λ c. IsOk (col c)) (columns_in c) (columns_in a) (columns_known c u.0 u.1) (columns_known a w.0 w.1)) (columns_known b v.0 v.1)
     columns_known (Pick a b) k h =
         let w = bind_ok (kind_by col fun a) _ k h in
         let v = bind_ok (kind_by col fun b) _ k w.2 in

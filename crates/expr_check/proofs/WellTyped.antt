@@ -1,12 +1,12 @@
 -- A checked expression is well typed.
-use Rattle.std.proofs.Common.{◌≡◌, ℕ, ◌+◌, Bool, true, false, List, [], ◌∷◌, length, map, Option, Some, None, Result, Ok, Err, IsOk, refl, ap, sym, ◌∙◌, subst, arith}
+use Rattle.std.proofs.Common.{◌≡◌, ℕ, true, List, [], ◌∷◌, length, map, Option, Some, None, Result, Ok, IsOk, refl, ap, sym, ◌∙◌, subst}
 use Rattle.std.specs.Prelude.{nat_eq, All, slice_get, replicate, MatchOption}
 use Rattle.std.specs.List.{AllByRecursion, zip}
 use Rattle.std.proofs.lemmas.Bool.Decides.{Decides-eqb}
 use Rattle.std.proofs.lemmas.List.{length-replicate, length-map}
 use Rattle.std.proofs.lemmas.Slice.Zip.{firsts-zip}
-use Rattle.std.proofs.lemmas.List.Elements.{recursion_from_All, All-from_recursion}
-use Rattle.rdf_values.specs.Tree.{Tree, Trees, NamedTree, NumTree, Lit, Truth, Col, Neg, Not, Bin, Cond, Pick, Call, End, More}
+use Rattle.std.proofs.lemmas.List.Elements.{All-from_recursion}
+use Rattle.rdf_values.specs.Tree.{Trees, NamedTree, NumTree, Lit, Truth, Col, Neg, Not, Bin, Cond, Pick, Call, End, More}
 use Rattle.rdf_values.specs.Depends.{columns_in}
 use Rattle.rdf_values.specs.Kinds.{Shape, shape, FunctionNames, column_kind, shape_of, kind_of, kind_by, kinds_by, args_count}
 use Rattle.rdf_values.specs.Numbered.{ScopeColumn, kinds_in, number_in, callee, numbered}
@@ -29,20 +29,20 @@ module _ (scope : List ScopeColumn) (names : FunctionNames) (e : NamedTree) (k :
   typed_by_scope =
       kind_by-renamed (number_in scope) (callee names) (number_kind (numbers_in scope)) (callee_shape names) e
       ∙ sym (kind_by-same (column_kind (kinds_in scope)) (λ c. number_kind (numbers_in scope) (number_in scope c)) (shape_of names) (λ f. callee_shape names (callee names f)) (λ f. sym (callee_shape-callee names f)) e
-        (each_weaker (λ c. IsOk (column_kind (kinds_in scope) c)) (λ c. column_kind (kinds_in scope) c ≡ number_kind (numbers_in scope) (number_in scope c))
-          (λ c known. number_kind-number_in scope c one known) (columns_in e) (columns_known (column_kind (kinds_in scope)) (shape_of names) e k typed)))
+      (each_weaker (λ c. IsOk (column_kind (kinds_in scope) c)) (λ c. column_kind (kinds_in scope) c ≡ number_kind (numbers_in scope) (number_in scope c))
+      (λ c known. number_kind-number_in scope c one known) (columns_in e) (columns_known (column_kind (kinds_in scope)) (shape_of names) e k typed)))
       ∙ typed
 
   pub numbers_known : All (λ i. IsOk (number_kind (numbers_in scope) i)) (distinct (columns_in (numbered scope names e)))
   numbers_known =
       All-from_recursion (λ i. IsOk (number_kind (numbers_in scope) i)) (distinct (columns_in (numbered scope names e)))
-        (each_distinct (λ i. IsOk (number_kind (numbers_in scope) i)) (columns_in (numbered scope names e)) (columns_known (number_kind (numbers_in scope)) (callee_shape names) (numbered scope names e) k typed_by_scope))
+      (each_distinct (λ i. IsOk (number_kind (numbers_in scope) i)) (columns_in (numbered scope names e)) (columns_known (number_kind (numbers_in scope)) (callee_shape names) (numbered scope names e) k typed_by_scope))
 
   pub well_typed : (reads : List ℕ) (kinds : List ColType) → reads ≡ distinct (columns_in (numbered scope names e)) → map (λ (c : ColType). Ok c) kinds ≡ map (number_kind (numbers_in scope)) reads → num_kind (zip reads kinds) names (numbered scope names e) ≡ Ok k
   well_typed reads kinds are have =
       let P : List ℕ → Type 0 = AllByRecursion (λ i. number_kind (numbers_in scope) i ≡ number_kind (zip reads kinds) i) in
       sym (kind_by-same (number_kind (numbers_in scope)) (number_kind (zip reads kinds)) (callee_shape names) (callee_shape names) (λ f. refl) (numbered scope names e)
-        (each_from_distinct (λ i. number_kind (numbers_in scope) i ≡ number_kind (zip reads kinds) i) (columns_in (numbered scope names e)) (subst P are (each_by_zip reads kinds (number_kind (numbers_in scope)) have))))
+      (each_from_distinct (λ i. number_kind (numbers_in scope) i ≡ number_kind (zip reads kinds) i) (columns_in (numbered scope names e)) (subst P are (each_by_zip reads kinds (number_kind (numbers_in scope)) have))))
       ∙ typed_by_scope
 
 -- each column beside its kind

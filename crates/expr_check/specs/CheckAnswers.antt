@@ -1,15 +1,11 @@
 -- What a check answers.
-use Rattle.std.specs.Prelude.{◌≡◌, ℕ, Bool, List, map, Result, Ok, Err}
-use Rattle.rdf_values.specs.Tree.{NamedTree}
-use Rattle.rdf_values.specs.Depends.{columns_in}
-use Rattle.rdf_values.specs.Kinds.{FunctionNames, kind_of, same_kinds, ◌>>=◌}
-use Rattle.rdf_values.specs.Numbered.{ScopeColumn, kinds_in, numbered}
+use Rattle.std.specs.Prelude.{◌≡◌, Bool, List, Result, Ok, Err}
+use Rattle.rdf_values.specs.Kinds.{same_kinds, ◌>>=◌}
 use Rattle.rdf_values.specs.declared.value.ColType.{ColType}
 use Rattle.rdf_values.specs.declared.graph_cause.GraphCause.{GraphCause}
 use Rattle.rdf_values.specs.declared.graph_cause.GraphCause.TheVariants as cause
 use Rattle.expr_check.specs.declared.refusal.CheckRefusal.{CheckRefusal}
 use Rattle.expr_check.specs.declared.refusal.CheckRefusal.TheVariants.{UnknownColumn, UnknownFunction, WrongType, WrongCount, Memory}
-use Rattle.expr_check.specs.NumKinds.{CheckedExpr, IsWellTyped, CallsFit}
 
 -- the refusal is the one that is wanted, or want of memory
 abbrev pub RefusedAs : {A : Type 0} → CheckRefusal → Result A GraphCause → Type 0

@@ -1,9 +1,9 @@
 -- Kinds of numbered expressions.
-use Rattle.std.specs.Prelude.{◌≡◌, ◌≢◌, ℕ, ◌<◌, Bool, true, false, not, ◌&&◌, List, [], ◌∷◌, ◌++◌, map, filter, length, replicate, if◌then◌else◌, nat_eq, All, Option, Some, None, MatchOption, Result, Ok, Err, slice_get}
+use Rattle.std.specs.Prelude.{◌≡◌, ℕ, ◌<◌, Bool, true, false, not, ◌&&◌, List, [], ◌∷◌, ◌++◌, map, filter, length, replicate, if◌then◌else◌, nat_eq, All, Option, Some, None, MatchOption, Result, Ok, Err, slice_get}
 use Rattle.std.specs.List.{list_any}
 use Rattle.rdf_values.specs.Tree.{Tree, Trees, NumTree, Lit, Truth, Col, Neg, Not, Bin, Cond, Pick, Call, End, More}
 use Rattle.rdf_values.specs.Depends.{columns_in}
-use Rattle.rdf_values.specs.Kinds.{Shape, shape, FunctionNames, args_count, kind_by, same_kind}
+use Rattle.rdf_values.specs.Kinds.{Shape, shape, FunctionNames, args_count, kind_by}
 use Rattle.rdf_values.specs.declared.fn_names.FnName.{FnName}
 use Rattle.rdf_values.specs.declared.value.ColType.{ColType}
 use Rattle.rdf_values.specs.declared.value.ColType.TheVariants as kind

@@ -16,7 +16,9 @@ pub(crate) struct Signature {
 }
 
 const VECTOR: &[ColType] = &[ColType::Vect];
+
 const PLACE: &[ColType] = &[ColType::Vect, ColType::Int];
+
 const NUMBERS: &[ColType] = &[ColType::Int; 8];
 
 /// The built-in function of that name.

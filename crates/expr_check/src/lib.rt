@@ -10,10 +10,9 @@ mod part;
 mod reads;
 pub mod refusal;
 pub mod scope;
-
 #[cfg(test)]
 mod tests;
 
-pub use crate::checked::{check, Checked};
+pub use crate::checked::{Checked, check};
 pub use crate::refusal::CheckRefusal;
 pub use crate::scope::Scope;

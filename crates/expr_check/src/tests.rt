@@ -1,7 +1,7 @@
 // Kinds and refusals of expressions, which are written with each operator and function after its parts.
 use crate::{CheckRefusal, Checked, Scope, check};
-use rdf_values::{Args, BinOp, ColType, Expr, ExprNode, FnNames, Memory, Name};
 use rdf_values::fn_names::is_built_in;
+use rdf_values::{Args, BinOp, ColType, Expr, ExprNode, FnNames, Memory, Name};
 use std::alloc::Global;
 use std::test::Fail;
 
@@ -115,7 +115,12 @@ fn functions(alloc: Global) -> Result<FnNames, Fail> {
 }
 
 fn checked(alloc: Global, text: &str) -> Result<Result<Checked, CheckRefusal>, Fail> {
-    Ok(check(alloc, &expression(alloc, text)?, &scope(alloc)?, &functions(alloc)?))
+    Ok(check(
+        alloc,
+        &expression(alloc, text)?,
+        &scope(alloc)?,
+        &functions(alloc)?,
+    ))
 }
 
 fn kind(alloc: Global, text: &str) -> Result<Result<ColType, CheckRefusal>, Fail> {
@@ -180,7 +185,15 @@ fn other_kinds_are_refused(rt: HostRuntime) -> Result<(), Fail> {
 
 #[test]
 fn other_counts_are_refused(rt: HostRuntime) -> Result<(), Fail> {
-    let texts = ["Sum/0", "v v Sum/2", "v At/1", "i j abs/2", "i f/1", "i i i f/3", "x f/1"];
+    let texts = [
+        "Sum/0",
+        "v v Sum/2",
+        "v At/1",
+        "i j abs/2",
+        "i f/1",
+        "i i i f/3",
+        "x f/1",
+    ];
     let refusal = Err(CheckRefusal::WrongCount);
     assert_eq!(rt; first_other(rt.alloc(), &texts, refusal)?, None);
     Ok(())

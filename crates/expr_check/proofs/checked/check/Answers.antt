@@ -6,9 +6,10 @@ kinds_of-requires c = record { known = λ one. rw c.as_slice.ensures.value (read
 
 pub invariant_of-result : goal.invariant_of-result
 invariant_of-result c =
-    let have = rw c.as_slice.ensures.value at c.in_ok-kinds.ensures.kinds in
-    (kinds_beside c.args.scope.now c.args.names.now _ _ _ c.in_ok-part.ensures.kind c.in_ok-part.ensures.tree _ c.in_ok-reads.ensures c.in_ok-kinds.ensures.one_kind _ have,
-      (c.args.names.now, is_well_typed c.args.scope.now c.args.names.now _ _ _ c.in_ok-part.ensures.kind c.in_ok-part.ensures.tree _ c.in_ok-reads.ensures c.in_ok-kinds.ensures.one_kind _ have))
+    let have = rw c.as_slice.ensures.value at c.in_ok-kinds.ensures.kinds in (
+      kinds_beside c.args.scope.now c.args.names.now _ _ _ c.in_ok-part.ensures.kind c.in_ok-part.ensures.tree _ c.in_ok-reads.ensures c.in_ok-kinds.ensures.one_kind _ have,
+      (c.args.names.now, is_well_typed c.args.scope.now c.args.names.now _ _ _ c.in_ok-part.ensures.kind c.in_ok-part.ensures.tree _ c.in_ok-reads.ensures c.in_ok-kinds.ensures.one_kind _ have),
+    )
 
 pub returns-clause-kinds : goal.returns-clause-kinds
 returns-clause-kinds c = kinds_known _ _ _ (rw c.as_slice.ensures.value at c.in_ok-kinds.ensures.kinds)

@@ -13,7 +13,7 @@ pub check_call-returns-in_err-arguments-clause-refused : goal.check_call-returns
 check_call-returns-in_err-arguments-clause-refused t c =
     let p = err_from_is_err_and c.from_residual.result c.from_residual.ensures.1 in
     rw (p.1, p.2)
-      (call_refused (column_kind (kinds_in c.args.scope.now)) c.args.names.now c.args.name.now (trees_of c.args.args.now) _ _ _ c.in-Some.ensures.0 c.signature_of-signature.ensures _ _ c.has_count.ensures c.if-not-has_count.false c.in_err-arguments.ensures.refused)
+    (call_refused (column_kind (kinds_in c.args.scope.now)) c.args.names.now c.args.name.now (trees_of c.args.args.now) _ _ _ c.in-Some.ensures.0 c.signature_of-signature.ensures _ _ c.has_count.ensures c.if-not-has_count.false c.in_err-arguments.ensures.refused)
 
 pub check_call-returns-else-arguments-clause-refused : goal.check_call-returns-else-arguments-clause-refused
 check_call-returns-else-arguments-clause-refused t c =

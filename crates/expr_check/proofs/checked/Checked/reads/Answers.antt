@@ -1,4 +1,4 @@
-use Rattle.std.proofs.Common.{◌≡◌, ◌∙◌, ap, refl}
+use Rattle.std.proofs.Common.{◌∙◌, ap, refl}
 use Rattle.rdf_values.specs.Depends.{columns_in}
 use Rattle.expr_check.specs.NumKinds.{CheckedExpr, distinct}
 use Rattle.expr_check.proofs.WellTyped.{reads_are}
