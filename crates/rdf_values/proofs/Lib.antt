@@ -1,4 +1,10 @@
+pub mod Columns
 pub mod Digits
+pub mod Examples
+pub mod OneForm
+pub mod OneScript
 pub mod OneText
 pub mod Pushing
 pub mod Rows
+pub mod ScriptExamples
+pub mod ScriptSteps

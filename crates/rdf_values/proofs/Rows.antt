@@ -1,11 +1,9 @@
 -- Rows kept in one list of cells.
 use Rattle.std.proofs.Common.{ℕ, zero, suc, ◌≡◌, ◌<◌, ◌≤◌, ◌+◌, ◌*◌, length, get_or, take, drop, arith, refl, ap, sym, ◌∙◌, length-append, length-drop, add-one, subst, List, [], ◌∷◌, ◌++◌}
-use Rattle.std.proofs.lemmas.List.{get_or-drop, get_or-take, take-append-drop}
-use Rattle.std.proofs.lemmas.Grind.{common_steps}
-use Rattle.std.specs.Prelude.{slice_index_or}
+use Rattle.std.proofs.lemmas.List.{get_or-drop, get_or-take}
 use Rattle.rdf_values.specs.declared.column.Column.{Column}
 use Rattle.rdf_values.specs.declared.value.Value.{Value}
-use Rattle.rdf_values.specs.Tables.{FitsRow, FitRows, HoldsTable, IsTable, TableView, rows_of}
+use Rattle.rdf_values.specs.Tables.{FitsRow, FitRows, HoldsTable, IsTable, rows_of}
 
 pub length-rows_of : (w n : ℕ) (cells : List Value) → length (rows_of w n cells) ≡ n
 length-rows_of w zero cells = refl

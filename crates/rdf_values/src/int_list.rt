@@ -27,6 +27,13 @@ impl IntList {
         }
     }
 
+    /// The numbers of a vector, in its order; no memory is taken.
+    pub fn from_vec(items: Vec<i64>) -> IntList
+        ensures { result ≡ items.items }
+    {
+        IntList { items }
+    }
+
     /// A copy of the numbers.
     pub fn from_slice(alloc: Global, items: &[i64]) -> Result<IntList, Memory>
         ensures { IfOk result (λ list. list ≡ items.now) }

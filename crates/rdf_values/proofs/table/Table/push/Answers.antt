@@ -1,6 +1,5 @@
-use Rattle.std.proofs.Common.{◌≡◌, ◌<◌, ap, length, add-one}
+use Rattle.std.proofs.Common.{ap, length, add-one}
 use Rattle.rdf_values.proofs.Rows.{fits_length, holds_push, rows_of-push}
-use Rattle.rdf_values.specs.Tables.{FitsRow, rows_of}
 use Rattle.rdf_values.proofs.table.Table.push.Goals as goal
 
 pub invariant_of-self-2 : goal.invariant_of-self-2

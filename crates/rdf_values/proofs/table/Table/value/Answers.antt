@@ -1,6 +1,5 @@
-use Rattle.std.proofs.Common.{◌≡◌, ◌<◌, ap, length, sym, ◌∙◌, get_or}
+use Rattle.std.proofs.Common.{length, sym, ◌∙◌}
 use Rattle.rdf_values.proofs.Rows.{cell_of_row, length-rows_of, place_below}
-use Rattle.rdf_values.specs.Tables.{rows_of}
 use Rattle.rdf_values.proofs.table.Table.value.Goals as goal
 
 pub bounds-as_slice-place : goal.bounds-as_slice-place

@@ -1,0 +1,20 @@
+#!/bin/sh
+# Count and two Sums over the generator's table of 1,000,000 entries, by rdf and by mawk, five times each.
+# It needs mawk and GNU time (Debian: apt-get install mawk time), and takes about half a minute.
+set -eu
+
+bench=$(cd "$(dirname "$0")" && pwd -P)
+work=$(mktemp -d)
+trap 'rm -rf "$work"' EXIT
+
+awk -v n=1000000 -v seed=7 -f "$bench/make_table.awk" >"$work/table.csv"
+cp "$bench/count_and_sums.txt" "$work/script.txt"
+cd "$work"
+"$bench/../rdf" script.txt table.csv >rdf.out
+mawk -f "$bench/count_and_sums.awk" table.csv >mawk.out
+cmp rdf.out mawk.out
+ls -l table.csv | awk '{ print "table: " $5 " bytes" }'
+for turn in 1 2 3 4 5; do
+    /usr/bin/time -f "rdf  %e s, %M KB at its peak" "$bench/../rdf" script.txt table.csv >/dev/null
+    /usr/bin/time -f "mawk %e s, %M KB at its peak" mawk -f "$bench/count_and_sums.awk" table.csv >/dev/null
+done

@@ -1,0 +1,3 @@
+pub mod BuildSteps
+pub mod KeptLemmas
+pub mod PieceLemmas

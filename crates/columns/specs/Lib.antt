@@ -1,0 +1,4 @@
+pub mod Building
+pub mod ColumnsView
+pub mod Kept
+pub mod Pieces

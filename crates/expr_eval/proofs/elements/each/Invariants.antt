@@ -1,0 +1,8 @@
+use Rattle.std.proofs.Common.{◌≡◌, drop}
+use Rattle.rdf_model.specs.Evaluation.{for_all}
+use Rattle.expr_eval.specs.EvalAnswers.{following}
+use Rattle.expr_eval.proofs.elements.each.Given as goal
+
+abbrev pub invariant-loop-x : goal.invariant-loop-x
+invariant-loop-x g l =
+    for_all (g.E.Elementwise.outcome l.operation) l.xs ≡ following l.results.items (for_all (g.E.Elementwise.outcome l.operation) (drop l.x-index l.xs))

@@ -1,0 +1,6 @@
+use Rattle.std.proofs.Common.{◌≡◌, drop, ◌++◌}
+use Rattle.rdf_model.specs.Evaluation.{marked}
+use Rattle.expr_eval.proofs.elements.marked.Given as goal
+
+abbrev pub invariant-loop-i : goal.invariant-loop-i
+invariant-loop-i l = marked l.xs l.marks ≡ l.results.items ++ marked (drop l.i l.xs) (drop l.i l.marks)

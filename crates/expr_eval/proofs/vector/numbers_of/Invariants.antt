@@ -1,0 +1,10 @@
+use Rattle.std.proofs.Common.{◌≡◌, ◌++◌, drop, map, length}
+use Rattle.rdf_model.specs.Evaluation.{argument}
+use Rattle.expr_eval.specs.Operands.{operand_value}
+use Rattle.expr_eval.proofs.vector.numbers_of.Given as goal
+
+abbrev pub invariant-loop-arg : goal.invariant-loop-arg
+invariant-loop-arg l = record {
+  all : map argument (map operand_value l.args) ≡ l.numbers.items ++ map argument (map operand_value (drop l.arg-index l.args));
+  count : length l.numbers.items ≡ l.arg-index;
+}

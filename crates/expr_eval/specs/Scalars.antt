@@ -1,0 +1,38 @@
+-- Evaluations without vectors.
+use Rattle.std.specs.Prelude.{◌≡◌, ℕ, ℤ, pos, nat_abs, List, [], ◌∷◌, ◌++◌, map, slice_get, Result, Ok, Err}
+use Rattle.rdf_values.specs.Functions.{Function}
+use Rattle.rdf_values.specs.declared.num_expr.Callee.{Callee}
+use Rattle.rdf_values.specs.declared.num_expr.Callee.TheVariants as fn
+use Rattle.rdf_values.specs.declared.value.Value.{Value}
+use Rattle.rdf_values.specs.declared.value.Value.TheVariants as val
+use Rattle.rdf_model.specs.Evaluation.{Outcome, Gives, Faults, Needs, ◌>>=◌, checked, gives_int, untyped, argument, given_call}
+use Rattle.expr_eval.specs.declared.stop.ScalarStop.{ScalarStop}
+use Rattle.expr_eval.specs.declared.stop.ScalarStop.TheVariants.{Fault, Need}
+
+-- a value is no vector
+abbrev pub IsScalar : Value → Type 0
+IsScalar (val.Vect zs) = ⊥
+IsScalar v = Unit {0}
+
+-- an outcome gives no vector
+abbrev pub GivesScalar : {M : Type 0} → Outcome M Value → Type 0
+GivesScalar (Gives v) = IsScalar v
+GivesScalar o = Unit {0}
+
+-- the values are no vectors
+abbrev pub AreScalars : List Value → Type 0
+AreScalars [] = Unit {0}
+AreScalars (v ∷ vs) = IsScalar v × AreScalars vs
+
+-- a call of a function with numbers
+abbrev pub number_call : List Function → Callee → List ℤ → Outcome ℕ Value
+number_call functions fn.Abs (z ∷ []) = checked (pos (nat_abs z)) >>= gives_int
+number_call functions (fn.Given i) zs = given_call (slice_get functions i) zs
+number_call functions f zs = untyped
+
+-- the arguments came to these values, which were appended as numbers, or to that fault or need
+abbrev pub Gathers : {A : Type 0} → Result A ScalarStop → List ℤ → List ℤ → Outcome ℕ (List Value) → Type 0
+Gathers (Ok u) before after (Gives vs) = AreScalars vs × (after ≡ before ++ map argument vs)
+Gathers (Err (Fault kind)) before after (Faults other) = kind ≡ other
+Gathers (Err (Need c)) before after (Needs other) = c ≡ other
+Gathers r before after o = ⊥

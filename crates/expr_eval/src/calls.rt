@@ -1,0 +1,39 @@
+// What an evaluation needs of a list of functions.
+ghost use Rattle.std.specs.Prelude.{◌≡◌, ◌<◌, ℕ, ℤ, List, Option, length, HoldsAt, slice_get};
+ghost use Rattle.rdf_values.specs.Functions.{Function};
+ghost use Rattle.rdf_model.specs.Evaluation.{given_call};
+ghost use Rattle.entry_fns.specs.Lists.{functions_in};
+ghost use Rattle.expr_eval.specs.Answers.{number_value};
+ghost use Rattle.expr_eval.specs.CallsFit.{CallFits};
+
+use entry_fns::FnList;
+use rdf_values::{Callee, EntryFault};
+
+/// Functions that can be called by their places.
+pub(crate) trait Calls {
+    ghost functions: { Self → List Function };
+
+    fn call_at(&self, number: u32, args: &[i64]) -> Option<i64>
+        requires number { number < length (functions self.now) }
+        requires arity { HoldsAt (λ f. length args.now ≡ f.arity) (functions self.now) number }
+        ensures { HoldsAt (λ f. result ≡ f.answer args.now) (functions self.now) number };
+}
+
+impl Calls for FnList {
+    ghost functions = { functions_in };
+
+    fn call_at(&self, number: u32, args: &[i64]) -> Option<i64> {
+        self.call(number, args)
+    }
+}
+
+/// What the function of that number answers, or the fault where it has no answer.
+pub(crate) fn answer<C: Calls>(calls: &C, number: u32, args: &[i64]) -> Result<i64, EntryFault>
+    requires { CallFits (C.functions calls.now) (Callee.Given number) (length args.now) }
+    ensures { number_value result ≡ given_call (slice_get (C.functions calls.now) number) args.now }
+{
+    match calls.call_at(number, args) {
+        Some(z) => Ok(z),
+        None => Err(EntryFault::Function),
+    }
+}

@@ -1,0 +1,19 @@
+//! Evaluates numbered expressions: with numbers and truth values alone, or with vectors.
+//! It stands on `rdf_model`, whose definition of evaluation its calls meet, and on `entry_fns`, whose functions they call.
+#![tactic(auto)]
+
+mod calls;
+mod elements;
+pub mod inputs;
+mod number;
+mod operand;
+mod scalar;
+pub mod steps;
+pub mod stop;
+mod vector;
+
+pub use crate::inputs::{Input, Inputs};
+pub use crate::scalar::eval_int;
+pub use crate::steps::Steps;
+pub use crate::stop::{EvalStop, ScalarStop};
+pub use crate::vector::eval;

@@ -1,0 +1,204 @@
+// Evaluation without vectors.
+ghost use Rattle.std.specs.Prelude.{◌≡◌, ◌+◌, ◌<◌, ◌≤◌, ℕ, ℤ, length, OnOk};
+ghost use Rattle.rdf_values.specs.Kinds.{args_count};
+ghost use Rattle.rdf_values.specs.NumExprTree.{num_tree, num_trees};
+ghost use Rattle.rdf_model.specs.Columns.{EachColumn, EachArgument};
+ghost use Rattle.rdf_model.specs.Evaluation.{evaluate, evaluate_all, call_outcome, value_operation, negation, inversion, of_numbers, argument, picked};
+ghost use Rattle.entry_fns.specs.Lists.{functions_in};
+ghost use Rattle.expr_eval.specs.Answers.{scalar_outcome, scalar_value, number_value};
+ghost use Rattle.expr_eval.specs.CallsFit.{CallFits, CallsFit, ArgumentsFit};
+ghost use Rattle.expr_eval.specs.Inputs.{input_outcome};
+ghost use Rattle.expr_eval.specs.Scalars.{GivesScalar, Gathers, number_call};
+
+use crate::calls::{Calls, answer};
+use crate::inputs::{Input, Inputs};
+use crate::number::{absolute, is_arithmetic, mark, negate, operate};
+use crate::steps::Steps;
+use crate::stop::ScalarStop;
+use arrayvec::ArrayVec;
+use entry_fns::FnList;
+use rdf_values::{BinOp, Callee, EntryFault, NumArgs, NumExpr, NumNode, Scalar};
+use std::sync::ledger::Ledger;
+
+const MAX_ARGUMENTS: usize = 8;
+
+/// The value of an expression of which no column is a vector, in one step. It takes no memory.
+pub fn eval_int<I: Inputs, L: Ledger>(
+    expr: &NumExpr,
+    inputs: &I,
+    functions: &FnList,
+    steps: &mut Steps<L>,
+) -> Result<Scalar, ScalarStop>
+    requires can { EachColumn (I.can inputs.now) expr.now }
+    requires scalars { EachColumn (λ c. GivesScalar (I.look inputs.now c)) expr.now }
+    requires calls { CallsFit (functions_in functions.now) expr.now }
+    ensures value { scalar_outcome result ≡ evaluate (I.look inputs.now) (call_outcome (functions_in functions.now)) expr.now }
+    ensures step { steps.new ≡ steps.old + 1 }
+{
+    steps.tick();
+    eval_node(&expr.node, inputs, functions)
+}
+
+#[cycle(scalar)]
+fn eval_node<I: Inputs, C: Calls>(
+    node: &NumNode,
+    inputs: &I,
+    calls: &C,
+) -> Result<Scalar, ScalarStop>
+    requires can { EachColumn (I.can inputs.now) (num_tree node.now) }
+    requires scalars { EachColumn (λ c. GivesScalar (I.look inputs.now c)) (num_tree node.now) }
+    requires calls { CallsFit (C.functions calls.now) (num_tree node.now) }
+    ensures { scalar_outcome result ≡ evaluate (I.look inputs.now) (call_outcome (C.functions calls.now)) (num_tree node.now) }
+{
+    match node {
+        NumNode::Lit(z) => Ok(Scalar::Int(*z)),
+        NumNode::Truth(b) => Ok(Scalar::Bool(*b)),
+        NumNode::Col(c) => column(*c, inputs.at(*c)),
+        NumNode::Neg(a) => negative(eval_node(a, inputs, calls)?),
+        NumNode::Not(a) => inverse(eval_node(a, inputs, calls)?),
+        NumNode::Bin(op, a, b) => {
+            let left = eval_node(a, inputs, calls)?;
+            match (*op, left) {
+                (BinOp::And, Scalar::Bool(false)) => Ok(left),
+                (BinOp::Or, Scalar::Bool(true)) => Ok(left),
+                _ => combine(*op, left, eval_node(b, inputs, calls)?),
+            }
+        }
+        NumNode::Cond(c, a, b) => match eval_node(c, inputs, calls)? {
+            Scalar::Bool(true) => eval_node(a, inputs, calls),
+            Scalar::Bool(false) => eval_node(b, inputs, calls),
+            Scalar::Int(_) => Ok(Scalar::Int(0)),
+        },
+        NumNode::Pick(v, i) => {
+            let vector = eval_node(v, inputs, calls)?;
+            let place = eval_node(i, inputs, calls)?;
+            Ok(pick(vector, place))
+        }
+        NumNode::Call(callee, args) => {
+            let mut numbers = ArrayVec::new();
+            gather(args, inputs, calls, &mut numbers)?;
+            call(*callee, numbers.as_slice(), calls)
+        }
+    }
+}
+
+/// Appends the values of the arguments as numbers.
+#[cycle(scalar)]
+fn gather<I: Inputs, C: Calls>(
+    args: &NumArgs,
+    inputs: &I,
+    calls: &C,
+    numbers: &mut ArrayVec<i64, MAX_ARGUMENTS>,
+) -> Result<(), ScalarStop>
+    requires can { EachArgument (I.can inputs.now) (num_trees args.now) }
+    requires scalars { EachArgument (λ c. GivesScalar (I.look inputs.now c)) (num_trees args.now) }
+    requires calls { ArgumentsFit (C.functions calls.now) (num_trees args.now) }
+    requires room { length numbers.old.items + args_count (num_trees args.now) ≤ 8 }
+    ensures values { Gathers result numbers.old.items numbers.new.items (evaluate_all (I.look inputs.now) (call_outcome (C.functions calls.now)) (num_trees args.now)) }
+    ensures count { OnOk result (length numbers.new.items ≡ length numbers.old.items + args_count (num_trees args.now)) }
+{
+    match args {
+        NumArgs::End => Ok(()),
+        NumArgs::More(a, rest) => {
+            let value = eval_node(a, inputs, calls)?;
+            numbers.push(number(value));
+            gather(rest, inputs, calls, numbers)
+        }
+    }
+}
+
+/// The value of a column that is no vector.
+fn column(number: u32, input: Input<'_>) -> Result<Scalar, ScalarStop>
+    requires { GivesScalar (input_outcome number input) }
+    ensures { scalar_outcome result ≡ input_outcome number input.entry }
+{
+    match input {
+        Input::Int(z) => Ok(Scalar::Int(z)),
+        Input::Bool(b) => Ok(Scalar::Bool(b)),
+        Input::Vect(_) => unreachable!(),
+        Input::Faulted(kind) => Err(ScalarStop::Fault(kind)),
+        Input::Missing => Err(ScalarStop::Need(number)),
+    }
+}
+
+// What no checked expression comes to is 0, as the definition of evaluation says.
+
+fn negative(value: Scalar) -> Result<Scalar, ScalarStop>
+    ensures { scalar_outcome result ≡ negation (scalar_value value) }
+{
+    match value {
+        Scalar::Int(x) => number_answer(negate(x)),
+        Scalar::Bool(_) => Ok(Scalar::Int(0)),
+    }
+}
+
+fn inverse(value: Scalar) -> Result<Scalar, ScalarStop>
+    ensures { scalar_outcome result ≡ inversion (scalar_value value) }
+{
+    match value {
+        Scalar::Int(_) => Ok(Scalar::Int(0)),
+        Scalar::Bool(b) => Ok(Scalar::Bool(!b)),
+    }
+}
+
+fn combine(op: BinOp, left: Scalar, right: Scalar) -> Result<Scalar, ScalarStop>
+    ensures { scalar_outcome result ≡ value_operation op (scalar_value left) (scalar_value right) }
+{
+    match (left, right) {
+        (Scalar::Int(x), Scalar::Int(y)) => match operate(op, x, y) {
+            Ok(z) => Ok(operation_value(op, z)),
+            Err(kind) => Err(ScalarStop::Fault(kind)),
+        },
+        (Scalar::Bool(a), Scalar::Bool(b)) => match operate(op, mark(a), mark(b)) {
+            Ok(z) => Ok(Scalar::Bool(z != 0)),
+            Err(kind) => Err(ScalarStop::Fault(kind)),
+        },
+        _ => Ok(Scalar::Int(0)),
+    }
+}
+
+fn operation_value(op: BinOp, z: i64) -> Scalar
+    ensures { scalar_value result ≡ of_numbers op z }
+{
+    if is_arithmetic(op) {
+        Scalar::Int(z)
+    } else {
+        Scalar::Bool(z != 0)
+    }
+}
+
+fn pick(_vector: Scalar, _place: Scalar) -> Scalar
+    ensures { scalar_outcome (Ok result) ≡ picked (scalar_value _vector) (scalar_value _place) }
+{
+    Scalar::Int(0)
+}
+
+fn number(value: Scalar) -> i64
+    ensures { result ≡ argument (scalar_value value) }
+{
+    match value {
+        Scalar::Int(z) => z,
+        Scalar::Bool(_) => 0,
+    }
+}
+
+fn call<C: Calls>(callee: Callee, numbers: &[i64], calls: &C) -> Result<Scalar, ScalarStop>
+    requires { CallFits (C.functions calls.now) callee (length numbers.now) }
+    ensures { scalar_outcome result ≡ number_call (C.functions calls.now) callee numbers.now }
+{
+    match (callee, numbers) {
+        (Callee::Abs, [z]) => number_answer(absolute(*z)),
+        (Callee::Given(i), _) => number_answer(answer(calls, i, numbers)),
+        _ => Ok(Scalar::Int(0)),
+    }
+}
+
+/// A number, or the fault that there was.
+fn number_answer(number: Result<i64, EntryFault>) -> Result<Scalar, ScalarStop>
+    ensures { scalar_outcome result ≡ number_value number }
+{
+    match number {
+        Ok(z) => Ok(Scalar::Int(z)),
+        Err(kind) => Err(ScalarStop::Fault(kind)),
+    }
+}

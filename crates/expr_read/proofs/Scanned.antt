@@ -1,0 +1,169 @@
+-- How the scan goes over what is read, and where it stops.
+use Rattle.std.proofs.Common.{◌≡◌, ◌<◌, ◌≤◌, ◌+◌, ℕ, false, List, [], ◌∷◌, Some, None, arith, refl, ap, nat_eq}
+use Rattle.std.specs.Prelude.{nat_le}
+use Rattle.std.proofs.lemmas.Bool.Decides.{nat_tests}
+use Rattle.rdf_values.specs.Tokens.{Token, Word, Truth, Number, Op, Punct, Placed}
+use Rattle.rdf_values.specs.Grammar.{level_of}
+use Rattle.rdf_values.specs.Scans.{OpenMark, InParens, InIndex, InChoice, InCall, Operand, FirstArgument, AfterName, Operator, ScanState, Refused, scan_step, scan, operand, operator, after_name, first_argument}
+use Rattle.rdf_values.specs.declared.expr.BinOp.{BinOp}
+use Rattle.rdf_values.specs.declared.expr.BinOp.TheVariants as op
+use Rattle.rdf_values.specs.declared.expr.Mark.TheVariants as mark
+use Rattle.expr_read.specs.Parsing.{Begins, BeginsNot, continues, Stops, stuck_at}
+
+pub scan_after : {t : Token} {old new : List Placed} → (s s' : ScanState) → Begins t old new → scan_step s t ≡ Some s' → scan s old ≡ scan s' new
+scan_after s s' b e = rw (b.is, e) refl
+
+-- the first token isn't this one
+pub first_is_not : (t : Token) (p : Placed) (ts : List Placed) → BeginsNot t (p ∷ ts) → p.token ≡ t → ⊥
+first_is_not t p ts isnt e = isnt ts (record { place = p.place; is = ap (λ (k : Token). record { token = k; place = p.place } ∷ ts) e })
+
+pub refused_at : (s : ScanState) (p : Placed) (ts : List Placed) → scan_step s p.token ≡ None → scan s (p ∷ ts) ≡ Refused p.place
+refused_at s p ts e = rw e refl
+
+pub same_step : (s s' : ScanState) (p : Placed) (ts : List Placed) → scan_step s p.token ≡ scan_step s' p.token → scan s (p ∷ ts) ≡ scan s' (p ∷ ts)
+same_step s s' p ts e = rw e refl
+
+name_step : (s : List OpenMark) (t : Token) → (t ≡ Punct mark.Open → ⊥) → after_name t s ≡ operator t s
+name_step s (Word x) isnt = refl
+name_step s (Truth b) isnt = refl
+name_step s (Number z) isnt = refl
+name_step s (Op o) isnt = refl
+name_step s (Punct mark.Open) isnt = absurd (isnt refl)
+name_step s (Punct m) isnt = refl
+
+pub name_ends : (s : List OpenMark) (ts : List Placed) → BeginsNot (Punct mark.Open) ts → scan (AfterName, s) ts ≡ scan (Operator, s) ts
+name_ends [] [] isnt = refl
+name_ends (o ∷ s) [] isnt = refl
+name_ends s (p ∷ ts) isnt = same_step (AfterName, s) (Operator, s) p ts (name_step s p.token (first_is_not (Punct mark.Open) p ts isnt))
+
+argument_step : (s : List OpenMark) (t : Token) → (t ≡ Punct mark.Close → ⊥) → first_argument t (InCall ∷ s) ≡ operand t (InCall ∷ s)
+argument_step s (Word x) isnt = refl
+argument_step s (Truth b) isnt = refl
+argument_step s (Number z) isnt = refl
+argument_step s (Op o) isnt = refl
+argument_step s (Punct mark.Close) isnt = absurd (isnt refl)
+argument_step s (Punct m) isnt = refl
+
+pub argument_first : (s : List OpenMark) (ts : List Placed) → BeginsNot (Punct mark.Close) ts → scan (FirstArgument, InCall ∷ s) ts ≡ scan (Operand, InCall ∷ s) ts
+argument_first s [] isnt = refl
+argument_first s (p ∷ ts) isnt = same_step (FirstArgument, InCall ∷ s) (Operand, InCall ∷ s) p ts (argument_step s p.token (first_is_not (Punct mark.Close) p ts isnt))
+
+-- ---- where the scan stops
+
+pub never : (n : ℕ) → nat_le 0 n ≡ false → ⊥
+never n h = grind (arith, nat_tests)
+
+close_step : (s : List OpenMark) (t : Token) → continues 0 t ≡ false → (t ≡ Punct mark.Close → ⊥) → operator t (InParens ∷ s) ≡ None
+close_step s (Op o) h isnt = absurd (never (level_of o) h)
+close_step s (Punct mark.Close) h isnt = absurd (isnt refl)
+close_step s (Punct mark.OpenBracket) h isnt = cc h
+close_step s (Punct mark.Question) h isnt = cc h
+close_step s t h isnt = refl
+
+pub stuck_close : (s : List OpenMark) (ts : List Placed) → Stops 0 ts → BeginsNot (Punct mark.Close) ts → scan (Operator, InParens ∷ s) ts ≡ stuck_at ts
+stuck_close s [] h isnt = refl
+stuck_close s (p ∷ ts) h isnt = refused_at (Operator, InParens ∷ s) p ts (close_step s p.token h (first_is_not (Punct mark.Close) p ts isnt))
+
+bracket_step : (s : List OpenMark) (t : Token) → continues 0 t ≡ false → (t ≡ Punct mark.CloseBracket → ⊥) → operator t (InIndex ∷ s) ≡ None
+bracket_step s (Op o) h isnt = absurd (never (level_of o) h)
+bracket_step s (Punct mark.CloseBracket) h isnt = absurd (isnt refl)
+bracket_step s (Punct mark.OpenBracket) h isnt = cc h
+bracket_step s (Punct mark.Question) h isnt = cc h
+bracket_step s t h isnt = refl
+
+pub stuck_bracket : (s : List OpenMark) (ts : List Placed) → Stops 0 ts → BeginsNot (Punct mark.CloseBracket) ts → scan (Operator, InIndex ∷ s) ts ≡ stuck_at ts
+stuck_bracket s [] h isnt = refl
+stuck_bracket s (p ∷ ts) h isnt = refused_at (Operator, InIndex ∷ s) p ts (bracket_step s p.token h (first_is_not (Punct mark.CloseBracket) p ts isnt))
+
+colon_step : (s : List OpenMark) (t : Token) → continues 0 t ≡ false → (t ≡ Punct mark.Colon → ⊥) → operator t (InChoice ∷ s) ≡ None
+colon_step s (Op o) h isnt = absurd (never (level_of o) h)
+colon_step s (Punct mark.Colon) h isnt = absurd (isnt refl)
+colon_step s (Punct mark.OpenBracket) h isnt = cc h
+colon_step s (Punct mark.Question) h isnt = cc h
+colon_step s t h isnt = refl
+
+pub stuck_colon : (s : List OpenMark) (ts : List Placed) → Stops 0 ts → BeginsNot (Punct mark.Colon) ts → scan (Operator, InChoice ∷ s) ts ≡ stuck_at ts
+stuck_colon s [] h isnt = refl
+stuck_colon s (p ∷ ts) h isnt = refused_at (Operator, InChoice ∷ s) p ts (colon_step s p.token h (first_is_not (Punct mark.Colon) p ts isnt))
+
+arguments_step : (s : List OpenMark) (t : Token) → continues 0 t ≡ false → (t ≡ Punct mark.Comma → ⊥) → (t ≡ Punct mark.Close → ⊥) → operator t (InCall ∷ s) ≡ None
+arguments_step s (Op o) h isnt nor = absurd (never (level_of o) h)
+arguments_step s (Punct mark.Comma) h isnt nor = absurd (isnt refl)
+arguments_step s (Punct mark.Close) h isnt nor = absurd (nor refl)
+arguments_step s (Punct mark.OpenBracket) h isnt nor = cc h
+arguments_step s (Punct mark.Question) h isnt nor = cc h
+arguments_step s t h isnt nor = refl
+
+pub stuck_arguments : (s : List OpenMark) (ts : List Placed) → Stops 0 ts → BeginsNot (Punct mark.Comma) ts → BeginsNot (Punct mark.Close) ts → scan (Operator, InCall ∷ s) ts ≡ stuck_at ts
+stuck_arguments s [] h isnt nor = refl
+stuck_arguments s (p ∷ ts) h isnt nor =
+    refused_at (Operator, InCall ∷ s) p ts (arguments_step s p.token h (first_is_not (Punct mark.Comma) p ts isnt) (first_is_not (Punct mark.Close) p ts nor))
+
+end_step : (t : Token) → continues 0 t ≡ false → operator t [] ≡ None
+end_step (Op o) h = absurd (never (level_of o) h)
+end_step (Punct mark.OpenBracket) h = cc h
+end_step (Punct mark.Question) h = cc h
+end_step t h = refl
+
+pub refused_end : (p : Placed) (ts : List Placed) → Stops 0 (p ∷ ts) → scan (Operator, []) (p ∷ ts) ≡ Refused p.place
+refused_end p ts h = refused_at (Operator, []) p ts (end_step p.token h)
+
+-- ---- where an expression stops
+
+pub level_low : (o : BinOp) → level_of o ≤ 6
+level_low op.Or = omega arith
+level_low o = omega arith
+
+pub level_high : (o : BinOp) → 1 ≤ level_of o
+level_high op.Or = omega arith
+level_high o = omega arith
+
+pub above : (n m : ℕ) → m < n → nat_le n m ≡ false
+above n m h = grind (arith, nat_tests)
+
+pub below : (n m : ℕ) → nat_le n m ≡ false → m < n
+below n m h = grind (arith, nat_tests)
+
+pub positive : (n : ℕ) → 1 ≤ n → nat_eq n 0 ≡ false
+positive n h = grind (arith, nat_tests)
+
+postfix_step : (t : Token) → (t ≡ Punct mark.OpenBracket → ⊥) → continues 8 t ≡ false
+postfix_step (Op o) isnt = above 8 (level_of o) (omega (arith, level_low o))
+postfix_step (Punct mark.OpenBracket) isnt = absurd (isnt refl)
+postfix_step t isnt = refl
+
+pub stops_postfix : (ts : List Placed) → BeginsNot (Punct mark.OpenBracket) ts → Stops 8 ts
+stops_postfix [] isnt = tt
+stops_postfix (p ∷ ts) isnt = postfix_step p.token (first_is_not (Punct mark.OpenBracket) p ts isnt)
+
+unary_step : (t : Token) → continues 8 t ≡ false → continues 7 t ≡ false
+unary_step (Op o) h = above 7 (level_of o) (omega (arith, level_low o))
+unary_step (Punct mark.OpenBracket) h = cc h
+unary_step t h = refl
+
+pub stops_unary : (ts : List Placed) → Stops 8 ts → Stops 7 ts
+stops_unary [] h = tt
+stops_unary (p ∷ ts) h = unary_step p.token h
+
+sides_step : (n : ℕ) (t : Token) → 1 ≤ n → n ≤ 6 → continues (n + 1) t ≡ false → ((o : BinOp) → level_of o ≡ n → t ≡ Op o → ⊥) → continues n t ≡ false
+sides_step n (Op o) low high h isnt =
+    let under : level_of o < n + 1 = below (n + 1) (level_of o) h in
+    let other : level_of o ≡ n → ⊥ = λ e. isnt o e refl in
+    above n (level_of o) (omega arith)
+sides_step n (Punct mark.OpenBracket) low high h isnt = absurd (let far : 8 < n + 1 = below (n + 1) 8 h in omega arith)
+sides_step n (Punct mark.Question) low high h isnt = positive n low
+sides_step n t low high h isnt = refl
+
+pub stops_binary : (n : ℕ) (ts : List Placed) → 1 ≤ n → n ≤ 6 → Stops (n + 1) ts → ((o : BinOp) → level_of o ≡ n → BeginsNot (Op o) ts) → Stops n ts
+stops_binary n [] low high h isnt = tt
+stops_binary n (p ∷ ts) low high h isnt = sides_step n p.token low high h (λ o e. first_is_not (Op o) p ts (isnt o e))
+
+expr_step : (t : Token) → continues 1 t ≡ false → (t ≡ Punct mark.Question → ⊥) → continues 0 t ≡ false
+expr_step (Op o) h isnt = absurd (let far : level_of o < 1 = below 1 (level_of o) h in omega (arith, level_high o))
+expr_step (Punct mark.OpenBracket) h isnt = cc h
+expr_step (Punct mark.Question) h isnt = absurd (isnt refl)
+expr_step t h isnt = refl
+
+pub stops_expr : (ts : List Placed) → Stops 1 ts → BeginsNot (Punct mark.Question) ts → Stops 0 ts
+stops_expr [] h isnt = tt
+stops_expr (p ∷ ts) h isnt = expr_step p.token h (first_is_not (Punct mark.Question) p ts isnt)

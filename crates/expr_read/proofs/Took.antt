@@ -1,0 +1,169 @@
+-- What was read, from what its parts read.
+use Rattle.std.proofs.Common.{◌≡◌, ◌<◌, ◌+◌, ◌∙◌, ℕ, suc, ℤ, Bool, List, [], ◌∷◌, ◌++◌, length, arith, refl, sym, ap, subst, append_assoc, add-one}
+use Rattle.std.specs.Prelude.{Result, Ok, Err, IfOk}
+use Rattle.rdf_values.specs.Tree.{NamedTree, End, More}
+use Rattle.rdf_values.specs.Tree as e
+use Rattle.rdf_values.specs.Tokens.{Token, Word, Truth, Number, Op, Punct, Placed}
+use Rattle.rdf_values.specs.Grammar.{NamedTrees, Reads, ReadsArgs, number, truth, name, parenthesized, call, pick, minus_sign, not_sign, binary, conditional, tighter, no_arguments, last_argument, more_arguments, level_of, bare}
+use Rattle.rdf_values.specs.Scans.{InParens, InIndex, InChoice, InCall, Operand, FirstArgument, AfterName, Operator}
+use Rattle.rdf_values.specs.declared.expr.BinOp.{BinOp}
+use Rattle.rdf_values.specs.declared.expr.BinOp.TheVariants as op
+use Rattle.rdf_values.specs.declared.expr.Mark.TheVariants as mark
+use Rattle.expr_read.specs.Parsing.{Begins, BeginsNot, Took, TookArgs}
+use Rattle.expr_read.proofs.Scanned.{scan_after, name_ends, argument_first}
+
+pub bare_after : {t : Token} {old new : List Placed} → Begins t old new → bare old ≡ t ∷ bare new
+bare_after b = ap bare b.is
+
+pub fewer_after : {t : Token} {old new : List Placed} → Begins t old new → length new < length old
+fewer_after b = omega (arith, ap length b.is)
+
+pub took_tighter : {n : ℕ} {a : NamedTree} {old new : List Placed} → Took (suc n) a old new → Took n a old new
+took_tighter k = record { tokens = k.tokens; split = k.split; reads = tighter k.reads; scans = k.scans; fewer = k.fewer }
+
+pub took_next : {a : NamedTree} {old new : List Placed} → (n : ℕ) → Took (n + 1) a old new → Took (suc n) a old new
+took_next {a} {old} {new} n k = subst (λ m. Took m a old new) (add-one n) k
+
+pub took_number : {z : ℤ} {old new : List Placed} → Begins (Number z) old new → Took 9 (e.Lit z) old new
+took_number {z} b = record { tokens = Number z ∷ []; split = bare_after b; reads = number; scans = λ s. scan_after (Operand, s) (Operator, s) b refl; fewer = fewer_after b }
+
+pub took_truth : {v : Bool} {old new : List Placed} → Begins (Truth v) old new → Took 9 (e.Truth v) old new
+took_truth {v} b = record { tokens = Truth v ∷ []; split = bare_after b; reads = truth; scans = λ s. scan_after (Operand, s) (Operator, s) b refl; fewer = fewer_after b }
+
+pub took_name : {x : List ℕ} {old new : List Placed} → Begins (Word x) old new → BeginsNot (Punct mark.Open) new → Took 9 (e.Col x) old new
+took_name {x} b isnt = record {
+  tokens = Word x ∷ [];
+  split = bare_after b;
+  reads = name;
+  scans = λ s. scan_after (Operand, s) (AfterName, s) b refl ∙ name_ends s _ isnt;
+  fewer = fewer_after b;
+}
+
+pub took_minus_sign : {a : NamedTree} {old mid new : List Placed} → Begins (Op op.Sub) old mid → Took 7 a mid new → Took 7 (e.Neg a) old new
+took_minus_sign b k = record {
+  tokens = Op op.Sub ∷ k.tokens;
+  split = bare_after b ∙ ap (λ ts. Op op.Sub ∷ ts) k.split;
+  reads = minus_sign k.reads;
+  scans = λ s. scan_after (Operand, s) (Operand, s) b refl ∙ k.scans s;
+  fewer = omega (arith, fewer_after b, k.fewer);
+}
+
+pub took_not_sign : {a : NamedTree} {old mid new : List Placed} → Begins (Punct mark.Bang) old mid → Took 7 a mid new → Took 7 (e.Not a) old new
+took_not_sign b k = record {
+  tokens = Punct mark.Bang ∷ k.tokens;
+  split = bare_after b ∙ ap (λ ts. Punct mark.Bang ∷ ts) k.split;
+  reads = not_sign k.reads;
+  scans = λ s. scan_after (Operand, s) (Operand, s) b refl ∙ k.scans s;
+  fewer = omega (arith, fewer_after b, k.fewer);
+}
+
+pub took_binary : {n : ℕ} {o : BinOp} {a c : NamedTree} {old mid next new : List Placed}
+    → Took n a old mid → level_of o ≡ n → Begins (Op o) mid next → Took (suc n) c next new → Took n (e.Bin o a c) old new
+took_binary {o = o} k l b r = record {
+  tokens = k.tokens ++ Op o ∷ r.tokens;
+  split = k.split ∙ ap (λ ts. k.tokens ++ ts) (bare_after b ∙ ap (λ ts. Op o ∷ ts) r.split) ∙ simp append_assoc;
+  reads = binary k.reads r.reads l refl;
+  scans = λ s. k.scans s ∙ scan_after (Operator, s) (Operand, s) b refl ∙ r.scans s;
+  fewer = omega (arith, k.fewer, fewer_after b, r.fewer);
+}
+
+pub took_conditional : {t a c : NamedTree} {old m1 m2 m3 m4 new : List Placed}
+    → Took 1 t old m1 → Begins (Punct mark.Question) m1 m2 → Took 0 a m2 m3 → Begins (Punct mark.Colon) m3 m4 → Took 0 c m4 new → Took 0 (e.Cond t a c) old new
+took_conditional k b1 x b2 y = record {
+  tokens = k.tokens ++ (Punct mark.Question ∷ (x.tokens ++ Punct mark.Colon ∷ y.tokens));
+  split = k.split ∙ ap (λ ts. k.tokens ++ ts) (bare_after b1 ∙ ap (λ ts. Punct mark.Question ∷ ts) (x.split ∙ ap (λ ts. x.tokens ++ ts) (bare_after b2 ∙ ap (λ ts. Punct mark.Colon ∷ ts) y.split))) ∙ simp append_assoc;
+  reads = conditional k.reads x.reads y.reads refl;
+  scans = λ s. k.scans s ∙ scan_after (Operator, s) (Operand, InChoice ∷ s) b1 refl ∙ x.scans (InChoice ∷ s) ∙ scan_after (Operator, InChoice ∷ s) (Operand, s) b2 refl ∙ y.scans s;
+  fewer = omega (arith, k.fewer, fewer_after b1, x.fewer, fewer_after b2, y.fewer);
+}
+
+pub took_pick : {v i : NamedTree} {old m1 m2 m3 new : List Placed}
+    → Took 8 v old m1 → Begins (Punct mark.OpenBracket) m1 m2 → Took 0 i m2 m3 → Begins (Punct mark.CloseBracket) m3 new → Took 8 (e.Pick v i) old new
+took_pick k b1 x b2 = record {
+  tokens = k.tokens ++ (Punct mark.OpenBracket ∷ (x.tokens ++ Punct mark.CloseBracket ∷ []));
+  split = k.split ∙ ap (λ ts. k.tokens ++ ts) (bare_after b1 ∙ ap (λ ts. Punct mark.OpenBracket ∷ ts) (x.split ∙ ap (λ ts. x.tokens ++ ts) (bare_after b2))) ∙ simp append_assoc;
+  reads = pick k.reads x.reads refl;
+  scans = λ s. k.scans s ∙ scan_after (Operator, s) (Operand, InIndex ∷ s) b1 refl ∙ x.scans (InIndex ∷ s) ∙ scan_after (Operator, InIndex ∷ s) (Operator, s) b2 refl;
+  fewer = omega (arith, k.fewer, fewer_after b1, x.fewer, fewer_after b2);
+}
+
+pub took_parens : {a : NamedTree} {old m1 m2 new : List Placed} → Begins (Punct mark.Open) old m1 → Took 0 a m1 m2 → Begins (Punct mark.Close) m2 new → Took 9 a old new
+took_parens b1 x b2 = record {
+  tokens = Punct mark.Open ∷ (x.tokens ++ Punct mark.Close ∷ []);
+  split = bare_after b1 ∙ ap (λ ts. Punct mark.Open ∷ ts) (x.split ∙ ap (λ ts. x.tokens ++ ts) (bare_after b2)) ∙ simp append_assoc;
+  reads = parenthesized x.reads refl;
+  scans = λ s. scan_after (Operand, s) (Operand, InParens ∷ s) b1 refl ∙ x.scans (InParens ∷ s) ∙ scan_after (Operator, InParens ∷ s) (Operator, s) b2 refl;
+  fewer = omega (arith, fewer_after b1, x.fewer, fewer_after b2);
+}
+
+pub took_call_none : {f : List ℕ} {old m1 m2 new : List Placed} → Begins (Word f) old m1 → Begins (Punct mark.Open) m1 m2 → Begins (Punct mark.Close) m2 new → Took 9 (e.Call f End) old new
+took_call_none {f} b1 b2 b3 = record {
+  tokens = Word f ∷ Punct mark.Open ∷ Punct mark.Close ∷ [];
+  split = bare_after b1 ∙ ap (λ ts. Word f ∷ ts) (bare_after b2 ∙ ap (λ ts. Punct mark.Open ∷ ts) (bare_after b3));
+  reads = call no_arguments refl;
+  scans = λ s. scan_after (Operand, s) (AfterName, s) b1 refl ∙ scan_after (AfterName, s) (FirstArgument, InCall ∷ s) b2 refl ∙ scan_after (FirstArgument, InCall ∷ s) (Operator, s) b3 refl;
+  fewer = omega (arith, fewer_after b1, fewer_after b2, fewer_after b3);
+}
+
+pub took_call : {f : List ℕ} {args : NamedTrees} {old m1 m2 new : List Placed}
+    → Begins (Word f) old m1 → Begins (Punct mark.Open) m1 m2 → BeginsNot (Punct mark.Close) m2 → TookArgs args m2 new → Took 9 (e.Call f args) old new
+took_call {f} b1 b2 isnt x = record {
+  tokens = Word f ∷ Punct mark.Open ∷ (x.tokens ++ Punct mark.Close ∷ []);
+  split = bare_after b1 ∙ ap (λ ts. Word f ∷ ts) (bare_after b2 ∙ ap (λ ts. Punct mark.Open ∷ ts) x.split) ∙ simp append_assoc;
+  reads = call x.reads refl;
+  scans = λ s. scan_after (Operand, s) (AfterName, s) b1 refl ∙ scan_after (AfterName, s) (FirstArgument, InCall ∷ s) b2 refl ∙ argument_first s _ isnt ∙ x.scans s;
+  fewer = omega (arith, fewer_after b1, fewer_after b2, x.fewer);
+}
+
+pub took_last : {a : NamedTree} {old mid new : List Placed} → Took 0 a old mid → Begins (Punct mark.Close) mid new → TookArgs (More a End) old new
+took_last k b = record {
+  tokens = k.tokens;
+  split = k.split ∙ ap (λ ts. k.tokens ++ ts) (bare_after b);
+  reads = last_argument k.reads;
+  some = λ h. cc h;
+  scans = λ s. k.scans (InCall ∷ s) ∙ scan_after (Operator, InCall ∷ s) (Operator, s) b refl;
+  fewer = omega (arith, k.fewer, fewer_after b);
+}
+
+reads_more : {a : NamedTree} {ts us : List Token} → (r : NamedTrees) → (r ≡ End → ⊥) → Reads 0 ts a → ReadsArgs us r → ReadsArgs (ts ++ Punct mark.Comma ∷ us) (More a r)
+reads_more End some x y = absurd (some refl)
+reads_more (More b r) some x y = more_arguments x y refl
+
+pub took_more : {a : NamedTree} {r : NamedTrees} {old mid next new : List Placed}
+    → Took 0 a old mid → Begins (Punct mark.Comma) mid next → TookArgs r next new → TookArgs (More a r) old new
+took_more {r = r} k b x = record {
+  tokens = k.tokens ++ Punct mark.Comma ∷ x.tokens;
+  split = k.split ∙ ap (λ ts. k.tokens ++ ts) (bare_after b ∙ ap (λ ts. Punct mark.Comma ∷ ts) x.split) ∙ simp append_assoc;
+  reads = reads_more r x.some k.reads x.reads;
+  some = λ h. cc h;
+  scans = λ s. k.scans (InCall ∷ s) ∙ scan_after (Operator, InCall ∷ s) (Operand, InCall ∷ s) b refl ∙ x.scans s;
+  fewer = omega (arith, k.fewer, fewer_after b, x.fewer);
+}
+
+-- what was read, of another tree or up to other tokens that are the same
+pub took_as : {n : ℕ} {a b : NamedTree} {old new : List Placed} → b ≡ a → Took n a old new → Took n b old new
+took_as {n} {a} {b} {old} {new} e k = subst (λ (x : NamedTree). Took n x old new) (sym e) k
+
+pub took_to : {n : ℕ} {a : NamedTree} {old mid new : List Placed} → new ≡ mid → Took n a old mid → Took n a old new
+took_to {n} {a} {old} e k = subst (λ (x : List Placed). Took n a old x) (sym e) k
+
+pub args_as : {a b : NamedTrees} {old new : List Placed} → b ≡ a → TookArgs a old new → TookArgs b old new
+args_as {a} {b} {old} {new} e k = subst (λ (x : NamedTrees). TookArgs x old new) (sym e) k
+
+pub ok_as : {A E : Type 0} {P Q : A → Type 0} → (r : Result A E) → ((x : A) → P x → Q x) → IfOk r P → IfOk r Q
+ok_as (Ok x) f h = f x h
+ok_as (Err e) f h = h
+
+-- what was read from other tokens that are the same
+pub args_from : {a : NamedTrees} {old mid new : List Placed} → mid ≡ old → TookArgs a mid new → TookArgs a old new
+args_from {a} {old} {mid} {new} e k = subst (λ (x : List Placed). TookArgs a x new) e k
+
+pub begins_from : {t : Token} {old mid new : List Placed} → mid ≡ old → Begins t mid new → Begins t old new
+begins_from {t} {old} {mid} {new} e b = subst (λ (x : List Placed). Begins t x new) e b
+
+pub took_from : {n : ℕ} {a : NamedTree} {old mid new : List Placed} → mid ≡ old → Took n a mid new → Took n a old new
+took_from {n} {a} {old} {mid} {new} e k = subst (λ (x : List Placed). Took n a x new) e k
+
+-- the token that was seen comes first
+pub begins_seen : {k t : Token} {old next new : List Placed} → k ≡ t → Begins k old next → new ≡ next → Begins t old new
+begins_seen {k} {t} {old} {next} {new} e b same = record { place = b.place; is = b.is ∙ (λ i. record { token = e i; place = b.place } ∷ sym same i) }

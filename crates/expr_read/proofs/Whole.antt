@@ -1,0 +1,154 @@
+-- Tokens that read are refused by no scan, and leave nothing open.
+use Rattle.std.proofs.Common.{◌≡◌, ◌∙◌, ℕ, Bool, true, false, List, [], ◌∷◌, ◌++◌, Some, refl, sym, ap, append_assoc, append-nil}
+use Rattle.std.specs.Prelude.{not}
+use Rattle.rdf_values.specs.Tree.{NamedTree, End}
+use Rattle.rdf_values.specs.Tokens.{Token, Word, Truth, Number, Op, Punct, Placed}
+use Rattle.rdf_values.specs.Grammar.{NamedTrees, Reads, ReadsArgs, number, truth, name, parenthesized, call, pick, minus_sign, not_sign, binary, conditional, tighter, no_arguments, last_argument, more_arguments, bare, ReadsList, ReadsLists, ReadsValues, last_item, more_items, last_list, more_lists, one_list, several_lists, vector}
+use Rattle.rdf_values.specs.Scans.{OpenMark, InParens, InIndex, InChoice, InCall, InList, InLists, AfterBrace, NextList, Nothing, after_list, begin_values, Operand, FirstArgument, AfterName, Operator, ScanState, Whole, scan_step, scan, begin_expr}
+use Rattle.rdf_values.specs.declared.expr.BinOp.TheVariants as op
+use Rattle.rdf_values.specs.declared.expr.Mark.TheVariants as mark
+use Rattle.expr_read.specs.Parsing.{BeginsNot}
+use Rattle.expr_read.proofs.Scanned.{name_ends, argument_first}
+use Rattle.expr_read.proofs.Lists.{vector_first, item_first}
+use Rattle.rdf_values.specs.declared.vary_values.VaryValues.{VaryValues}
+
+-- the scan goes from one state to another, up to tokens that are these
+record Passes (from to : ScanState) (old : List Placed) (us : List Token) : Type 0 where
+  new : List Placed
+  rest : bare new ≡ us
+  scans : scan from old ≡ scan to new
+
+-- no `(` comes first, nor a `)`
+abbrev IsNo : Token → List Token → Type 0
+IsNo t us = (vs : List Token) → us ≡ t ∷ vs → ⊥
+
+pass : (from to : ScanState) (t : Token) (old : List Placed) (us : List Token) → scan_step from t ≡ Some to → bare old ≡ t ∷ us → Passes from to old us
+pass from to t [] us e h = cc h
+pass from to t (p ∷ ps) us e h = let same : p.token ≡ t = cc h in record { new = ps; rest = cc h; scans = rw (same, e) refl }
+
+after : {from mid to : ScanState} {old : List Placed} {us vs : List Token} → Passes from mid old us → ((new : List Placed) → bare new ≡ us → Passes mid to new vs) → Passes from to old vs
+after p f = let q = f p.new p.rest in record { new = q.new; rest = q.rest; scans = p.scans ∙ q.scans }
+
+isnt_first : (t : Token) (old : List Placed) (us : List Token) → bare old ≡ us → IsNo t us → BeginsNot t old
+isnt_first t old us e isnt new b = isnt (bare new) (sym e ∙ ap bare b.is)
+
+stay_name : (s : List OpenMark) (old : List Placed) (us : List Token) → bare old ≡ us → IsNo (Punct mark.Open) us → Passes (AfterName, s) (Operator, s) old us
+stay_name s old us e isnt = record { new = old; rest = e; scans = name_ends s old (isnt_first (Punct mark.Open) old us e isnt) }
+
+stay_argument : (s : List OpenMark) (old : List Placed) (us : List Token) → bare old ≡ us → IsNo (Punct mark.Close) us → Passes (FirstArgument, InCall ∷ s) (Operand, InCall ∷ s) old us
+stay_argument s old us e isnt = record { new = old; rest = e; scans = argument_first s old (isnt_first (Punct mark.Close) old us e isnt) }
+
+stay_back : (s : List OpenMark) (old : List Placed) (us : List Token) → bare old ≡ us → IsNo (Punct mark.Close) us → Passes (Operand, InCall ∷ s) (FirstArgument, InCall ∷ s) old us
+stay_back s old us e isnt = record { new = old; rest = e; scans = sym (argument_first s old (isnt_first (Punct mark.Close) old us e isnt)) }
+
+abbrev pub is_close : Token → Bool
+is_close (Punct mark.Close) = true
+is_close (Punct mark.OpenBrace) = true
+is_close t = false
+
+-- there is a first token, and it is no `)` and no `{`
+abbrev pub starts : List Token → Bool
+starts [] = false
+starts (t ∷ ts) = not (is_close t)
+
+pub starts_more : (ts us : List Token) → starts ts ≡ true → starts (ts ++ us) ≡ true
+starts_more [] us h = cc h
+starts_more (t ∷ ts) us h = h
+
+pub starts_with_it : {n : ℕ} {ts : List Token} {a : NamedTree} → Reads n ts a → starts ts ≡ true
+starts_with_it number = refl
+starts_with_it truth = refl
+starts_with_it name = refl
+starts_with_it (parenthesized r e) = rw e refl
+starts_with_it (call r e) = rw e refl
+starts_with_it (pick r q e) = rw e (starts_more _ _ (starts_with_it r))
+starts_with_it (minus_sign r) = refl
+starts_with_it (not_sign r) = refl
+starts_with_it (binary r q l e) = rw e (starts_more _ _ (starts_with_it r))
+starts_with_it (conditional r q s e) = rw e (starts_more _ _ (starts_with_it r))
+starts_with_it (tighter r) = starts_with_it r
+
+args_start : {ts : List Token} {args : NamedTrees} → ReadsArgs ts args → (args ≡ End → ⊥) → starts ts ≡ true
+args_start no_arguments some = absurd (some refl)
+args_start (last_argument r) some = starts_with_it r
+args_start (more_arguments r q e) some = rw e (starts_more _ _ (starts_with_it r))
+
+no_close : (us : List Token) → starts us ≡ true → IsNo (Punct mark.Close) us
+no_close us h vs e = let no : starts us ≡ false = ap starts e in cc (h, no)
+
+mutual
+  scanned : {n : ℕ} {ts : List Token} {a : NamedTree} → Reads n ts a → (s : List OpenMark) (old : List Placed) (us : List Token) → IsNo (Punct mark.Open) us → bare old ≡ ts ++ us → Passes (Operand, s) (Operator, s) old us
+  scanned (number {z}) s old us isnt h = pass _ _ (Number z) old us refl h
+  scanned (truth {b}) s old us isnt h = pass _ _ (Truth b) old us refl h
+  scanned (name {x}) s old us isnt h = after (pass _ (AfterName, s) (Word x) old us refl h) (λ new e. stay_name s new us e isnt)
+  scanned (parenthesized {ts} r e) s old us isnt h =
+      after (pass _ (Operand, InParens ∷ s) (Punct mark.Open) old (ts ++ Punct mark.Close ∷ us) refl (h ∙ rw (e, append_assoc) refl)) (λ m1 e1. after (scanned r (InParens ∷ s) m1 (Punct mark.Close ∷ us) (λ vs x. cc x) e1) (λ m2 e2. pass _ (Operator, s) (Punct mark.Close) m2 us refl e2))
+  scanned (call {f} {ts} r e) s old us isnt h =
+      after (pass _ (AfterName, s) (Word f) old (Punct mark.Open ∷ (ts ++ Punct mark.Close ∷ us)) refl (h ∙ rw e (simp append_assoc))) (λ m1 e1. after (pass _ (FirstArgument, InCall ∷ s) (Punct mark.Open) m1 _ refl e1) (λ m2 e2. scanned_args r s m2 us e2))
+  scanned (pick {ts = ts} {us = is} r q e) s old us isnt h =
+      after (scanned r s old (Punct mark.OpenBracket ∷ (is ++ Punct mark.CloseBracket ∷ us)) (λ vs x. cc x) (h ∙ rw e (simp append_assoc))) (λ m1 e1. after (pass _ (Operand, InIndex ∷ s) (Punct mark.OpenBracket) m1 _ refl e1) (λ m2 e2. after (scanned q (InIndex ∷ s) m2 (Punct mark.CloseBracket ∷ us) (λ vs x. cc x) e2) (λ m3 e3. pass _ (Operator, s) (Punct mark.CloseBracket) m3 us refl e3)))
+  scanned (minus_sign r) s old us isnt h = after (pass _ (Operand, s) (Op op.Sub) old _ refl h) (λ m e. scanned r s m us isnt e)
+  scanned (not_sign r) s old us isnt h = after (pass _ (Operand, s) (Punct mark.Bang) old _ refl h) (λ m e. scanned r s m us isnt e)
+  scanned (binary {o = o} {us = bs} r q l e) s old us isnt h =
+      after (scanned r s old (Op o ∷ (bs ++ us)) (λ vs x. cc x) (h ∙ rw e (simp append_assoc))) (λ m1 e1. after (pass _ (Operand, s) (Op o) m1 _ refl e1) (λ m2 e2. scanned q s m2 us isnt e2))
+  scanned (conditional {us = bs} {ws = cs} r q w e) s old us isnt h =
+      after (scanned r s old (Punct mark.Question ∷ (bs ++ Punct mark.Colon ∷ (cs ++ us))) (λ vs x. cc x) (h ∙ rw e (simp append_assoc))) (λ m1 e1. after (pass _ (Operand, InChoice ∷ s) (Punct mark.Question) m1 _ refl e1) (λ m2 e2. after (scanned q (InChoice ∷ s) m2 (Punct mark.Colon ∷ (cs ++ us)) (λ vs x. cc x) e2) (λ m3 e3. after (pass _ (Operand, s) (Punct mark.Colon) m3 _ refl e3) (λ m4 e4. scanned w s m4 us isnt e4))))
+  scanned (tighter r) s old us isnt h = scanned r s old us isnt h
+
+  -- the arguments of a call and its `)`
+  scanned_args : {ts : List Token} {args : NamedTrees} → ReadsArgs ts args → (s : List OpenMark) (old : List Placed) (us : List Token) → bare old ≡ ts ++ Punct mark.Close ∷ us → Passes (FirstArgument, InCall ∷ s) (Operator, s) old us
+  scanned_args no_arguments s old us h = pass _ (Operator, s) (Punct mark.Close) old us refl h
+  scanned_args (last_argument {ts} r) s old us h =
+      after (stay_argument s old _ h (no_close _ (starts_more ts _ (starts_with_it r)))) (λ m1 e1. after (scanned r (InCall ∷ s) m1 (Punct mark.Close ∷ us) (λ vs x. cc x) e1) (λ m2 e2. pass _ (Operator, s) (Punct mark.Close) m2 us refl e2))
+  scanned_args (more_arguments {ts = ts} {us = bs} r q e) s old us h =
+      after (stay_argument s old _ (h ∙ rw e (simp append_assoc)) (no_close _ (starts_more ts (Punct mark.Comma ∷ (bs ++ Punct mark.Close ∷ us)) (starts_with_it r)))) (λ m1 e1. after (scanned r (InCall ∷ s) m1 (Punct mark.Comma ∷ (bs ++ Punct mark.Close ∷ us)) (λ vs x. cc x) e1) (λ m2 e2. after (pass _ (Operand, InCall ∷ s) (Punct mark.Comma) m2 _ refl e2) (λ m3 e3. after (stay_back s m3 _ e3 (no_close _ (starts_more bs _ (args_start q (λ x. cc x))))) (λ m4 e4. scanned_args q s m4 us e4))))
+
+bare_empty : (ts : List Placed) → bare ts ≡ [] → ts ≡ []
+bare_empty [] h = refl
+bare_empty (p ∷ ts) h = cc h
+
+pub whole : (ts : List Placed) (a : NamedTree) → Reads 0 (bare ts) a → scan begin_expr ts ≡ Whole
+whole ts a r =
+    let all = scanned r [] ts [] (λ vs x. cc x) (sym (append-nil (bare ts))) in
+    all.scans ∙ rw (bare_empty all.new all.rest) refl
+
+-- ---- the values of a Vary
+
+scanned_list : {ts : List Token} {es : List NamedTree} → ReadsList ts es → (s : List OpenMark) (old : List Placed) (us : List Token) → bare old ≡ ts ++ Punct mark.CloseBrace ∷ us → Passes (Operand, InList ∷ s) (after_list s) old us
+scanned_list (last_item r) s old us h = after (scanned r (InList ∷ s) old (Punct mark.CloseBrace ∷ us) (λ vs x. cc x) h) (λ m e. pass _ (after_list s) (Punct mark.CloseBrace) m us refl e)
+scanned_list (more_items {us = bs} r q e) s old us h =
+    after (scanned r (InList ∷ s) old (Punct mark.Comma ∷ (bs ++ Punct mark.CloseBrace ∷ us)) (λ vs x. cc x) (h ∙ rw e (simp append_assoc))) (λ m1 e1. after (pass _ (Operand, InList ∷ s) (Punct mark.Comma) m1 _ refl e1) (λ m2 e2. scanned_list q s m2 us e2))
+
+-- lists, where the first `{` puts a list on top of an outer brace
+scanned_lists : {ts : List Token} {ls : List (List NamedTree)} → ReadsLists ts ls → (from : ScanState) → scan_step from (Punct mark.OpenBrace) ≡ Some (Operand, InList ∷ InLists ∷ []) → (old : List Placed) (vs : List Token) → bare old ≡ ts ++ Punct mark.CloseBrace ∷ vs → Passes from (Nothing, []) old vs
+scanned_lists (last_list {ts} r e) from opens old vs h =
+    after (pass from (Operand, InList ∷ InLists ∷ []) (Punct mark.OpenBrace) old (ts ++ Punct mark.CloseBrace ∷ Punct mark.CloseBrace ∷ vs) opens (h ∙ rw e (simp append_assoc))) (λ m1 e1. after (scanned_list r (InLists ∷ []) m1 (Punct mark.CloseBrace ∷ vs) e1) (λ m2 e2. pass _ (Nothing, []) (Punct mark.CloseBrace) m2 vs refl e2))
+scanned_lists (more_lists {ts} {us = bs} r q e) from opens old vs h =
+    after (pass from (Operand, InList ∷ InLists ∷ []) (Punct mark.OpenBrace) old (ts ++ Punct mark.CloseBrace ∷ Punct mark.Comma ∷ (bs ++ Punct mark.CloseBrace ∷ vs)) opens (h ∙ rw e (simp append_assoc))) (λ m1 e1. after (scanned_list r (InLists ∷ []) m1 (Punct mark.Comma ∷ (bs ++ Punct mark.CloseBrace ∷ vs)) e1) (λ m2 e2. after (pass _ (NextList, InLists ∷ []) (Punct mark.Comma) m2 _ refl e2) (λ m3 e3. scanned_lists q (NextList, InLists ∷ []) refl m3 vs e3)))
+
+no_brace : (us : List Token) → starts us ≡ true → IsNo (Punct mark.OpenBrace) us
+no_brace us h vs e = let no : starts us ≡ false = ap starts e in cc (h, no)
+
+pub list_starts : {ts : List Token} {es : List NamedTree} → ReadsList ts es → starts ts ≡ true
+list_starts (last_item r) = starts_with_it r
+list_starts (more_items r q e) = rw e (starts_more _ _ (starts_with_it r))
+
+stay_vector : (old : List Placed) (us : List Token) → bare old ≡ us → IsNo (Punct mark.OpenBrace) us → Passes begin_values (Operand, []) old us
+stay_vector old us e isnt = record { new = old; rest = e; scans = vector_first old (isnt_first (Punct mark.OpenBrace) old us e isnt) }
+
+stay_item : (old : List Placed) (us : List Token) → bare old ≡ us → IsNo (Punct mark.OpenBrace) us → Passes (AfterBrace, InList ∷ []) (Operand, InList ∷ []) old us
+stay_item old us e isnt = record { new = old; rest = e; scans = item_first old (isnt_first (Punct mark.OpenBrace) old us e isnt) }
+
+scanned_values : {ts : List Token} {v : VaryValues} → ReadsValues ts v → (old : List Placed) → bare old ≡ ts → scan begin_values old ≡ Whole
+scanned_values (one_list {ts} r e) old h =
+    let all = after (pass begin_values (AfterBrace, InList ∷ []) (Punct mark.OpenBrace) old (ts ++ Punct mark.CloseBrace ∷ []) refl (h ∙ e)) (λ m1 e1. after (stay_item m1 (ts ++ Punct mark.CloseBrace ∷ []) e1 (no_brace _ (starts_more ts _ (list_starts r)))) (λ m2 e2. scanned_list r [] m2 [] e2)) in
+    all.scans ∙ rw (bare_empty all.new all.rest) refl
+scanned_values (several_lists {ts} r e) old h =
+    let all = after (pass begin_values (AfterBrace, InList ∷ []) (Punct mark.OpenBrace) old (ts ++ Punct mark.CloseBrace ∷ []) refl (h ∙ e)) (λ m1 e1. scanned_lists r (AfterBrace, InList ∷ []) refl m1 [] e1) in
+    all.scans ∙ rw (bare_empty all.new all.rest) refl
+scanned_values (vector {ts} r) old h =
+    let all = after (stay_vector old ts h (no_brace ts (starts_with_it r))) (λ m e. scanned r [] m [] (λ vs x. cc x) (e ∙ sym (append-nil ts))) in
+    all.scans ∙ rw (bare_empty all.new all.rest) refl
+
+pub whole_values : (ts : List Placed) (v : VaryValues) → ReadsValues (bare ts) v → scan begin_values ts ≡ Whole
+whole_values ts v r = scanned_values r ts refl

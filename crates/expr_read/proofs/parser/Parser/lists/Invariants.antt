@@ -1,0 +1,10 @@
+use Rattle.std.proofs.Common.{length}
+use Rattle.expr_read.specs.Left.{left_of}
+use Rattle.expr_read.specs.Parsing.{Listings}
+use Rattle.expr_read.proofs.parser.Parser.lists.Given as goal
+
+abbrev pub invariant-loop-lists : goal.invariant-loop-lists
+invariant-loop-lists l = Listings l.lists (left_of l.fn.self) (left_of l.self)
+
+abbrev pub decreases-loop-lists : goal.decreases-loop-lists
+decreases-loop-lists l = length (left_of l.self)

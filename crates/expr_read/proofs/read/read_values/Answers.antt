@@ -1,0 +1,24 @@
+use Rattle.std.proofs.lemmas.Result.{err_from_is_err_and}
+use Rattle.rdf_values.specs.Grammar.{ReadsValues}
+use Rattle.rdf_values.specs.Scans.{begin_values}
+use Rattle.expr_read.proofs.Whole.{whole_values}
+use Rattle.expr_read.proofs.Reading.{tokens_refused, text_refused, none_unexpected, err_as, match_as, one_value}
+use Rattle.expr_read.proofs.ValidTokens.{valid_tokens}
+use Rattle.expr_read.proofs.read.read_values.Goals as goal
+
+pub returns-in_err-tokens-clause-err : goal.returns-in_err-tokens-clause-err
+returns-in_err-tokens-clause-err c =
+    let p = err_from_is_err_and c.from_residual.result c.from_residual.ensures.1 in
+    rw (p.1, p.2) (tokens_refused ReadsValues begin_values whole_values c.args.text.now _ c.in_err-tokens.ensures)
+
+pub returns-clause-err : goal.returns-clause-err
+returns-clause-err c =
+    err_as c.parse_values.result (λ e h. text_refused ReadsValues begin_values whole_values c.args.text.now _ e c.in_ok-tokens.ensures h) (rw c.as_slice.ensures.value at c.parse_values.ensures.err)
+
+pub returns-clause-complete : goal.returns-clause-complete
+returns-clause-complete c v r =
+    match_as c.parse_values.result (λ x h. one_value c.args.text.now _ x v c.in_ok-tokens.ensures h r) (λ e h. none_unexpected ReadsValues begin_values whole_values c.args.text.now _ e v c.in_ok-tokens.ensures h r)
+    (rw c.as_slice.ensures.value at c.parse_values.ensures.ok) (rw c.as_slice.ensures.value at c.parse_values.ensures.err)
+
+pub parse_values-requires : goal.parse_values-requires
+parse_values-requires c = rw c.as_slice.ensures.value (valid_tokens c.args.text.now _ c.in_ok-tokens.ensures)

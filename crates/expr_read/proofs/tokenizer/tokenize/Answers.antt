@@ -1,0 +1,67 @@
+use Rattle.std.proofs.Common.{◌≡◌, ◌<◌, ◌∙◌, List, [], ◌∷◌, ◌++◌, map, length, sym, arith, rules, refl, ap, Err}
+use Rattle.std.specs.Prelude.{Result}
+use Rattle.rdf_values.specs.Tokens.{Placed, Refusal}
+use Rattle.std.proofs.lemmas.List.{map-append}
+use Rattle.std.proofs.lemmas.Grind.{common_steps}
+use Rattle.expr_read.specs.Views.{placed_of}
+use Rattle.expr_read.proofs.TokenSteps.{step_blank, step_bad, step_many, step_token, at_end}
+use Rattle.expr_read.proofs.Sizes.{token_sized, refusal_sized, from_place}
+use Rattle.expr_read.proofs.tokenizer.tokenize.Goals as goal
+
+pub loop-place-preserved-then-is_blank : goal.loop-place-preserved-then-is_blank
+loop-place-preserved-then-is_blank c = record {
+  same = c.loop-place.invariant.same ∙ step_blank _ c.args.text.now c.loop-place.place (omega arith) (search rules);
+  within = omega arith;
+  few = c.loop-place.invariant.few;
+}
+
+pub overflow_add-result : goal.overflow_add-result
+overflow_add-result c =
+    let first = c.in-Err.ensures _ _ (from_place c.args.text.now c.loop-place.place (omega arith)) in
+    let size = refusal_sized c.args.text.now c.loop-place.place _ (omega arith) first in
+    omega arith
+
+pub overflow_cast-result-in-Err : goal.overflow_cast-result-in-Err
+overflow_cast-result-in-Err c =
+    let first = c.in-Err.ensures _ _ (from_place c.args.text.now c.loop-place.place (omega arith)) in
+    let size = refusal_sized c.args.text.now c.loop-place.place _ (omega arith) first in
+    omega arith
+
+pub returns-in-Err : goal.returns-in-Err
+returns-in-Err c =
+    let first = c.in-Err.ensures _ _ (from_place c.args.text.now c.loop-place.place (omega arith)) in
+    c.loop-place.invariant.same ∙ step_bad _ c.args.text.now c.loop-place.place _ (omega arith) (search rules) (sym first) (grind (arith, common_steps))
+
+pub returns-then-len-eq-MOST_TOKENS : goal.returns-then-len-eq-MOST_TOKENS
+returns-then-len-eq-MOST_TOKENS c =
+    let first = c.first_token-first.ensures _ _ (from_place c.args.text.now c.loop-place.place (omega arith)) in
+    let refused : Refusal → Result (List Placed) Refusal = λ e. Err e in
+    c.loop-place.invariant.same ∙ step_many _ c.args.text.now c.loop-place.place _ (omega arith) (search rules) (sym first) (grind (arith, common_steps)) ∙ ap refused (c.cause_at_limit.ensures c.loop-place.place)
+
+pub overflow_add-place-in-loop-place : goal.overflow_add-place-in-loop-place
+overflow_add-place-in-loop-place c =
+    let first = c.in-Ok.ensures _ _ (from_place c.args.text.now c.loop-place.place (omega arith)) in
+    let size = token_sized c.args.text.now c.loop-place.place _ (omega arith) first in
+    omega arith
+
+pub loop-place-smaller : goal.loop-place-smaller
+loop-place-smaller c =
+    let first = c.in-Ok.ensures _ _ (from_place c.args.text.now c.loop-place.place (omega arith)) in
+    let size = token_sized c.args.text.now c.loop-place.place _ (omega arith) first in
+    omega arith
+
+pub loop-place-preserved : goal.loop-place-preserved
+loop-place-preserved c =
+    let first = c.in-Ok.ensures _ _ (from_place c.args.text.now c.loop-place.place (omega arith)) in
+    let size = token_sized c.args.text.now c.loop-place.place _ (omega arith) first in
+    let few : length c.loop-place.found.items < 256 = grind (arith, common_steps) in
+    let one = step_token (map placed_of c.loop-place.found.items) c.args.text.now c.loop-place.place _ (omega arith) (search rules) (sym first) (grind (arith, common_steps)) in
+    let pushed : c.push.new.self.items ≡ c.loop-place.found.items ++ record { token = c.in-Ok.lexeme.token; place = c.loop-place.place } ∷ [] = grind (arith, common_steps) in
+    record {
+      same = c.loop-place.invariant.same ∙ one ∙ rw (pushed, map-append) refl;
+      within = omega arith;
+      few = grind (arith, common_steps);
+    }
+
+pub returns : goal.returns
+returns c = c.loop-place.invariant.same ∙ at_end _ c.args.text.now c.loop-place.place (omega arith)

@@ -1,0 +1,5 @@
+pub mod Answers
+pub mod Left
+pub mod Parsing
+pub mod Valid
+pub mod Views

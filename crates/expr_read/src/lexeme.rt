@@ -1,0 +1,161 @@
+// The token that a text begins with.
+ghost use Rattle.std.specs.Prelude.{◌≡◌, ◌<◌, ◌∷◌, List, ℕ, length, take_while, option_map};
+ghost use Rattle.rdf_values.specs.Names.{is_digit, is_word_byte};
+ghost use Rattle.rdf_values.specs.Tokens.{word_first, number_first, long_mark, short_mark, mark_first, first_token};
+ghost use Rattle.expr_read.specs.Views.{first_of, token_of};
+
+use crate::token::Token;
+use rdf_values::name::{is_word_byte, is_word_start};
+use rdf_values::{BinOp, ExprCause, Mark, read_magnitude};
+
+const LONGEST_WORD: usize = 64;
+
+/// A token and how many bytes it has.
+#[derive(Clone, Copy)]
+pub(crate) struct Lexeme<'a> {
+    pub(crate) token: Token<'a>,
+    pub(crate) size: usize,
+}
+
+/// Why there is no token, and how many bytes on.
+#[derive(Clone, Copy)]
+pub(crate) struct Misread {
+    pub(crate) cause: ExprCause,
+    pub(crate) offset: usize,
+}
+
+fn is_digit(byte: u8) -> bool
+    ensures { result ≡ is_digit byte }
+{
+    byte.is_ascii_digit()
+}
+
+fn word_size(text: &[u8]) -> usize
+    ensures { result ≡ length (take_while is_word_byte text.now) }
+{
+    text.iter().take_while(|byte| is_word_byte(**byte)).count()
+}
+
+fn digits_size(text: &[u8]) -> usize
+    ensures { result ≡ length (take_while is_digit text.now) }
+{
+    text.iter().take_while(|byte| is_digit(**byte)).count()
+}
+
+// The token that a word is.
+#[tactic(auto, unfolding(rdf_values::specs::Tokens::word_first))]
+fn word(word: &[u8]) -> Result<Lexeme<'_>, Misread>
+    ensures { first_of result ≡ word_first word.now }
+{
+    if word.len() > LONGEST_WORD {
+        return Err(Misread {
+            cause: ExprCause::BadByte,
+            offset: LONGEST_WORD,
+        });
+    }
+    let token = if word == b"true".as_slice() {
+        Token::Truth(true)
+    } else if word == b"false".as_slice() {
+        Token::Truth(false)
+    } else {
+        Token::Word(word)
+    };
+    Ok(Lexeme {
+        token,
+        size: word.len(),
+    })
+}
+
+// The token that some digits are.
+#[tactic(auto, unfolding(rdf_values::specs::Tokens::number_first))]
+fn number(digits: &[u8]) -> Result<Lexeme<'_>, Misread>
+    ensures { first_of result ≡ number_first digits.now }
+{
+    match read_magnitude(digits, i64::MAX as u64) {
+        Some(n) => Ok(Lexeme {
+            token: Token::Number(n as i64),
+            size: digits.len(),
+        }),
+        None => Err(Misread {
+            cause: ExprCause::BadNumber,
+            offset: 0,
+        }),
+    }
+}
+
+// The token of a mark of two bytes.
+#[tactic(auto, unfolding(rdf_values::specs::Tokens::long_mark))]
+fn long_mark(first: u8, second: u8) -> Option<Token<'static>>
+    ensures { option_map token_of result ≡ long_mark first second }
+{
+    match (first, second) {
+        (b'<', b'=') => Some(Token::Op(BinOp::Le)),
+        (b'>', b'=') => Some(Token::Op(BinOp::Ge)),
+        (b'=', b'=') => Some(Token::Op(BinOp::Eq)),
+        (b'!', b'=') => Some(Token::Op(BinOp::Ne)),
+        (b'&', b'&') => Some(Token::Op(BinOp::And)),
+        (b'|', b'|') => Some(Token::Op(BinOp::Or)),
+        _ => None,
+    }
+}
+
+// The token of a mark of one byte.
+#[tactic(auto, unfolding(rdf_values::specs::Tokens::short_mark))]
+fn short_mark(byte: u8) -> Option<Token<'static>>
+    ensures { option_map token_of result ≡ short_mark byte }
+{
+    match byte {
+        b'(' => Some(Token::Punct(Mark::Open)),
+        b')' => Some(Token::Punct(Mark::Close)),
+        b'[' => Some(Token::Punct(Mark::OpenBracket)),
+        b']' => Some(Token::Punct(Mark::CloseBracket)),
+        b'{' => Some(Token::Punct(Mark::OpenBrace)),
+        b'}' => Some(Token::Punct(Mark::CloseBrace)),
+        b',' => Some(Token::Punct(Mark::Comma)),
+        b'?' => Some(Token::Punct(Mark::Question)),
+        b':' => Some(Token::Punct(Mark::Colon)),
+        b'+' => Some(Token::Op(BinOp::Add)),
+        b'-' => Some(Token::Op(BinOp::Sub)),
+        b'*' => Some(Token::Op(BinOp::Mul)),
+        b'/' => Some(Token::Op(BinOp::Div)),
+        b'%' => Some(Token::Op(BinOp::Rem)),
+        b'!' => Some(Token::Punct(Mark::Bang)),
+        b'<' => Some(Token::Op(BinOp::Lt)),
+        b'>' => Some(Token::Op(BinOp::Gt)),
+        _ => None,
+    }
+}
+
+// The mark that the text begins with, the longest.
+fn mark(first: u8, rest: &[u8]) -> Result<Lexeme<'static>, Misread>
+    ensures { first_of result ≡ mark_first first rest.now }
+{
+    if let Some(second) = rest.first()
+        && let Some(token) = long_mark(first, *second)
+    {
+        return Ok(Lexeme { token, size: 2 });
+    }
+    match short_mark(first) {
+        Some(token) => Ok(Lexeme { token, size: 1 }),
+        None => Err(Misread {
+            cause: ExprCause::BadByte,
+            offset: 0,
+        }),
+    }
+}
+
+/// The token that a text begins with; its first byte isn't blank.
+#[tactic(auto, unfolding(rdf_values::specs::Tokens::first_token))]
+pub(crate) fn first_token<'a>(text: &'a [u8]) -> Result<Lexeme<'a>, Misread>
+    requires { 0 < length text.now }
+    ensures { (c : ℕ) (cs : List ℕ) → text.now ≡ c ∷ cs → first_of result ≡ first_token c cs }
+{
+    let first = text[0];
+    if is_word_start(first) {
+        word(&text[..word_size(text)])
+    } else if is_digit(first) {
+        number(&text[..digits_size(text)])
+    } else {
+        mark(first, &text[1..])
+    }
+}

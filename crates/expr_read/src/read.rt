@@ -1,0 +1,103 @@
+// Reads expressions.
+ghost use Rattle.std.specs.Prelude.{◌≡◌, ◌≤◌, ℕ, length, map, true, IfOk, IfErr, MatchResult};
+ghost use Rattle.rdf_values.specs.Tree.{NamedTree};
+ghost use Rattle.rdf_values.specs.declared.vary_values.VaryValues.{VaryValues as Values};
+ghost use Rattle.rdf_values.specs.ExprTree.{tree_of};
+ghost use Rattle.rdf_values.specs.Grammar.{Reads, ReadsValues, bare};
+ghost use Rattle.rdf_values.specs.Scans.{ReadsText, ReadsValuesText, begin_expr, begin_values};
+ghost use Rattle.expr_read.specs.Views.{placed_of};
+ghost use Rattle.expr_read.specs.Valid.{are_valid};
+ghost use Rattle.expr_read.specs.Answers.{place_from, RefusesTokensAs, RefusesTextAs};
+
+use crate::fail::Fail;
+use crate::parser::Parser;
+use crate::refusal::ExprRefusal;
+use crate::token::Placed;
+use crate::tokenizer::tokenize;
+use rdf_values::{Expr, ExprCause, ExprNode, VaryValues};
+use std::alloc::Global;
+
+// The refusal of the next token, or of what is missing where the text ends.
+fn unexpected(left: &[Placed], end: u32) -> ExprRefusal
+    ensures { result ≡ ExprRefusal.At ExprCause.Unexpected (place_from (map placed_of left.now) end) }
+{
+    let place = match left.first() {
+        Some(placed) => placed.place,
+        None => end,
+    };
+    ExprRefusal::At {
+        cause: ExprCause::Unexpected,
+        place,
+    }
+}
+
+// The expression that all the tokens of a text are, which ends so.
+fn parse(alloc: Global, tokens: &[Placed], end: u32) -> Result<ExprNode, ExprRefusal>
+    requires { are_valid (bare (map placed_of tokens.now)) ≡ true }
+    ensures ok { IfOk result (λ e. Reads 0 (bare (map placed_of tokens.now)) (tree_of e)) }
+    ensures err { IfErr result (λ e. RefusesTokensAs begin_expr (map placed_of tokens.now) end e) }
+{
+    let mut parser = Parser {
+        alloc,
+        left: tokens,
+    };
+    match parser.expr() {
+        Ok(node) => {
+            if parser.left.is_empty() {
+                Ok(node)
+            } else {
+                Err(unexpected(parser.left, end))
+            }
+        }
+        Err(Fail::Unexpected) => Err(unexpected(parser.left, end)),
+        Err(Fail::Memory) => Err(ExprRefusal::Memory),
+    }
+}
+
+/// The expression that a text is. A text of no expression is refused at its first fault, with a cause and a place: a byte
+/// or a number that makes no token, the 257th token, a token that can't stand where it does, or the end of the text.
+pub fn read_expr(alloc: Global, text: &[u8]) -> Result<Expr, ExprRefusal>
+    requires { length text.now ≤ 65536 }
+    ensures ok { IfOk result (λ e. ReadsText text.now e) }
+    ensures err { IfErr result (λ e. RefusesTextAs (Reads 0) begin_expr text.now e) }
+    ensures complete { (a : NamedTree) → ReadsText text.now a → MatchResult result (λ e. e ≡ a) (λ e. e ≡ ExprRefusal.Memory) }
+{
+    let tokens = tokenize(alloc, text)?;
+    let node = parse(alloc, tokens.as_slice(), text.len() as u32)?;
+    Ok(Expr { node })
+}
+
+// The values that all the tokens of a text are, which ends so.
+fn parse_values(alloc: Global, tokens: &[Placed], end: u32) -> Result<VaryValues, ExprRefusal>
+    requires { are_valid (bare (map placed_of tokens.now)) ≡ true }
+    ensures ok { IfOk result (λ v. ReadsValues (bare (map placed_of tokens.now)) v) }
+    ensures err { IfErr result (λ e. RefusesTokensAs begin_values (map placed_of tokens.now) end e) }
+{
+    let mut parser = Parser {
+        alloc,
+        left: tokens,
+    };
+    match parser.values() {
+        Ok(values) => {
+            if parser.left.is_empty() {
+                Ok(values)
+            } else {
+                Err(unexpected(parser.left, end))
+            }
+        }
+        Err(Fail::Unexpected) => Err(unexpected(parser.left, end)),
+        Err(Fail::Memory) => Err(ExprRefusal::Memory),
+    }
+}
+
+/// The values of a variation that a text is: one list or several in braces, or one expression for a vector. A text of no
+/// values is refused as by `read_expr`.
+pub fn read_values(alloc: Global, text: &[u8]) -> Result<VaryValues, ExprRefusal>
+    requires { length text.now ≤ 65536 }
+    ensures ok { IfOk result (λ v. ReadsValuesText text.now v) }
+    ensures err { IfErr result (λ e. RefusesTextAs ReadsValues begin_values text.now e) }
+    ensures complete { (v : Values) → ReadsValuesText text.now v → MatchResult result (λ x. x ≡ v) (λ e. e ≡ ExprRefusal.Memory) }
+{
+    let tokens = tokenize(alloc, text)?;
+    parse_values(alloc, tokens.as_slice(), text.len() as u32)
+}

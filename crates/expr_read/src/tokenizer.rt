@@ -1,0 +1,68 @@
+// Cuts a text into tokens.
+ghost use Rattle.std.specs.Prelude.{◌≡◌, ◌≤◌, ℕ, Ok, map, length, MatchResult};
+ghost use Rattle.rdf_values.specs.Tokens.{is_blank, too_many, tokens};
+ghost use Rattle.expr_read.specs.Views.{first_of, placed_of, IsRefusalOf};
+
+use crate::lexeme::{Lexeme, Misread, first_token};
+use crate::refusal::ExprRefusal;
+use crate::token::Placed;
+use rdf_values::ExprCause;
+use std::alloc::Global;
+
+const MOST_TOKENS: usize = 256;
+
+fn is_blank(byte: u8) -> bool
+    ensures { result ≡ is_blank byte }
+{
+    byte == b' ' || byte == b'\t'
+}
+
+// Why no token may begin where this one does, which is one too many.
+fn cause_at_limit(first: &Result<Lexeme<'_>, Misread>) -> ExprCause
+    ensures { (place : ℕ) → too_many place (first_of first.now) ≡ record { cause = result; place = place } }
+{
+    match first {
+        Err(misread) if misread.offset == 0 => misread.cause,
+        _ => ExprCause::TooLong,
+    }
+}
+
+/// The tokens of a text.
+pub(crate) fn tokenize(alloc: Global, text: &[u8]) -> Result<Vec<Placed<'_>>, ExprRefusal>
+    requires { length text.now ≤ 65536 }
+    ensures { MatchResult result (λ v. tokens text.now ≡ Ok (map placed_of v.items)) (λ e. IsRefusalOf (tokens text.now) e) }
+{
+    let mut found = Vec::new(alloc);
+    let mut place = 0;
+    while place < text.len() {
+        if is_blank(text[place]) {
+            place += 1;
+            continue;
+        }
+        let first = first_token(&text[place..]);
+        if found.len() == MOST_TOKENS {
+            return Err(ExprRefusal::At {
+                cause: cause_at_limit(&first),
+                place: place as u32,
+            });
+        }
+        let lexeme = match first {
+            Ok(lexeme) => lexeme,
+            Err(misread) => {
+                return Err(ExprRefusal::At {
+                    cause: misread.cause,
+                    place: (place + misread.offset) as u32,
+                });
+            }
+        };
+        let placed = Placed {
+            token: lexeme.token,
+            place: place as u32,
+        };
+        if found.push(placed).is_err() {
+            return Err(ExprRefusal::Memory);
+        }
+        place += lexeme.size;
+    }
+    Ok(found)
+}

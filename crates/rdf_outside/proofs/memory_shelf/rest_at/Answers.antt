@@ -1,0 +1,20 @@
+use Rattle.std.proofs.Common.{arith}
+use Rattle.rdf_outside.proofs.Files.{bytes_at_is, bytes_past, nothing_left, some_left}
+use Rattle.rdf_outside.proofs.memory_shelf.rest_at.Goals as goal
+
+pub returns-then-place-items : goal.returns-then-place-items
+returns-then-place-items c =
+    nothing_left _ _ c.in-Some.place _ c.in-Some.is (bytes_past c.args.items.now c.in-Some.place.file c.if-place-items.true) (omega arith)
+
+pub returns-then-place-len : goal.returns-then-place-len
+returns-then-place-len c =
+    let bytes = bytes_at_is c.args.items.now c.in-Some.place.file c.index-items-place.result c.if-place-items.false c.index-items-place.is in
+    let slice = rw (← c.index-items-place.is) at c.as_slice-bytes.ensures.value in
+    let h = rw slice at c.if-place-len.true in
+    nothing_left _ _ c.in-Some.place _ c.in-Some.is bytes h
+
+pub returns-else-place-len : goal.returns-else-place-len
+returns-else-place-len c =
+    let bytes = bytes_at_is c.args.items.now c.in-Some.place.file c.index-items-place.result c.if-place-items.false c.index-items-place.is in
+    let slice = rw (← c.index-items-place.is) at c.as_slice-bytes.ensures.value in
+    some_left _ _ c.in-Some.place _ c.as_slice-bytes.result.now c.in-Some.is bytes slice

@@ -1,0 +1,4 @@
+pub mod Memory
+pub mod MemorySink
+pub mod Outside
+pub mod Whole

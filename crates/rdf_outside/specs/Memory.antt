@@ -1,0 +1,42 @@
+-- What a shelf in memory holds.
+use Rattle.std.specs.Prelude.{nat_eq, ℕ, zero, suc, ◌+◌, ◌-◌, ◌^◌, min, List, [], ◌∷◌, Option, Some, None, Bool, if◌then◌else◌, drop}
+use Rattle.std.specs.Cmp.Lexicographic.{pointwise}
+use Rattle.rdf_outside.specs.declared.memory_shelf.MemoryFile.{MemoryFile}
+use Rattle.rdf_outside.specs.declared.memory_shelf.MemoryShelf.{MemoryShelf}
+use Rattle.rdf_outside.specs.declared.memory_shelf.Place.{Place}
+
+-- two texts have the same bytes
+abbrev pub same_bytes : List ℕ → List ℕ → Bool
+same_bytes xs ys = pointwise nat_eq xs ys
+
+abbrev pub has_name : List ℕ → MemoryFile → Bool
+has_name name file = same_bytes file.name.items name
+
+-- the bytes of the first file of that name
+abbrev pub file_of : List MemoryFile → List ℕ → Option (List ℕ)
+file_of [] name = None
+file_of (f ∷ fs) name = if has_name name f then Some f.bytes.items else file_of fs name
+
+-- the bytes of the file at a place; none past the last file
+abbrev pub bytes_at : List MemoryFile → ℕ → List ℕ
+bytes_at [] i = []
+bytes_at (f ∷ fs) zero = f.bytes.items
+bytes_at (f ∷ fs) (suc i) = bytes_at fs i
+
+-- what is not yet read of the file turned to; nothing where there is none
+abbrev pub left_at : List MemoryFile → Option Place → List ℕ
+left_at files None = []
+left_at files (Some p) = drop p.read (bytes_at files p.file)
+
+-- the place after so many more bytes
+abbrev pub moved : Option Place → ℕ → Option Place
+moved None n = None
+moved (Some p) n = Some record { file = p.file; read = min (p.read + n) (2 ^ 64 - 1) }
+
+-- the bytes of the shelf's file of that name
+abbrev pub shelf_file : MemoryShelf → List ℕ → Option (List ℕ)
+shelf_file s name = file_of s.items.items name
+
+-- what is not yet read of the shelf's file turned to
+abbrev pub shelf_left : MemoryShelf → List ℕ
+shelf_left s = left_at s.items.items s.turned

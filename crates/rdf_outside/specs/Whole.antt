@@ -1,0 +1,17 @@
+-- What is read of a file as a whole.
+use Rattle.std.specs.Prelude.{◌≡◌, ◌<◌, ℕ, List, [], Option, Some, None, length, ◌++◌}
+
+-- these are all the bytes that were left, and none is left now, where that is told
+abbrev pub Reads : Option (List ℕ) → Option (List ℕ) → List ℕ → Type 0
+Reads None after bytes = Unit {0}
+Reads (Some left) after bytes = (bytes ≡ left) × (after ≡ Some [])
+
+-- more than so many bytes were left, where that is told
+abbrev pub IsTooLarge : ℕ → Option (List ℕ) → Type 0
+IsTooLarge max None = Unit {0}
+IsTooLarge max (Some left) = max < length left
+
+-- the bytes that were read and those that are left make up the whole
+abbrev pub Joins : List ℕ → List ℕ → Option (List ℕ) → Type 0
+Joins all bytes None = ⊥
+Joins all bytes (Some rest) = all ≡ bytes ++ rest

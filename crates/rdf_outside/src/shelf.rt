@@ -1,0 +1,37 @@
+// What gives files.
+ghost use Rattle.std.specs.Prelude.{◌≡◌, ℕ, List, Option};
+ghost use Rattle.rdf_outside.specs.Outside.{HasCause, TurnHasCause, TurnsTo, ReadsFrom};
+
+use crate::failed::Failed;
+
+/// Why a shelf didn't turn to a file. `Memory` is want of memory alone.
+#[derive(Clone, Copy, Debug, PartialEq, Eq)]
+pub enum TurnStop {
+    Failed,
+    Memory,
+}
+
+/// Gives files by their names, one at a time.
+pub trait Shelf {
+    /// The files by their names, where the shelf tells them.
+    ghost files: { Self → Option (List ℕ → Option (List ℕ)) };
+
+    /// What is not yet read of the file turned to, where the shelf tells it.
+    ghost left: { Self → Option (List ℕ) };
+
+    /// How often it has failed.
+    ghost faults: { Self → ℕ };
+
+    /// Turns to the start of a file; false where there is none of that name.
+    fn turn_to(&mut self, name: &str) -> Result<bool, TurnStop>
+        ensures same { files self.new ≡ files self.old }
+        ensures turned { TurnsTo (files self.old) name.now (left self.new) result }
+        ensures cause { TurnHasCause (faults self.old) (faults self.new) result };
+
+    /// Reads on in the file turned to and answers how many bytes now stand at the buffer's start;
+    /// 0 in a buffer that isn't empty is the file's end.
+    fn read(&mut self, buf: &mut [u8]) -> Result<usize, Failed>
+        ensures same { files self.new ≡ files self.old }
+        ensures bytes { ReadsFrom (left self.old) (left self.new) result buf.new }
+        ensures cause { HasCause (faults self.old) (faults self.new) result };
+}

@@ -1,0 +1,97 @@
+// Whole reads and whole writes.
+ghost use Rattle.std.specs.Prelude.{◌≡◌, ◌<◌, ◌≤◌, ◌+◌, ◌^◌, ℕ, List, length, IfOk, OnOk, IsErrOf};
+ghost use Rattle.rdf_outside.specs.Outside.{Rose, HasCause, Appends, AppendsPart};
+ghost use Rattle.rdf_outside.specs.Whole.{Reads, IsTooLarge, Joins};
+
+use crate::failed::Failed;
+use crate::shelf::Shelf;
+use crate::sink::Sink;
+use rdf_values::{Bytes, Memory};
+use std::alloc::Global;
+
+/// Why a file wasn't read to its end. `Memory` is want of memory alone.
+#[derive(Clone, Copy, Debug, PartialEq, Eq)]
+pub enum ReadRefusal {
+    Memory,
+    Failed,
+    TooLarge,
+}
+
+const PIECE: usize = 65_536;
+
+/// Reads to the end of the file turned to, unless it has more than `max` bytes.
+pub fn read_whole<S: Shelf>(alloc: Global, shelf: &mut S, max: usize) -> Result<Bytes, ReadRefusal>
+    requires { max + 1 < 2 ^ 64 }
+    ensures same { S.files shelf.new ≡ S.files shelf.old }
+    ensures later { S.faults shelf.old ≤ S.faults shelf.new }
+
+    // All bytes of a file of at most `max`; too large exactly where there are more.
+    ensures bytes { IfOk result (λ b. Reads (S.left shelf.old) (S.left shelf.new) b) }
+    ensures few { IfOk result (λ b. length b ≤ max) }
+    ensures too_large { IsErrOf result ReadRefusal.TooLarge → IsTooLarge max (S.left shelf.old) }
+
+    ensures failed { IsErrOf result ReadRefusal.Failed → Rose (S.faults shelf.old) (S.faults shelf.new) }
+{
+    let Ok(mut zeros) = zeros(alloc, PIECE) else {
+        return Err(ReadRefusal::Memory);
+    };
+    let buffer = zeros.as_mut_slice();
+    let mut bytes = Bytes::new(alloc);
+    while bytes.len() <= max {
+        let room = max + 1 - bytes.len();
+        let count = read_piece(shelf, &mut bytes, buffer, room)?;
+        if count == 0 {
+            return Ok(bytes);
+        }
+    }
+    Err(ReadRefusal::TooLarge)
+}
+
+fn zeros(alloc: Global, len: usize) -> Result<Vec<u8>, Memory>
+    ensures { IfOk result (λ v. length v.items ≡ len) }
+{
+    match Vec::from_elem(alloc, 0, len) {
+        Ok(bytes) => Ok(bytes),
+        Err(_) => Err(Memory),
+    }
+}
+
+// Reads at most `room` bytes behind those that are there, and answers how many.
+fn read_piece<S: Shelf>(
+    shelf: &mut S,
+    bytes: &mut Bytes,
+    buffer: &mut [u8],
+    room: usize,
+) -> Result<usize, ReadRefusal>
+    requires room { 0 < room }
+    requires buffer { 0 < length buffer.old }
+    ensures same { S.files shelf.new ≡ S.files shelf.old }
+    ensures later { S.faults shelf.old ≤ S.faults shelf.new }
+    ensures failed { IsErrOf result ReadRefusal.Failed → Rose (S.faults shelf.old) (S.faults shelf.new) }
+    ensures not_large { IsErrOf result ReadRefusal.TooLarge → ⊥ }
+    ensures told { IfOk result (λ n. (all : List ℕ) → Joins all bytes.old (S.left shelf.old) → Joins all bytes.new (S.left shelf.new) × (n ≡ 0 → bytes.new ≡ all)) }
+    ensures count { IfOk result (λ n. (n ≤ room) × (length bytes.new ≡ length bytes.old + n)) }
+{
+    let want = room.min(buffer.len());
+    let Ok(count) = shelf.read(&mut buffer[..want]) else {
+        return Err(ReadRefusal::Failed);
+    };
+    match bytes.extend(&buffer[..count]) {
+        Ok(()) => Ok(count),
+        Err(Memory) => Err(ReadRefusal::Memory),
+    }
+}
+
+/// Writes all the bytes, or a first part of them where the sink fails. It takes no memory.
+pub fn write_whole<K: Sink>(sink: &mut K, bytes: &[u8]) -> Result<(), Failed>
+    ensures all { OnOk result (Appends (K.written sink.old) (K.written sink.new) bytes.now) }
+    ensures part { AppendsPart (K.written sink.old) (K.written sink.new) bytes.now }
+    ensures cause { HasCause (K.faults sink.old) (K.faults sink.new) result }
+{
+    let mut rest = bytes;
+    while !rest.is_empty() {
+        let count = sink.write(rest)?;
+        rest = &rest[count..];
+    }
+    Ok(())
+}

@@ -1,0 +1,23 @@
+// What happens to a slot.
+use crate::fault::Fault;
+
+/// A slot claims a cluster, finishes it, faults in it, or ends with no cluster left.
+#[derive(Clone, Copy, Debug, PartialEq, Eq)]
+pub enum Event {
+    Claim {
+        slot: u32,
+        cluster: u32,
+    },
+    Finish {
+        slot: u32,
+        cluster: u32,
+    },
+    Fault {
+        slot: u32,
+        cluster: u32,
+        fault: Fault,
+    },
+    End {
+        slot: u32,
+    },
+}

@@ -1,0 +1,2 @@
+pub mod PlainParts
+pub mod PlainScript

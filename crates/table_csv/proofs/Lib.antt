@@ -1,0 +1,9 @@
+pub mod CellSteps
+pub mod Examples
+pub mod Fields
+pub mod HeaderSteps
+pub mod Onto
+pub mod Parts
+pub mod Steps
+pub mod TableSteps
+pub mod VectorSteps

@@ -1,0 +1,149 @@
+-- What a read of a record takes from the records that are left.
+use Rattle.std.proofs.Common.{◌≡◌, ◌≤◌, ◌<◌, ℕ, zero, suc, List, [], ◌∷◌, ◌++◌, length, Bool, true, false, None, Some, Option, arith, refl, ◌∙◌, inl, length-append}
+use Rattle.std.specs.Prelude.{if◌then◌else◌, ◌==◌}
+use Rattle.std.specs.Borrow.{Bor}
+use Rattle.csv.specs.Machine.{Read, ends_at_end, is_end, step, next_record, fields_after, field_after, after_end, ends_with}
+use Rattle.csv.specs.Reading.{NextIs, ReadsNext, ReadRecord, default_config, is_flexible, pending_of, records_from, reader_config, reader_state, reader_trim, records_next, Ready, source_of, took_first}
+use Rattle.csv.specs.declared.parser.State.{State}
+use Rattle.csv.specs.declared.parser.State.TheVariants as st
+use Rattle.csv.specs.declared.parser.Action.{Action}
+use Rattle.csv.specs.declared.parser.Action.TheVariants as act
+use Rattle.csv.specs.declared.reader.Reader.{Reader}
+use Rattle.csv.specs.declared.reader.Trim.TheVariants as trim
+use Rattle.table_csv.specs.Csv.{Leaves, Took}
+
+-- a step that ends a record leaves a state between records
+abbrev Closes : State × Action → Type 0
+Closes q = is_end q.1 ≡ true → ends_at_end q.0 ≡ false
+
+closes_if : (b : Bool) (x y : State × Action) → Closes x → Closes y → Closes (if b then x else y)
+closes_if true x y h k = h
+closes_if false x y h k = k
+
+after : (b : Bool) → ends_at_end (if b then st.AfterCr else st.StartRecord) ≡ false
+after true = refl
+after false = refl
+
+in_field_closes : (c : ℕ) → Closes (if c == 44 then (st.StartField, act.EndField) else if ends_with default_config.terminator c then (after_end default_config.terminator c, act.EndRecord) else (st.InField, act.Copy))
+in_field_closes c = closes_if (c == 44) _ _ (λ e. cc e) (closes_if (ends_with default_config.terminator c) _ _ (λ e. after (c == 13)) (λ e. cc e))
+
+start_field_closes : (c : ℕ) → Closes (step default_config st.StartField c)
+start_field_closes c = closes_if (c == 34) _ _ (λ e. cc e) (in_field_closes c)
+
+start_record_closes : (c : ℕ) → Closes (step default_config st.StartRecord c)
+start_record_closes c = closes_if (ends_with default_config.terminator c) _ _ (λ e. cc e) (start_field_closes c)
+
+step_closes : (s : State) (c : ℕ) → Closes (step default_config s c)
+step_closes st.StartRecord c = start_record_closes c
+step_closes st.StartField c = start_field_closes c
+step_closes st.InField c = in_field_closes c
+step_closes st.InQuoted c = closes_if (c == 34) _ _ (λ e. cc e) (λ e. cc e)
+step_closes st.InEscape c = λ e. cc e
+step_closes st.AfterQuote c = closes_if (c == 34) _ _ (λ e. cc e) (in_field_closes c)
+step_closes st.InComment c = closes_if (c == 10) _ _ (λ e. cc e) (λ e. cc e)
+step_closes st.AfterCr c = closes_if (c == 10) _ _ (λ e. cc e) (start_record_closes c)
+
+-- a record has a field
+ended : (a : Action) (fields : List (List ℕ)) (field : List ℕ) → is_end a ≡ true → 0 < length (fields_after a fields field)
+ended act.EndRecord fields field e = omega (arith, length-append fields (field ∷ []))
+ended act.Skip fields field e = cc e
+ended act.Copy fields field e = cc e
+ended act.EndField fields field e = cc e
+
+-- what a read leaves: no more bytes than there were, and a state between records
+abbrev Leads : ℕ → Option Read → Type 0
+Leads size None = Unit {0}
+Leads size (Some p) = (length p.2 ≤ size) × (ends_at_end p.1 ≡ false) × (0 < length p.0)
+
+leads_more : (m n : ℕ) (o : Option Read) → m ≤ n → Leads m o → Leads n o
+leads_more m n None h l = tt
+leads_more m n (Some p) h l = (omega arith, l.1, l.2)
+
+leads_end : (b : Bool) (f : List (List ℕ)) → 0 < length f → Leads 0 (if b then Some (f, st.StartRecord, []) else None)
+leads_end true f h = (omega arith, refl, h)
+leads_end false f h = tt
+
+leads_if : (b : Bool) (size : ℕ) (x y : Option Read) → (b ≡ true → Leads size x) → (b ≡ false → Leads size y) → Leads size (if b then x else y)
+leads_if true size x y h k = h refl
+leads_if false size x y h k = k refl
+
+leads : (xs : List ℕ) (s : State) (fields : List (List ℕ)) (field : List ℕ) → Leads (length xs) (next_record default_config s fields field xs)
+unfolding next_record
+leads [] s fields field = leads_end (ends_at_end s) (fields ++ (field ∷ [])) (omega (arith, length-append fields (field ∷ [])))
+leads (c ∷ rest) s fields field =
+    let q = step default_config s c in
+    leads_if (is_end q.1) (length (c ∷ rest)) _ _
+    (λ e. (omega arith, step_closes s c e, ended q.1 fields field e))
+    (λ e. leads_more (length rest) (length (c ∷ rest)) _ (omega arith) (leads rest q.0 (fields_after q.1 fields field) (field_after q.1 c field)))
+
+-- from a state between records a read takes a byte or more
+abbrev Shrinks : ℕ → Option Read → Type 0
+Shrinks size None = Unit {0}
+Shrinks size (Some p) = (length p.2 < size) × (ends_at_end p.1 ≡ false) × (0 < length p.0)
+
+shrinks_leads : (m : ℕ) (o : Option Read) → Leads m o → Shrinks (suc m) o
+shrinks_leads m None l = tt
+shrinks_leads m (Some p) l = (omega arith, l.1, l.2)
+
+shrinks_if : (b : Bool) (size : ℕ) (x y : Option Read) → (b ≡ true → Shrinks size x) → (b ≡ false → Shrinks size y) → Shrinks size (if b then x else y)
+shrinks_if true size x y h k = h refl
+shrinks_if false size x y h k = k refl
+
+shrinks : (s : State) (xs : List ℕ) → ends_at_end s ≡ false → Shrinks (length xs) (next_record default_config s [] [] xs)
+unfolding next_record
+shrinks s [] h = rw h tt
+shrinks s (c ∷ rest) h =
+    let q = step default_config s c in
+    shrinks_if (is_end q.1) (length (c ∷ rest)) _ _
+    (λ e. (omega arith, step_closes s c e, ended q.1 [] [] e))
+    (λ e. shrinks_leads (length rest) _ (leads rest q.0 (fields_after q.1 [] []) (field_after q.1 c [])))
+
+-- what a read that found a record, or none, says of the records that were left
+Outcome : Bool → ℕ → State → List ℕ → Option (List ℕ) → List (List ℕ) → State → Type 0
+Outcome true m s y k fields s2 = (z : List ℕ) × (k ≡ Some z) × (records_from default_config (suc m) s y ≡ fields ∷ records_from default_config m s2 z) × (length z < m) × (ends_at_end s2 ≡ false) × (0 < length fields)
+Outcome false m s y k fields s2 = records_from default_config (suc m) s y ≡ []
+
+took_some : (o : Option Read) (m size : ℕ) (fields : List (List ℕ)) (s2 : State) (z : List ℕ) → NextIs o true fields s2 z → Shrinks size o → size < suc m
+    → (records_next (records_from default_config m) o ≡ fields ∷ records_from default_config m s2 z) × (length z < m) × (ends_at_end s2 ≡ false) × (0 < length fields)
+took_some None m size fields s2 z n h l = cc n
+took_some (Some p) m size fields s2 z n h l = (rw (n.1, n.2, n.3) refl, rw n.3 (omega arith), rw n.2 h.1, rw n.1 h.2)
+
+took_none : (o : Option Read) (m : ℕ) (fields : List (List ℕ)) (s2 : State) (z : List ℕ) → NextIs o false fields s2 z → records_next (records_from default_config m) o ≡ []
+took_none None m fields s2 z n = refl
+took_none (Some p) m fields s2 z n = cc n.0
+
+outcome : (found : Bool) (m : ℕ) (s : State) (y : List ℕ) (k : Option (List ℕ)) (fields : List (List ℕ)) (s2 : State)
+    → ends_at_end s ≡ false → length y < suc m → ReadsNext default_config s (Some y) k found fields s2 → Outcome found m s y k fields s2
+unfolding Outcome records_from
+outcome true m s y None fields s2 e l r = absurd r
+outcome true m s y (Some z) fields s2 e l r =
+    let t = took_some (next_record default_config s [] [] y) m (length y) fields s2 z r (shrinks s y e) l in
+    (z, refl, t.0, t.1, t.2, t.3)
+outcome false m s y None fields s2 e l r = absurd r
+outcome false m s y (Some z) fields s2 e l r = took_none (next_record default_config s [] [] y) m fields s2 z r
+
+some_fuel : (n k : ℕ) → k < n → (m : ℕ) × (n ≡ suc m)
+some_fuel zero k l = absurd (omega arith)
+some_fuel (suc m) k l = (m, refl)
+
+finish : (found : Bool) (old new : Reader (Bor (List ℕ))) (m : ℕ) (y : List ℕ) (fields : List (List ℕ)) (left : List (List (List ℕ)))
+    → left ≡ records_from default_config (suc m) (reader_state old) y
+    → Outcome found m (reader_state old) y (source_of (λ s. Some s.now) new) fields (reader_state new)
+    → reader_trim new ≡ trim.None → Ready new → reader_config new ≡ default_config → is_flexible new ≡ true
+    → Took found left fields new
+unfolding Outcome
+finish true old new m y fields left e o t r c fl = (
+  records_from default_config m (reader_state new) o.0,
+  e ∙ o.2,
+  record { trims = t; ready = r; flexible = fl; config = c; bytes = o.0; source = o.1; fuel = m; enough = o.3; between = o.4; rest = refl },
+  o.5,
+)
+finish false old new m y fields left e o t r c fl = e ∙ o
+
+pub takes : (found : Bool) (old new : Reader (Bor (List ℕ))) (fields : List (List ℕ)) (left : List (List (List ℕ)))
+    → Leaves old left → took_first new ≡ true → is_flexible new ≡ is_flexible old → ReadRecord (λ s. Some s.now) old new found fields → Took found left fields new
+takes found old new fields left h first flexible r =
+    let f = some_fuel h.fuel (length h.bytes) h.enough in
+    let read = rw (h.config, h.source) at r.0 in
+    let o = outcome found f.0 (reader_state old) h.bytes (pending_of (Some new.rdr.now) new) fields (reader_state new) h.between (rw (← f.1) h.enough) read in
+    finish found old new f.0 h.bytes fields left (rw f.1 at h.rest) (rw r.1 o) (r.3 ∙ h.trims) (inl first) (r.2 ∙ h.config) (flexible ∙ h.flexible)

@@ -1,0 +1,96 @@
+// Columns from a header.
+ghost use Rattle.std.specs.Prelude.{◌≡◌, ◌≤◌, ◌<◌, [], List, ℕ, IfOk, OnSome, length, position};
+ghost use Rattle.rdf_values.specs.Answers.{Answers};
+ghost use Rattle.rdf_values.specs.TableText.{column_of, columns_from, is_colon, next_column, type_of};
+ghost use Rattle.rdf_values.specs.Tables.{has_name};
+ghost use Rattle.csv.specs.Records.{fields_of};
+
+use crate::records::field;
+use crate::refusal::TableRefusal;
+use csv::ByteRecord;
+use rdf_values::{ColType, Column, ListOf, Memory, Name, TableCause};
+use std::alloc::Global;
+
+const MAX_COLUMNS: usize = 64;
+
+fn has_name(columns: &[Column], name: &[u8]) -> bool
+    ensures { result ≡ has_name columns.now name.now }
+{
+    for column in columns {
+        if column.name.bytes() == name {
+            return true;
+        }
+    }
+    false
+}
+
+fn type_of(word: &[u8]) -> Option<ColType>
+    ensures { result ≡ type_of word.now }
+{
+    if word == b"int".as_slice() {
+        Some(ColType::Int)
+    } else if word == b"vec".as_slice() {
+        Some(ColType::Vect)
+    } else {
+        None
+    }
+}
+
+fn find_colon(field: &[u8]) -> Option<usize>
+    ensures { result ≡ position is_colon field.now }
+{
+    field.iter().position(|b| *b == b':')
+}
+
+// The column of a header's field, if it is one.
+#[tactic(auto, unfolding(rdf_values::specs::TableText::column_of))]
+fn read_column(alloc: Global, field: &[u8]) -> Result<Option<Column>, Memory>
+    ensures { IfOk result (λ column. column ≡ column_of field.now) }
+{
+    let Some(colon) = find_colon(field) else {
+        return Ok(None);
+    };
+    let Some(kind) = type_of(&field[colon + 1..]) else {
+        return Ok(None);
+    };
+    match Name::read(alloc, &field[..colon])? {
+        Some(name) => Ok(Some(Column { name, kind })),
+        None => Ok(None),
+    }
+}
+
+// The same, where it may stand behind these columns.
+#[tactic(auto, unfolding(rdf_values::specs::TableText::next_column))]
+fn next_column(alloc: Global, before: &[Column], field: &[u8]) -> Result<Option<Column>, Memory>
+    ensures value { IfOk result (λ column. column ≡ next_column before.now field.now) }
+    ensures room { IfOk result (λ column. OnSome column (length before.now < 64)) }
+{
+    if before.len() >= MAX_COLUMNS {
+        return Ok(None);
+    }
+    let Some(column) = read_column(alloc, field)? else {
+        return Ok(None);
+    };
+    if has_name(before, column.name.bytes()) {
+        return Ok(None);
+    }
+    Ok(Some(column))
+}
+
+/// The columns that the fields of a header name, or the first field that is none.
+pub(crate) fn read_header(
+    alloc: Global,
+    header: &ByteRecord,
+) -> Result<ListOf<Column>, TableRefusal>
+    ensures value { Answers TableRefusal.At TableRefusal.Memory (columns_from 0 [] (fields_of header.now)) result }
+    ensures few { IfOk result (λ columns. length columns ≤ 64) }
+{
+    let mut columns = ListOf::new(alloc);
+    for i in 0..header.len() {
+        let Some(column) = next_column(alloc, columns.as_slice(), field(header, i))? else {
+            return Err(TableRefusal::At(TableCause::Header { field: i as u32 }));
+        };
+        columns.push(column)?;
+    }
+    Ok(columns)
+}

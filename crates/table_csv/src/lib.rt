@@ -1,0 +1,15 @@
+//! Reads a table from CSV bytes. The records are those of the crate `csv`; what they mean as a table is `table_of` of `rdf_values`.
+#![tactic(auto)]
+
+mod cells;
+mod header;
+mod reading;
+mod records;
+mod refusal;
+mod vectors;
+
+pub use crate::reading::read_table;
+pub use crate::refusal::TableRefusal;
+
+#[cfg(test)]
+mod tests;
