@@ -1,5 +1,5 @@
 // Lists of numbers.
-ghost use Rattle.std.specs.Prelude.{◌≡◌, ℤ, List, [], ◌∷◌, ◌++◌, length, IfOk, OnOk, OnErr};
+ghost use Rattle.std.specs.Prelude.{◌≡◌, ℤ, List, [], ◌∷◌, ◌++◌, length, take, IfOk, OnOk, OnErr};
 
 use crate::memory::Memory;
 use std::alloc::Global;
@@ -60,5 +60,11 @@ impl IntList {
             Ok(()) => Ok(()),
             Err(_) => Err(Memory),
         }
+    }
+    /// Drops all but the first `n` numbers.
+    pub fn truncate(&mut self, n: usize)
+        ensures { self.new ≡ take n self.old }
+    {
+        self.items.truncate(n);
     }
 }

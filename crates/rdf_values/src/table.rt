@@ -1,57 +1,64 @@
 // Tables of events.
-ghost use Rattle.std.specs.Prelude.{◌≡◌, ◌<◌, ◌++◌, ◌∷◌, [], length, OnOk, OnErr, slice_index_or};
+ghost use Rattle.std.specs.Prelude.{◌≡◌, ◌<◌, ◌++◌, ◌∷◌, [], length, Some, IfOk, OnOk, OnErr};
+ghost use Rattle.rdf_values.specs.declared.value.Value.TheVariants as v;
 
+use crate::cell::Cell;
+use crate::cells::Cells;
 use crate::column::Column;
 use crate::list::ListOf;
 use crate::memory::Memory;
-use crate::value::Value;
+use crate::filling::{no_rows, push_row};
+use crate::value::{ColType, Value};
+use crate::vects::Vects;
 use std::alloc::Global;
 use std::marker::Model;
 
 /// Columns, and rows that fit them: 1 to 64 columns of kind Int or Vect with distinct names, at most 1,000,000 rows.
-/// The cells are kept in one list, row after row.
+/// The cells are kept column by column.
 #[derive(Drop)]
 pub struct Table {
     columns: ListOf<Column>,
-    cells: ListOf<Value>,
+    cells: Vec<Cells>,
     entries: u32,
 }
 
 impl Model for Table {
-    ghost use Rattle.std.specs.Prelude.{length};
-    ghost use Rattle.rdf_values.specs.Tables.{HoldsTable, TableView, rows_of};
+    ghost use Rattle.rdf_values.specs.Kept.{HoldsTable, rows_kept};
+    ghost use Rattle.rdf_values.specs.Tables.{TableView};
 
     ghost Value = { TableView };
 
-    ghost view = { λ t. record { columns = t.columns; rows = rows_of (length t.columns) t.entries t.cells } };
+    ghost view = { λ t. record { columns = t.columns; rows = rows_kept t.entries t.cells.items } };
 
-    ghost invariant = { λ t. HoldsTable t.columns t.cells t.entries };
+    ghost invariant = { λ t. HoldsTable t.columns t.cells.items t.entries };
 }
 
 impl Table {
-    ghost use Rattle.std.specs.Prelude.{◌≡◌, ◌<◌, ◌++◌, ◌∷◌, [], length, OnOk, OnErr, slice_index_or};
-    ghost use Rattle.rdf_values.specs.Tables.{FitsRow, IsHeader, IsTable};
+    ghost use Rattle.rdf_values.specs.Tables.{FitsRow, IsHeader, IsIntColumn, IsTable, IsVectColumn, cell, kind_at};
+    ghost use Rattle.rdf_values.specs.Values.{value_of};
 
     /// A table of no rows.
-    pub fn new(alloc: Global, columns: ListOf<Column>) -> Table
+    pub fn new(alloc: Global, columns: ListOf<Column>) -> Result<Table, Memory>
         requires { IsHeader columns }
-        ensures { result ≡ record { columns = columns; rows = [] } }
+        ensures { IfOk result (λ table. table ≡ record { columns = columns; rows = [] }) }
     {
-        Table {
+        let cells = no_rows(alloc, columns.as_slice())?;
+        Ok(Table {
             columns,
-            cells: ListOf::new(alloc),
+            cells,
             entries: 0,
-        }
+        })
     }
 
-    /// Moves the values of a row to the end of the table; the row is left empty, with its room, for the next one.
+    /// Appends a row; the row is left empty, with its room, for the next one.
     pub fn push(&mut self, row: &mut ListOf<Value>) -> Result<(), Memory>
         requires fits { FitsRow self.old.columns row.old }
         requires room { length self.old.rows < 1000000 }
         ensures ok { OnOk result ((self.new ≡ record self.old { rows = self.old.rows ++ row.old ∷ [] }) × (row.new ≡ [])) }
         ensures err { OnErr result ((self.new ≡ self.old) × (row.new ≡ row.old)) }
     {
-        self.cells.append(row)?;
+        push_row(&mut self.cells, self.entries as usize, row.as_slice())?;
+        row.clear();
         self.entries += 1;
         Ok(())
     }
@@ -72,13 +79,56 @@ impl Table {
         self.entries
     }
 
-    /// The value of a row's column, both counted from 0.
-    pub fn value(&self, entry: u32, col: u32) -> &Value
+    /// The numbers of an int column, one per entry. Columns are counted from 0.
+    pub fn ints(&self, col: u32) -> &[i64]
+        requires { kind_at self.now.columns col ≡ Some ColType.Int }
+        ensures { IsIntColumn self.now col result.now }
+    {
+        match &self.cells[col as usize] {
+            Cells::Ints(numbers) => numbers.as_slice(),
+            Cells::Vects(_) => unreachable!(),
+        }
+    }
+
+    // The vectors of a vec column, one per entry.
+    fn vects(&self, col: u32) -> &Vects
+        requires { kind_at self.now.columns col ≡ Some ColType.Vect }
+        ensures { IsVectColumn self.now col result.now }
+    {
+        match &self.cells[col as usize] {
+            Cells::Vects(vectors) => vectors,
+            Cells::Ints(_) => unreachable!(),
+        }
+    }
+
+    /// The number of an entry in an int column, both counted from 0.
+    pub fn int_at(&self, entry: u32, col: u32) -> i64
+        requires row { entry < length self.now.rows }
+        requires column { kind_at self.now.columns col ≡ Some ColType.Int }
+        ensures { cell self.now entry col ≡ Some (v.Int result) }
+    {
+        self.ints(col)[entry as usize]
+    }
+
+    /// The elements of an entry's vector in a vec column, both counted from 0.
+    pub fn vec_at(&self, entry: u32, col: u32) -> &[i64]
+        requires row { entry < length self.now.rows }
+        requires column { kind_at self.now.columns col ≡ Some ColType.Vect }
+        ensures { cell self.now entry col ≡ Some (v.Vect result.now) }
+    {
+        self.vects(col).at(entry as usize)
+    }
+
+    /// The value of an entry's column, both counted from 0.
+    pub fn value(&self, entry: u32, col: u32) -> Cell<'_>
         requires row { entry < length self.now.rows }
         requires column { col < length self.now.columns }
-        ensures { result.now ≡ slice_index_or (slice_index_or self.now.rows entry []) col result.now }
+        ensures { cell self.now entry col ≡ Some (value_of result) }
     {
-        let place = entry as usize * self.columns.len() + col as usize;
-        &self.cells.as_slice()[place]
+        match self.columns.at(col as usize).kind {
+            ColType::Int => Cell::Int(self.int_at(entry, col)),
+            ColType::Vect => Cell::Vect(self.vec_at(entry, col)),
+            ColType::Bool => unreachable!(),
+        }
     }
 }

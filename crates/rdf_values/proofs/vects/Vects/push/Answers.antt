@@ -1,6 +1,6 @@
 use Rattle.std.proofs.Common.{rules}
-use Rattle.columns.proofs.PieceLemmas.{ascend_after, pieces_after}
-use Rattle.columns.proofs.vects.Vects.push.Goals as goal
+use Rattle.rdf_values.proofs.PieceLemmas.{ascend_after, cut_off, pieces_after}
+use Rattle.rdf_values.proofs.vects.Vects.push.Goals as goal
 
 pub invariant_of-self-in-Ok : goal.invariant_of-self-in-Ok
 invariant_of-self-in-Ok c =
@@ -8,6 +8,9 @@ invariant_of-self-in-Ok c =
     c.self.invariant c.in_ok-extend_from_slice.ensures.items (search rules) c.in-Ok.ensures.items
 
 pub returns-in-Ok : goal.returns-in-Ok
-returns-in-Ok c = rw (← c.self.view_is) (
+returns-in-Ok c = record {
+  ok = rw (← c.self.view_is) (
     pieces_after c.self.inside.ends.items c.push.new.self.items c.self.inside.elements.items c.extend_from_slice.new.self.items c.args.vector.now c.len-end.result
-    c.self.invariant c.in_ok-extend_from_slice.ensures.items (search rules) c.in-Ok.ensures.items)
+    c.self.invariant c.in_ok-extend_from_slice.ensures.items (search rules) c.in-Ok.ensures.items);
+  err = tt;
+}
