@@ -1,19 +1,16 @@
 -- The ranges of the clusters.
-use Rattle.std.proofs.Common.{◌≡◌, ◌≤◌, ◌<◌, ◌+◌, ◌*◌, ℕ, zero, suc, List, [], ◌∷◌, ◌++◌, length, map, min, Some, arith, refl, ap, ◌∙◌, length-append, add-one, ◌⊎◌, inl, inr, sym}
+use Rattle.std.proofs.Common.{◌≡◌, ◌≤◌, ◌<◌, ◌+◌, ◌*◌, ℕ, zero, suc, List, [], ◌∷◌, ◌++◌, length, map, min, Some, arith, refl, ap, ◌∙◌, add-one}
 use Rattle.std.specs.Prelude.{slice_get}
 use Rattle.std.specs.Int.{div_ceil}
 use Rattle.std.proofs.lemmas.Grind.{div_ceil_times}
 use Rattle.std.proofs.lemmas.List.{length-map, map-append}
 use Rattle.std.proofs.lemmas.Nat.{mul-le}
 use Rattle.std.proofs.lemmas.Option.{slice_get-map}
+use Rattle.rdf_values.proofs.Below.{length-below, slice_get-below}
 use Rattle.rdf_values.specs.Cuts.{below, cut}
 use Rattle.rdf_values.specs.declared.span.Span.{Span}
 use Rattle.clusters.specs.Ranges.{Lead}
 use Rattle.clusters.proofs.Leading.{Lead-push}
-
-pub length-below : (n : ℕ) → length (below n) ≡ n
-length-below zero = refl
-length-below (suc n) = omega (arith, length-append (below n) (n ∷ []), length-below n)
 
 pub length-cut : (n size : ℕ) → length (cut n size) ≡ div_ceil n size
 length-cut n size = length-map (below (div_ceil n size)) _ ∙ length-below (div_ceil n size)
@@ -23,25 +20,6 @@ starts_below n size cluster s h =
     let all = div_ceil_times n size s in
     let next : (cluster + 1) * size ≤ div_ceil n size * size = grind (arith, mul-le) in
     omega (arith, all.1)
-
-get_before : (xs ys : List ℕ) (i : ℕ) → i < length xs → slice_get (xs ++ ys) i ≡ slice_get xs i
-get_before [] ys i h = absurd (omega arith)
-get_before (x ∷ xs) ys zero h = refl
-get_before (x ∷ xs) ys (suc i) h = get_before xs ys i (omega arith)
-
-get_last : (xs : List ℕ) (y i : ℕ) → i ≡ length xs → slice_get (xs ++ y ∷ []) i ≡ Some y
-get_last [] y i h = rw h refl
-get_last (x ∷ xs) y i h = rw h (get_last xs y (length xs) refl)
-
-before_or_last : (i n : ℕ) → i < suc n → (i < n) ⊎ (i ≡ n)
-before_or_last i n h = grind arith
-
-pub slice_get-below : (n i : ℕ) → i < n → slice_get (below n) i ≡ Some i
-slice_get-below zero i h = absurd (omega arith)
-slice_get-below (suc n) i h = elim (before_or_last i n h) [
-  | inl l ↦ get_before (below n) (n ∷ []) i (omega (arith, length-below n)) ∙ slice_get-below n i l
-  | inr e ↦ get_last (below n) n i (e ∙ sym (length-below n)) ∙ ap Some (sym e)
-]
 
 pub range_at : (n size cluster : ℕ) → cluster < div_ceil n size → slice_get (cut n size) cluster ≡ Some (record { lo = cluster * size; hi = min ((cluster + 1) * size) n })
 range_at n size cluster h = slice_get-map _ (below (div_ceil n size)) cluster ∙ rw (slice_get-below (div_ceil n size) cluster h) refl

@@ -1,4 +1,1 @@
-pub mod Building
 pub mod ColumnsView
-pub mod Kept
-pub mod Pieces

@@ -1,5 +1,5 @@
 ghost use Rattle.std.specs.Prelude.{◌≡◌, ⊤, length, IfOk, MatchOption, Some};
-ghost use Rattle.columns.specs.ColumnsView.{kind_at};
+ghost use Rattle.rdf_values.specs.Tables.{kind_at};
 
 use crate::Columns;
 use clusters::cut;
@@ -17,7 +17,7 @@ fn ints(alloc: Global) -> Result<Option<Table>, Memory>
     let kind = ColType::Int;
     let mut columns = ListOf::new(alloc);
     columns.push(Column { name, kind })?;
-    let mut table = Table::new(alloc, columns);
+    let mut table = Table::new(alloc, columns)?;
     let mut row = ListOf::new(alloc);
     row.push(Value::Int(10))?;
     table.push(&mut row)?;
@@ -36,7 +36,7 @@ fn vects(alloc: Global) -> Result<Option<Table>, Memory>
     let kind = ColType::Vect;
     let mut columns = ListOf::new(alloc);
     columns.push(Column { name, kind })?;
-    let mut table = Table::new(alloc, columns);
+    let mut table = Table::new(alloc, columns)?;
     let mut row = ListOf::new(alloc);
     row.push(Value::Vect(IntList::from_slice(alloc, &[3, 4])?))?;
     table.push(&mut row)?;
@@ -50,7 +50,7 @@ fn gives_the_numbers_of_a_table(rt: HostRuntime) -> Result<(), Fail> {
     let Some(table) = ints(rt.alloc())? else {
         panic!(rt; "no name");
     };
-    let columns = Columns::build(rt.alloc(), &table, &cut(2, 1))?;
+    let columns = Columns::build(table, &cut(2, 1));
     assert_eq!(rt; columns.ints(0), [10, -3].as_slice());
     assert_eq!(rt; columns.int_at(1, 0), -3);
     Ok(())
@@ -61,7 +61,7 @@ fn gives_the_vectors_of_a_table(rt: HostRuntime) -> Result<(), Fail> {
     let Some(table) = vects(rt.alloc())? else {
         panic!(rt; "no name");
     };
-    let columns = Columns::build(rt.alloc(), &table, &cut(2, 1))?;
+    let columns = Columns::build(table, &cut(2, 1));
     assert_eq!(rt; columns.vec_at(0, 0), [3, 4].as_slice());
     assert!(rt; columns.vec_at(1, 0).is_empty());
     Ok(())

@@ -12,6 +12,7 @@ pub mod FunctionNames
 pub mod Functions
 pub mod Grammar
 pub mod Integers
+pub mod Kept
 pub mod Kinds
 pub mod LineForms
 pub mod LineTokens
@@ -20,6 +21,7 @@ pub mod Names
 pub mod NumExprTree
 pub mod Numbered
 pub mod Path
+pub mod Pieces
 pub mod Scans
 pub mod ScriptLines
 pub mod Scripts
@@ -30,4 +32,5 @@ pub mod Tables
 pub mod Tokens
 pub mod Tree
 pub mod TreeCode
+pub mod Values
 pub mod Verdict

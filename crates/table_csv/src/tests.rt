@@ -1,5 +1,5 @@
 use crate::{TableRefusal, read_table};
-use rdf_values::{TableCause, Value};
+use rdf_values::{Cell, TableCause};
 use std::alloc::{AllocError, Global};
 use std::test::Fail;
 
@@ -41,11 +41,11 @@ fn reads_columns_and_rows(rt: HostRuntime) -> Result<(), Fail> {
     let table = read_table(rt.alloc(), text)?;
     assert_eq!(rt; table.columns().len(), 3);
     assert_eq!(rt; table.entries(), 4);
-    assert!(rt; matches!(table.value(3, 1), Value::Int(-3)));
-    let Value::Vect(jets) = table.value(0, 2) else {
+    assert!(rt; matches!(table.value(3, 1), Cell::Int(-3)));
+    let Cell::Vect(jets) = table.value(0, 2) else {
         panic!(rt; "no vector");
     };
-    assert_eq!(rt; jets.as_slice(), [3, 4].as_slice());
+    assert_eq!(rt; jets, [3, 4].as_slice());
     Ok(())
 }
 
@@ -100,7 +100,7 @@ fn takes_4096_elements_and_no_more(rt: HostRuntime) -> Result<(), Fail> {
     let table = read_table(alloc, long(alloc, 4096)?.as_bytes())?;
     assert_eq!(rt; table.entries(), 1);
     assert_eq!(rt; table.columns().len(), 1);
-    let Value::Vect(jets) = table.value(0, 0) else {
+    let Cell::Vect(jets) = table.value(0, 0) else {
         panic!(rt; "no vector");
     };
     assert_eq!(rt; jets.len(), 4096);

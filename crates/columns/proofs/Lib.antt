@@ -1,3 +1,0 @@
-pub mod BuildSteps
-pub mod KeptLemmas
-pub mod PieceLemmas
