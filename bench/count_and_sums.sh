@@ -10,11 +10,13 @@ trap 'rm -rf "$work"' EXIT
 awk -v n=1000000 -v seed=7 -f "$bench/make_table.awk" >"$work/table.csv"
 cp "$bench/count_and_sums.txt" "$work/script.txt"
 cd "$work"
+# the launcher builds the program where it must; the program itself is timed
 "$bench/../rdf" script.txt table.csv >rdf.out
+program=$bench/../crates/rdf/out/rdf
 mawk -f "$bench/count_and_sums.awk" table.csv >mawk.out
 cmp rdf.out mawk.out
 ls -l table.csv | awk '{ print "table: " $5 " bytes" }'
 for turn in 1 2 3 4 5; do
-    /usr/bin/time -f "rdf  %e s, %M KB at its peak" "$bench/../rdf" script.txt table.csv >/dev/null
-    /usr/bin/time -f "mawk %e s, %M KB at its peak" mawk -f "$bench/count_and_sums.awk" table.csv >/dev/null
+    /usr/bin/time -f "rdf  %e s, of which %U s user and %S s system, %M KB at its peak" "$program" script.txt table.csv >/dev/null
+    /usr/bin/time -f "mawk %e s, of which %U s user and %S s system, %M KB at its peak" mawk -f "$bench/count_and_sums.awk" table.csv >/dev/null
 done

@@ -1,12 +1,17 @@
 -- The first column of a scope with a name or a number.
-use Rattle.std.proofs.Common.{◌≡◌, ℕ, Bool, true, false, List, [], ◌∷◌, Option, Some, None, Result, Ok, Err, refl, nat_eq, arith}
+use Rattle.std.proofs.Common.{◌≡◌, ◌≢◌, ℕ, Bool, true, false, cond, List, [], ◌∷◌, Option, Some, None, Ok, Err, refl, nat_eq, arith}
 use Rattle.std.specs.Prelude.{find}
+use Rattle.std.specs.List.{AllByRecursion}
+use Rattle.std.proofs.lemmas.Bool.Decides.{Decides-eqb}
+use Rattle.std.proofs.lemmas.List.Elements.{All-from_recursion}
+use Rattle.std.proofs.lemmas.Slice.Eq.{bytes_eq-Decides}
 use Rattle.rdf_values.specs.Names.{same}
 use Rattle.rdf_values.specs.Kinds.{column_kind}
 use Rattle.rdf_values.specs.Numbered.{ScopeColumn, kinds_in, number_in}
+use Rattle.rdf_values.specs.declared.value.ColType.{ColType}
 use Rattle.rdf_values.specs.declared.graph_cause.GraphCause.TheVariants.{UnknownColumn}
 use Rattle.expr_check.specs.NumKinds.{number_kind}
-use Rattle.expr_check.specs.Scopes.{numbers_in}
+use Rattle.expr_check.specs.Scopes.{LacksColumn, NumberHasKind, numbers_in}
 
 -- what a search by name found: nothing, or the column that the name means
 abbrev pub IsNamed : List ScopeColumn → List ℕ → Option ScopeColumn → Type 0
@@ -30,3 +35,29 @@ found_by_name cs name found is = grind (arith, by_name cs name)
 
 pub found_by_number : (cs : List ScopeColumn) (number : ℕ) (found : Option ScopeColumn) → found ≡ find (λ c. nat_eq c.number number) cs → IsNumbered cs number found
 found_by_number cs number found is = grind (arith, by_number cs number)
+
+lacks_by_recursion : (cs : List ScopeColumn) (name : List ℕ) → column_kind (kinds_in cs) name ≡ Err UnknownColumn → AllByRecursion (λ (c : ScopeColumn). c.name ≢ name) cs
+lacks_by_recursion [] name is = tt
+lacks_by_recursion (c ∷ cs) name is = lacks_by (same c.name name) (λ e. (bytes_eq-Decides c.name name).1 e) (lacks_by_recursion cs name) is
+  where
+    lacks_by : (b : Bool) → (c.name ≡ name → b ≡ true) → (column_kind (kinds_in cs) name ≡ Err UnknownColumn → AllByRecursion (λ (d : ScopeColumn). d.name ≢ name) cs)
+        → cond b (Ok c.kind) (column_kind (kinds_in cs) name) ≡ Err UnknownColumn → (c.name ≢ name) × AllByRecursion (λ (d : ScopeColumn). d.name ≢ name) cs
+    lacks_by true here below is = cc is
+    lacks_by false here below is = (λ e. let f = here e in cc f, below is)
+
+-- a name that isn't found is no column's
+pub lacks_column : (cs : List ScopeColumn) (name : List ℕ) → column_kind (kinds_in cs) name ≡ Err UnknownColumn → LacksColumn name cs
+lacks_column cs name is = All-from_recursion (λ (c : ScopeColumn). c.name ≢ name) cs (lacks_by_recursion cs name is)
+
+no_number_by_recursion : (cs : List ScopeColumn) (number : ℕ) (k : ColType) → number_kind (numbers_in cs) number ≡ Err UnknownColumn → AllByRecursion (λ (c : ScopeColumn). c.number ≡ number → c.kind ≡ k) cs
+no_number_by_recursion [] number k is = tt
+no_number_by_recursion (c ∷ cs) number k is = no_number_by (nat_eq c.number number) (λ e. (Decides-eqb c.number number).1 e) (no_number_by_recursion cs number k) is
+  where
+    no_number_by : (b : Bool) → (c.number ≡ number → b ≡ true) → (number_kind (numbers_in cs) number ≡ Err UnknownColumn → AllByRecursion (λ (d : ScopeColumn). d.number ≡ number → d.kind ≡ k) cs)
+        → cond b (Ok c.kind) (number_kind (numbers_in cs) number) ≡ Err UnknownColumn → (c.number ≡ number → c.kind ≡ k) × AllByRecursion (λ (d : ScopeColumn). d.number ≡ number → d.kind ≡ k) cs
+    no_number_by true here below is = cc is
+    no_number_by false here below is = (λ e. let f = here e in cc f, below is)
+
+-- a number that isn't found may have any kind
+pub number_free : (cs : List ScopeColumn) (number : ℕ) (k : ColType) → number_kind (numbers_in cs) number ≡ Err UnknownColumn → NumberHasKind number k cs
+number_free cs number k is = All-from_recursion (λ (c : ScopeColumn). c.number ≡ number → c.kind ≡ k) cs (no_number_by_recursion cs number k is)

@@ -1,1 +1,11 @@
+pub mod Callees
+pub mod Calls
+pub mod Distinct
+pub mod Each
 pub mod Found
+pub mod Parts
+pub mod Plain
+pub mod Refused
+pub mod ScopeKinds
+pub mod Typed
+pub mod WellTyped

@@ -1,15 +1,11 @@
 -- What a check answers.
-use Rattle.std.specs.Prelude.{◌≡◌, ℕ, List, map, Result, Ok, Err}
-use Rattle.rdf_values.specs.Tree.{NamedTree}
-use Rattle.rdf_values.specs.Depends.{columns_in}
-use Rattle.rdf_values.specs.Kinds.{FunctionNames, kind_of}
-use Rattle.rdf_values.specs.Numbered.{ScopeColumn, kinds_in, numbered}
+use Rattle.std.specs.Prelude.{◌≡◌, Bool, List, Result, Ok, Err}
+use Rattle.rdf_values.specs.Kinds.{same_kinds, ◌>>=◌}
 use Rattle.rdf_values.specs.declared.value.ColType.{ColType}
 use Rattle.rdf_values.specs.declared.graph_cause.GraphCause.{GraphCause}
 use Rattle.rdf_values.specs.declared.graph_cause.GraphCause.TheVariants as cause
 use Rattle.expr_check.specs.declared.refusal.CheckRefusal.{CheckRefusal}
 use Rattle.expr_check.specs.declared.refusal.CheckRefusal.TheVariants.{UnknownColumn, UnknownFunction, WrongType, WrongCount, Memory}
-use Rattle.expr_check.specs.NumKinds.{CheckedExpr, IsWellTyped, CallsFit}
 
 -- the refusal is the one that is wanted, or want of memory
 abbrev pub RefusedAs : {A : Type 0} → CheckRefusal → Result A GraphCause → Type 0
@@ -23,3 +19,7 @@ RefusedAs Memory wanted = Unit {0}
 abbrev pub Answers : {A : Type 0} → Result A GraphCause → Result A CheckRefusal → Type 0
 Answers wanted (Ok a) = wanted ≡ Ok a
 Answers wanted (Err e) = RefusedAs e wanted
+
+-- whether the arguments are of the kinds that a function takes
+abbrev pub arguments_fit : Result (List ColType) GraphCause → List ColType → Result Bool GraphCause
+arguments_fit kinds takes = kinds >>= λ ts. Ok (same_kinds ts takes)

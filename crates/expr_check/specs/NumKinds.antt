@@ -1,8 +1,9 @@
 -- Kinds of numbered expressions.
-use Rattle.std.specs.Prelude.{◌≡◌, ◌≢◌, ℕ, ◌<◌, Bool, true, false, not, ◌&&◌, List, [], ◌∷◌, map, filter, length, replicate, if◌then◌else◌, nat_eq, Option, Some, None, MatchOption, Result, Ok, Err, slice_get}
+use Rattle.std.specs.Prelude.{◌≡◌, ℕ, ◌<◌, Bool, true, false, not, ◌&&◌, List, [], ◌∷◌, ◌++◌, map, filter, length, replicate, if◌then◌else◌, nat_eq, All, Option, Some, None, MatchOption, Result, Ok, Err, slice_get}
+use Rattle.std.specs.List.{list_any}
 use Rattle.rdf_values.specs.Tree.{Tree, Trees, NumTree, Lit, Truth, Col, Neg, Not, Bin, Cond, Pick, Call, End, More}
 use Rattle.rdf_values.specs.Depends.{columns_in}
-use Rattle.rdf_values.specs.Kinds.{Shape, shape, FunctionNames, args_count, kind_by, same_kind}
+use Rattle.rdf_values.specs.Kinds.{Shape, shape, FunctionNames, args_count, kind_by}
 use Rattle.rdf_values.specs.declared.fn_names.FnName.{FnName}
 use Rattle.rdf_values.specs.declared.value.ColType.{ColType}
 use Rattle.rdf_values.specs.declared.value.ColType.TheVariants as kind
@@ -42,16 +43,27 @@ abbrev pub distinct : List ℕ → List ℕ
 distinct [] = []
 distinct (x ∷ xs) = x ∷ filter (λ y. not (nat_eq x y)) (distinct xs)
 
+-- the list with a number at its end, unless it is there
+abbrev pub with_new : List ℕ → ℕ → List ℕ
+with_new xs x = if list_any (nat_eq x) xs then xs else xs ++ x ∷ []
+
 -- an expression with its columns numbered, their kinds, and its own kind
 pub record CheckedExpr : Type 0 where
   pub tree : NumTree
   pub kinds : List (ℕ × ColType)
   pub kind : ColType
 
+abbrev pub checked_expr : NumTree → List (ℕ × ColType) → ColType → CheckedExpr
+checked_expr tree kinds kind = record { tree = tree; kinds = kinds; kind = kind }
+
 -- the expression has that kind by the kinds of its columns, of which each is given once, where it stands first
 pub record IsWellTyped (names : FunctionNames) (e : CheckedExpr) : Type 0 where
   pub typed : num_kind e.kinds names e.tree ≡ Ok e.kind
   pub columns : map (λ (c : ℕ × ColType). c.0) e.kinds ≡ distinct (columns_in e.tree)
+
+-- it is well typed by some list of functions
+abbrev pub IsTyped : CheckedExpr → Type 0
+IsTyped e = (names : FunctionNames) × IsWellTyped names e
 
 -- the callee is built in, or at a place of the list
 abbrev pub IsCallable : FunctionNames → Callee → Type 0
@@ -80,23 +92,48 @@ abbrev mutual
   AllCallsFit names End = Unit {0}
   AllCallsFit names (More a rest) = CallsFit names a × AllCallsFit names rest
 
+abbrev pub is_vector : ColType → Bool
+is_vector kind.Vect = true
+is_vector k = false
+
+abbrev pub gives_vector : Result ColType GraphCause → Bool
+gives_vector (Ok k) = is_vector k
+gives_vector (Err e) = false
+
+-- the expression and all that stands in it
+abbrev mutual
+  pub parts : {C F : Type 0} → Tree C F → List (Tree C F)
+  parts (Lit z) = Lit z ∷ []
+  parts (Truth b) = Truth b ∷ []
+  parts (Col c) = Col c ∷ []
+  parts (Neg a) = Neg a ∷ parts a
+  parts (Not a) = Not a ∷ parts a
+  parts (Bin o a b) = Bin o a b ∷ (parts a ++ parts b)
+  parts (Cond c a b) = Cond c a b ∷ (parts c ++ parts a ++ parts b)
+  parts (Pick v i) = Pick v i ∷ (parts v ++ parts i)
+  parts (Call f args) = Call f args ∷ parts_of_all args
+
+  pub parts_of_all : {C F : Type 0} → Trees C F → List (Tree C F)
+  parts_of_all End = []
+  parts_of_all (More a rest) = parts a ++ parts_of_all rest
+
+-- no part of the expression is a vector
+abbrev pub HasNoVector : List (ℕ × ColType) → FunctionNames → NumTree → Type 0
+HasNoVector kinds names e = All (λ p. gives_vector (num_kind kinds names p) ≡ false) (parts e)
+
 -- the function takes no vector
 abbrev pub takes_no_vector : Callee → Bool
 takes_no_vector fn.Abs = true
 takes_no_vector (fn.Given i) = true
 takes_no_vector f = false
 
-abbrev pub is_vector : Result ColType GraphCause → Bool
-is_vector (Ok kind.Vect) = true
-is_vector k = false
-
--- no part is a vector: no column is one, and nothing picks from one or calls a function of one
+-- no column is a vector, and nothing picks from one or calls a function of one
 module _ (kinds : List (ℕ × ColType)) where
   abbrev mutual
     pub is_plain : NumTree → Bool
     is_plain (Lit z) = true
     is_plain (Truth b) = true
-    is_plain (Col c) = not (is_vector (number_kind kinds c))
+    is_plain (Col c) = not (gives_vector (number_kind kinds c))
     is_plain (Neg a) = is_plain a
     is_plain (Not a) = is_plain a
     is_plain (Bin o a b) = is_plain a && is_plain b

@@ -1,5 +1,5 @@
 -- Columns that can be read, with their kinds and numbers.
-use Rattle.std.specs.Prelude.{◌≡◌, ◌≢◌, ℕ, List, [], ◌∷◌, map, All}
+use Rattle.std.specs.Prelude.{◌≡◌, ◌≢◌, ℕ, List, map, All}
 use Rattle.rdf_values.specs.Numbered.{ScopeColumn}
 use Rattle.rdf_values.specs.declared.value.ColType.{ColType}
 

@@ -1,15 +1,30 @@
 // What a call calls, what that takes and what it gives.
-ghost use Rattle.std.specs.Prelude.{◌≡◌, ◌<◌, ℕ, length, Ok, MatchOption, unwrap_or};
-ghost use Rattle.rdf_values.specs.Kinds.{shape};
+ghost use Rattle.std.specs.Prelude.{◌≡◌, ◌<◌, ◌≤◌, ℕ, length, replicate, slice_get, Ok, Err, MatchOption, IfSome, unwrap_or};
+ghost use Rattle.rdf_values.specs.Kinds.{shape, shape_of};
 ghost use Rattle.rdf_values.specs.Numbered.{callee, callee_in, built_in};
-ghost use Rattle.rdf_values.specs.declared.num_expr.Callee.TheVariants as fn;
-ghost use Rattle.expr_check.specs.NumKinds.{callee_shape, IsCallable};
+ghost use Rattle.rdf_values.specs.declared.graph_cause.GraphCause.TheVariants.{UnknownFunction};
+ghost use Rattle.expr_check.specs.NumKinds.{callee_shape, given_shape, IsCallable};
+ghost use Rattle.rdf_values.specs.declared.value.ColType.TheVariants as kind;
 
 use rdf_values::{Callee, ColType, FnNames, Name};
 
+/// What a function takes, a kind for each argument, and what it gives.
+#[derive(Clone, Copy)]
+pub(crate) struct Signature {
+    pub takes: &'static [ColType],
+    pub gives: ColType,
+}
+
+const VECTOR: &[ColType] = &[ColType::Vect];
+
+const PLACE: &[ColType] = &[ColType::Vect, ColType::Int];
+
+const NUMBERS: &[ColType] = &[ColType::Int; 8];
+
 /// The built-in function of that name.
 fn built_in(name: &[u8]) -> Option<Callee>
-    ensures { (other : _) → unwrap_or result other ≡ callee_in built_in name.now other }
+    ensures named { (other : _) → unwrap_or result other ≡ callee_in built_in name.now other }
+    ensures callable { IfSome result (λ f. (names : _) → IsCallable names f) }
 {
     match name {
         b"Sum" => Some(Callee::Sum),
@@ -26,14 +41,56 @@ fn built_in(name: &[u8]) -> Option<Callee>
 
 /// What a call of that name calls.
 pub(crate) fn find_callee(name: &Name, names: &FnNames) -> Option<Callee>
-    ensures { MatchOption result (callee names.now name.now ≡ fn.Given (length names.now))
+    ensures { MatchOption result (shape_of names.now name.now ≡ Err UnknownFunction)
         (λ f. (callee names.now name.now ≡ f) × IsCallable names.now f) }
 {
     match built_in(name.bytes()) {
         Some(callee) => Some(callee),
         None => match names.find(name) {
             None => None,
-            Some(i) => Some(Callee::Given(i)),
+            Some(i) => {
+                prove!((i as usize) < names.len());
+                Some(Callee::Given(i))
+            }
+        },
+    }
+}
+
+/// How many numbers a function of the list takes.
+fn arity(names: &FnNames, i: u32) -> usize
+    requires { i < length names.now }
+    ensures few { result ≤ 8 }
+    ensures value { given_shape (slice_get names.now i) ≡ Ok (shape (replicate result kind.Int) kind.Int) }
+{
+    let i = i as usize;
+    prove!(i < names.len());
+    names.as_slice()[i].arity as usize
+}
+
+pub(crate) fn signature_of(callee: Callee, names: &FnNames) -> Signature
+    requires { IsCallable names.now callee }
+    ensures { callee_shape names.now callee ≡ Ok (shape result.takes.now result.gives) }
+{
+    match callee {
+        Callee::Sum | Callee::Min | Callee::Max | Callee::Size => Signature {
+            takes: VECTOR,
+            gives: ColType::Int,
+        },
+        Callee::Any | Callee::All => Signature {
+            takes: VECTOR,
+            gives: ColType::Bool,
+        },
+        Callee::At => Signature {
+            takes: PLACE,
+            gives: ColType::Int,
+        },
+        Callee::Abs => Signature {
+            takes: &NUMBERS[..1],
+            gives: ColType::Int,
+        },
+        Callee::Given(i) => Signature {
+            takes: &NUMBERS[..arity(names, i)],
+            gives: ColType::Int,
         },
     }
 }

@@ -4,9 +4,15 @@
 
 mod build;
 mod callee;
+pub mod checked;
 mod kind;
+mod part;
+mod reads;
 pub mod refusal;
 pub mod scope;
+#[cfg(test)]
+mod tests;
 
+pub use crate::checked::{Checked, check};
 pub use crate::refusal::CheckRefusal;
 pub use crate::scope::Scope;

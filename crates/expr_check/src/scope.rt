@@ -1,5 +1,5 @@
 // Columns that an expression may read.
-ghost use Rattle.std.specs.Prelude.{◌≡◌, ◌≢◌, ℕ, List, [], ◌∷◌, ◌++◌, All, Ok, Err, OnOk, OnErr, MatchOption, find, nat_eq};
+ghost use Rattle.std.specs.Prelude.{◌≡◌, ◌≢◌, ℕ, List, [], ◌∷◌, ◌++◌, All, Ok, Err, IsOk, IfOk, IfNone, map, OnOk, OnErr, MatchOption, find, nat_eq};
 ghost use Rattle.std.specs.Option.{option_copied};
 ghost use Rattle.rdf_values.specs.Names.{same};
 ghost use Rattle.rdf_values.specs.Kinds.{column_kind};
@@ -85,8 +85,9 @@ impl Scope {
 
     /// The kind and the number of the column of that name.
     pub fn find(&self, name: &Name) -> Option<(ColType, u32)>
-        ensures { MatchOption result (column_kind (kinds_in self.now) name.now ≡ Err UnknownColumn)
+        ensures found { MatchOption result (column_kind (kinds_in self.now) name.now ≡ Err UnknownColumn)
             (λ c. (column_kind (kinds_in self.now) name.now ≡ Ok c.0) × (number_in self.now name.now ≡ c.1)) }
+        ensures absent { IfNone result (LacksColumn name.now self.now) }
     {
         match self.named(name) {
             None => None,
@@ -96,12 +97,39 @@ impl Scope {
 
     /// The kind of the columns of that number.
     pub(crate) fn number_kind(&self, number: u32) -> Option<ColType>
-        ensures { MatchOption result (number_kind (numbers_in self.now) number ≡ Err UnknownColumn)
+        ensures found { MatchOption result (number_kind (numbers_in self.now) number ≡ Err UnknownColumn)
             (λ kind. number_kind (numbers_in self.now) number ≡ Ok kind) }
+        ensures absent { IfNone result ((kind : _) → NumberHasKind number kind self.now) }
     {
         match self.numbered(number) {
             None => None,
             Some(column) => Some(column.kind),
         }
+    }
+
+    fn known_kind(&self, number: u32) -> ColType
+        requires { IsOk (number_kind (numbers_in self.now) number) }
+        ensures { number_kind (numbers_in self.now) number ≡ Ok result }
+    {
+        match self.number_kind(number) {
+            Some(kind) => kind,
+            None => unreachable!(),
+        }
+    }
+
+    /// The kinds of columns by their numbers, each of which a column has.
+    pub(crate) fn kinds_of(&self, numbers: &[u32]) -> Result<Vec<ColType>, Memory>
+        requires known { NumbersHaveKinds self.now → All (λ i. IsOk (number_kind (numbers_in self.now) i)) numbers.now }
+        ensures kinds { IfOk result (λ kinds. map (λ k. Ok k) kinds.items ≡ map (number_kind (numbers_in self.now)) numbers.now) }
+        ensures one_kind { NumbersHaveKinds self.now }
+    {
+        let mut kinds = Vec::new(self.alloc);
+        for number in numbers {
+            match kinds.push(self.known_kind(*number)) {
+                Ok(()) => {}
+                Err(_) => return Err(Memory),
+            }
+        }
+        Ok(kinds)
     }
 }

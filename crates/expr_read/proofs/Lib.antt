@@ -1,5 +1,8 @@
+pub mod Decided
+pub mod Examples
 pub mod Lists
 pub mod Numerals
+pub mod ReadOnce
 pub mod Readable
 pub mod Reading
 pub mod ReadsBack
@@ -14,4 +17,5 @@ pub mod Unique
 pub mod UniqueValues
 pub mod ValidTokens
 pub mod Whole
+pub mod WholeReads
 pub mod Words

@@ -11,9 +11,6 @@ use Rattle.expr_read.specs.Parsing.{Begins, BeginsNot, Took, Stops, continues, L
 use Rattle.expr_read.proofs.Scanned.{scan_after, first_is_not, refused_at, same_step, never, refused_end}
 use Rattle.expr_read.proofs.Took.{bare_after, fewer_after}
 
-pub list_begun : (ts : List Placed) → Listing [] ts ts
-list_begun ts = record { tokens = []; split = refl; completes = λ us es r. r; scans = λ s. refl; within = omega arith }
-
 pub list_more : {items : List NamedTree} {a : NamedTree} {old m1 m2 new : List Placed} → Listing items old m1 → Took 0 a m1 m2 → Begins (Punct mark.Comma) m2 new → Listing (items ++ a ∷ []) old new
 list_more {items} {a} l k b = record {
   tokens = l.tokens ++ (k.tokens ++ Punct mark.Comma ∷ []);
@@ -31,9 +28,6 @@ list_done {items} {a} l k b = record {
   scans = λ s. l.scans s ∙ k.scans (InList ∷ s) ∙ scan_after (Operator, InList ∷ s) (after_list s) b refl;
   fewer = omega (arith, l.within, k.fewer, fewer_after b);
 }
-
-pub lists_begun : (ts : List Placed) → Listings [] ts ts
-lists_begun ts = record { tokens = []; split = refl; completes = λ us ls r. r; scans = refl }
 
 pub lists_more : {ls : List (List NamedTree)} {es : List NamedTree} {old m1 m2 m3 new : List Placed}
     → Listings ls old m1 → TookList es m1 m2 → Begins (Punct mark.Comma) m2 m3 → Begins (Punct mark.OpenBrace) m3 new → Listings (ls ++ es ∷ []) old new

@@ -1,19 +1,18 @@
 -- The texts of numbers.
-use Rattle.std.proofs.Common.{◌≡◌, ◌<◌, ◌≤◌, ◌^◌, ◌+◌, ℕ, ℤ, pos, negsuc, zero, suc, List, [], ◌∷◌, ◌++◌, length, get_or, Bool, true, false, None, Some, Ok, Option, arith, refl, ap, ◌∙◌, sym, nat_eq}
-use Rattle.std.specs.Prelude.{leb, ◌==◌, ◌&&◌, ◌||◌, if◌then◌else◌, decimal, nat_le, take_while}
+use Rattle.std.proofs.Common.{◌≡◌, ◌<◌, ◌≤◌, ◌^◌, ℕ, ℤ, pos, negsuc, List, [], ◌∷◌, ◌++◌, length, Bool, true, false, Some, Ok, arith, refl, ap, ◌∙◌, nat_eq}
+use Rattle.std.specs.Prelude.{◌||◌, if◌then◌else◌, decimal, nat_le, take_while}
 use Rattle.std.specs.Fmt.{signed_decimal}
 use Rattle.std.specs.List.{list_all}
-use Rattle.std.specs.Char.{is_ascii_digit}
 use Rattle.std.specs.Str.{all_ascii_digits}
 use Rattle.std.specs.Str.Parse.{digits_value}
 use Rattle.std.proofs.lemmas.Str.Parse.{IsNumeralModel, numerals_by_value, tells_all_ascii_digits}
-use Rattle.std.proofs.lemmas.Fmt.{decimal-digits_value, decimal_digit, decimal_nonempty, digits_decimal, digits_value-decimal, first_decimal}
+use Rattle.std.proofs.lemmas.Fmt.{decimal_nonempty, digits_decimal}
 use Rattle.std.proofs.lemmas.Bool.Decides.{nat_tests}
 use Rattle.rdf_values.specs.Integers.{magnitude_of}
 use Rattle.rdf_values.specs.Names.{is_word_start, is_word_byte, is_digit}
 use Rattle.rdf_values.proofs.OneText.{magnitude_decimal}
 use Rattle.expr_read.specs.Valid.{is_number}
-use Rattle.rdf_values.specs.Tokens.{Token, Number, is_blank, word_first, number_first, mark_first, first_token}
+use Rattle.rdf_values.specs.Tokens.{Number, is_blank, word_first, number_first, mark_first, first_token}
 use Rattle.expr_read.proofs.Spelled.{Spells, token, is_apart, is_unequal}
 use Rattle.expr_read.proofs.Words.{off, both, stops, taken}
 

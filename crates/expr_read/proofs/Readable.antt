@@ -1,9 +1,8 @@
 -- What is read from valid tokens can be spelled again.
-use Rattle.std.proofs.Common.{◌≡◌, ◌∙◌, ℕ, true, List, [], ◌∷◌, ◌++◌, refl, sym, subst}
-use Rattle.rdf_values.specs.Tree.{NamedTree, End, More}
-use Rattle.rdf_values.specs.Tokens.{Token, Word, Truth, Number, Op, Punct}
+use Rattle.std.proofs.Common.{◌≡◌, ℕ, true, List, [], ◌∷◌, ◌++◌, subst}
+use Rattle.rdf_values.specs.Tree.{NamedTree}
+use Rattle.rdf_values.specs.Tokens.{Token}
 use Rattle.rdf_values.specs.Grammar.{NamedTrees, Reads, ReadsArgs, number, truth, name, parenthesized, call, pick, minus_sign, not_sign, binary, conditional, tighter, no_arguments, last_argument, more_arguments}
-use Rattle.rdf_values.specs.declared.expr.Mark.TheVariants as mark
 use Rattle.expr_read.specs.Valid.{is_valid, are_valid}
 use Rattle.expr_read.proofs.Words.{both}
 use Rattle.expr_read.proofs.SpelledTree.{IsReadable, AreReadable}

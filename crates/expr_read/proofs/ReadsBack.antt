@@ -5,7 +5,7 @@ use Rattle.rdf_values.specs.Tree.{NamedTree}
 use Rattle.rdf_values.specs.Tokens.{Token, Placed, before, tokens, tokens_within}
 use Rattle.rdf_values.specs.Grammar.{Reads, bare}
 use Rattle.rdf_values.specs.Scans.{ReadsText}
-use Rattle.rdf_values.specs.Canonical.{tokens_of, tokens_at_level, text_of}
+use Rattle.rdf_values.specs.Canonical.{tokens_of, text_of}
 use Rattle.expr_read.proofs.Shown.{reads_shown, no_fewer, shown_whole}
 use Rattle.expr_read.proofs.SpelledTree.{IsReadable, spells_tree}
 use Rattle.expr_read.proofs.Readable.{readable}
@@ -17,7 +17,7 @@ spelled_back a r few =
     let p = (spells_tree a r [] refl).spells (256 - length (tokens_of a)) 0 in
     let room : length (tokens_of a) + (256 - length (tokens_of a)) ≡ 256 = omega arith in
     let all : tokens_within (length (tokens_of a) + (256 - length (tokens_of a))) 0 (text_of a ++ []) ≡ Ok p.0
-        = p.2 ∙ ap (before p.0) (no_tokens (256 - length (tokens_of a)) (0 + length (text_of a))) ∙ ap Ok (append-nil p.0) in
+    = p.2 ∙ ap (before p.0) (no_tokens (256 - length (tokens_of a)) (0 + length (text_of a))) ∙ ap Ok (append-nil p.0) in
     record {
       found = p.0;
       tokens_are = ap tokens (sym (append-nil (text_of a))) ∙ ap (λ (n : ℕ). tokens_within n 0 (text_of a ++ [])) (sym room) ∙ all;

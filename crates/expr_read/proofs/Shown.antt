@@ -17,7 +17,7 @@ looser_by : (k n : ℕ) (ts : List Token) (a : NamedTree) → Reads (k + n) ts a
 looser_by zero n ts a r = subst (λ (m : ℕ). Reads m ts a) (zero-add n) r
 looser_by (suc k) n ts a r = let e : suc k + n ≡ suc (k + n) = omega arith in looser_by k n ts a (tighter (subst (λ (m : ℕ). Reads m ts a) e r))
 
-at_looser : (n m : ℕ) (ts : List Token) (a : NamedTree) → n ≤ m → Reads m ts a → Reads n ts a
+pub at_looser : (n m : ℕ) (ts : List Token) (a : NamedTree) → n ≤ m → Reads m ts a → Reads n ts a
 at_looser n m ts a h r = let e : m ≡ (m - n) + n = omega arith in looser_by (m - n) n ts a (subst (λ (k : ℕ). Reads k ts a) e r)
 
 at_most : (n m : ℕ) → nat_le n m ≡ true → n ≤ m

@@ -1,12 +1,12 @@
 -- Tokens read as the values of a Vary in one way.
-use Rattle.std.proofs.Common.{◌≡◌, ◌∙◌, ℕ, Bool, true, false, List, [], ◌∷◌, ◌++◌, length, arith, refl, sym, ap, subst, append_assoc, length-append}
+use Rattle.std.proofs.Common.{◌≡◌, ◌∙◌, ℕ, Bool, true, false, List, [], ◌∷◌, ◌++◌, length, arith, refl, sym, ap, subst, length-append}
 use Rattle.rdf_values.specs.Tree.{NamedTree, End, More, Call}
 use Rattle.rdf_values.specs.Tokens.{Token, Word, Punct}
 use Rattle.rdf_values.specs.Grammar.{NamedTrees, Reads, ReadsArgs, number, truth, name, parenthesized, call, pick, minus_sign, not_sign, binary, conditional, tighter, no_arguments, last_argument, more_arguments, ReadsList, ReadsLists, ReadsValues, last_item, more_items, last_list, more_lists, one_list, several_lists, vector}
 use Rattle.rdf_values.specs.declared.expr.Mark.TheVariants as mark
 use Rattle.rdf_values.specs.declared.vary_values.VaryValues.{VaryValues}
 use Rattle.rdf_values.specs.declared.vary_values.VaryValues.TheVariants.{Lists, Vector}
-use Rattle.expr_read.proofs.Whole.{starts, starts_more, starts_with_it, list_starts}
+use Rattle.expr_read.proofs.Whole.{starts, starts_with_it, list_starts}
 use Rattle.expr_read.proofs.Unique.{unique}
 
 -- ---- one list

@@ -1,11 +1,11 @@
 -- The tokens of a text are at most 256; their words are names, and their numbers have 64 bits.
-use Rattle.std.proofs.Common.{◌≡◌, ◌≤◌, ◌+◌, ◌∙◌, ℕ, zero, suc, pos, Bool, true, false, List, [], ◌∷◌, ◌++◌, length, drop, Option, Some, None, Ok, Err, arith, refl, sym, ap, subst}
-use Rattle.std.specs.Prelude.{Result, take_while, nat_le, nat_lt, not, codes, bytes_eq, ◌&&◌, if◌then◌else◌}
+use Rattle.std.proofs.Common.{◌≡◌, ◌≤◌, ◌+◌, ℕ, zero, suc, Bool, true, false, List, [], ◌∷◌, length, drop, Option, Some, None, Ok, Err, arith, refl, sym, subst}
+use Rattle.std.specs.Prelude.{Result, take_while, nat_le, codes, ◌&&◌, if◌then◌else◌}
 use Rattle.std.specs.List.{prefix_len, list_all}
 use Rattle.std.proofs.lemmas.Bool.Decides.{nat_tests}
 use Rattle.rdf_values.specs.Integers.{magnitude_of}
 use Rattle.rdf_values.specs.Names.{same, is_word, is_name, is_word_start, is_word_byte, is_digit}
-use Rattle.rdf_values.specs.Tokens.{Token, Placed, First, Refusal, word_token, word_first, number_found, number_first, short_first, long_first, mark_first, mark_in, short_marks, long_marks, short_mark, long_mark, first_token, and_then, before, tokens_at, tokens_within, tokens, behind, blanks}
+use Rattle.rdf_values.specs.Tokens.{Token, Placed, First, Refusal, word_token, word_first, number_found, number_first, short_first, long_first, mark_first, mark_in, short_marks, long_marks, short_mark, long_mark, first_token, and_then, before, tokens_at, tokens, behind, blanks}
 use Rattle.rdf_values.specs.Grammar.{bare}
 use Rattle.rdf_values.proofs.OneText.{magnitude_bound}
 use Rattle.expr_read.specs.Valid.{is_valid, are_valid}

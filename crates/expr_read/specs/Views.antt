@@ -1,5 +1,5 @@
 -- What tokens and refusals are to the definitions.
-use Rattle.std.specs.Prelude.{◌≡◌, List, map, Result, Ok, Err}
+use Rattle.std.specs.Prelude.{◌≡◌, Result, Ok, Err}
 use Rattle.rdf_values.specs.Tokens.{Token, Word, Truth, Number, Op, Punct, Placed, Refusal, First}
 use Rattle.expr_read.specs.declared.token.Token.{Token as Seen}
 use Rattle.expr_read.specs.declared.token.Token.TheVariants as seen

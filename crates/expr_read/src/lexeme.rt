@@ -4,7 +4,7 @@ ghost use Rattle.rdf_values.specs.Names.{is_digit, is_word_byte};
 ghost use Rattle.rdf_values.specs.Tokens.{word_first, number_first, long_mark, short_mark, mark_first, first_token};
 ghost use Rattle.expr_read.specs.Views.{first_of, token_of};
 
-use crate::token::{Placed, Token};
+use crate::token::Token;
 use rdf_values::name::{is_word_byte, is_word_start};
 use rdf_values::{BinOp, ExprCause, Mark, read_magnitude};
 

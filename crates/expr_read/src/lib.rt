@@ -4,6 +4,7 @@
 
 mod build;
 mod fail;
+mod laws;
 mod level;
 mod lexeme;
 mod parser;
@@ -16,6 +17,7 @@ mod token;
 mod tokenizer;
 mod values;
 
+pub use laws::{one_answer, one_tree, scan_decides};
 pub use print::print_expr;
 pub use read::{read_expr, read_values};
 pub use refusal::ExprRefusal;

@@ -43,12 +43,7 @@ fn op_text(op: BinOp) -> &'static [u8]
 }
 
 #[cycle(print)]
-fn write_enclosed(
-    out: &mut Text,
-    alloc: Global,
-    node: &ExprNode,
-    level: u8,
-) -> Result<(), Memory>
+fn write_enclosed(out: &mut Text, alloc: Global, node: &ExprNode, level: u8) -> Result<(), Memory>
     ensures { OnOk result (out.new ≡ out.old ++ in_parens (nat_le level (tree_level (tree_of node.now))) (text_of (tree_of node.now))) }
 {
     if level <= tree_level(node) {
@@ -139,7 +134,8 @@ fn write_more(out: &mut Text, alloc: Global, args: &Args) -> Result<(), Memory>
     }
 }
 
-/// The canonical text of an expression, with the fewest parentheses.
+/// The canonical text of an expression, with the fewest parentheses. For an expression that was read from a text it reads
+/// as this expression again.
 pub fn print_expr(alloc: Global, expr: &Expr) -> Result<Text, Memory>
     ensures text { IfOk result (λ out. out ≡ text_of expr.now) }
     ensures back { IfOk result (λ out. (text : List ℕ) → ReadsText text expr.now → ReadsText out expr.now) }

@@ -1,6 +1,7 @@
 // The tokens of an expression.
 use rdf_values::{BinOp, Mark};
 
+/// A token; a word is a part of the text.
 #[derive(Clone, Copy, Debug)]
 pub(crate) enum Token<'a> {
     Word(&'a [u8]),

@@ -28,9 +28,10 @@ file_at : (fs : List MemoryFile) (name : List ℕ) → position_or_len (has_name
 file_at [] name = λ h. absurd (omega arith)
 file_at (f ∷ fs) name =
     elim (has_name name f) as (λ b. cond (not b) (1 + position_or_len (has_name name) fs) 0 < length (f ∷ fs)
-      → cond b (Some f.bytes.items) (file_of fs name) ≡ Some (bytes_at (f ∷ fs) (cond (not b) (1 + position_or_len (has_name name) fs) 0)))
-    [ true ↦ λ h. refl
-    | false ↦ λ h. file_at fs name (omega arith) ∙ ap Some (sym (bytes_behind f fs (position_or_len (has_name name) fs))) ]
+    → cond b (Some f.bytes.items) (file_of fs name) ≡ Some (bytes_at (f ∷ fs) (cond (not b) (1 + position_or_len (has_name name) fs) 0))) [
+      | true ↦ λ h. refl
+      | false ↦ λ h. file_at fs name (omega arith) ∙ ap Some (sym (bytes_behind f fs (position_or_len (has_name name) fs)))
+    ]
 
 no_file : (fs : List MemoryFile) (name : List ℕ) → length fs ≤ position_or_len (has_name name) fs → file_of fs name ≡ None
 no_file [] name = λ h. refl
@@ -42,9 +43,9 @@ pub finds_at : (fs : List MemoryFile) (name : List ℕ) (i : ℕ) → Some i ≡
 finds_at fs name i e =
     ⊎_elim
     (λ (lt : position_or_len (has_name name) fs < length fs).
-        let there : Some i ≡ Some (position_or_len (has_name name) fs) = e ∙ cond-true _ _ _ (lt-ltb _ _ lt) in
-        let same : i ≡ position_or_len (has_name name) fs = cc in
-        rw (file_at fs name lt, same) (refl, refl))
+    let there : Some i ≡ Some (position_or_len (has_name name) fs) = e ∙ cond-true _ _ _ (lt-ltb _ _ lt) in
+    let same : i ≡ position_or_len (has_name name) fs = cc in
+    rw (file_at fs name lt, same) (refl, refl))
     (λ (ge : length fs ≤ position_or_len (has_name name) fs). absurd (cc (e ∙ cond-false _ _ _ (le-ltb _ _ ge))))
     (cases_lt (position_or_len (has_name name) fs) (length fs))
 

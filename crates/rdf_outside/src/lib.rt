@@ -21,3 +21,6 @@ pub use crate::sink::Sink;
 pub use crate::std_sink::StdSink;
 pub use crate::whole::{ReadRefusal, read_whole, write_whole};
 pub use crate::word_list::WordList;
+
+#[cfg(test)]
+mod tests;

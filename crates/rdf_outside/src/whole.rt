@@ -20,11 +20,7 @@ pub enum ReadRefusal {
 const PIECE: usize = 65_536;
 
 /// Reads to the end of the file turned to, unless it has more than `max` bytes.
-pub fn read_whole<S: Shelf>(
-    alloc: Global,
-    shelf: &mut S,
-    max: usize,
-) -> Result<Bytes, ReadRefusal>
+pub fn read_whole<S: Shelf>(alloc: Global, shelf: &mut S, max: usize) -> Result<Bytes, ReadRefusal>
     requires { max + 1 < 2 ^ 64 }
     ensures same { S.files shelf.new ≡ S.files shelf.old }
     ensures later { S.faults shelf.old ≤ S.faults shelf.new }

@@ -1,4 +1,14 @@
+pub mod Below
+pub mod Columns
 pub mod Digits
+pub mod Examples
+pub mod KeptLemmas
+pub mod OneForm
+pub mod OneScript
 pub mod OneText
+pub mod PieceLemmas
 pub mod Pushing
+pub mod RowPushed
 pub mod Rows
+pub mod ScriptExamples
+pub mod ScriptSteps

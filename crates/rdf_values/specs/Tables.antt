@@ -1,5 +1,5 @@
 -- Tables: a list of columns, and a list of rows that fit them.
-use Rattle.std.specs.Prelude.{ℕ, zero, suc, ◌≡◌, ◌≤◌, ◌<◌, ◌*◌, ⊤, Bool, false, ◌||◌, length, take, drop, List, [], ◌∷◌, ◌++◌, bytes_eq}
+use Rattle.std.specs.Prelude.{ℕ, ℤ, ◌≡◌, ◌≤◌, ◌<◌, ⊤, Bool, false, ◌||◌, length, map, List, [], ◌∷◌, ◌++◌, Option, Some, option_and_then, option_map, slice_get, bytes_eq}
 use Rattle.rdf_values.specs.declared.column.Column.{Column}
 use Rattle.rdf_values.specs.declared.value.ColType.{ColType}
 use Rattle.rdf_values.specs.declared.value.ColType.TheVariants as k
@@ -62,16 +62,24 @@ pub record IsTable (t : TableView) : Type 0 where
   pub fit : FitRows t.columns t.rows
   pub few : length t.rows ≤ 1000000
 
--- ---- how a table is kept
+-- ---- the values of a table
 
--- so many rows of one width, from the first cell on
-abbrev pub rows_of : ℕ → ℕ → List Value → List (List Value)
-rows_of width zero cells = []
-rows_of width (suc n) cells = take width cells ∷ rows_of width n (drop width cells)
+-- the type of a column, by its number
+abbrev pub kind_at : List Column → ℕ → Option ColType
+kind_at columns col = option_map (λ c. c.kind) (slice_get columns col)
 
--- the cells are those of so many rows of a table
-pub record HoldsTable (columns : List Column) (cells : List Value) (entries : ℕ) : Type 0 where
-  pub header : IsHeader columns
-  pub fit : FitRows columns (rows_of (length columns) entries cells)
-  pub all : length cells ≡ entries * length columns
-  pub few : entries ≤ 1000000
+-- the value of an entry's column
+abbrev pub cell : TableView → ℕ → ℕ → Option Value
+cell table entry col = option_and_then (λ row. slice_get row col) (slice_get table.rows entry)
+
+-- the values of a column, entry after entry
+abbrev pub column : TableView → ℕ → List (Option Value)
+column table col = map (λ row. slice_get row col) table.rows
+
+-- the column holds these numbers
+abbrev pub IsIntColumn : TableView → ℕ → List ℤ → Type 0
+IsIntColumn table col numbers = column table col ≡ map (λ n. Some (v.Int n)) numbers
+
+-- the column holds these vectors
+abbrev pub IsVectColumn : TableView → ℕ → List (List ℤ) → Type 0
+IsVectColumn table col vectors = column table col ≡ map (λ ns. Some (v.Vect ns)) vectors

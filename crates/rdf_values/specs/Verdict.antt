@@ -1,6 +1,6 @@
 -- Whether a script is accepted: each line is tested against the lines before it.
-use Rattle.std.specs.Prelude.{ℕ, ◌+◌, ◌*◌, Bool, true, false, not, ◌&&◌, ◌||◌, List, [], ◌∷◌, ◌++◌, length, map, Option, Some, None, if◌then◌else◌, nat_eq, nat_lt, nat_le, codes, Result, Ok, Err, ℤ, int_lt, sum_by}
-use Rattle.std.specs.List.{list_any, list_all}
+use Rattle.std.specs.Prelude.{◌≡◌, ⊤, ℕ, ◌+◌, ◌*◌, Bool, true, false, not, ◌&&◌, ◌||◌, List, [], ◌∷◌, ◌++◌, length, map, Option, Some, None, if◌then◌else◌, nat_eq, nat_lt, nat_le, codes, Result, Ok, Err, ℤ, int_lt, sum_by}
+use Rattle.std.specs.List.{list_any}
 use Rattle.rdf_values.specs.Names.{same, among}
 use Rattle.rdf_values.specs.Path.{Path, Variation, makes, path, target_of, variations}
 use Rattle.rdf_values.specs.Tree.{NamedTree}
@@ -140,12 +140,15 @@ check_values names scope tags columns (Vector e) =
 
 -- ---- the columns and edges of an action
 
+-- a number
 abbrev int : ColType
 int = kind.Int
 
+-- a vector
 abbrev vect : ColType
 vect = kind.Vect
 
+-- a truth value
 abbrev truth : ColType
 truth = kind.Bool
 
@@ -325,6 +328,11 @@ module _ (names : FunctionNames) (header : Scope) where
       ∷ refuse_if (among result (filled before)) Late ∷ refuse_if (nat_lt 8 (length (watched_results (Watch result ∷ before)))) TooMany ∷ [])
   check before (Print result) =
       first_refusal (refuse_unless (is_result before result) UnknownName ∷ check_passes before (printed_results (Print result ∷ before)) ∷ [])
+
+  -- each statement is accepted after those before it
+  abbrev pub AreAccepted : List Statement → Type 0
+  AreAccepted [] = ⊤
+  AreAccepted (s ∷ before) = (check before s ≡ None) × AreAccepted before
 
   -- the first of the lines that is refused after the statements before, and its cause
   abbrev pub verdict_after : List Statement → List Line → Option (ℕ × GraphCause)

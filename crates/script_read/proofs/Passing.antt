@@ -1,5 +1,5 @@
 -- What calls of std say, at the bytes that are asked for.
-use Rattle.std.proofs.Common.{◌≡◌, ℕ, Bor, ◌+◌, ◌-◌, Bool, true, false, List, ◌++◌, length, take, drop, Option, Some, None, Result, Ok, Err, ap, ◌∙◌, sym}
+use Rattle.std.proofs.Common.{◌≡◌, ℕ, Bor, ◌+◌, ◌-◌, Bool, true, false, List, ◌++◌, length, take, drop, Some, None, Result, ap, ◌∙◌, sym}
 use Rattle.std.specs.Prelude.{nat_eq, IsErrOf}
 use Rattle.std.specs.Result.{IsErrAnd}
 use Rattle.std.specs.Cmp.Lexicographic.{pointwise}

@@ -1,5 +1,5 @@
 -- A line of the plain form has one reading, and holds no LF.
-use Rattle.std.proofs.Common.{◌≡◌, ℕ, suc, Bool, true, false, List, [], ◌∷◌, ◌++◌, get_or, arith, refl, ap, ◌∙◌, sym, subst, append_assoc}
+use Rattle.std.proofs.Common.{◌≡◌, ℕ, true, false, List, ◌++◌, get_or, refl, ap, ◌∙◌, sym, subst, append_assoc}
 use Rattle.std.specs.Prelude.{◌&&◌, ◌==◌, codes}
 use Rattle.std.specs.List.{list_all}
 use Rattle.std.proofs.lemmas.List.{append_cancel_left, append_cancel_right}
@@ -12,7 +12,7 @@ use Rattle.rdf_values.specs.declared.statement.Statement.TheVariants as says
 use Rattle.script_read.specs.PlainParts.{IsPlainCall, begins, is_in_line}
 use Rattle.script_read.specs.PlainParts as call
 use Rattle.script_read.specs.PlainScript.{IsPlainLine, is_free, count, sum, print}
-use Rattle.script_read.proofs.Cuts.{both, one_cut, name_is_word, name_in_line}
+use Rattle.script_read.proofs.Cuts.{one_cut, name_is_word, name_in_line}
 
 -- ---- calls
 
@@ -46,7 +46,7 @@ one_call bytes k l (call.sum {x = x} f g) (call.sum {x = y} e h) =
 -- a line is a name and a call, or a Print
 pub data Parts : List ℕ → Statement → Type 0 where
   action : {bytes n c : List ℕ} {k : ActionKind} {s : Statement} → is_name n ≡ true → is_free n ≡ true → IsPlainCall c k → bytes ≡ n ++ c
-    → s ≡ says.Action n (codes "df") k → Parts bytes s
+      → s ≡ says.Action n (codes "df") k → Parts bytes s
   prints : {bytes n : List ℕ} {s : Statement} → is_name n ≡ true → bytes ≡ codes "Print(" ++ n ++ codes ")" → s ≡ says.Print n → Parts bytes s
 
 pub parts : (bytes : List ℕ) (s : Statement) → IsPlainLine bytes s → Parts bytes s

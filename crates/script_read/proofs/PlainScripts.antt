@@ -11,7 +11,7 @@ use Rattle.rdf_values.specs.declared.script.Script.{Script}
 use Rattle.rdf_values.specs.declared.statement.Statement.{Statement}
 use Rattle.script_read.specs.declared.refusal.ScriptRefusal.{ScriptRefusal}
 use Rattle.script_read.specs.declared.refusal.ScriptRefusal.TheVariants as refusal
-use Rattle.script_read.specs.PlainParts.{begins, is_in_line}
+use Rattle.script_read.specs.PlainParts.{is_in_line}
 use Rattle.script_read.specs.PlainScript.{IsPlainLine, ArePlainLines, none, more, IsPlainScript}
 use Rattle.script_read.proofs.Cuts.{one_cut}
 use Rattle.script_read.proofs.PlainLines.{one_line, line_in_line}
@@ -27,7 +27,7 @@ nothing_read bytes = record { onward = λ left h. h; back = λ all h. (all, h, r
 -- the first line of bytes that are lines
 pub data First : ℕ → List ℕ → List Line → Type 0 where
   first : {number : ℕ} {bytes line rest : List ℕ} {s : Statement} {lines left : List Line} → IsPlainLine line s → bytes ≡ line ++ 10 ∷ rest
-    → ArePlainLines (suc number) rest left → lines ≡ record { number = number; statement = s } ∷ left → First number bytes lines
+      → ArePlainLines (suc number) rest left → lines ≡ record { number = number; statement = s } ∷ left → First number bytes lines
 
 first_by : (number : ℕ) (bytes : List ℕ) (lines : List Line) → (bytes ≡ [] → ⊥) → ArePlainLines number bytes lines → First number bytes lines
 first_by number bytes lines some none = absurd (some refl)
@@ -71,10 +71,10 @@ read_next : (bytes : List ℕ) (lines : List Line) (rest line behind : List ℕ)
 read_next bytes lines rest line behind s e w some p r = record {
   onward = λ left h. rw append_assoc (r.onward (numbered (suc (length lines)) s ∷ left) (more p e (at_number left next h)));
   back = λ all h.
-    let x = r.back all h in
-    let b = begun (suc (length lines)) rest line behind x.0 e w some x.1 in
-    let says : b.statement ≡ s = one_line line b.statement s b.line_is p in
-    (b.left, at_number b.left (sym next) b.left_are, x.2 ∙ ap (λ t. lines ++ t) (b.lines_are ∙ ap (λ t. numbered (suc (length lines)) t ∷ b.left) says) ∙ simp append_assoc);
+      let x = r.back all h in
+      let b = begun (suc (length lines)) rest line behind x.0 e w some x.1 in
+      let says : b.statement ≡ s = one_line line b.statement s b.line_is p in
+      (b.left, at_number b.left (sym next) b.left_are, x.2 ∙ ap (λ t. lines ++ t) (b.lines_are ∙ ap (λ t. numbered (suc (length lines)) t ∷ b.left) says) ∙ simp append_assoc);
 }
   where
     next : suc (length (lines ++ numbered (suc (length lines)) s ∷ [])) ≡ suc (suc (length lines))

@@ -14,18 +14,18 @@ is_free n = not (same n (codes "Print") || same n (codes "VariationsFor") || sam
 -- the bytes of a line, without its LF, and what the line says
 pub data IsPlainLine : List ℕ → Statement → Type 0 where
   count : {bytes n : List ℕ} → is_name n ≡ true → is_free n ≡ true
-    → bytes ≡ n ++ codes " = df.Count()" → IsPlainLine bytes (says.Action n (codes "df") kind.Count)
+      → bytes ≡ n ++ codes " = df.Count()" → IsPlainLine bytes (says.Action n (codes "df") kind.Count)
   sum : {bytes n x : List ℕ} → is_name n ≡ true → is_free n ≡ true → is_name x ≡ true
-    → bytes ≡ n ++ codes " = df.Sum(\"" ++ x ++ codes "\")" → IsPlainLine bytes (says.Action n (codes "df") (kind.Sum x))
+      → bytes ≡ n ++ codes " = df.Sum(\"" ++ x ++ codes "\")" → IsPlainLine bytes (says.Action n (codes "df") (kind.Sum x))
   print : {bytes n : List ℕ} → is_name n ≡ true
-    → bytes ≡ codes "Print(" ++ n ++ codes ")" → IsPlainLine bytes (says.Print n)
+      → bytes ≡ codes "Print(" ++ n ++ codes ")" → IsPlainLine bytes (says.Print n)
 
 -- the lines' bytes, each followed by LF, and their statements, numbered on from a number
 pub data ArePlainLines : ℕ → List ℕ → List Line → Type 0 where
   none : {number : ℕ} → ArePlainLines number [] []
   more : {number : ℕ} {bytes line rest : List ℕ} {s : Statement} {lines : List Line} → IsPlainLine line s
-    → bytes ≡ line ++ 10 ∷ rest → ArePlainLines (suc number) rest lines
-    → ArePlainLines number bytes (record { number = number; statement = s } ∷ lines)
+      → bytes ≡ line ++ 10 ∷ rest → ArePlainLines (suc number) rest lines
+      → ArePlainLines number bytes (record { number = number; statement = s } ∷ lines)
 
 -- the bytes are the script's lines, counted from 1, and at most 256
 pub record IsPlainScript (bytes : List ℕ) (s : Script) : Type 0 where

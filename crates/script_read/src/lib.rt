@@ -6,6 +6,8 @@ mod line;
 mod names;
 mod read;
 mod refusal;
+#[cfg(test)]
+mod tests;
 
 pub use crate::read::read_script;
 pub use crate::refusal::ScriptRefusal;

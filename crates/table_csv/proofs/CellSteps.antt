@@ -1,5 +1,5 @@
 -- One more cell of an entry, and that a row that was read fits the columns.
-use Rattle.std.proofs.Common.{◌≡◌, ◌≢◌, ◌<◌, ◌≤◌, ◌+◌, ℕ, suc, ℤ, Bool, true, false, List, [], ◌∷◌, ◌++◌, length, get_or, drop, None, Some, Option, Result, Ok, Err, arith, refl, ap, ◌∙◌}
+use Rattle.std.proofs.Common.{◌≡◌, ◌≢◌, ◌<◌, ◌≤◌, ◌+◌, ℕ, suc, ℤ, Bool, true, false, List, [], ◌∷◌, ◌++◌, length, get_or, drop, None, Some, Option, Result, Ok, Err, arith, refl, ap}
 use Rattle.std.specs.Prelude.{if◌then◌else◌, nat_eq, nat_le, ok_or, option_map}
 use Rattle.std.specs.List.{slice_split}
 use Rattle.std.proofs.lemmas.List.{append-nil, drop_all, drop_more}

@@ -1,16 +1,15 @@
 -- One more field of a header, and that columns of a header are those of a table.
-use Rattle.std.proofs.Common.{◌≡◌, ◌<◌, ◌≤◌, ◌+◌, ℕ, suc, List, [], ◌∷◌, ◌++◌, length, get_or, drop, Bool, true, false, None, Some, Option, Result, Ok, Err, arith, refl, ap, ◌∙◌, append_assoc, length-append, codes, not, ◌&&◌}
+use Rattle.std.proofs.Common.{◌≡◌, ◌<◌, ◌≤◌, ◌+◌, ℕ, suc, List, [], ◌∷◌, ◌++◌, length, get_or, drop, Bool, true, false, None, Some, Option, Result, Ok, Err, arith, refl, ap, ◌∙◌, length-append, codes, not, ◌&&◌}
 use Rattle.std.specs.Prelude.{if◌then◌else◌, nat_lt, option_and_then, option_map, ok_or}
 use Rattle.std.specs.List.{after_first, before_first}
 use Rattle.std.proofs.lemmas.List.{append-nil, at_drop_more, drop_all}
 use Rattle.std.proofs.lemmas.Bool.Decides.{nat_tests}
 use Rattle.rdf_values.specs.Names.{is_name, same}
 use Rattle.rdf_values.specs.Tables.{AreColumns, IsHeader, IsStored, has_name}
-use Rattle.rdf_values.specs.TableText.{column_of, columns_from, if_new, is_colon, next_column, on_ok, result_cons, type_of}
+use Rattle.rdf_values.specs.TableText.{column_of, columns_from, if_new, is_colon, next_column, on_ok, result_cons}
 use Rattle.rdf_values.specs.declared.column.Column.{Column}
 use Rattle.rdf_values.specs.declared.table_cause.TableCause.{TableCause}
 use Rattle.rdf_values.specs.declared.table_cause.TableCause.TheVariants as cause
-use Rattle.rdf_values.specs.declared.value.ColType.{ColType}
 use Rattle.rdf_values.specs.declared.value.ColType.TheVariants as k
 use Rattle.table_csv.proofs.Onto.{result_onto, result_onto-cons}
 

@@ -11,3 +11,5 @@ mod vectors;
 pub use crate::reading::read_table;
 pub use crate::refusal::TableRefusal;
 
+#[cfg(test)]
+mod tests;

@@ -21,7 +21,7 @@ pub fn read_table(alloc: Global, bytes: &[u8]) -> Result<Table, TableRefusal>
         return Err(TableRefusal::At(TableCause::Header { field: 0 }));
     }
     let columns = read_header(alloc, &fields)?;
-    let mut table = Table::new(alloc, columns);
+    let mut table = Table::new(alloc, columns)?;
     let mut row = ListOf::new(alloc);
     let mut entry = 0;
     while next(&mut reader, &mut fields)? {

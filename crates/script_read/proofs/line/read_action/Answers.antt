@@ -1,4 +1,4 @@
-use Rattle.std.proofs.Common.{◌≡◌, ℕ, List, [], ◌∷◌, ◌++◌, length, ◌≤◌, ◌<◌, suc, true, false, arith, rules, refl, ap, ◌∙◌, sym, Err}
+use Rattle.std.proofs.Common.{ap, Err}
 use Rattle.script_read.proofs.Passing.{passed_on}
 use Rattle.script_read.proofs.PlainLines.{action_parts, action_as, not_result}
 use Rattle.script_read.proofs.line.read_action.Goals as goal

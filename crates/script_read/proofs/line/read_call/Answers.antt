@@ -1,6 +1,5 @@
-use Rattle.std.proofs.Common.{◌≡◌, ℕ, List, [], ◌∷◌, ◌++◌, length, ◌≤◌, ◌<◌, suc, true, false, arith, rules, refl, ap, ◌∙◌, sym, Err}
-use Rattle.std.specs.Prelude.{codes}
-use Rattle.script_read.specs.PlainParts.{count, sum}
+use Rattle.std.proofs.Common.{ap, ◌∙◌, sym, Err}
+use Rattle.script_read.specs.PlainParts.{count}
 use Rattle.script_read.proofs.Passing.{same_bytes, front_cut, end_cut, no_end, passed_on}
 use Rattle.script_read.proofs.PlainLines.{call_is_sum, not_named, sum_as}
 use Rattle.script_read.proofs.line.read_call.Goals as goal

@@ -1,6 +1,4 @@
-use Rattle.std.proofs.Common.{◌≡◌, ℕ, List, [], ◌∷◌, ◌++◌, length, ◌≤◌, ◌<◌, suc, true, false, arith, rules, refl, ap, ◌∙◌, sym, Err}
-use Rattle.std.specs.Prelude.{codes}
-use Rattle.script_read.specs.PlainScript.{IsPlainLine}
+use Rattle.std.proofs.Common.{refl}
 use Rattle.script_read.proofs.Passing.{front_cut, no_front}
 use Rattle.script_read.proofs.PlainLines.{begun_as_print, begun_as_action, line_as}
 use Rattle.script_read.proofs.line.read_line.Goals as goal

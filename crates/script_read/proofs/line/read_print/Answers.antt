@@ -1,6 +1,4 @@
-use Rattle.std.proofs.Common.{◌≡◌, ℕ, List, [], ◌∷◌, ◌++◌, length, ◌≤◌, ◌<◌, suc, true, false, arith, rules, refl, ap, ◌∙◌, sym, Err}
-use Rattle.std.specs.Prelude.{codes}
-use Rattle.script_read.specs.PlainScript.{print}
+use Rattle.std.proofs.Common.{ap, ◌∙◌, sym, Err}
 use Rattle.script_read.proofs.Passing.{end_cut, no_end, passed_on}
 use Rattle.script_read.proofs.PlainLines.{print_parts, not_named, print_as}
 use Rattle.script_read.proofs.line.read_print.Goals as goal

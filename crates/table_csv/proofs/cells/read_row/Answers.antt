@@ -19,8 +19,12 @@ returns-in_err-value c =
     let same : length fs ≡ length cols = omega arith in
     rw (p.1, p.2) (elim c.in_err-value.ensures [
       | inl memory ↦ inl memory
-      | inr bad ↦ inr (bad.0, bad.1, row_whole c.args.entry cols fs (omega arith) same ∙ c.loop-i.invariant.0
-          ∙ cells_stop c.args.entry c.loop-i.row cols fs c.loop-i.i c.index-columns-i.result _ (omega arith) (omega arith) c.index-columns-i.is (rw (← c.field.ensures) (rw (← c.index-columns-i.is) at bad.2)))
+      | inr bad ↦ inr (
+        bad.0,
+        bad.1,
+        row_whole c.args.entry cols fs (omega arith) same ∙ c.loop-i.invariant.0
+            ∙ cells_stop c.args.entry c.loop-i.row cols fs c.loop-i.i c.index-columns-i.result _ (omega arith) (omega arith) c.index-columns-i.is (rw (← c.field.ensures) (rw (← c.index-columns-i.is) at bad.2)),
+      )
     ])
 
 pub loop-i-preserved : goal.loop-i-preserved

@@ -22,15 +22,15 @@ returns-in_err-columns c =
       | inr bad ↦ inr (bad.0, bad.1, table_bad (csv_records c.args.bytes.now) _ first.0 _ first.1 bad.2)
     ])
 
-pub new-table-requires : goal.new-table-requires
-new-table-requires c =
+pub new-requires : goal.new-requires
+new-requires c =
     let first = rw c.if-not-branch.false at (c.in_ok-next.ensures _ c.open-reader.ensures) in
     header_is _ _ first.3 c.in_ok-columns.ensures.value
 
 pub loop-row-init : goal.loop-row-init
 loop-row-init c =
     let first = rw c.if-not-branch.false at (c.in_ok-next.ensures _ c.open-reader.ensures) in
-    rw c.new-table.ensures (first.0, first.2, table_start (csv_records c.args.bytes.now) _ first.0 _ first.1 c.in_ok-columns.ensures.value, refl, omega arith, c.in_ok-columns.ensures.few)
+    rw c.in_ok-table.ensures (first.0, first.2, table_start (csv_records c.args.bytes.now) _ first.0 _ first.1 c.in_ok-columns.ensures.value, refl, omega arith, c.in_ok-columns.ensures.few)
 
 pub returns-in_err-read_row : goal.returns-in_err-read_row
 returns-in_err-read_row c =

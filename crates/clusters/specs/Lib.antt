@@ -1,0 +1,2 @@
+pub mod CutsView
+pub mod Ranges

@@ -1,0 +1,19 @@
+-- Ranges that follow one another.
+use Rattle.std.specs.Prelude.{◌≡◌, ◌≤◌, ◌<◌, ℕ, List, [], ◌∷◌, slice_get, Some}
+use Rattle.rdf_values.specs.declared.span.Span.{Span}
+
+-- each range begins where the one before it ends, from one number to another, and none is empty
+abbrev pub Lead : ℕ → List Span → ℕ → Type 0
+Lead from [] to = from ≡ to
+Lead from (r ∷ rs) to = (from ≡ r.lo) × (r.lo < r.hi) × Lead r.hi rs to
+
+-- the range at this place holds the number
+pub record Holds (ranges : List Span) (number place : ℕ) : Type 0 where
+  pub range : Span
+  pub stands : slice_get ranges place ≡ Some range
+  pub from : range.lo ≤ number
+  pub below : number < range.hi
+
+-- each number from one to below another is held by one range and no other
+abbrev pub IsInOne : List Span → ℕ → ℕ → Type 0
+IsInOne ranges from to = (number : ℕ) → from ≤ number → number < to → (place : ℕ) × Holds ranges number place × ((other : ℕ) → Holds ranges number other → other ≡ place)

@@ -1,0 +1,9 @@
+//! The clusters of a table: ranges of entries, each the work of one slot at a time. Stands on `rdf_values` alone.
+#![tactic(auto)]
+
+pub mod cuts;
+
+pub use crate::cuts::{Cuts, cut, lead_to_the_end};
+
+#[cfg(test)]
+mod tests;

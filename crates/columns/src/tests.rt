@@ -1,0 +1,68 @@
+ghost use Rattle.std.specs.Prelude.{◌≡◌, ⊤, length, IfOk, MatchOption, Some};
+ghost use Rattle.rdf_values.specs.Tables.{kind_at};
+
+use crate::Columns;
+use clusters::cut;
+use rdf_values::{ColType, Column, IntList, ListOf, Memory, Name, Table, Value};
+use std::alloc::Global;
+use std::test::Fail;
+
+// An int column of two entries.
+fn ints(alloc: Global) -> Result<Option<Table>, Memory>
+    ensures { IfOk result (λ o. MatchOption o ⊤ (λ t. (kind_at t.columns 0 ≡ Some ColType.Int) × (length t.rows ≡ 2))) }
+{
+    let Some(name) = Name::read(alloc, b"pt")? else {
+        return Ok(None);
+    };
+    let kind = ColType::Int;
+    let mut columns = ListOf::new(alloc);
+    columns.push(Column { name, kind })?;
+    let mut table = Table::new(alloc, columns)?;
+    let mut row = ListOf::new(alloc);
+    row.push(Value::Int(10))?;
+    table.push(&mut row)?;
+    row.push(Value::Int(-3))?;
+    table.push(&mut row)?;
+    Ok(Some(table))
+}
+
+// A vec column of two entries.
+fn vects(alloc: Global) -> Result<Option<Table>, Memory>
+    ensures { IfOk result (λ o. MatchOption o ⊤ (λ t. (kind_at t.columns 0 ≡ Some ColType.Vect) × (length t.rows ≡ 2))) }
+{
+    let Some(name) = Name::read(alloc, b"jets")? else {
+        return Ok(None);
+    };
+    let kind = ColType::Vect;
+    let mut columns = ListOf::new(alloc);
+    columns.push(Column { name, kind })?;
+    let mut table = Table::new(alloc, columns)?;
+    let mut row = ListOf::new(alloc);
+    row.push(Value::Vect(IntList::from_slice(alloc, &[3, 4])?))?;
+    table.push(&mut row)?;
+    row.push(Value::Vect(IntList::new(alloc)))?;
+    table.push(&mut row)?;
+    Ok(Some(table))
+}
+
+#[test]
+fn gives_the_numbers_of_a_table(rt: HostRuntime) -> Result<(), Fail> {
+    let Some(table) = ints(rt.alloc())? else {
+        panic!(rt; "no name");
+    };
+    let columns = Columns::build(table, &cut(2, 1));
+    assert_eq!(rt; columns.ints(0), [10, -3].as_slice());
+    assert_eq!(rt; columns.int_at(1, 0), -3);
+    Ok(())
+}
+
+#[test]
+fn gives_the_vectors_of_a_table(rt: HostRuntime) -> Result<(), Fail> {
+    let Some(table) = vects(rt.alloc())? else {
+        panic!(rt; "no name");
+    };
+    let columns = Columns::build(table, &cut(2, 1));
+    assert_eq!(rt; columns.vec_at(0, 0), [3, 4].as_slice());
+    assert!(rt; columns.vec_at(1, 0).is_empty());
+    Ok(())
+}

@@ -1,0 +1,271 @@
+-- A well typed expression is plain where none of its columns is a vector.
+use Rattle.std.proofs.Common.{◌≡◌, ℕ, Bool, true, false, List, [], ◌∷◌, ◌++◌, length, Option, Some, None, Result, Ok, Err, refl, ap, sym, ◌∙◌, subst, cond, arith}
+use Rattle.std.specs.Prelude.{nat_eq, not, ◌&&◌, ◌||◌, slice_get, replicate, if◌then◌else◌}
+use Rattle.std.specs.List.{AllByRecursion, zip, list_any}
+use Rattle.std.proofs.lemmas.Bool.{false_from_ne_true}
+use Rattle.std.proofs.lemmas.Bool.Decides.{Decides-eqb}
+use Rattle.std.proofs.lemmas.Slice.Zip.{firsts-zip}
+use Rattle.rdf_values.specs.Tree.{Trees, NumTree, Lit, Truth, Col, Neg, Not, Bin, Cond, Pick, Call, End, More}
+use Rattle.rdf_values.specs.Depends.{columns_in, columns_in_all}
+use Rattle.rdf_values.specs.Kinds.{Shape, shape, ◌>>=◌, FunctionNames, kinds_by, args_count, same_kind, same_kinds, arithmetic_kind, logical_kind, equality_kind, operator_kind, negated_kind, inverted_kind, chosen_kind, picked_kind}
+use Rattle.rdf_values.specs.declared.expr.BinOp.{BinOp}
+use Rattle.rdf_values.specs.declared.expr.BinOp.TheVariants as op
+use Rattle.rdf_values.specs.declared.value.ColType.{ColType}
+use Rattle.rdf_values.specs.declared.value.ColType.TheVariants as kind
+use Rattle.rdf_values.specs.declared.fn_names.FnName.{FnName}
+use Rattle.rdf_values.specs.declared.num_expr.Callee.{Callee}
+use Rattle.rdf_values.specs.declared.num_expr.Callee.TheVariants as fn
+use Rattle.rdf_values.specs.declared.graph_cause.GraphCause.{GraphCause}
+use Rattle.rdf_values.specs.declared.graph_cause.GraphCause.TheVariants.{WrongType, WrongCount}
+use Rattle.expr_check.specs.NumKinds.{number_kind, callee_shape, given_shape, num_kind, distinct, checked_expr, IsWellTyped, is_vector, gives_vector, takes_no_vector, is_plain, all_are_plain}
+use Rattle.expr_check.proofs.Each.{each_left, each_right, each_append}
+use Rattle.expr_check.proofs.Distinct.{each_distinct, NoTwice, NoTwice-distinct}
+use Rattle.expr_check.proofs.Typed.{bind_ok, call_ok}
+
+negated_scalar : (s k : ColType) → negated_kind s ≡ Ok k → is_vector s ≡ false → is_vector k ≡ false
+negated_scalar kind.Int k h p = ap gives_vector (sym h)
+negated_scalar kind.Bool k h p = cc h
+negated_scalar kind.Vect k h p = cc p
+
+inverted_scalar : (s k : ColType) → inverted_kind s ≡ Ok k → is_vector s ≡ false → is_vector k ≡ false
+inverted_scalar kind.Int k h p = cc h
+inverted_scalar kind.Bool k h p = ap gives_vector (sym h)
+inverted_scalar kind.Vect k h p = cc p
+
+arithmetic_scalar : (both s t k : ColType) → is_vector both ≡ false → arithmetic_kind both s t ≡ Ok k → is_vector s ≡ false → is_vector t ≡ false → is_vector k ≡ false
+arithmetic_scalar both kind.Int kind.Int k b h p q = ap gives_vector (sym h) ∙ b
+arithmetic_scalar both kind.Int kind.Bool k b h p q = cc h
+arithmetic_scalar both kind.Bool t k b h p q = cc h
+arithmetic_scalar both kind.Vect t k b h p q = cc p
+arithmetic_scalar both s kind.Vect k b h p q = cc q
+
+logical_scalar : (s t k : ColType) → logical_kind s t ≡ Ok k → is_vector s ≡ false → is_vector t ≡ false → is_vector k ≡ false
+logical_scalar kind.Bool kind.Bool k h p q = ap gives_vector (sym h)
+logical_scalar kind.Bool kind.Int k h p q = cc h
+logical_scalar kind.Int t k h p q = cc h
+logical_scalar kind.Vect t k h p q = cc p
+logical_scalar s kind.Vect k h p q = cc q
+
+equality_scalar : (s t k : ColType) → equality_kind s t ≡ Ok k → is_vector s ≡ false → is_vector t ≡ false → is_vector k ≡ false
+equality_scalar kind.Bool kind.Bool k h p q = ap gives_vector (sym h)
+equality_scalar kind.Bool kind.Int k h p q = cc h
+equality_scalar kind.Int kind.Int k h p q = ap gives_vector (sym h)
+equality_scalar kind.Int kind.Bool k h p q = cc h
+equality_scalar kind.Vect t k h p q = cc p
+equality_scalar s kind.Vect k h p q = cc q
+
+operator_scalar : (o : BinOp) (s t k : ColType) → operator_kind o s t ≡ Ok k → is_vector s ≡ false → is_vector t ≡ false → is_vector k ≡ false
+operator_scalar op.And s t k h p q = logical_scalar s t k h p q
+operator_scalar op.Or s t k h p q = logical_scalar s t k h p q
+operator_scalar op.Eq s t k h p q = equality_scalar s t k h p q
+operator_scalar op.Ne s t k h p q = equality_scalar s t k h p q
+operator_scalar op.Lt s t k h p q = arithmetic_scalar kind.Bool s t k refl h p q
+operator_scalar op.Le s t k h p q = arithmetic_scalar kind.Bool s t k refl h p q
+operator_scalar op.Gt s t k h p q = arithmetic_scalar kind.Bool s t k refl h p q
+operator_scalar op.Ge s t k h p q = arithmetic_scalar kind.Bool s t k refl h p q
+operator_scalar op.Mul s t k h p q = arithmetic_scalar kind.Int s t k refl h p q
+operator_scalar op.Div s t k h p q = arithmetic_scalar kind.Int s t k refl h p q
+operator_scalar op.Rem s t k h p q = arithmetic_scalar kind.Int s t k refl h p q
+operator_scalar op.Add s t k h p q = arithmetic_scalar kind.Int s t k refl h p q
+operator_scalar op.Sub s t k h p q = arithmetic_scalar kind.Int s t k refl h p q
+
+if_scalar : (b : Bool) (s k : ColType) → (if b then Ok s else Err WrongType) ≡ Ok k → is_vector s ≡ false → is_vector k ≡ false
+if_scalar true s k h p = ap gives_vector (sym h) ∙ p
+if_scalar false s k h p = cc h
+
+chosen_scalar : (c s t k : ColType) → chosen_kind c s t ≡ Ok k → is_vector s ≡ false → is_vector k ≡ false
+chosen_scalar kind.Bool s t k h p = if_scalar (same_kind s t) s k h p
+chosen_scalar kind.Int s t k h p = cc h
+chosen_scalar kind.Vect s t k h p = cc h
+
+-- nothing is picked from what is no vector
+picked_from_vector : (s t k : ColType) → picked_kind s t ≡ Ok k → is_vector s ≡ false → ⊥
+picked_from_vector kind.Int t k h p = cc h
+picked_from_vector kind.Bool t k h p = cc h
+picked_from_vector kind.Vect t k h p = cc p
+
+-- nothing that is no vector is taken as one
+taken_as_vector : (ts rest : List ColType) → AllByRecursion (λ t. is_vector t ≡ false) ts → same_kinds ts (kind.Vect ∷ rest) ≡ true → ⊥
+taken_as_vector [] rest each h = cc h
+taken_as_vector (kind.Int ∷ ts) rest each h = cc h
+taken_as_vector (kind.Bool ∷ ts) rest each h = cc h
+taken_as_vector (kind.Vect ∷ ts) rest each h = cc each.0
+
+vector_taken : (s : Shape) (ts rest : List ColType) (gives : ColType) → (let r : Result Shape GraphCause = Ok s in Ok (shape (kind.Vect ∷ rest) gives) ≡ r) → AllByRecursion (λ t. is_vector t ≡ false) ts → same_kinds ts s.takes ≡ true → ⊥
+vector_taken s ts rest gives h each fit =
+    let same_shape : shape (kind.Vect ∷ rest) gives ≡ s = cc h in
+    let P : Shape → Type 0 = λ t. same_kinds ts t.takes ≡ true in
+    taken_as_vector ts rest each (subst P (sym same_shape) fit)
+
+given_scalar : (o : Option FnName) (s : Shape) → given_shape o ≡ Ok s → is_vector s.gives ≡ false
+given_scalar None s h = cc h
+given_scalar (Some f) s h = let same_shape : shape (replicate f.arity kind.Int) kind.Int ≡ s = cc h in ap (λ (t : Shape). is_vector t.gives) (sym same_shape)
+
+-- a function that is called on no vector takes none and gives none
+called_scalar : (names : FunctionNames) (f : Callee) (s : Shape) (ts : List ColType) → callee_shape names f ≡ Ok s → AllByRecursion (λ t. is_vector t ≡ false) ts → same_kinds ts s.takes ≡ true → (takes_no_vector f ≡ true) × (is_vector s.gives ≡ false)
+called_scalar names fn.Sum s ts h each fit = absurd (vector_taken s ts [] kind.Int h each fit)
+called_scalar names fn.Min s ts h each fit = absurd (vector_taken s ts [] kind.Int h each fit)
+called_scalar names fn.Max s ts h each fit = absurd (vector_taken s ts [] kind.Int h each fit)
+called_scalar names fn.Size s ts h each fit = absurd (vector_taken s ts [] kind.Int h each fit)
+called_scalar names fn.Any s ts h each fit = absurd (vector_taken s ts [] kind.Bool h each fit)
+called_scalar names fn.All s ts h each fit = absurd (vector_taken s ts [] kind.Bool h each fit)
+called_scalar names fn.At s ts h each fit = absurd (vector_taken s ts (kind.Int ∷ []) kind.Int h each fit)
+called_scalar names fn.Abs s ts h each fit = (refl, let same_shape : shape (kind.Int ∷ []) kind.Int ≡ s = cc h in ap (λ (t : Shape). is_vector t.gives) (sym same_shape))
+called_scalar names (fn.Given i) s ts h each fit = (refl, given_scalar (slice_get names i) s h)
+
+pub and_left : (a b : Bool) → (a && b) ≡ true → a ≡ true
+and_left true b h = refl
+and_left false b h = cc h
+
+pub and_right : (a b : Bool) → (a && b) ≡ true → b ≡ true
+and_right true b h = h
+and_right false b h = cc h
+
+both : (a b : Bool) → a ≡ true → b ≡ true → (a && b) ≡ true
+both a b p q = rw (p, q) refl
+
+not_true : (b : Bool) → not b ≡ true → b ≡ false
+not_true true h = cc h
+not_true false h = refl
+
+call_gives : (counted : Bool) (kinds : Result (List ColType) GraphCause) (takes : List ColType) (gives k : ColType)
+    → (if counted then (kinds >>= λ ts. if same_kinds ts takes then Ok gives else Err WrongType) else Err WrongCount) ≡ Ok k → is_vector gives ≡ false → is_vector k ≡ false
+call_gives false kinds takes gives k h p = cc h
+call_gives true (Err e) takes gives k h p = cc h
+call_gives true (Ok ts) takes gives k h p = if_scalar (same_kinds ts takes) gives k h p
+
+-- no column is a vector, so no part is one
+module _ (kinds : List (ℕ × ColType)) (names : FunctionNames) where
+  mutual
+    pub plain_typed : (e : NumTree) (k : ColType) → num_kind kinds names e ≡ Ok k → AllByRecursion (λ i. gives_vector (number_kind kinds i) ≡ false) (columns_in e) → (is_plain kinds e ≡ true) × (is_vector k ≡ false)
+    plain_typed (Lit z) k h each = (refl, ap gives_vector (sym h))
+    plain_typed (Truth b) k h each = (refl, ap gives_vector (sym h))
+    plain_typed (Col c) k h each = (ap not each.0, ap gives_vector (sym h) ∙ each.0)
+    plain_typed (Neg a) k h each =
+        let w = bind_ok (num_kind kinds names a) _ k h in
+        let p = plain_typed a w.0 w.1 each in
+        (p.0, negated_scalar w.0 k w.2 p.1)
+    plain_typed (Not a) k h each =
+        let w = bind_ok (num_kind kinds names a) _ k h in
+        let p = plain_typed a w.0 w.1 each in
+        (p.0, inverted_scalar w.0 k w.2 p.1)
+    plain_typed (Bin o a b) k h each =
+        let w = bind_ok (num_kind kinds names a) _ k h in
+        let v = bind_ok (num_kind kinds names b) _ k w.2 in
+        let p = plain_typed a w.0 w.1 (each_left (λ i. gives_vector (number_kind kinds i) ≡ false) (columns_in a) (columns_in b) each) in
+        let q = plain_typed b v.0 v.1 (each_right (λ i. gives_vector (number_kind kinds i) ≡ false) (columns_in a) (columns_in b) each) in
+        (both (is_plain kinds a) (is_plain kinds b) p.0 q.0, operator_scalar o w.0 v.0 k v.2 p.1 q.1)
+    plain_typed (Cond c a b) k h each =
+        let u = bind_ok (num_kind kinds names c) _ k h in
+        let w = bind_ok (num_kind kinds names a) _ k u.2 in
+        let v = bind_ok (num_kind kinds names b) _ k w.2 in
+        let first = each_left (λ i. gives_vector (number_kind kinds i) ≡ false) (columns_in c ++ columns_in a) (columns_in b) each in
+        let r = plain_typed c u.0 u.1 (each_left (λ i. gives_vector (number_kind kinds i) ≡ false) (columns_in c) (columns_in a) first) in
+        let p = plain_typed a w.0 w.1 (each_right (λ i. gives_vector (number_kind kinds i) ≡ false) (columns_in c) (columns_in a) first) in
+        let q = plain_typed b v.0 v.1 (each_right (λ i. gives_vector (number_kind kinds i) ≡ false) (columns_in c ++ columns_in a) (columns_in b) each) in
+        (rw (r.0, p.0, q.0) refl, chosen_scalar u.0 w.0 v.0 k v.2 p.1)
+    plain_typed (Pick a b) k h each =
+        let w = bind_ok (num_kind kinds names a) _ k h in
+        let v = bind_ok (num_kind kinds names b) _ k w.2 in
+        let p = plain_typed a w.0 w.1 (each_left (λ i. gives_vector (number_kind kinds i) ≡ false) (columns_in a) (columns_in b) each) in
+        absurd (picked_from_vector w.0 v.0 k v.2 p.1)
+    plain_typed (Call f args) k h each =
+        let s = bind_ok (callee_shape names f) _ k h in
+        let ts = call_ok (nat_eq (args_count args) (length s.0.takes)) (kinds_by (number_kind kinds) (callee_shape names) args) s.0.takes s.0.gives k s.2 in
+        let p = all_plain_typed args ts.0 ts.1 each in
+        let q = called_scalar names f s.0 ts.0 s.1 p.1 ts.3 in
+        (both (takes_no_vector f) (all_are_plain kinds args) q.0 p.0, call_gives (nat_eq (args_count args) (length s.0.takes)) (kinds_by (number_kind kinds) (callee_shape names) args) s.0.takes s.0.gives k s.2 q.1)
+
+    all_plain_typed : (args : Trees ℕ Callee) (ks : List ColType) → kinds_by (number_kind kinds) (callee_shape names) args ≡ Ok ks → AllByRecursion (λ i. gives_vector (number_kind kinds i) ≡ false) (columns_in_all args)
+        → (all_are_plain kinds args ≡ true) × AllByRecursion (λ t. is_vector t ≡ false) ks
+    all_plain_typed End ks h each = let none : [] ≡ ks = cc h in (refl, subst (AllByRecursion (λ t. is_vector t ≡ false)) none tt)
+    all_plain_typed (More a rest) ks h each =
+        let w = bind_ok (num_kind kinds names a) _ ks h in
+        let v = bind_ok (kinds_by (number_kind kinds) (callee_shape names) rest) _ ks w.2 in
+        let p = plain_typed a w.0 w.1 (each_left (λ i. gives_vector (number_kind kinds i) ≡ false) (columns_in a) (columns_in_all rest) each) in
+        let q = all_plain_typed rest v.0 v.1 (each_right (λ i. gives_vector (number_kind kinds i) ≡ false) (columns_in a) (columns_in_all rest) each) in
+        let more : w.0 ∷ v.0 ≡ ks = cc v.2 in
+        (both (is_plain kinds a) (all_are_plain kinds rest) p.0 q.0, subst (AllByRecursion (λ t. is_vector t ≡ false)) more (p.1, q.1))
+
+-- each column of a plain expression is no vector
+module _ (kinds : List (ℕ × ColType)) where
+  mutual
+    pub columns_scalar : (e : NumTree) → is_plain kinds e ≡ true → AllByRecursion (λ i. gives_vector (number_kind kinds i) ≡ false) (columns_in e)
+    columns_scalar (Lit z) h = tt
+    columns_scalar (Truth b) h = tt
+    columns_scalar (Col c) h = (not_true (gives_vector (number_kind kinds c)) h, tt)
+    columns_scalar (Neg a) h = columns_scalar a h
+    columns_scalar (Not a) h = columns_scalar a h
+    columns_scalar (Bin o a b) h =
+        each_append (λ i. gives_vector (number_kind kinds i) ≡ false) (columns_in a) (columns_in b) (columns_scalar a (and_left (is_plain kinds a) (is_plain kinds b) h)) (columns_scalar b (and_right (is_plain kinds a) (is_plain kinds b) h))
+    columns_scalar (Cond c a b) h =
+        let first = and_left (is_plain kinds c && is_plain kinds a) (is_plain kinds b) h in
+        each_append (λ i. gives_vector (number_kind kinds i) ≡ false) (columns_in c ++ columns_in a) (columns_in b)
+        (each_append (λ i. gives_vector (number_kind kinds i) ≡ false) (columns_in c) (columns_in a) (columns_scalar c (and_left (is_plain kinds c) (is_plain kinds a) first)) (columns_scalar a (and_right (is_plain kinds c) (is_plain kinds a) first)))
+        (columns_scalar b (and_right (is_plain kinds c && is_plain kinds a) (is_plain kinds b) h))
+    columns_scalar (Pick v i) h = cc h
+    columns_scalar (Call f args) h = all_columns_scalar args (and_right (takes_no_vector f) (all_are_plain kinds args) h)
+
+    all_columns_scalar : (args : Trees ℕ Callee) → all_are_plain kinds args ≡ true → AllByRecursion (λ i. gives_vector (number_kind kinds i) ≡ false) (columns_in_all args)
+    all_columns_scalar End h = tt
+    all_columns_scalar (More a rest) h =
+        each_append (λ i. gives_vector (number_kind kinds i) ≡ false) (columns_in a) (columns_in_all rest) (columns_scalar a (and_left (is_plain kinds a) (all_are_plain kinds rest) h)) (all_columns_scalar rest (and_right (is_plain kinds a) (all_are_plain kinds rest) h))
+
+or_left : (a b : Bool) → (a || b) ≡ false → a ≡ false
+or_left true b h = cc h
+or_left false b h = refl
+
+or_right : (a b : Bool) → (a || b) ≡ false → b ≡ false
+or_right true b h = cc h
+or_right false b h = h
+
+scalar_by : (b : Bool) (k : ColType) (r : Result ColType GraphCause) → is_vector k ≡ false → gives_vector r ≡ false → gives_vector (cond b (Ok k) r) ≡ false
+scalar_by true k r p q = p
+scalar_by false k r p q = q
+
+-- where no kind is a vector, no number has a vector's
+all_scalar : (numbers : List ℕ) (kinds : List ColType) (i : ℕ) → list_any is_vector kinds ≡ false → gives_vector (number_kind (zip numbers kinds) i) ≡ false
+all_scalar [] kinds i h = refl
+all_scalar (n ∷ ns) [] i h = refl
+all_scalar (n ∷ ns) (k ∷ ks) i h =
+    scalar_by (nat_eq n i) k (number_kind (zip ns ks) i) (or_left (is_vector k) (list_any is_vector ks) h) (all_scalar ns ks i (or_right (is_vector k) (list_any is_vector ks) h))
+
+each_of_all : (P : ℕ → Type 0) → ((i : ℕ) → P i) → (xs : List ℕ) → AllByRecursion P xs
+each_of_all P f [] = tt
+each_of_all P f (x ∷ xs) = (f x, each_of_all P f xs)
+
+each_of_two : (P Q R : ℕ → Type 0) → ((i : ℕ) → P i → Q i → R i) → (xs : List ℕ) → AllByRecursion P xs → AllByRecursion Q xs → AllByRecursion R xs
+each_of_two P Q R f [] p q = tt
+each_of_two P Q R f (x ∷ xs) p q = (f x p.0 q.0, each_of_two P Q R f xs p.1 q.1)
+
+-- where no number has a vector's kind, none of the kinds beside them is one
+none_vector : (numbers : List ℕ) (kinds : List ColType) → NoTwice numbers → length kinds ≡ length numbers → AllByRecursion (λ i. gives_vector (number_kind (zip numbers kinds) i) ≡ false) numbers → list_any is_vector kinds ≡ false
+none_vector [] [] once beside each = refl
+none_vector [] (k ∷ ks) once beside each = absurd (omega arith)
+none_vector (n ∷ ns) [] once beside each = absurd (omega arith)
+none_vector (n ∷ ns) (k ∷ ks) once beside each =
+    let itself : nat_eq n n ≡ true = (Decides-eqb n n).1 refl in
+    let here : is_vector k ≡ false = sym (ap (λ b. gives_vector (cond b (Ok k) (number_kind (zip ns ks) n))) itself) ∙ each.0 in
+    let below : AllByRecursion (λ i. gives_vector (number_kind (zip ns ks) i) ≡ false) ns =
+    each_of_two (λ i. nat_eq n i ≡ false) (λ i. gives_vector (number_kind (zip (n ∷ ns) (k ∷ ks)) i) ≡ false) (λ i. gives_vector (number_kind (zip ns ks) i) ≡ false)
+    (λ i differ scalar. sym (ap (λ b. gives_vector (cond b (Ok k) (number_kind (zip ns ks) i))) differ) ∙ scalar) ns once.0 each.1 in
+    rw (here, none_vector ns ks once.1 (omega arith) below) refl
+
+-- a well typed expression is plain exactly where none of its columns is a vector
+pub plain_by_kinds : (names : FunctionNames) (tree : NumTree) (numbers : List ℕ) (kinds : List ColType) (k : ColType) → length kinds ≡ length numbers → IsWellTyped names (checked_expr tree (zip numbers kinds) k)
+    → not (list_any is_vector kinds) ≡ is_plain (zip numbers kinds) tree
+plain_by_kinds names tree numbers kinds k beside typed = by_test (list_any is_vector kinds) refl
+  where
+    are : numbers ≡ distinct (columns_in tree)
+    are = sym (firsts-zip numbers kinds beside) ∙ typed.columns
+
+    vectors : is_plain (zip numbers kinds) tree ≡ true → list_any is_vector kinds ≡ false
+    vectors plain =
+        let P : List ℕ → Type 0 = AllByRecursion (λ i. gives_vector (number_kind (zip numbers kinds) i) ≡ false) in
+        none_vector numbers kinds (subst NoTwice (sym are) (NoTwice-distinct (columns_in tree))) beside
+        (subst P (sym are) (each_distinct (λ i. gives_vector (number_kind (zip numbers kinds) i) ≡ false) (columns_in tree) (columns_scalar (zip numbers kinds) tree plain)))
+
+    by_test : (b : Bool) → list_any is_vector kinds ≡ b → not b ≡ is_plain (zip numbers kinds) tree
+    by_test true is = sym (false_from_ne_true (is_plain (zip numbers kinds) tree) (λ plain. let none = vectors plain in cc (is, none)))
+    by_test false is =
+        sym (plain_typed (zip numbers kinds) names tree k typed.typed (each_of_all (λ i. gives_vector (number_kind (zip numbers kinds) i) ≡ false) (λ i. all_scalar numbers kinds i is) (columns_in tree))).0

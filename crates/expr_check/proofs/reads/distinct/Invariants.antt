@@ -1,0 +1,6 @@
+use Rattle.std.proofs.Common.{◌≡◌, take}
+use Rattle.expr_check.specs.NumKinds.{distinct}
+use Rattle.expr_check.proofs.reads.distinct.Given as goal
+
+abbrev pub invariant-loop-number : goal.invariant-loop-number
+invariant-loop-number l = l.seen.items ≡ distinct (take l.number-index l.numbers)

@@ -1,0 +1,8 @@
+use Rattle.std.proofs.Common.{◌≡◌, Ok, map, take}
+use Rattle.rdf_values.specs.declared.value.ColType.{ColType}
+use Rattle.expr_check.specs.NumKinds.{number_kind}
+use Rattle.expr_check.specs.Scopes.{numbers_in}
+use Rattle.expr_check.proofs.scope.Scope.kinds_of.Given as goal
+
+abbrev pub invariant-loop-number : goal.invariant-loop-number
+invariant-loop-number l = map (λ (k : ColType). Ok k) l.kinds.items ≡ map (number_kind (numbers_in l.self)) (take l.number-index l.numbers)

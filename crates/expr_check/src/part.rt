@@ -1,0 +1,171 @@
+// The kinds of the parts of an expression, and the parts with their columns and functions numbered.
+ghost use Rattle.std.specs.Prelude.{◌≡◌, ◌≤◌, nat_eq, length, Ok, IfOk, IfErr};
+ghost use Rattle.rdf_values.specs.Tree.{Call as CallTree};
+ghost use Rattle.rdf_values.specs.ExprTree.{tree_of, trees_of};
+ghost use Rattle.rdf_values.specs.NumExprTree.{num_tree, num_trees};
+ghost use Rattle.rdf_values.specs.Kinds.{column_kind, shape_of, kind_of, kinds_by, same_kind, args_count};
+ghost use Rattle.rdf_values.specs.Numbered.{kinds_in, number_in, callee, numbered, all_renamed};
+ghost use Rattle.expr_check.specs.CheckAnswers.{RefusedAs, arguments_fit};
+
+use crate::build;
+use crate::callee::{find_callee, signature_of};
+use crate::kind::{chosen_kind, inverted_kind, negated_kind, operator_kind, picked_kind};
+use crate::refusal::CheckRefusal;
+use crate::scope::Scope;
+use rdf_values::{Args, ColType, ExprNode, FnNames, Name, NumArgs, NumNode};
+use std::alloc::Global;
+
+/// A part with its columns and functions numbered, and its kind.
+#[derive(Drop)]
+pub(crate) struct Part {
+    pub node: NumNode,
+    pub kind: ColType,
+}
+
+/// Numbered arguments, and whether their kinds are those that the function takes.
+#[derive(Drop)]
+struct Arguments {
+    nodes: NumArgs,
+    fit: bool,
+}
+
+fn same_kind(a: ColType, b: ColType) -> bool
+    ensures { result ≡ same_kind a b }
+{
+    a == b
+}
+
+fn has_count(args: &Args, count: usize) -> bool
+    ensures { result ≡ nat_eq (args_count (trees_of args.now)) count }
+{
+    match args {
+        Args::End => count == 0,
+        Args::More(_, rest) => count > 0 && has_count(rest, count - 1),
+    }
+}
+
+#[cycle(check)]
+#[tactic(auto, using(crate::proofs::Refused::refused_then))]
+pub(crate) fn check_part(
+    alloc: Global,
+    node: &ExprNode,
+    scope: &Scope,
+    names: &FnNames,
+) -> Result<Part, CheckRefusal>
+    ensures kind { IfOk result (λ p. kind_of (kinds_in scope.now) names.now (tree_of node.now) ≡ Ok p.kind) }
+    ensures tree { IfOk result (λ p. num_tree p.node ≡ numbered scope.now names.now (tree_of node.now)) }
+    ensures refused { IfErr result (λ e. RefusedAs e (kind_of (kinds_in scope.now) names.now (tree_of node.now))) }
+{
+    match node {
+        ExprNode::Lit(z) => Ok(Part {
+            node: NumNode::Lit(*z),
+            kind: ColType::Int,
+        }),
+        ExprNode::Truth(b) => Ok(Part {
+            node: NumNode::Truth(*b),
+            kind: ColType::Bool,
+        }),
+        ExprNode::Col(name) => match scope.find(name) {
+            None => Err(CheckRefusal::UnknownColumn),
+            Some((kind, number)) => Ok(Part {
+                node: NumNode::Col(number),
+                kind,
+            }),
+        },
+        ExprNode::Neg(a) => {
+            let a = check_part(alloc, a, scope, names)?;
+            let kind = negated_kind(a.kind)?;
+            let node = build::negated(alloc, a.node)?;
+            Ok(Part { node, kind })
+        }
+        ExprNode::Not(a) => {
+            let a = check_part(alloc, a, scope, names)?;
+            let kind = inverted_kind(a.kind)?;
+            let node = build::inverted(alloc, a.node)?;
+            Ok(Part { node, kind })
+        }
+        ExprNode::Bin(op, left, right) => {
+            let left = check_part(alloc, left, scope, names)?;
+            let right = check_part(alloc, right, scope, names)?;
+            let kind = operator_kind(*op, left.kind, right.kind)?;
+            let node = build::combined(alloc, *op, left.node, right.node)?;
+            Ok(Part { node, kind })
+        }
+        ExprNode::Cond(condition, first, second) => {
+            let condition = check_part(alloc, condition, scope, names)?;
+            let first = check_part(alloc, first, scope, names)?;
+            let second = check_part(alloc, second, scope, names)?;
+            let kind = chosen_kind(condition.kind, first.kind, second.kind)?;
+            let node = build::chosen(alloc, condition.node, first.node, second.node)?;
+            Ok(Part { node, kind })
+        }
+        ExprNode::Pick(vector, index) => {
+            let vector = check_part(alloc, vector, scope, names)?;
+            let index = check_part(alloc, index, scope, names)?;
+            let kind = picked_kind(vector.kind, index.kind)?;
+            let node = build::picked(alloc, vector.node, index.node)?;
+            Ok(Part { node, kind })
+        }
+        ExprNode::Call(name, args) => check_call(alloc, name, args, scope, names),
+    }
+}
+
+#[cycle(check)]
+#[tactic(auto, using(crate::proofs::Refused::refused_then))]
+fn check_call(
+    alloc: Global,
+    name: &Name,
+    args: &Args,
+    scope: &Scope,
+    names: &FnNames,
+) -> Result<Part, CheckRefusal>
+    ensures kind { IfOk result (λ p. kind_of (kinds_in scope.now) names.now (CallTree name.now (trees_of args.now)) ≡ Ok p.kind) }
+    ensures tree { IfOk result (λ p. num_tree p.node ≡ numbered scope.now names.now (CallTree name.now (trees_of args.now))) }
+    ensures refused { IfErr result (λ e. RefusedAs e (kind_of (kinds_in scope.now) names.now (CallTree name.now (trees_of args.now)))) }
+{
+    let Some(callee) = find_callee(name, names) else {
+        return Err(CheckRefusal::UnknownFunction);
+    };
+    let signature = signature_of(callee, names);
+    if !has_count(args, signature.takes.len()) {
+        return Err(CheckRefusal::WrongCount);
+    }
+    let arguments = check_arguments(alloc, args, signature.takes, scope, names)?;
+    if arguments.fit {
+        Ok(Part {
+            node: NumNode::Call(callee, arguments.nodes),
+            kind: signature.gives,
+        })
+    } else {
+        Err(CheckRefusal::WrongType)
+    }
+}
+
+#[cycle(check)]
+#[tactic(auto, using(crate::proofs::Refused::refused_then))]
+fn check_arguments(
+    alloc: Global,
+    args: &Args,
+    takes: &[ColType],
+    scope: &Scope,
+    names: &FnNames,
+) -> Result<Arguments, CheckRefusal>
+    requires { args_count (trees_of args.now) ≡ length takes.now }
+    ensures fit { IfOk result (λ a. arguments_fit (kinds_by (column_kind (kinds_in scope.now)) (shape_of names.now) (trees_of args.now)) takes.now ≡ Ok a.fit) }
+    ensures trees { IfOk result (λ a. num_trees a.nodes ≡ all_renamed (number_in scope.now) (callee names.now) (trees_of args.now)) }
+    ensures refused { IfErr result (λ e. RefusedAs e (kinds_by (column_kind (kinds_in scope.now)) (shape_of names.now) (trees_of args.now))) }
+{
+    match args {
+        Args::End => Ok(Arguments {
+            nodes: NumArgs::End,
+            fit: true,
+        }),
+        Args::More(first, rest) => {
+            let first = check_part(alloc, first, scope, names)?;
+            let rest = check_arguments(alloc, rest, &takes[1..], scope, names)?;
+            let fit = same_kind(first.kind, takes[0]) && rest.fit;
+            let nodes = build::argument(alloc, first.node, rest.nodes)?;
+            Ok(Arguments { nodes, fit })
+        }
+    }
+}

@@ -1,0 +1,69 @@
+-- Some texts, worked out by hand.
+use Rattle.std.proofs.Common.{◌≡◌, ℕ, pos, List, [], ◌∷◌, ◌++◌, arith, refl, ap}
+use Rattle.std.specs.Prelude.{codes}
+use Rattle.std.proofs.lemmas.Fmt.{decimal_digit}
+use Rattle.rdf_values.specs.Integers.{magnitude_of}
+use Rattle.rdf_values.specs.Tree.{NamedTree, Lit, Col, Neg, Bin}
+use Rattle.rdf_values.specs.Tokens.{Token, Word, Number, Op, Punct, Placed, Refusal, tokens_at, first_token, word_first, number_first, long_mark, short_mark}
+use Rattle.rdf_values.specs.Grammar.{Reads, number, name, parenthesized, minus_sign, binary, tighter, bare}
+use Rattle.rdf_values.specs.Scans.{Whole, Partial, ReadsText, RefusesText, at_token, at_end}
+use Rattle.rdf_values.specs.Canonical.{text_of}
+use Rattle.rdf_values.specs.declared.expr.BinOp.TheVariants as op
+use Rattle.rdf_values.specs.declared.expr.Mark.TheVariants as mark
+use Rattle.rdf_values.specs.declared.expr_cause.ExprCause.TheVariants as cause
+use Rattle.expr_read.proofs.Whole.{whole}
+
+abbrev at : ℕ → Token → Placed
+at place t = record { token = t; place = place }
+
+abbrev refusal : ℕ → Refusal
+refusal place = record { cause = cause.Unexpected; place = place }
+
+abbrev a : List ℕ
+a = codes "a"
+
+abbrev b : List ℕ
+b = codes "b"
+
+abbrev c : List ℕ
+c = codes "c"
+
+abbrev tree : NamedTree
+tree = Bin op.Sub (Bin op.Mul (Bin op.Add (Col a) (Col b)) (Col c)) (Neg (Lit (pos 1)))
+
+abbrev found : List Placed
+found = at 0 (Punct mark.Open) ∷ at 1 (Word a) ∷ at 2 (Op op.Add) ∷ at 3 (Word b) ∷ at 4 (Punct mark.Close) ∷ at 5 (Op op.Mul) ∷ at 6 (Word c) ∷ at 8 (Op op.Sub) ∷ at 10 (Op op.Sub) ∷ at 11 (Number (pos 1)) ∷ []
+
+sum : Reads 5 (Word a ∷ Op op.Add ∷ Word b ∷ []) (Bin op.Add (Col a) (Col b))
+sum = binary (tighter (tighter (tighter (tighter name)))) (tighter (tighter (tighter name))) refl refl
+
+product : Reads 6 (Punct mark.Open ∷ Word a ∷ Op op.Add ∷ Word b ∷ Punct mark.Close ∷ Op op.Mul ∷ Word c ∷ []) (Bin op.Mul (Bin op.Add (Col a) (Col b)) (Col c))
+product = binary (tighter (tighter (tighter (parenthesized (tighter (tighter (tighter (tighter (tighter sum))))) refl)))) (tighter (tighter name)) refl refl
+
+difference : Reads 5 (bare found) tree
+difference = binary (tighter product) (tighter (minus_sign (tighter (tighter number)))) refl refl
+
+-- `(a+b)*c - -1` reads, and its canonical text is `(a + b) * c - -1`
+reads : ReadsText (codes "(a+b)*c - -1") tree
+unfolding tokens_at first_token word_first number_first long_mark short_mark magnitude_of
+reads = record { found = found; tokens_are = refl; reads_as = tighter (tighter (tighter (tighter (tighter difference)))) }
+
+canonical : text_of tree ≡ codes "(a + b) * c - -1"
+canonical = ap (λ (digits : List ℕ). codes "(a + b) * c - -" ++ digits) (decimal_digit 1 (omega arith))
+
+-- `a & b` has no token at 2
+lone_mark : RefusesText (codes "a & b") (record { cause = cause.BadByte; place = 2 })
+unfolding tokens_at first_token word_first long_mark short_mark
+lone_mark = at_token refl
+
+-- `07` is no number
+leading_zero : RefusesText (codes "07") (record { cause = cause.BadNumber; place = 0 })
+unfolding tokens_at first_token number_first magnitude_of
+leading_zero = at_token refl
+
+-- `a +` wants an operand at its end
+wants_operand : RefusesText (codes "a +") (refusal 3)
+unfolding tokens_at first_token word_first long_mark short_mark
+wants_operand =
+    let ts : List Placed = at 0 (Word a) ∷ at 2 (Op op.Add) ∷ [] in
+    at_end {ts = ts} refl (λ p h. cc h) (λ x r. let never : Partial ≡ Whole = whole ts x r in cc never)

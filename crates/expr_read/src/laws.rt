@@ -1,0 +1,31 @@
+// What holds of the grammar of expressions and of its scan; the functions do nothing, and their contracts are the laws.
+ghost use Rattle.std.specs.Prelude.{◌≡◌, ◌⊎◌, ℕ, List};
+ghost use Rattle.rdf_values.specs.Tree.{NamedTree};
+ghost use Rattle.rdf_values.specs.declared.vary_values.VaryValues.{VaryValues};
+ghost use Rattle.rdf_values.specs.Tokens.{Placed, Refusal};
+ghost use Rattle.rdf_values.specs.Grammar.{Reads, ReadsValues, bare};
+ghost use Rattle.rdf_values.specs.Scans.{Whole, scan, begin_expr, begin_values, ReadsText, ReadsValuesText, RefusesText, RefusesValuesText};
+
+/// A text reads as one expression at most, and as one value at most.
+pub fn one_tree()
+    ensures expr { (text : List ℕ) (a b : NamedTree) → ReadsText text a → ReadsText text b → a ≡ b }
+    ensures values { (text : List ℕ) (v w : VaryValues) → ReadsValuesText text v → ReadsValuesText text w → v ≡ w }
+{}
+
+/// Tokens read exactly where the scan refuses none of them and ends with nothing wanted but an operator and nothing open.
+pub fn scan_decides()
+    ensures taken { (ts : List Placed) (a : NamedTree) → Reads 0 (bare ts) a → scan begin_expr ts ≡ Whole }
+    ensures reads { (ts : List Placed) → scan begin_expr ts ≡ Whole → (a : NamedTree) × Reads 0 (bare ts) a }
+    ensures values_taken { (ts : List Placed) (v : VaryValues) → ReadsValues (bare ts) v → scan begin_values ts ≡ Whole }
+    ensures values_read { (ts : List Placed) → scan begin_values ts ≡ Whole → (v : VaryValues) × ReadsValues (bare ts) v }
+{}
+
+/// Each text reads as an expression or has one refusal, and not both; so it is with values.
+pub fn one_answer()
+    ensures answered { (text : List ℕ) → ((a : NamedTree) × ReadsText text a) ⊎ ((r : Refusal) × RefusesText text r) }
+    ensures not_both { (text : List ℕ) (a : NamedTree) (r : Refusal) → ReadsText text a → RefusesText text r → ⊥ }
+    ensures one_refusal { (text : List ℕ) (r s : Refusal) → RefusesText text r → RefusesText text s → r ≡ s }
+    ensures values_answered { (text : List ℕ) → ((v : VaryValues) × ReadsValuesText text v) ⊎ ((r : Refusal) × RefusesValuesText text r) }
+    ensures values_not_both { (text : List ℕ) (v : VaryValues) (r : Refusal) → ReadsValuesText text v → RefusesValuesText text r → ⊥ }
+    ensures values_one_refusal { (text : List ℕ) (r s : Refusal) → RefusesValuesText text r → RefusesValuesText text s → r ≡ s }
+{}

@@ -1,0 +1,6 @@
+pub mod Adding
+pub mod Answering
+pub mod Books
+pub mod Entries
+pub mod OneDue
+pub mod Prints

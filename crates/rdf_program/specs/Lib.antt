@@ -1,0 +1,6 @@
+pub mod Answers
+pub mod Due
+pub mod Fetching
+pub mod Plan
+pub mod Results
+pub mod Top

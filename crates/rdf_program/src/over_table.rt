@@ -1,0 +1,39 @@
+// What is due to a script over a table.
+ghost use Rattle.std.specs.Prelude.{◌≡◌, ◌≤◌, IfOk, MatchResult, length};
+ghost use Rattle.rdf_program.specs.Due.{answered, due_of, IsDueOverTable};
+
+use crate::answer::Answer;
+use crate::booking::book;
+use crate::counting::add_entries;
+use crate::printing::print_all;
+use crate::status::Status;
+use rdf_values::{Line, Memory, Script, Table};
+use std::alloc::Global;
+use table_csv::{TableRefusal, read_table};
+
+// The answer to lines over a table.
+fn answer_lines(alloc: Global, lines: &[Line], table: &Table) -> Result<Answer, Memory>
+    ensures { IfOk result (λ a. due_of a.status a.text ≡ answered lines.now table.now) }
+{
+    let Some(mut tallies) = book(alloc, table.columns(), lines)? else {
+        return Answer::line(alloc, Status::ScriptRefused, b"script refused: not built");
+    };
+    add_entries(&mut tallies, table);
+    let text = print_all(alloc, lines, &tallies, table.entries())?;
+    Ok(Answer {
+        status: Status::Done,
+        text,
+    })
+}
+
+/// The answer to a script over the bytes of a table.
+pub(crate) fn answer_over(alloc: Global, script: &Script, bytes: &[u8]) -> Result<Answer, Memory>
+    requires { length bytes.now ≤ 67108864 }
+    ensures { IfOk result (λ a. IsDueOverTable script.now bytes.now (due_of a.status a.text)) }
+{
+    match read_table(alloc, bytes) {
+        Ok(table) => answer_lines(alloc, script.lines.as_slice(), &table),
+        Err(TableRefusal::Memory) => Err(Memory),
+        Err(TableRefusal::At(cause)) => Answer::refused_table(alloc, cause),
+    }
+}
