@@ -2,7 +2,7 @@
 ghost use Rattle.std.specs.Prelude.{◌≡◌, ◌+◌, ◌≤◌, ℕ, List, [], ◌∷◌, length, map, OnOk};
 ghost use Rattle.rdf_values.specs.Kinds.{args_count};
 ghost use Rattle.rdf_values.specs.NumExprTree.{num_tree, num_trees};
-ghost use Rattle.rdf_model.specs.Columns.{EachColumn, EachArgument};
+ghost use Rattle.rdf_values.specs.EachColumn.{EachColumn, EachArgument};
 ghost use Rattle.rdf_model.specs.Evaluation.{argument, for_all, evaluate, evaluate_all, call_outcome, value_operation, negation, inversion, of_numbers, picked, vector_operation};
 ghost use Rattle.entry_fns.specs.Lists.{functions_in};
 ghost use Rattle.expr_eval.specs.CallsFit.{IsBuiltIn, CallFits, CallsFit, ArgumentsFit};

@@ -1,4 +1,4 @@
-use Rattle.rdf_model.proofs.EachColumns.{all_columns}
+use Rattle.rdf_values.proofs.Columns.{all_columns}
 use Rattle.expr_eval_tests.specs.Rows.{row_outcome}
 use Rattle.expr_eval_tests.proofs.ScalarRows.{gives_scalar}
 use Rattle.expr_eval_tests.proofs.rows.counted_scalar.Goals as goal

@@ -1,4 +1,4 @@
-use Rattle.rdf_model.proofs.EachColumns.{all_columns}
+use Rattle.rdf_values.proofs.Columns.{all_columns}
 use Rattle.expr_eval_tests.proofs.rows.counted_value.Goals as goal
 
 pub eval-requires-clause-can : goal.eval-requires-clause-can
