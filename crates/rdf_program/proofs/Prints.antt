@@ -1,16 +1,18 @@
 -- The lines of the Prints.
-use Rattle.std.proofs.Common.{◌≡◌, ◌<◌, ℕ, ℤ, pos, true, false, List, [], ◌∷◌, length, map, find, flat_map, cond, Some, None, refl, ap, sym, subst, ◌∙◌, arith, ◌≤◌, ◌&&◌, ⊎_elim, option_map, take, drop, ◌++◌, append-nil}
+use Rattle.std.proofs.Common.{◌≡◌, ◌<◌, ◌+◌, ℕ, suc, ℤ, pos, Bool, true, false, not, List, [], ◌∷◌, length, map, find, flat_map, cond, Option, Some, None, refl, ap, sym, subst, ◌∙◌, arith, ◌≤◌, ◌&&◌, ⊎_elim, option_map, take, drop, ◌++◌, append-nil}
 use Rattle.std.proofs.Math.ListN.{drop_of_length-le}
 use Rattle.std.proofs.lemmas.List.Elements.{All-cons, All-nil}
 use Rattle.std.proofs.lemmas.Bool.{cases_lt, cond-true, cond-false, lt-ltb, le-ltb}
 use Rattle.std.specs.List.{All, position_or_len}
 use Rattle.rdf_values.specs.Names.{same}
-use Rattle.rdf_values.specs.Tables.{TableView}
+use Rattle.rdf_values.specs.Tables.{TableView, kind_at}
+use Rattle.rdf_values.specs.declared.value.ColType.{ColType}
+use Rattle.rdf_values.specs.declared.value.ColType.TheVariants as k
 use Rattle.rdf_values.specs.declared.column.Column.{Column}
 use Rattle.rdf_values.specs.declared.action.ActionKind.{ActionKind}
 use Rattle.rdf_values.specs.declared.action.ActionKind.TheVariants as kind
 use Rattle.rdf_program.specs.Results.{Booking, asked_text, found_text, has_name, int_column, is_int, print_line, quantity, quantity_text}
-use Rattle.rdf_program.specs.Plan.{AreTallies, IsTally, IsWithin, Starts, found_tally_text, is_tally_of, tally_line, tally_over, tally_text}
+use Rattle.rdf_program.specs.Plan.{AreTallies, AsksInts, IsTally, Starts, found_tally_text, is_tally_of, tally_line, tally_over, tally_text}
 use Rattle.rdf_program.specs.declared.quantity.Quantity.{Quantity}
 use Rattle.rdf_program.specs.declared.quantity.Quantity.TheVariants as q
 use Rattle.rdf_program.specs.declared.tally.Tally.{Tally}
@@ -43,28 +45,54 @@ pub lines_give : (table : TableView) (bs : List Booking) (ts : List Tally) (name
 lines_give table bs ts [] h = refl
 lines_give table bs ts (name ∷ names) h = rw (found_gives table name bs ts h, lines_give table bs ts names h) refl
 
-quantity_within : (columns : List Column) (action : ActionKind) (quantity' : Quantity) → quantity columns action ≡ Some quantity' → IsWithin (length columns) quantity'
-quantity_within columns action q.Count e = tt
-quantity_within columns (kind.Sum x) (q.Sum i) e =
+int_kind : (kind : ColType) → is_int kind ≡ true → kind ≡ k.Int
+int_kind k.Int e = refl
+int_kind k.Bool e = absurd (cc e)
+int_kind k.Vect e = absurd (cc e)
+
+kind_of : (c : Column) (x : List ℕ) → (same c.name x && is_int c.kind) ≡ true → c.kind ≡ k.Int
+kind_of c x e = int_kind c.kind (both (same c.name x) (is_int c.kind) e) where
+  both : (a b : Bool) → (a && b) ≡ true → b ≡ true
+  both true b e = e
+  both false b e = absurd (cc e)
+
+abbrev place : List Column → List ℕ → ℕ
+place columns x = position_or_len (λ c. same c.name x && is_int c.kind) columns
+
+-- the column that is found is one of integers, if one is found behind the first
+found_by : (c : Column) (cs : List Column) (x : List ℕ) (b : Bool) → (same c.name x && is_int c.kind) ≡ b → (place cs x < length cs → kind_at cs (place cs x) ≡ Some k.Int)
+    → cond (not b) (1 + place cs x) 0 < length (c ∷ cs) → kind_at (c ∷ cs) (cond (not b) (1 + place cs x) 0) ≡ Some k.Int
+found_by c cs x true e later lt = ap Some (kind_of c x e)
+found_by c cs x false e later lt =
+    let next : 1 + place cs x ≡ suc (place cs x) = omega arith in
+    rw next (later (omega arith))
+
+found_int : (columns : List Column) (x : List ℕ) → place columns x < length columns → kind_at columns (place columns x) ≡ Some k.Int
+found_int [] x lt = absurd (omega arith)
+found_int (c ∷ cs) x lt = found_by c cs x (same c.name x && is_int c.kind) refl (found_int cs x) lt
+
+quantity_asks : (columns : List Column) (action : ActionKind) (quantity' : Quantity) → quantity columns action ≡ Some quantity' → AsksInts columns quantity'
+quantity_asks columns action q.Count e = tt
+quantity_asks columns (kind.Sum x) (q.Sum i) e =
     let test = λ (c : Column). same c.name x && is_int c.kind in
     ⊎_elim
     (λ (lt : position_or_len test columns < length columns).
     let found : option_map q.Sum (int_column columns x) ≡ Some (q.Sum (position_or_len test columns)) = ap (option_map q.Sum) (cond-true _ _ _ (lt-ltb _ _ lt)) in
     let there : position_or_len test columns ≡ i = cc (sym found ∙ e) in
-    omega arith)
+    rw (← there) (found_int columns x lt))
     (λ (ge : length columns ≤ position_or_len test columns).
     let lacking : option_map q.Sum (int_column columns x) ≡ None = ap (option_map q.Sum) (cond-false _ _ _ (le-ltb _ _ ge)) in
     absurd (cc (sym lacking ∙ e)))
     (cases_lt (position_or_len test columns) (length columns))
-quantity_within columns action (q.Sum i) e = absurd (cc e)
+quantity_asks columns action (q.Sum i) e = absurd (cc e)
 
 -- the tallies of bookings start
-pub all_start : (columns : List Column) (bs : List Booking) (ts : List Tally) → AreTallies columns bs ts → All (Starts (length columns)) ts
-all_start columns [] [] h = All-nil (Starts (length columns))
+pub all_start : (columns : List Column) (bs : List Booking) (ts : List Tally) → AreTallies columns bs ts → All (Starts columns) ts
+all_start columns [] [] h = All-nil (Starts columns)
 all_start columns [] (t ∷ ts) h = absurd h
 all_start columns (b ∷ bs) [] h = absurd h
 all_start columns (b ∷ bs) (t ∷ ts) h =
-    All-cons (Starts (length columns)) t ts (quantity_within columns b.action t.quantity h.0.asked, h.0.starts) (all_start columns bs ts h.1)
+    All-cons (Starts columns) t ts (quantity_asks columns b.action t.quantity h.0.asked, h.0.starts) (all_start columns bs ts h.1)
 
 take_length : (xs : List Tally) → take (length xs) xs ≡ xs
 take_length [] = refl

@@ -1,10 +1,11 @@
 -- How the results are kept while the entries are gone over.
-use Rattle.std.specs.Prelude.{◌≡◌, ◌<◌, ◌≤◌, ◌*◌, ◌^◌, ℕ, ℤ, pos, ◌+ℤ◌, List, [], ◌∷◌, ◌++◌, map, true, fold, find, Option, Some, None, decimal, Bool}
+use Rattle.std.specs.Prelude.{◌≡◌, ℕ, ℤ, pos, ◌+ℤ◌, List, [], ◌∷◌, ◌++◌, map, true, fold, find, Option, Some, None, length, decimal, flat_map, Bool}
 use Rattle.std.specs.Fmt.{signed_decimal}
 use Rattle.std.specs.List.{AllZip}
-use lib.Signed.{mag}
 use Rattle.rdf_values.specs.Names.{same}
+use Rattle.rdf_values.specs.Tables.{kind_at}
 use Rattle.rdf_values.specs.declared.column.Column.{Column}
+use Rattle.rdf_values.specs.declared.value.ColType.TheVariants as k
 use Rattle.rdf_values.specs.declared.value.Value.{Value}
 use Rattle.rdf_values.specs.declared.action.ActionKind.{ActionKind}
 use Rattle.rdf_values.specs.declared.statement.Statement.{Statement}
@@ -24,21 +25,14 @@ pub record IsTally (columns : List Column) (booking : Booking) (tally : Tally) :
 abbrev pub AreTallies : List Column → List Booking → List Tally → Type 0
 AreTallies columns bookings tallies = AllZip (IsTally columns) bookings tallies
 
--- a sum asks for one of so many columns
-abbrev pub IsWithin : ℕ → Quantity → Type 0
-IsWithin columns q.Count = Unit {0}
-IsWithin columns (q.Sum i) = i < columns
-
-abbrev pub ReadsColumn : ℕ → Tally → Type 0
-ReadsColumn columns t = IsWithin columns t.quantity
-
--- the sum is one of so many numbers of 64 bits
-abbrev pub IsBounded : ℕ → Tally → Type 0
-IsBounded entries t = mag t.sum ≤ entries * 2 ^ 63
+-- a sum asks for a column of integers
+abbrev pub AsksInts : List Column → Quantity → Type 0
+AsksInts columns q.Count = Unit {0}
+AsksInts columns (q.Sum i) = kind_at columns i ≡ Some k.Int
 
 -- no entry was added yet
-abbrev pub Starts : ℕ → Tally → Type 0
-Starts columns t = ReadsColumn columns t × (t.sum ≡ pos 0)
+abbrev pub Starts : List Column → Tally → Type 0
+Starts columns t = AsksInts columns t.quantity × (t.sum ≡ pos 0)
 
 -- an action was booked behind others, if it fits there
 abbrev pub BooksAction : List Column → List Booking → List ℕ → ActionKind → Bool → List Tally → Type 0
@@ -49,14 +43,6 @@ BooksAction columns before name action fits tallies =
 abbrev pub BooksLine : List Column → List Booking → Statement → Bool → List Tally → Type 0
 BooksLine columns before statement fits tallies =
     (fits ≡ fits_behind columns before statement) × (fits ≡ true → AreTallies columns (before ++ booking_of statement) tallies)
-
--- the sum after one more row
-abbrev pub sum_with : List Value → Quantity → ℤ → ℤ
-sum_with row q.Count z = z
-sum_with row (q.Sum i) z = z +ℤ number_at i row
-
-abbrev pub tally_with : List Value → Tally → Tally
-tally_with row t = record t { sum = sum_with row t.quantity t.sum }
 
 -- the sum after several more rows
 abbrev pub sum_over : List (List Value) → Quantity → ℤ → ℤ

@@ -7,19 +7,31 @@ use crate::booking::book;
 use crate::counting::add_entries;
 use crate::printing::print_all;
 use crate::status::Status;
+use clusters::cut;
+use columns::Columns;
 use rdf_values::{Line, Memory, Script, Table};
 use std::alloc::Global;
 use table_csv::{TableRefusal, read_table};
 
-// The answer to lines over a table.
-fn answer_lines(alloc: Global, lines: &[Line], table: &Table) -> Result<Answer, Memory>
-    ensures { IfOk result (λ a. due_of a.status a.text ≡ answered lines.now table.now) }
+const CLUSTER_SIZE: u32 = 10_000;
+
+// The columns of a table over its clusters.
+fn columns_of(table: Table) -> Columns
+    ensures { result.table ≡ table }
 {
-    let Some(mut tallies) = book(alloc, table.columns(), lines)? else {
+    let cuts = cut(table.entries(), CLUSTER_SIZE);
+    Columns::build(table, &cuts)
+}
+
+// The answer to lines over a table.
+fn answer_lines(alloc: Global, lines: &[Line], columns: &Columns) -> Result<Answer, Memory>
+    ensures { IfOk result (λ a. due_of a.status a.text ≡ answered lines.now columns.now.table) }
+{
+    let Some(mut tallies) = book(alloc, columns.columns(), lines)? else {
         return Answer::line(alloc, Status::ScriptRefused, b"script refused: not built");
     };
-    add_entries(&mut tallies, table);
-    let text = print_all(alloc, lines, &tallies, table.entries())?;
+    add_entries(&mut tallies, columns);
+    let text = print_all(alloc, lines, &tallies, columns.entries())?;
     Ok(Answer {
         status: Status::Done,
         text,
@@ -32,7 +44,7 @@ pub(crate) fn answer_over(alloc: Global, script: &Script, bytes: &[u8]) -> Resul
     ensures { IfOk result (λ a. IsDueOverTable script.now bytes.now (due_of a.status a.text)) }
 {
     match read_table(alloc, bytes) {
-        Ok(table) => answer_lines(alloc, script.lines.as_slice(), &table),
+        Ok(table) => answer_lines(alloc, script.lines.as_slice(), &columns_of(table)),
         Err(TableRefusal::Memory) => Err(Memory),
         Err(TableRefusal::At(cause)) => Answer::refused_table(alloc, cause),
     }

@@ -1,13 +1,13 @@
-// A result while the entries are gone over.
-ghost use Rattle.std.specs.Prelude.{◌≡◌, ◌<◌, ◌≤◌, ◌+◌, ◌^◌, ◌+ℤ◌, length, [], slice_index_or};
+// The results over the entries.
+ghost use Rattle.std.specs.Prelude.{◌≡◌, ◌<◌, ◌≤◌, ◌+◌, ◌^◌, ◌+ℤ◌};
 ghost use lib.Signed.{mag};
-ghost use Rattle.rdf_values.specs.Tables.{IsTable};
-ghost use Rattle.rdf_program.specs.Results.{number_at};
+ghost use Rattle.rdf_values.specs.Fold.{integer_sum};
 
 use crate::quantity::Quantity;
-use rdf_values::{Name, Table, Value};
+use columns::Columns;
+use rdf_values::Name;
 
-/// A result's name, what it asks, and the sum over the entries so far; a count has none.
+/// A result's name, what it asks, and the sum over the entries; a count has none.
 #[derive(Drop)]
 pub(crate) struct Tally {
     pub(crate) name: Name,
@@ -16,40 +16,34 @@ pub(crate) struct Tally {
 }
 
 impl Tally {
-    ghost use Rattle.rdf_program.specs.Plan.{ReadsColumn, IsBounded, tally_with};
+    ghost use Rattle.rdf_program.specs.Plan.{Starts, tally_over};
 
-    /// Adds an entry.
-    pub(crate) fn add(&mut self, table: &Table, entry: u32)
-        requires valid { IsTable table.now }
-        requires row { entry < length table.now.rows }
-        requires column { ReadsColumn (length table.now.columns) self.old }
-        requires bound { IsBounded entry self.old }
-        ensures value { self.new ≡ tally_with (slice_index_or table.now.rows entry []) self.old }
-        ensures bound { IsBounded (entry + 1) self.new }
+    /// Adds all entries.
+    pub(crate) fn add_all(&mut self, columns: &Columns)
+        requires { Starts columns.now.table.columns self.old }
+        ensures { self.new ≡ tally_over columns.now.table.rows self.old }
     {
         if let Quantity::Sum(column) = self.quantity {
-            self.sum = plus(self.sum, number(table, entry, column));
+            self.sum = sum_of(columns.ints(column));
         }
     }
 }
 
 fn plus(sum: i128, number: i64) -> i128
-    requires { mag sum < 2 ^ 96 }
+    requires { mag sum < 2 ^ 126 }
     ensures value { result ≡ sum +ℤ number }
     ensures bound { mag result ≤ mag sum + 2 ^ 63 }
 {
     sum + i128::from(number)
 }
 
-// The number in an entry's column of integers.
-fn number(table: &Table, entry: u32, column: u32) -> i64
-    requires valid { IsTable table.now }
-    requires row { entry < length table.now.rows }
-    requires column { column < length table.now.columns }
-    ensures { result ≡ number_at column (slice_index_or table.now.rows entry []) }
+// A slice has fewer than 2^60 numbers, so that the sum fits.
+fn sum_of(numbers: &[i64]) -> i128
+    ensures { result ≡ integer_sum numbers.now }
 {
-    match table.value(entry, column) {
-        Value::Int(number) => *number,
-        _ => 0,
+    let mut sum = 0;
+    for number in numbers {
+        sum = plus(sum, *number);
     }
+    sum
 }

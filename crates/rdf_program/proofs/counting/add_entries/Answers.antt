@@ -1,22 +1,16 @@
-use Rattle.std.proofs.Common.{arith, refl, length, ◌<◌}
-use Rattle.rdf_program.proofs.Entries.{all_added, entry_added, reads_stay}
+use Rattle.std.proofs.Common.{add-one, arith}
+use Rattle.rdf_program.proofs.Adding.{partly_all, partly_at, partly_more, partly_start}
 use Rattle.rdf_program.proofs.counting.add_entries.Goals as goal
 
-pub loop-entry-init : goal.loop-entry-init
-loop-entry-init c = record {
-  same = refl;
-  reads = λ k d lt. (c.requires k d lt).0;
-  bound = λ k d lt. rw (c.requires k d lt).1 (omega arith);
-}
+pub loop-tally-init : goal.loop-tally-init
+loop-tally-init c = partly_start _ _ _ c.args.tallies.now c.requires
 
-pub loop-entry-preserved : goal.loop-entry-preserved
-loop-entry-preserved c =
-    let lt : c.loop-entry.entry < length c.args.table.now.rows = omega (arith, c.entries-entry-end.ensures.value) in
-    record {
-      same = entry_added c.args.table.now.rows c.loop-entry.entry c.loop-entry.tallies c.add_entry.new.tallies c.args.tallies.now lt c.add_entry.ensures.value c.loop-entry.invariant.same;
-      reads = reads_stay _ _ _ _ c.add_entry.ensures.value c.loop-entry.invariant.reads;
-      bound = c.add_entry.ensures.bound;
-    }
+pub add_all-requires : goal.add_all-requires
+add_all-requires c = partly_at _ _ _ c.args.tallies.now c.loop-tally.tallies c.loop-tally.tally-index c.tally-item.result (omega arith) c.loop-tally.invariant
+
+pub loop-tally-preserved : goal.loop-tally-preserved
+loop-tally-preserved c =
+    rw (add-one c.loop-tally.tally-index) (partly_more _ _ _ c.args.tallies.now c.loop-tally.tallies c.loop-tally.tally-index c.tally-item.result c.add_all.new.self (omega arith) c.loop-tally.invariant c.add_all.ensures tt)
 
 pub returns : goal.returns
-returns c = all_added c.args.table.now.rows c.loop-entry.entry c.loop-entry.tallies c.args.tallies.now (omega (arith, c.entries-entry-end.ensures.value)) c.loop-entry.invariant.same
+returns c = (partly_all _ _ _ c.args.tallies.now c.loop-tally.tallies c.loop-tally.tally-index (omega arith) c.loop-tally.invariant).0

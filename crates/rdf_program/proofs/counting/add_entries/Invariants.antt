@@ -1,11 +1,8 @@
-use Rattle.std.proofs.Common.{◌≡◌, length, map, drop}
-use Rattle.std.specs.List.{All}
-use Rattle.rdf_program.specs.Plan.{IsBounded, ReadsColumn, tally_over}
+use Rattle.std.proofs.Common.{[]}
+use Rattle.rdf_program.specs.Plan.{Starts, tally_over}
+use Rattle.rdf_program.specs.declared.tally.Tally.{Tally}
+use Rattle.rdf_program.proofs.Adding.{Partly}
 use Rattle.rdf_program.proofs.counting.add_entries.Given as goal
 
-abbrev pub invariant-loop-entry : goal.invariant-loop-entry
-invariant-loop-entry l = record {
-  same : map (tally_over (drop l.entry l.table.rows)) l.tallies ≡ map (tally_over l.table.rows) l.initial.tallies;
-  reads : All (ReadsColumn (length l.table.columns)) l.tallies;
-  bound : All (IsBounded l.entry) l.tallies;
-}
+abbrev pub invariant-loop-tally : goal.invariant-loop-tally
+invariant-loop-tally l = Partly (Starts l.columns.table.columns) (λ (t : Tally). Unit {0}) (tally_over l.columns.table.rows) l.initial.tallies l.tally-index l.tallies
