@@ -1,4 +1,0 @@
-pub mod Bounds
-pub mod Filling
-pub mod FillingPairs
-pub mod Rising

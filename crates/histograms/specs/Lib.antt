@@ -1,4 +1,0 @@
-pub mod Axis
-pub mod Cells
-pub mod OneAxis
-pub mod TwoAxes
