@@ -5,7 +5,7 @@ use Rattle.std.specs.Int.{int_max, int_min}
 use Rattle.rdf_values.specs.declared.action.ReduceOp.{ReduceOp}
 use Rattle.rdf_values.specs.declared.value.Scalar.{Scalar}
 use Rattle.rdf_values.specs.declared.item.Item.{Item}
-use Rattle.rdf_values.specs.Fold.{Cell, Count, Extreme, Filled, Flat, Reduced, Square, Sum, Taken, extreme, flat_items, integer_sum, number_of, reduce_start, reduce_step, single_of}
+use Rattle.rdf_values.specs.Fold.{Cell, Count, Extreme, Filled, Flat, Reduced, Square, Sum, Taken, extreme, integer_sum, number_of, numbers_of, reduce_start, reduce_step, scalar_of}
 use Rattle.histograms.specs.OneAxis.{HasFilled, flat_cells}
 use Rattle.histograms.specs.OneAxis as one
 use Rattle.histograms.specs.TwoAxes.{HasFilled2, square_cells}
@@ -23,7 +23,7 @@ use Rattle.actions.proofs.Reductions.{reduce_both}
 use Rattle.actions.proofs.States.{numbers_fit-append, the_count, the_extreme, the_flat, the_square, the_sum}
 use Rattle.actions.proofs.Unordered.{both_same, flat_joined, items_of, length-in_file_order, square_joined, sum_both}
 
-plain_values : (vs : List TakenValue) → map (λ (v : TakenValue). v.value) vs ≡ flat_items single_of (items_of (map fed_value vs))
+plain_values : (vs : List TakenValue) → map (λ (v : TakenValue). v.value) vs ≡ flat_map scalar_of (items_of (map fed_value vs))
 plain_values [] = refl
 plain_values (v ∷ vs) = ap (λ l. v.value ∷ l) (plain_values vs)
 
@@ -37,29 +37,29 @@ module _ (a b : List Fed) where
 
   pub merge_sum : (c d : List ℕ) (x y z : ℤ) → z ≡ x +ℤ y → Holds (state.Sum c x) a → Holds (state.Sum d y) b → Holds (state.Sum c z) (a ++ b)
   merge_sum c d x y z e h k = record {
-    made = ap Sum (e ∙ ap (λ s. s +ℤ y) (ap (λ f. the_sum f x) h.made) ∙ ap (λ s. integer_sum (flat_items number_of (in_file_order a)) +ℤ s) (ap (λ f. the_sum f y) k.made) ∙ sym (sum_both number_of a b));
+    made = ap Sum (e ∙ ap (λ s. s +ℤ y) (ap (λ f. the_sum f x) h.made) ∙ ap (λ s. integer_sum (numbers_of (in_file_order a)) +ℤ s) (ap (λ f. the_sum f y) k.made) ∙ sym (sum_both number_of a b));
     kept = refl;
     fit = tt;
   }
 
   extreme_both : (better : ℤ → ℤ → ℤ) → ((s x y : ℤ) → better (better s x) y ≡ better (better s y) x) → ((x y : ℤ) → better x y ≡ better y x)
-      → extreme better (flat_items number_of (in_file_order (a ++ b))) ≡ better_of_two better (extreme better (flat_items number_of (in_file_order a))) (extreme better (flat_items number_of (in_file_order b)))
+      → extreme better (numbers_of (in_file_order (a ++ b))) ≡ better_of_two better (extreme better (numbers_of (in_file_order a))) (extreme better (numbers_of (in_file_order b)))
   extreme_both better swap comm =
-      let xs = flat_items number_of (in_file_order a) in
-      let ys = flat_items number_of (in_file_order b) in
-      extreme_fold better (flat_items number_of (in_file_order (a ++ b))) ∙ both_same (better_of better) (option_swaps better swap comm) number_of a b None ∙ extreme_from better swap comm (fold (better_of better) None xs) ys
+      let xs = numbers_of (in_file_order a) in
+      let ys = numbers_of (in_file_order b) in
+      extreme_fold better (numbers_of (in_file_order (a ++ b))) ∙ both_same (better_of better) (option_swaps better swap comm) number_of a b None ∙ extreme_from better swap comm (fold (better_of better) None xs) ys
       ∙ ap (λ o. better_of_two better o (extreme better ys)) (sym (extreme_fold better xs))
 
   pub merge_min : (c d : List ℕ) (x y z : Option ℤ) → z ≡ better_of_two int_min x y → Holds (state.Min c x) a → Holds (state.Min d y) b → Holds (state.Min c z) (a ++ b)
   merge_min c d x y z e h k = record {
-    made = ap Extreme (e ∙ ap (λ o. better_of_two int_min o y) (ap the_extreme h.made) ∙ ap (better_of_two int_min (extreme int_min (flat_items number_of (in_file_order a)))) (ap the_extreme k.made) ∙ sym (extreme_both int_min min_swap min_comm));
+    made = ap Extreme (e ∙ ap (λ o. better_of_two int_min o y) (ap the_extreme h.made) ∙ ap (better_of_two int_min (extreme int_min (numbers_of (in_file_order a)))) (ap the_extreme k.made) ∙ sym (extreme_both int_min min_swap min_comm));
     kept = refl;
     fit = tt;
   }
 
   pub merge_max : (c d : List ℕ) (x y z : Option ℤ) → z ≡ better_of_two int_max x y → Holds (state.Max c x) a → Holds (state.Max d y) b → Holds (state.Max c z) (a ++ b)
   merge_max c d x y z e h k = record {
-    made = ap Extreme (e ∙ ap (λ o. better_of_two int_max o y) (ap the_extreme h.made) ∙ ap (better_of_two int_max (extreme int_max (flat_items number_of (in_file_order a)))) (ap the_extreme k.made) ∙ sym (extreme_both int_max max_swap max_comm));
+    made = ap Extreme (e ∙ ap (λ o. better_of_two int_max o y) (ap the_extreme h.made) ∙ ap (better_of_two int_max (extreme int_max (numbers_of (in_file_order a)))) (ap the_extreme k.made) ∙ sym (extreme_both int_max max_swap max_comm));
     kept = refl;
     fit = tt;
   }
@@ -67,9 +67,9 @@ module _ (a b : List Fed) where
   pub merge_reduce : (c d : List ℕ) (o p : ReduceOp) (x y z : ℤ) → p ≡ o → z ≡ reduce_step o x y → Holds (state.Reduce c (record { op = o; value = x })) a → Holds (state.Reduce d (record { op = p; value = y })) b
       → Holds (state.Reduce c (record { op = o; value = z })) (a ++ b)
   merge_reduce c d o p x y z same e h k =
-      let second : y ≡ fold (reduce_step o) (reduce_start o) (flat_items number_of (in_file_order b)) = ap (λ f. the_sum f y) k.made ∙ ap (λ q. fold (reduce_step q) (reduce_start q) (flat_items number_of (in_file_order b))) same in
+      let second : y ≡ fold (reduce_step o) (reduce_start o) (numbers_of (in_file_order b)) = ap (λ f. the_sum f y) k.made ∙ ap (λ q. fold (reduce_step q) (reduce_start q) (numbers_of (in_file_order b))) same in
       record {
-        made = ap Reduced (e ∙ ap (λ s. reduce_step o s y) (ap (λ f. the_sum f x) h.made) ∙ ap (reduce_step o (fold (reduce_step o) (reduce_start o) (flat_items number_of (in_file_order a)))) second ∙ sym (reduce_both o a b h.fit k.fit));
+        made = ap Reduced (e ∙ ap (λ s. reduce_step o s y) (ap (λ f. the_sum f x) h.made) ∙ ap (reduce_step o (fold (reduce_step o) (reduce_start o) (numbers_of (in_file_order a)))) second ∙ sym (reduce_both o a b h.fit k.fit));
         kept = refl;
         fit = numbers_fit-append a b h.fit k.fit;
       }
@@ -77,7 +77,7 @@ module _ (a b : List Fed) where
   pub merge_take : (c d : List ℕ) (vs ws all : List TakenValue) → (map fed_value vs ≡ by_cluster a → map fed_value ws ≡ by_cluster b → map fed_value all ≡ by_cluster (a ++ b)) → Holds (state.Take c vs) a → Holds (state.Take d ws) b → Holds (state.Take c all) (a ++ b)
   merge_take c d vs ws all order h k =
       let kept = order h.kept k.kept in
-      record { made = ap Taken (plain_values all ∙ ap (λ l. flat_items single_of (items_of l)) kept); kept = kept; fit = tt }
+      record { made = ap Taken (plain_values all ∙ ap (λ l. flat_map scalar_of (items_of l)) kept); kept = kept; fit = tt }
 
   pub merge_flat : (g k g' : one.Flat) (x y : List ℕ) (o p : Option (List ℕ)) → ((points more : List Item) → HasFilled g points → HasFilled k more → HasFilled g' (points ++ more))
       → Holds (state.Histo1D g x o) a → Holds (state.Histo1D k y p) b → Holds (state.Histo1D g' x o) (a ++ b)

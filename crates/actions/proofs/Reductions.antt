@@ -11,7 +11,7 @@ use Rattle.rdf_values.specs.declared.action.ReduceOp.{ReduceOp}
 use Rattle.rdf_values.specs.declared.action.ReduceOp.TheVariants as op
 use Rattle.rdf_values.specs.declared.item.Item.{Item}
 use Rattle.rdf_values.specs.declared.item.Item.TheVariants as item
-use Rattle.rdf_values.specs.Fold.{flat_items, number_of, on_bits, reduce_start, reduce_step}
+use Rattle.rdf_values.specs.Fold.{number_of, numbers_of, on_bits, reduce_start, reduce_step}
 use Rattle.actions.specs.Feeding.{Fed, by_cluster, in_file_order, put}
 use Rattle.actions.specs.Holding.{NumberFits, NumbersFit}
 use Rattle.actions.proofs.Operations.{fold_both, max_swap, min_swap, min_comm, max_comm}
@@ -148,9 +148,9 @@ item_fits (item.Single x) h = tt
 item_fits (item.Point x w) h = tt
 item_fits (item.Point2 x y w) h = tt
 
-numbers_all_fit : (fed : List Fed) → NumbersFit fed → AllFit (flat_items number_of (items_of fed))
+numbers_all_fit : (fed : List Fed) → NumbersFit fed → AllFit (numbers_of (items_of fed))
 numbers_all_fit [] h = tt
-numbers_all_fit (f ∷ fs) h = all_fit-append (number_of f.item) (flat_items number_of (items_of fs)) (item_fits f.item h.0) (numbers_all_fit fs h.1)
+numbers_all_fit (f ∷ fs) h = all_fit-append (number_of f.item) (numbers_of (items_of fs)) (item_fits f.item h.0) (numbers_all_fit fs h.1)
 
 numbers_fit-put : (x : Fed) (l : List Fed) → NumberFits x.item → NumbersFit l → NumbersFit (put x l)
 numbers_fit-put x [] h k = (h, tt)
@@ -162,13 +162,13 @@ numbers_fit-by_cluster (f ∷ fs) h = numbers_fit-put f (by_cluster fs) h.0 (num
 
 -- a Reduce of the items of two lists
 pub reduce_both : (o : ReduceOp) (a b : List Fed) → NumbersFit a → NumbersFit b
-    → fold (reduce_step o) (reduce_start o) (flat_items number_of (in_file_order (a ++ b)))
-    ≡ reduce_step o (fold (reduce_step o) (reduce_start o) (flat_items number_of (in_file_order a))) (fold (reduce_step o) (reduce_start o) (flat_items number_of (in_file_order b)))
+    → fold (reduce_step o) (reduce_start o) (numbers_of (in_file_order (a ++ b)))
+    ≡ reduce_step o (fold (reduce_step o) (reduce_start o) (numbers_of (in_file_order a))) (fold (reduce_step o) (reduce_start o) (numbers_of (in_file_order b)))
 reduce_both o a b h k =
     let s = reduce_start o in
-    let xs = flat_items number_of (in_file_order a) in
-    let ys = flat_items number_of (in_file_order b) in
-    let all = fold_total o (flat_items number_of (in_file_order (a ++ b))) s (start_fits o) (numbers_all_fit (by_cluster (a ++ b)) (numbers_fit-by_cluster (a ++ b) (numbers_fit-append a b h k))) in
+    let xs = numbers_of (in_file_order a) in
+    let ys = numbers_of (in_file_order b) in
+    let all = fold_total o (numbers_of (in_file_order (a ++ b))) s (start_fits o) (numbers_all_fit (by_cluster (a ++ b)) (numbers_fit-by_cluster (a ++ b) (numbers_fit-append a b h k))) in
     let first = fold_total o xs s (start_fits o) (numbers_all_fit (by_cluster a) (numbers_fit-by_cluster a h)) in
     let second = fold_total o ys s (start_fits o) (numbers_all_fit (by_cluster b) (numbers_fit-by_cluster b k)) in
     all.0 ∙ both_same (total_step o) (step_swap o) number_of a b s ∙ fold_both (total_step o) (step_swap o) (step_comm o) xs ys s (start_stays o)

@@ -1,6 +1,6 @@
 -- What an accumulator holds after one more entry.
 use Rattle.std.proofs.Common.{ℕ, ◌≡◌, ◌≤◌, ◌+◌, map, length, All, List, [], ◌∷◌, ◌++◌, ℤ, pos, ◌+ℤ◌, arith, refl, ap, sym, ◌∙◌, length-append, lit≤, subst, w64, FitsSigned}
-use Rattle.std.specs.Prelude.{Option, Some, None, Result, Ok, Err, OnOk, fold}
+use Rattle.std.specs.Prelude.{flat_map, Option, Some, None, Result, Ok, Err, OnOk, fold}
 use Rattle.std.specs.Option.{option_to_list}
 use Rattle.std.proofs.lemmas.List.{map-append}
 use Rattle.std.proofs.lemmas.List.Elements.{All-head, All-tail}
@@ -12,7 +12,7 @@ use Rattle.rdf_values.specs.declared.value.Value.{Value}
 use Rattle.rdf_values.specs.declared.value.Scalar.{Scalar}
 use Rattle.rdf_values.specs.declared.item.Item.{Item}
 use Rattle.rdf_values.specs.declared.item.Item.TheVariants.{Number, Single, Unit}
-use Rattle.rdf_values.specs.Fold.{Cell, Count, Extreme, Filled, Flat, Reduced, Square, Sum, Taken, extreme, flat_items, fold_items, integer_sum, number_of, reduce_start, reduce_step, single_of}
+use Rattle.rdf_values.specs.Fold.{Cell, Count, Extreme, Filled, Flat, Reduced, Square, Sum, Taken, extreme, fold_items, integer_sum, numbers_of, reduce_start, reduce_step, scalar_of}
 use Rattle.rdf_values.specs.Spread.{numbers, points, points2, spread, weights}
 use Rattle.histograms.specs.OneAxis.{HasFilled, flat_cells}
 use Rattle.histograms.specs.OneAxis as one
@@ -114,7 +114,7 @@ module _ (fed : List Fed) (cluster : ℕ) (below : All (λ f. f.cluster ≤ clus
   pub holds_sum : (c : List ℕ) (z z' : ℤ) (vs : List Value) → z' ≡ fold ◌+ℤ◌ z (first_numbers vs) → Holds (state.Sum c z) fed → Holds (state.Sum c z') (fed ++ from_cluster cluster (spread (kind.Sum c) vs))
   holds_sum c z z' vs e h = record {
     made = ap Sum (e ∙ ap (λ a. fold ◌+ℤ◌ a (first_numbers vs)) (ap (λ f. the_sum f z) h.made)
-        ∙ sym (ap (λ l. fold ◌+ℤ◌ (pos 0) (flat_items number_of l)) (after (spread (kind.Sum c) vs) (map Number (first_numbers vs)) (spread_sum c vs)) ∙ fold_numbers ◌+ℤ◌ (pos 0) (in_file_order fed) (first_numbers vs)));
+        ∙ sym (ap (λ l. fold ◌+ℤ◌ (pos 0) (numbers_of l)) (after (spread (kind.Sum c) vs) (map Number (first_numbers vs)) (spread_sum c vs)) ∙ fold_numbers ◌+ℤ◌ (pos 0) (in_file_order fed) (first_numbers vs)));
     kept = refl;
     fit = tt;
   }
@@ -122,7 +122,7 @@ module _ (fed : List Fed) (cluster : ℕ) (below : All (λ f. f.cluster ≤ clus
   pub holds_min : (c : List ℕ) (o o' : Option ℤ) (vs : List Value) → o' ≡ fold (better_of int_min) o (first_numbers vs) → Holds (state.Min c o) fed → Holds (state.Min c o') (fed ++ from_cluster cluster (spread (kind.Min c) vs))
   holds_min c o o' vs e h = record {
     made = ap Extreme (e ∙ ap (λ a. fold (better_of int_min) a (first_numbers vs)) (ap the_extreme h.made)
-        ∙ sym (ap (λ l. extreme int_min (flat_items number_of l)) (after (spread (kind.Min c) vs) (map Number (first_numbers vs)) (spread_min c vs)) ∙ extreme_numbers int_min (in_file_order fed) (first_numbers vs)));
+        ∙ sym (ap (λ l. extreme int_min (numbers_of l)) (after (spread (kind.Min c) vs) (map Number (first_numbers vs)) (spread_min c vs)) ∙ extreme_numbers int_min (in_file_order fed) (first_numbers vs)));
     kept = refl;
     fit = tt;
   }
@@ -130,7 +130,7 @@ module _ (fed : List Fed) (cluster : ℕ) (below : All (λ f. f.cluster ≤ clus
   pub holds_max : (c : List ℕ) (o o' : Option ℤ) (vs : List Value) → o' ≡ fold (better_of int_max) o (first_numbers vs) → Holds (state.Max c o) fed → Holds (state.Max c o') (fed ++ from_cluster cluster (spread (kind.Max c) vs))
   holds_max c o o' vs e h = record {
     made = ap Extreme (e ∙ ap (λ a. fold (better_of int_max) a (first_numbers vs)) (ap the_extreme h.made)
-        ∙ sym (ap (λ l. extreme int_max (flat_items number_of l)) (after (spread (kind.Max c) vs) (map Number (first_numbers vs)) (spread_max c vs)) ∙ extreme_numbers int_max (in_file_order fed) (first_numbers vs)));
+        ∙ sym (ap (λ l. extreme int_max (numbers_of l)) (after (spread (kind.Max c) vs) (map Number (first_numbers vs)) (spread_max c vs)) ∙ extreme_numbers int_max (in_file_order fed) (first_numbers vs)));
     kept = refl;
     fit = tt;
   }
@@ -139,7 +139,7 @@ module _ (fed : List Fed) (cluster : ℕ) (below : All (λ f. f.cluster ≤ clus
       → Holds (state.Reduce c (record { op = o; value = z' })) (fed ++ from_cluster cluster (spread (kind.Reduce o c) vs))
   holds_reduce c o z z' vs e fits h = record {
     made = ap Reduced (e ∙ ap (λ a. fold (reduce_step o) a (first_numbers vs)) (ap (λ f. the_sum f z) h.made)
-        ∙ sym (ap (λ l. fold (reduce_step o) (reduce_start o) (flat_items number_of l)) (after (spread (kind.Reduce o c) vs) (map Number (first_numbers vs)) (spread_reduce o c vs)) ∙ fold_numbers (reduce_step o) (reduce_start o) (in_file_order fed) (first_numbers vs)));
+        ∙ sym (ap (λ l. fold (reduce_step o) (reduce_start o) (numbers_of l)) (after (spread (kind.Reduce o c) vs) (map Number (first_numbers vs)) (spread_reduce o c vs)) ∙ fold_numbers (reduce_step o) (reduce_start o) (in_file_order fed) (first_numbers vs)));
     kept = refl;
     fit = numbers_fit-append fed (from_cluster cluster (spread (kind.Reduce o c) vs)) h.fit (subst (λ l. NumbersFit (from_cluster cluster l)) (sym (spread_reduce o c vs)) (fits_numbers (first_numbers vs) cluster fits));
   }
@@ -149,7 +149,7 @@ module _ (fed : List Fed) (cluster : ℕ) (below : All (λ f. f.cluster ≤ clus
       let is : spread (kind.Take c) vs ≡ map Single xs = spread_take c vs ∙ ap (map Single) (sym f) in
       record {
         made = ap Taken (ap (map (λ (v : TakenValue). v.value)) e ∙ map-append (λ (v : TakenValue). v.value) ts (values_from cluster xs) ∙ ap (λ l. map (λ (v : TakenValue). v.value) ts ++ l) (values_plain xs cluster) ∙ ap (λ l. l ++ xs) (ap the_taken h.made)
-            ∙ sym (ap (flat_items single_of) (after (spread (kind.Take c) vs) (map Single xs) is) ∙ taken_singles (in_file_order fed) xs));
+            ∙ sym (ap (flat_map scalar_of) (after (spread (kind.Take c) vs) (map Single xs) is) ∙ taken_singles (in_file_order fed) xs));
         kept = ap (map fed_value) e ∙ map-append fed_value ts (values_from cluster xs) ∙ ap (λ l. map fed_value ts ++ l) (values_fed xs cluster) ∙ ap (λ l. l ++ from_cluster cluster (map Single xs)) h.kept
             ∙ sym (ap (λ l. by_cluster (fed ++ from_cluster cluster l)) is ∙ by_cluster-feed fed cluster (map Single xs) below);
         fit = tt;

@@ -1,7 +1,7 @@
 -- What an entry feeds to an action, as values.
 use Rattle.std.specs.Prelude.{ℕ, ◌≤◌, ◌<◌, ⊤, List, [], ◌∷◌, length, ℤ, Option, Some, None}
 use Rattle.rdf_values.specs.declared.value.Scalar.{Scalar}
-use Rattle.rdf_values.specs.Spread.{numbers, scalar_of}
+use Rattle.rdf_values.specs.Spread.{numbers, scalar_value}
 use Rattle.rdf_values.specs.declared.value.Value.{Value}
 use Rattle.rdf_values.specs.declared.value.Value.TheVariants as val
 use Rattle.rdf_values.specs.declared.action.ActionKind.{ActionKind}
@@ -45,7 +45,7 @@ second_part (WeightedPair x y w) = numbers (part_value y)
 -- the first value, if it is no vector
 abbrev pub first_scalar : List Value → List Scalar
 first_scalar [] = []
-first_scalar (v ∷ vs) = scalar_of v
+first_scalar (v ∷ vs) = scalar_value v
 
 -- the weight, where one is given
 abbrev pub weight_part : Items → Option Part

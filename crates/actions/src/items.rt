@@ -3,7 +3,7 @@ ghost use Rattle.std.specs.Prelude.{◌≡◌, if◌then◌else◌, not, Some, N
 ghost use Rattle.rdf_values.specs.declared.fault.EntryFault.TheVariants.{Lengths, Weight};
 ghost use Rattle.std.specs.Option.{option_to_list};
 ghost use Rattle.rdf_values.specs.declared.action.ActionKind.{ActionKind};
-ghost use Rattle.rdf_values.specs.Spread.{as_long_as, feed_fault, is_weight, numbers, scalar_of};
+ghost use Rattle.rdf_values.specs.Spread.{as_long_as, feed_fault, is_weight, numbers, scalar_value};
 ghost use Rattle.actions.specs.Parts.{Suits, first_numbers, first_scalar, part_value, second_part, values_of, weight_part};
 
 use rdf_values::{EntryFault, Scalar};
@@ -70,7 +70,7 @@ impl Part<'_> {
 
     /// The value, if it is no vector.
     pub fn scalar(&self) -> Option<Scalar>
-        ensures { option_to_list result ≡ scalar_of (part_value self.now) }
+        ensures { option_to_list result ≡ scalar_value (part_value self.now) }
     {
         match self {
             Part::Int(number) => Some(Scalar::Int(*number)),

@@ -1,20 +1,19 @@
 -- What a cell holds after one more point.
-use Rattle.std.proofs.Common.{ℕ, zero, suc, ◌≡◌, ◌+◌, ◌<◌, ◌≤◌, length, get_or, set, map, List, [], ◌∷◌, ◌++◌, ℤ, pos, ◌+ℤ◌, ◌*ℤ◌, arith, refl, ap, sym, ◌∙◌, ⊎_elim, add-one, append_assoc, length-append}
-use Rattle.std.specs.Prelude.{fold}
+use Rattle.std.proofs.Common.{ℕ, zero, suc, ◌≡◌, ◌+◌, ◌<◌, ◌≤◌, length, get_or, set, map, List, [], ◌∷◌, ◌++◌, ℤ, pos, ◌+ℤ◌, ◌*ℤ◌, arith, refl, ap, sym, ◌∙◌, ⊎_elim, add-one}
+use Rattle.std.specs.Prelude.{flat_map, fold}
 use Rattle.std.proofs.lemmas.Bool.{cases_eq, eq-eqb, ne_eqb}
+use Rattle.std.proofs.lemmas.Grind.{flat_map-append}
 use Rattle.std.proofs.lemmas.List.{append-nil, get_or-map, get_or-set_other, get_or-set_same, get_or_append_left, get_or_at, length-map, length-set, map-append, same_lists}
 use Rattle.std.proofs.lemmas.List.Sums.{fold-append}
 use Rattle.std.proofs.Math.IntN.{+ℤ_idl, +ℤ_idr, +ℤ_assoc}
+use Rattle.rdf_values.proofs.Below.{length-below}
+use Rattle.rdf_values.specs.Cuts.{below}
 use Rattle.rdf_values.specs.declared.item.Item.{Item}
 use Rattle.rdf_values.specs.declared.item.Item.TheVariants.{Point}
-use Rattle.rdf_values.specs.Fold.{Cell, bin, cell_of, flat_items, integer_sum, up_to, weights_at}
+use Rattle.rdf_values.specs.Fold.{Cell, bin, cell_of, cells_on, flat_cell, integer_sum, weight_in}
 use Rattle.histograms.specs.declared.cell_sum.CellSum.{CellSum}
 use Rattle.histograms.specs.Cells.{cell_seen, together, with_weight}
 use Rattle.histograms.specs.OneAxis.{flat_cells}
-
-pub flat_items-append : {A : Type 0} (f : Item → List A) (xs ys : List Item) → flat_items f (xs ++ ys) ≡ flat_items f xs ++ flat_items f ys
-flat_items-append f [] ys = refl
-flat_items-append f (x ∷ xs) ys = ap (λ zs. f x ++ zs) (flat_items-append f xs ys) ∙ sym (append_assoc (f x) (flat_items f xs) (flat_items f ys))
 
 sum_from : (zs : List ℤ) (a : ℤ) → fold ◌+ℤ◌ a zs ≡ a +ℤ integer_sum zs
 sum_from [] a = sym (+ℤ_idr a)
@@ -34,54 +33,56 @@ cell_of-append ws vs =
     let squares : integer_sum (map (λ w. w *ℤ w) (ws ++ vs)) ≡ integer_sum (map (λ w. w *ℤ w) ws) +ℤ integer_sum (map (λ w. w *ℤ w) vs) = rw (map-append (λ w. w *ℤ w) ws vs) (integer_sum-append (map (λ w. w *ℤ w) ws) (map (λ w. w *ℤ w) vs)) in
     rw (integer_sum-append ws vs, squares) refl
 
-pub length-up_to : (n : ℕ) → length (up_to n) ≡ n + 1
-length-up_to zero = refl
-length-up_to (suc n) = length-append (up_to n) (suc n ∷ []) ∙ rw (length-up_to n) (omega arith)
+pub length-cells_on : (edges : List ℤ) → length (cells_on edges) ≡ length edges + 1
+length-cells_on edges = length-below (suc (length edges)) ∙ sym (add-one (length edges))
 
-pub get_or-up_to : {X : Type 0} (f : ℕ → X) (n k : ℕ) (d : X) → k ≤ n → get_or (map f (up_to n)) k d ≡ f k
-get_or-up_to f zero zero d l = refl
-get_or-up_to f zero (suc k) d l = absurd (omega arith)
-get_or-up_to f (suc n) k d l =
-    let size : length (map f (up_to n)) ≡ suc n = length-map (up_to n) f ∙ length-up_to n ∙ add-one n in
-    rw (map-append f (up_to n) (suc n ∷ []))
+get_or-below : {X : Type 0} (f : ℕ → X) (n k : ℕ) (d : X) → k < n → get_or (map f (below n)) k d ≡ f k
+get_or-below f zero k d l = absurd (omega arith)
+get_or-below f (suc n) k d l =
+    let size : length (map f (below n)) ≡ n = length-map (below n) f ∙ length-below n in
+    rw (map-append f (below n) (n ∷ []))
     (⊎_elim
-    (λ (e : k ≡ suc n). ap (λ i. get_or (map f (up_to n) ++ f (suc n) ∷ []) i d) e ∙ get_or_at (map f (up_to n)) (f (suc n)) [] d (suc n) size ∙ ap f (sym e))
-    (λ (ne : k ≡ suc n → ⊥). get_or_append_left (map f (up_to n)) (f (suc n) ∷ []) d k (omega arith) ∙ get_or-up_to f n k d (omega arith))
-    (cases_eq k (suc n)))
+    (λ (e : k ≡ n). ap (λ i. get_or (map f (below n) ++ f n ∷ []) i d) e ∙ get_or_at (map f (below n)) (f n) [] d n size ∙ ap f (sym e))
+    (λ (ne : k ≡ n → ⊥). get_or_append_left (map f (below n)) (f n ∷ []) d k (omega arith) ∙ get_or-below f n k d (omega arith))
+    (cases_eq k n))
+
+-- what stands at the place of a cell
+pub get_or-cells_on : {X : Type 0} (f : ℕ → X) (edges : List ℤ) (k : ℕ) (d : X) → k ≤ length edges → get_or (map f (cells_on edges)) k d ≡ f k
+get_or-cells_on f edges k d l = get_or-below f (suc (length edges)) k d (omega arith)
 
 -- the weights of a cell after one more point
-weights_yes : (edges : List ℤ) (x w : ℤ) (k : ℕ) → k ≡ bin edges x → flat_items (weights_at edges k) (Point x w ∷ []) ≡ w ∷ []
+weights_yes : (edges : List ℤ) (x w : ℤ) (k : ℕ) → k ≡ bin edges x → flat_map (weight_in edges k) (Point x w ∷ []) ≡ w ∷ []
 weights_yes edges x w k e = rw (eq-eqb (bin edges x) k (sym e)) refl
 
-weights_no : (edges : List ℤ) (x w : ℤ) (k : ℕ) → (k ≡ bin edges x → ⊥) → flat_items (weights_at edges k) (Point x w ∷ []) ≡ []
+weights_no : (edges : List ℤ) (x w : ℤ) (k : ℕ) → (k ≡ bin edges x → ⊥) → flat_map (weight_in edges k) (Point x w ∷ []) ≡ []
 weights_no edges x w k ne = rw (ne_eqb (bin edges x) k (λ e. ne (sym e))) refl
 
 cell_yes : (edges : List ℤ) (points : List Item) (x w : ℤ) (k : ℕ) → k ≡ bin edges x
-    → cell_of (flat_items (weights_at edges k) (points ++ Point x w ∷ [])) ≡ joined (cell_of (flat_items (weights_at edges k) points)) (record { sum = w; squares = w *ℤ w })
+    → flat_cell edges (points ++ Point x w ∷ []) k ≡ joined (flat_cell edges points k) (record { sum = w; squares = w *ℤ w })
 cell_yes edges points x w k e =
-    let ws = flat_items (weights_at edges k) points in
-    let split : flat_items (weights_at edges k) (points ++ Point x w ∷ []) ≡ ws ++ w ∷ [] = flat_items-append (weights_at edges k) points (Point x w ∷ []) ∙ ap (λ vs. ws ++ vs) (weights_yes edges x w k e) in
+    let ws = flat_map (weight_in edges k) points in
+    let split : flat_map (weight_in edges k) (points ++ Point x w ∷ []) ≡ ws ++ w ∷ [] = flat_map-append (weight_in edges k) points (Point x w ∷ []) ∙ ap (λ vs. ws ++ vs) (weights_yes edges x w k e) in
     ap cell_of split ∙ cell_of-append ws (w ∷ []) ∙ rw (+ℤ_idl w, +ℤ_idl (w *ℤ w)) refl
 
 cell_no : (edges : List ℤ) (points : List Item) (x w : ℤ) (k : ℕ) → (k ≡ bin edges x → ⊥)
-    → cell_of (flat_items (weights_at edges k) (points ++ Point x w ∷ [])) ≡ cell_of (flat_items (weights_at edges k) points)
+    → flat_cell edges (points ++ Point x w ∷ []) k ≡ flat_cell edges points k
 cell_no edges points x w k ne =
-    let ws = flat_items (weights_at edges k) points in
-    ap cell_of (flat_items-append (weights_at edges k) points (Point x w ∷ []) ∙ ap (λ vs. ws ++ vs) (weights_no edges x w k ne) ∙ append-nil ws)
+    let ws = flat_map (weight_in edges k) points in
+    ap cell_of (flat_map-append (weight_in edges k) points (Point x w ∷ []) ∙ ap (λ vs. ws ++ vs) (weights_no edges x w k ne) ∙ append-nil ws)
 
 pub length-flat_cells : (edges : List ℤ) (points : List Item) → length (flat_cells edges points) ≡ length edges + 1
-length-flat_cells edges points = length-map (up_to (length edges)) (λ i. cell_of (flat_items (weights_at edges i) points)) ∙ length-up_to (length edges)
+length-flat_cells edges points = length-map (cells_on edges) (flat_cell edges points) ∙ length-cells_on edges
 
 -- a cell that is kept, where the cells are those of points
 kept_at : (edges : List ℤ) (points : List Item) (cells : List CellSum) (k : ℕ) (d : CellSum) → length cells ≡ length edges + 1 → map cell_seen cells ≡ flat_cells edges points → k ≤ length edges
-    → cell_seen (get_or cells k d) ≡ cell_of (flat_items (weights_at edges k) points)
+    → cell_seen (get_or cells k d) ≡ flat_cell edges points k
 kept_at edges points cells k d size same l =
     let e = cell_seen d in
-    sym (get_or-map cell_seen cells k d e (omega arith)) ∙ ap (λ cs. get_or cs k e) same ∙ get_or-up_to (λ i. cell_of (flat_items (weights_at edges i) points)) (length edges) k e l
+    sym (get_or-map cell_seen cells k d e (omega arith)) ∙ ap (λ cs. get_or cs k e) same ∙ get_or-cells_on (flat_cell edges points) edges k e l
 
 -- cells are those of points, where each is
 pub from_places : (edges : List ℤ) (points : List Item) (cells : List CellSum) → length cells ≡ length edges + 1
-    → ((k : ℕ) (d : CellSum) → k ≤ length edges → cell_seen (get_or cells k d) ≡ cell_of (flat_items (weights_at edges k) points))
+    → ((k : ℕ) (d : CellSum) → k ≤ length edges → cell_seen (get_or cells k d) ≡ flat_cell edges points k)
     → map cell_seen cells ≡ flat_cells edges points
 from_places edges points cells size each =
     same_lists (map cell_seen cells) (flat_cells edges points) (length-map cells cell_seen ∙ size ∙ sym (length-flat_cells edges points))
@@ -89,7 +90,7 @@ from_places edges points cells size each =
     let below : k < length cells = rw length-map at l in
     let within : k ≤ length edges = omega arith in
     get_or-map cell_seen cells k (get_or cells k (record { sum = pos 0; squares = pos 0 })) d below ∙ each k (get_or cells k (record { sum = pos 0; squares = pos 0 })) within
-    ∙ sym (get_or-up_to (λ i. cell_of (flat_items (weights_at edges i) points)) (length edges) k d within))
+    ∙ sym (get_or-cells_on (flat_cell edges points) edges k d within))
 
 -- the cells after one more point
 pub flat_cells-point : (edges : List ℤ) (points : List Item) (x w : ℤ) (cells : List CellSum) (cell : CellSum) → length cells ≡ length edges + 1 → bin edges x ≤ length edges
@@ -100,7 +101,7 @@ flat_cells-point edges points x w cells cell size within read same =
     from_places edges (points ++ Point x w ∷ []) (set cells place (with_weight cell w)) (length-set cells place (with_weight cell w) ∙ size)
     (λ k d l. ⊎_elim
     (λ (e : k ≡ place).
-    let here : cell_seen cell ≡ cell_of (flat_items (weights_at edges k) points) = ap cell_seen (read ∙ ap (λ i. get_or cells i cell) (sym e)) ∙ kept_at edges points cells k cell size same l in
+    let here : cell_seen cell ≡ flat_cell edges points k = ap cell_seen (read ∙ ap (λ i. get_or cells i cell) (sym e)) ∙ kept_at edges points cells k cell size same l in
     let now : get_or (set cells place (with_weight cell w)) k d ≡ with_weight cell w = ap (λ i. get_or (set cells place (with_weight cell w)) i d) e ∙ get_or-set_same cells place (with_weight cell w) d (omega arith) in
     ap cell_seen now ∙ ap (λ c. joined c (record { sum = w; squares = w *ℤ w })) here ∙ sym (cell_yes edges points x w k e))
     (λ (ne : k ≡ place → ⊥).
@@ -115,8 +116,8 @@ flat_cells-append edges points more cells others all size size' size'' each same
     from_places edges (points ++ more) all size''
     (λ k d l.
     ap cell_seen (each k d (omega arith)) ∙ ap (λ c. joined c (cell_seen (get_or others k d))) (kept_at edges points cells k d size same l)
-    ∙ ap (λ c. joined (cell_of (flat_items (weights_at edges k) points)) c) (kept_at edges more others k d size' same' l)
-    ∙ sym (ap cell_of (flat_items-append (weights_at edges k) points more) ∙ cell_of-append (flat_items (weights_at edges k) points) (flat_items (weights_at edges k) more)))
+    ∙ ap (λ c. joined (flat_cell edges points k) c) (kept_at edges more others k d size' same' l)
+    ∙ sym (ap cell_of (flat_map-append (weight_in edges k) points more) ∙ cell_of-append (flat_map (weight_in edges k) points) (flat_map (weight_in edges k) more)))
 
 -- cells without weights are those of no points
 pub flat_cells-none : (edges : List ℤ) (cells : List CellSum) → length cells ≡ length edges + 1

@@ -1,7 +1,7 @@
 -- Histograms of one axis.
 use Rattle.std.specs.Prelude.{ℕ, ◌≡◌, ◌≤◌, ◌+◌, ◌^◌, ℤ, List, length, map, All}
 use Rattle.rdf_values.specs.declared.item.Item.{Item}
-use Rattle.rdf_values.specs.Fold.{Cell, cell_of, flat_items, up_to, weights_at}
+use Rattle.rdf_values.specs.Fold.{Cell, cells_on, flat_cell}
 use Rattle.histograms.specs.declared.cell_sum.CellSum.{CellSum}
 use Rattle.histograms.specs.Axis.{IsAxis}
 use Rattle.histograms.specs.Cells.{IsBounded}
@@ -14,7 +14,7 @@ pub record Flat : Type 0 where
 
 -- the cells of points
 abbrev pub flat_cells : List ℤ → List Item → List Cell
-flat_cells edges points = map (λ i. cell_of (flat_items (weights_at edges i) points)) (up_to (length edges))
+flat_cells edges points = map (flat_cell edges points) (cells_on edges)
 
 -- these points were filled, and no others
 pub record HasFilled (hist : Flat) (points : List Item) : Type 0 where

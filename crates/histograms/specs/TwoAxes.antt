@@ -1,7 +1,7 @@
 -- Histograms of two axes.
 use Rattle.std.specs.Prelude.{ℕ, ◌≡◌, ◌≤◌, ◌+◌, ◌*◌, ◌^◌, ℤ, List, length, map, take, drop, All}
 use Rattle.rdf_values.specs.declared.item.Item.{Item}
-use Rattle.rdf_values.specs.Fold.{Cell, cell_of, flat_items, up_to, weights_at2}
+use Rattle.rdf_values.specs.Fold.{Cell, cells_on, square_cell}
 use Rattle.histograms.specs.declared.cell_sum.CellSum.{CellSum}
 use Rattle.histograms.specs.Axis.{IsAxis}
 use Rattle.histograms.specs.Cells.{IsBounded}
@@ -15,7 +15,7 @@ pub record Square : Type 0 where
 
 -- the cells of points
 abbrev pub square_cells : List ℤ → List ℤ → List Item → List (List Cell)
-square_cells xs ys points = map (λ i. map (λ j. cell_of (flat_items (weights_at2 xs ys i j) points)) (up_to (length ys))) (up_to (length xs))
+square_cells xs ys points = map (λ i. map (square_cell xs ys points i) (cells_on ys)) (cells_on xs)
 
 -- these points were filled, and no others
 pub record HasFilled2 (hist : Square) (points : List Item) : Type 0 where
@@ -23,9 +23,9 @@ pub record HasFilled2 (hist : Square) (points : List Item) : Type 0 where
 
 -- ---- how it is kept
 
--- rows of one width, up to the row of this number, in one list
-abbrev pub rows_up_to : {A : Type 0} → ℕ → ℕ → List A → List (List A)
-rows_up_to n width cells = map (λ i. take width (drop (i * width) cells)) (up_to n)
+-- the rows of the cells of two axes: for each x cell its y cells, kept in one list
+abbrev pub rows_on : {A : Type 0} → List ℤ → List ℤ → List A → List (List A)
+rows_on xs ys cells = map (λ i. take (length ys + 1) (drop (i * (length ys + 1)) cells)) (cells_on xs)
 
 -- one cell for each place, row by row, and sums that so many fills can give
 pub record KeepsSquare (xs ys : List ℤ) (fills : ℕ) (cells : List CellSum) : Type 0 where

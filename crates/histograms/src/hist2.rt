@@ -19,13 +19,13 @@ pub struct Hist2 {
 }
 
 impl Model for Hist2 {
-    ghost use Rattle.std.specs.Prelude.{◌+◌, length, map};
+    ghost use Rattle.std.specs.Prelude.{map};
     ghost use Rattle.histograms.specs.Cells.{cell_seen};
-    ghost use Rattle.histograms.specs.TwoAxes.{KeepsSquare, Square, rows_up_to};
+    ghost use Rattle.histograms.specs.TwoAxes.{KeepsSquare, Square, rows_on};
 
     ghost Value = { Square };
 
-    ghost view = { λ h. record { x_edges = h.x; y_edges = h.y; fills = h.fills; cells = rows_up_to (length h.x) (length h.y + 1) (map cell_seen h.cells.items) } };
+    ghost view = { λ h. record { x_edges = h.x; y_edges = h.y; fills = h.fills; cells = rows_on h.x h.y (map cell_seen h.cells.items) } };
 
     ghost invariant = { λ h. KeepsSquare h.x h.y h.fills h.cells.items };
 }

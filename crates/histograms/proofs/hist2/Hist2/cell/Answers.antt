@@ -1,7 +1,7 @@
 use Rattle.std.proofs.Common.{rules, ◌≡◌, ◌≤◌, ◌+◌, ◌*◌, ◌∙◌, length, map, get_or, arith, ap, sym, vec_len, []}
 use Rattle.std.proofs.lemmas.List.{get_or-map}
 use Rattle.std.proofs.lemmas.Option.{slice_get_read}
-use Rattle.histograms.specs.TwoAxes.{rows_up_to}
+use Rattle.histograms.specs.TwoAxes.{rows_on}
 use Rattle.histograms.specs.Cells.{cell_seen}
 use Rattle.histograms.proofs.FillingPairs.{cell_of_row, length-row, length-rows, place_within}
 use Rattle.histograms.proofs.hist2.Hist2.cell.Goals as goal
@@ -26,7 +26,7 @@ returns c =
     let y : c.args.j ≤ length c.self.inside.y = omega arith in
     let at : c.place-at.result ≡ c.args.i * (length ys + 1) + c.args.j = c.place-at.ensures ∙ ap (λ w. c.args.i * w + c.args.j) c.cells.ensures in
     let below = place_within xs ys c.args.i c.args.j c.place-at.result (length cells) c.self.invariant.size x y at in
-    let row = get_or (rows_up_to (length xs) (length ys + 1) (map cell_seen cells)) c.args.i [] in
+    let row = get_or (rows_on xs ys (map cell_seen cells)) c.args.i [] in
     let seen : cell_seen c.index.result.now ≡ get_or row c.args.j (cell_seen c.index.result.now)
     = ap cell_seen c.index.ensures ∙ sym (get_or-map cell_seen cells c.place-at.result c.index.result.now (cell_seen c.index.result.now) below)
     ∙ ap (λ k. get_or (map cell_seen cells) k (cell_seen c.index.result.now)) at ∙ sym (cell_of_row xs ys cells c.args.i c.args.j (cell_seen c.index.result.now) x y) in

@@ -3,7 +3,7 @@ use Rattle.std.proofs.lemmas.Int.{to_z-of_z}
 use Rattle.rdf_values.specs.Fold.{bin}
 use Rattle.histograms.specs.declared.cell_sum.CellSum.{CellSum}
 use Rattle.histograms.specs.Cells.{IsBounded, IsWeight, cell_seen, with_weight}
-use Rattle.histograms.specs.TwoAxes.{rows_up_to}
+use Rattle.histograms.specs.TwoAxes.{rows_on}
 use Rattle.histograms.proofs.Bounds.{all_bounded_with, bounded_with, fits_bounded}
 use Rattle.histograms.proofs.FillingPairs.{place_within, square_cells-point}
 use Rattle.histograms.proofs.hist2.Hist2.fill.Goals as goal
@@ -69,7 +69,7 @@ returns-clause-filled c = λ points held.
     = c.place-at.ensures ∙ ap (λ w. c.bin.result * w + c.bin-2.result) c.cells.ensures ∙ ap (λ i. i * (length ys + 1) + c.bin-2.result) x_bin ∙ ap (λ j. bin xs c.args.x * (length ys + 1) + j) y_bin in
     let before = rw (← c.self.view_is) at held in
     record {
-      cells = ap (λ v. rows_up_to (length xs) (length ys + 1) (map cell_seen (set cells c.place-at.result v))) kept
+      cells = ap (λ v. rows_on xs ys (map cell_seen (set cells c.place-at.result v))) kept
           ∙ square_cells-point xs ys points c.args.x c.args.y c.args.weight cells c.index.result.now c.place-at.result c.self.invariant.size (subst (λ i. i ≤ length xs) x_bin c.bin.ensures.within) (subst (λ j. j ≤ length ys) y_bin c.bin-2.ensures.within)
           at c.index.ensures before.cells;
     }
