@@ -1,12 +1,12 @@
 -- The fault of what an entry feeds.
 use Rattle.std.proofs.Common.{◌≡◌, Bool, true, false, List, [], ◌∷◌, refl, sym, arith}
-use Rattle.std.specs.Prelude.{if◌then◌else◌, not, Option, Some, None, ◌&&◌}
+use Rattle.std.specs.Prelude.{if◌then◌else◌, Option, Some, ◌&&◌}
 use Rattle.rdf_values.specs.declared.action.ActionKind.{ActionKind}
 use Rattle.rdf_values.specs.declared.action.ActionKind.TheVariants as kind
 use Rattle.rdf_values.specs.declared.fault.EntryFault.{EntryFault}
-use Rattle.rdf_values.specs.declared.fault.EntryFault.TheVariants.{Lengths, Weight}
+use Rattle.rdf_values.specs.declared.fault.EntryFault.TheVariants.{Lengths}
 use Rattle.rdf_values.specs.declared.value.Value.{Value}
-use Rattle.rdf_values.specs.Spread.{as_long_as, feed_fault, is_weight}
+use Rattle.rdf_values.specs.Spread.{as_long_as, feed_fault, is_weight, weight_fault}
 use Rattle.actions.specs.declared.items.Part.{Part}
 use Rattle.actions.specs.declared.items.Items.{Items}
 use Rattle.actions.specs.declared.items.Items.TheVariants.{Pair, Weighted, WeightedPair}
@@ -14,7 +14,7 @@ use Rattle.actions.specs.Parts.{Suits, part_value}
 
 -- by whether the vectors have one length, and whether the weight is in range
 abbrev pub fault_by : Bool → Bool → Option EntryFault
-fault_by b w = if not b then Some Lengths else (if w then None else Some Weight)
+fault_by b w = if b then weight_fault w else Some Lengths
 
 pub fault_weighted : (k : ActionKind) (x w : Part) (b : Bool) → Suits k (Weighted x w) → b ≡ as_long_as (part_value x) (part_value w) → fault_by b (is_weight (part_value w)) ≡ feed_fault k (part_value x ∷ part_value w ∷ [])
 fault_weighted kind.Count x w b s e = absurd s

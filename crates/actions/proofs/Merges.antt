@@ -1,6 +1,6 @@
 -- What a state holds after the items of another.
 use Rattle.std.proofs.Common.{ℕ, ◌≡◌, ◌+◌, map, length, List, [], ◌∷◌, ◌++◌, ℤ, pos, ◌+ℤ◌, arith, refl, ap, sym, ◌∙◌, subst, length-append}
-use Rattle.std.specs.Prelude.{Option, Some, None, fold}
+use Rattle.std.specs.Prelude.{flat_map, Option, Some, None, fold}
 use Rattle.std.specs.Int.{int_max, int_min}
 use Rattle.rdf_values.specs.declared.action.ReduceOp.{ReduceOp}
 use Rattle.rdf_values.specs.declared.value.Scalar.{Scalar}

@@ -1,9 +1,9 @@
 // What an entry feeds to an action.
-ghost use Rattle.std.specs.Prelude.{◌≡◌, if◌then◌else◌, not, Some, None};
-ghost use Rattle.rdf_values.specs.declared.fault.EntryFault.TheVariants.{Lengths, Weight};
+ghost use Rattle.std.specs.Prelude.{◌≡◌, if◌then◌else◌, Some};
+ghost use Rattle.rdf_values.specs.declared.fault.EntryFault.TheVariants.{Lengths};
 ghost use Rattle.std.specs.Option.{option_to_list};
 ghost use Rattle.rdf_values.specs.declared.action.ActionKind.{ActionKind};
-ghost use Rattle.rdf_values.specs.Spread.{as_long_as, feed_fault, is_weight, numbers, scalar_value};
+ghost use Rattle.rdf_values.specs.Spread.{as_long_as, feed_fault, is_weight, numbers, scalar_value, weight_fault};
 ghost use Rattle.actions.specs.Parts.{Suits, first_numbers, first_scalar, part_value, second_part, values_of, weight_part};
 
 use rdf_values::{EntryFault, Scalar};
@@ -150,7 +150,7 @@ impl<'a> Items<'a> {
 
 // The fault of values of one length or not, and of a weight.
 fn fault_of(one_length: bool, weight: &Part<'_>) -> Option<EntryFault>
-    ensures { result ≡ (if not one_length then Some Lengths else (if is_weight (part_value weight.now) then None else Some Weight)) }
+    ensures { result ≡ (if one_length then weight_fault (is_weight (part_value weight.now)) else Some Lengths) }
 {
     if !one_length {
         return Some(EntryFault::Lengths);
