@@ -1,5 +1,5 @@
 -- What a cell of two axes holds after one more point, and rows kept in one list.
-use Rattle.std.proofs.Common.{ℕ, zero, suc, ◌≡◌, ◌+◌, ◌*◌, ◌<◌, ◌≤◌, length, get_or, set, map, take, drop, List, [], ◌∷◌, ◌++◌, ℤ, pos, ◌*ℤ◌, arith, refl, ap, sym, ◌∙◌, ⊎_elim, length-drop}
+use Rattle.std.proofs.Common.{ℕ, suc, ◌≡◌, ◌+◌, ◌*◌, ◌<◌, ◌≤◌, length, get_or, set, map, take, drop, List, [], ◌∷◌, ◌++◌, ℤ, pos, ◌*ℤ◌, arith, refl, ap, sym, ◌∙◌, ⊎_elim, length-drop}
 use Rattle.std.proofs.lemmas.Bool.{cases_eq, eq-eqb, ne_eqb}
 use Rattle.std.specs.Prelude.{flat_map}
 use Rattle.std.proofs.lemmas.Grind.{flat_map-append}
