@@ -1,4 +1,4 @@
-ghost use Rattle.std.specs.Prelude.{◌≡◌, ◌≤◌, ℤ, IfOk, IsTrue, length};
+ghost use Rattle.std.specs.Prelude.{◌≡◌, ◌≤◌, ◌+◌, ℤ, IfOk, IsTrue, length};
 ghost use Rattle.actions.specs.declared.items.Part as value;
 ghost use Rattle.actions.specs.declared.items.Items.TheVariants as items;
 ghost use Rattle.actions.specs.declared.items.Part.TheVariants as part;
@@ -32,6 +32,29 @@ fn fed(alloc: Global, kind: &ActionKind, cluster: u32, numbers: &[i64]) -> Resul
         )?;
     }
     Ok(acc)
+}
+
+// Both accumulators as one.
+fn joined(acc: Acc, other: Acc) -> Result<Acc, Fail>
+    requires kind { other.kind ≡ acc.kind }
+    requires room { acc.entries + other.entries ≤ 1000000 }
+    ensures kind { IfOk result (λ all. all.kind ≡ acc.kind) }
+    ensures entries { IfOk result (λ all. all.entries ≡ acc.entries + other.entries) }
+{
+    let mut all = acc;
+    all.merge(other)?;
+    Ok(all)
+}
+
+// Entries of three clusters, of which the last was fed and merged first.
+fn merged_last_first(alloc: Global, kind: &ActionKind) -> Result<Acc, Fail>
+    requires edges { HasEdges kind.now }
+    requires numbers { (z : ℤ) → Suits kind.now (items.One (part.Int z)) }
+{
+    let last = fed(alloc, kind, 2, &[40, 5])?;
+    let first = fed(alloc, kind, 0, &[10])?;
+    let second = fed(alloc, kind, 1, &[25])?;
+    joined(joined(last, first)?, second)
 }
 
 // Whether it is a number or a vector that is short enough.
@@ -108,12 +131,11 @@ fn xor_combines_the_numbers(rt: HostRuntime) -> Result<(), Fail> {
 #[test]
 fn values_stand_by_cluster_whatever_the_order_of_merging(rt: HostRuntime) -> Result<(), Fail> {
     let kind = ActionKind::Take(name(rt.alloc(), b"pt")?);
-    let mut acc = fed(rt.alloc(), &kind, 2, &[40, 5])?;
-    acc.merge(fed(rt.alloc(), &kind, 0, &[10])?)?;
-    acc.merge(fed(rt.alloc(), &kind, 1, &[25])?)?;
-    for (i, value) in [(0, 10), (1, 25), (2, 40), (3, 5)] {
-        assert_eq!(rt; value_at(&acc, i), Some(Scalar::Int(value)));
-    }
+    let acc = merged_last_first(rt.alloc(), &kind)?;
+    assert_eq!(rt; value_at(&acc, 0), Some(Scalar::Int(10)));
+    assert_eq!(rt; value_at(&acc, 1), Some(Scalar::Int(25)));
+    assert_eq!(rt; value_at(&acc, 2), Some(Scalar::Int(40)));
+    assert_eq!(rt; value_at(&acc, 3), Some(Scalar::Int(5)));
     assert_eq!(rt; value_at(&acc, 4), None);
     Ok(())
 }
