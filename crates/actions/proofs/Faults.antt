@@ -1,15 +1,13 @@
 -- The fault of what an entry feeds.
-use Rattle.std.proofs.Common.{◌≡◌, Bool, true, false, List, [], ◌∷◌, refl, sym, arith}
+use Rattle.std.proofs.Common.{◌≡◌, Bool, true, false, [], ◌∷◌, refl}
 use Rattle.std.specs.Prelude.{if◌then◌else◌, Option, Some, ◌&&◌}
 use Rattle.rdf_values.specs.declared.action.ActionKind.{ActionKind}
 use Rattle.rdf_values.specs.declared.action.ActionKind.TheVariants as kind
 use Rattle.rdf_values.specs.declared.fault.EntryFault.{EntryFault}
 use Rattle.rdf_values.specs.declared.fault.EntryFault.TheVariants.{Lengths}
-use Rattle.rdf_values.specs.declared.value.Value.{Value}
 use Rattle.rdf_values.specs.Spread.{as_long_as, feed_fault, is_weight, weight_fault}
 use Rattle.actions.specs.declared.items.Part.{Part}
-use Rattle.actions.specs.declared.items.Items.{Items}
-use Rattle.actions.specs.declared.items.Items.TheVariants.{Pair, Weighted, WeightedPair}
+use Rattle.actions.specs.declared.items.Items.TheVariants.{Pair, Weighted}
 use Rattle.actions.specs.Parts.{Suits, part_value}
 
 -- by whether the vectors have one length, and whether the weight is in range

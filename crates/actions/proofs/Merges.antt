@@ -1,17 +1,15 @@
 -- What a state holds after the items of another.
-use Rattle.std.proofs.Common.{ℕ, ◌≡◌, ◌+◌, map, length, List, [], ◌∷◌, ◌++◌, ℤ, pos, ◌+ℤ◌, arith, refl, ap, sym, ◌∙◌, subst, length-append}
-use Rattle.std.specs.Prelude.{flat_map, Option, Some, None, fold}
+use Rattle.std.proofs.Common.{ℕ, ◌≡◌, ◌+◌, map, length, List, [], ◌∷◌, ◌++◌, ℤ, ◌+ℤ◌, refl, ap, sym, ◌∙◌, length-append}
+use Rattle.std.specs.Prelude.{flat_map, Option, None, fold}
 use Rattle.std.specs.Int.{int_max, int_min}
 use Rattle.rdf_values.specs.declared.action.ReduceOp.{ReduceOp}
-use Rattle.rdf_values.specs.declared.value.Scalar.{Scalar}
 use Rattle.rdf_values.specs.declared.item.Item.{Item}
-use Rattle.rdf_values.specs.Fold.{Cell, Count, Extreme, Filled, Flat, Reduced, Square, Sum, Taken, extreme, integer_sum, number_of, numbers_of, reduce_start, reduce_step, scalar_of}
+use Rattle.rdf_values.specs.Fold.{Count, Extreme, Flat, Reduced, Square, Sum, Taken, extreme, integer_sum, number_of, numbers_of, reduce_start, reduce_step, scalar_of}
 use Rattle.histograms.specs.OneAxis.{HasFilled, flat_cells}
 use Rattle.histograms.specs.OneAxis as one
 use Rattle.histograms.specs.TwoAxes.{HasFilled2, square_cells}
 use Rattle.histograms.specs.TwoAxes as two
 use Rattle.actions.specs.declared.taken.TakenValue.{TakenValue}
-use Rattle.actions.specs.declared.state.State.{State}
 use Rattle.actions.specs.declared.state.State.TheVariants as state
 use Rattle.actions.specs.Extremes.{better_of, better_of_two}
 use Rattle.actions.specs.Feeding.{Fed, by_cluster, in_file_order}

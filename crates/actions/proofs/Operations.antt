@@ -1,14 +1,10 @@
 -- The operations of a Reduce, and extremes, over two lists.
-use Rattle.std.proofs.Common.{ℕ, ◌≡◌, ◌+◌, ◌<◌, ◌^◌, ◌*◌, ◌-◌, ◌%◌, List, [], ◌∷◌, ℤ, pos, negsuc, ◌+ℤ◌, ◌≤ℤ◌, arith, refl, ap, sym, ◌∙◌, w64, FitsSigned}
-use Rattle.std.specs.Prelude.{Option, Some, None, fold, bit_and, bit_or, bit_xor}
-use Rattle.std.specs.Int.{cast_signed, cast_unsigned, int_max, int_min, int_wrapping_add}
-use Rattle.std.proofs.lemmas.Int.{clamps, ints, of_z-to_z}
-use Rattle.std.proofs.lemmas.Nat.{and_comm, or_comm, xor_comm, or_lt, xor_lt, and_le_l}
-use Rattle.rdf_values.specs.declared.action.ReduceOp.{ReduceOp}
-use Rattle.rdf_values.specs.declared.action.ReduceOp.TheVariants as op
-use Rattle.rdf_values.specs.Fold.{extreme, on_bits, reduce_start, reduce_step}
+use Rattle.std.proofs.Common.{◌≡◌, List, [], ◌∷◌, ℤ, arith, refl, ap, sym, ◌∙◌}
+use Rattle.std.specs.Prelude.{Option, Some, None, fold}
+use Rattle.std.specs.Int.{int_max, int_min}
+use Rattle.std.proofs.lemmas.Int.{clamps, ints}
+use Rattle.rdf_values.specs.Fold.{extreme}
 use Rattle.actions.specs.Extremes.{better_of, better_of_two}
-use Rattle.actions.proofs.Folds.{extreme_fold}
 
 pub min_swap : (a x y : ℤ) → int_min (int_min a x) y ≡ int_min (int_min a y) x
 min_swap a x y = omega (arith, ints, clamps)

@@ -1,5 +1,5 @@
 -- The points of an entry, one more at a time.
-use Rattle.std.proofs.Common.{ℕ, zero, suc, ◌≡◌, ◌+◌, ◌<◌, ◌≤◌, length, get_or, take, List, [], ◌∷◌, ◌++◌, ℤ, pos, arith, refl, ap, sym, ◌∙◌, add-one, append_assoc}
+use Rattle.std.proofs.Common.{ℕ, zero, suc, ◌≡◌, ◌+◌, ◌<◌, length, get_or, take, List, [], ◌∷◌, ◌++◌, ℤ, pos, arith, refl, ap, sym, ◌∙◌, add-one, append_assoc}
 use Rattle.rdf_values.specs.declared.item.Item.{Item}
 use Rattle.rdf_values.specs.declared.item.Item.TheVariants.{Point, Point2}
 use Rattle.rdf_values.specs.Spread.{points, points2}

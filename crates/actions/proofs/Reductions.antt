@@ -1,9 +1,9 @@
 -- The operations of a Reduce over two lists of numbers that have 64 bits.
-use Rattle.std.proofs.Common.{ℕ, suc, ◌≡◌, ◌≤◌, ◌+◌, ◌-◌, ◌<◌, ◌^◌, ◌%◌, Bool, true, false, cond, lit<, List, [], ◌∷◌, ◌++◌, map, ℤ, pos, negsuc, arith, refl, ap, sym, ◌∙◌, w64, FitsSigned}
+use Rattle.std.proofs.Common.{ℕ, suc, ◌≡◌, ◌+◌, ◌-◌, ◌<◌, ◌^◌, ◌%◌, Bool, true, false, cond, lit<, List, [], ◌∷◌, ◌++◌, ℤ, pos, negsuc, arith, refl, ap, sym, ◌∙◌, w64, FitsSigned}
 use Rattle.std.proofs.Math.Facts.{Fits-of_lt, sfits_to_z}
 use Rattle.std.specs.Prelude.{int_lt, fold, bit_and, bit_or, bit_xor, if◌then◌else◌, nat_le}
-use Rattle.std.specs.Int.{bit_at, cast_signed, cast_unsigned, int_max, int_min, int_wrapping_add}
-use Rattle.std.proofs.lemmas.Int.{clamps, ints, of_z-to_z}
+use Rattle.std.specs.Int.{cast_signed, cast_unsigned, int_max, int_min, int_wrapping_add}
+use Rattle.std.proofs.lemmas.Int.{of_z-to_z}
 use Rattle.std.proofs.lemmas.Nat.{and_comm, and_le_l, or_comm, or_lt, xor_comm, xor_lt}
 use Rattle.std.proofs.lemmas.Nat.Bits.{bit_at_and, bit_at_or, bit_at_xor, same_from_bits}
 use Rattle.std.proofs.Math.Nat.{mod-eq_of_lt, mod-add-mod}

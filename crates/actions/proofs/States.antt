@@ -1,33 +1,29 @@
 -- What an accumulator holds after one more entry.
-use Rattle.std.proofs.Common.{ℕ, ◌≡◌, ◌≤◌, ◌+◌, map, length, All, List, [], ◌∷◌, ◌++◌, ℤ, pos, ◌+ℤ◌, arith, refl, ap, sym, ◌∙◌, length-append, lit≤, subst, w64, FitsSigned}
-use Rattle.std.specs.Prelude.{flat_map, Option, Some, None, Result, Ok, Err, OnOk, fold}
-use Rattle.std.specs.Option.{option_to_list}
+use Rattle.std.proofs.Common.{ℕ, ◌≡◌, ◌≤◌, ◌+◌, map, length, All, List, [], ◌∷◌, ◌++◌, ℤ, pos, ◌+ℤ◌, refl, ap, sym, ◌∙◌, length-append, lit≤, subst, w64, FitsSigned}
+use Rattle.std.specs.Prelude.{flat_map, Option, None, Result, Ok, Err, OnOk, fold}
 use Rattle.std.proofs.lemmas.List.{map-append}
 use Rattle.std.proofs.lemmas.List.Elements.{All-head, All-tail}
 use Rattle.std.specs.Int.{int_max, int_min}
-use Rattle.rdf_values.specs.declared.action.ActionKind.{ActionKind}
 use Rattle.rdf_values.specs.declared.action.ActionKind.TheVariants as kind
 use Rattle.rdf_values.specs.declared.action.ReduceOp.{ReduceOp}
 use Rattle.rdf_values.specs.declared.value.Value.{Value}
 use Rattle.rdf_values.specs.declared.value.Scalar.{Scalar}
 use Rattle.rdf_values.specs.declared.item.Item.{Item}
 use Rattle.rdf_values.specs.declared.item.Item.TheVariants.{Number, Single, Unit}
-use Rattle.rdf_values.specs.Fold.{Cell, Count, Extreme, Filled, Flat, Reduced, Square, Sum, Taken, extreme, fold_items, integer_sum, numbers_of, reduce_start, reduce_step, scalar_of}
-use Rattle.rdf_values.specs.Spread.{numbers, points, points2, spread, weights}
+use Rattle.rdf_values.specs.Fold.{Cell, Count, Extreme, Filled, Flat, Reduced, Square, Sum, Taken, extreme, numbers_of, reduce_start, reduce_step, scalar_of}
+use Rattle.rdf_values.specs.Spread.{points, points2, spread, weights}
 use Rattle.histograms.specs.OneAxis.{HasFilled, flat_cells}
 use Rattle.histograms.specs.OneAxis as one
 use Rattle.histograms.specs.TwoAxes.{HasFilled2, square_cells}
 use Rattle.histograms.specs.TwoAxes as two
 use Rattle.actions.specs.declared.taken.TakenValue.{TakenValue}
-use Rattle.actions.specs.declared.state.State.{State}
 use Rattle.actions.specs.declared.state.State.TheVariants as state
-use Rattle.actions.specs.declared.items.Part.{Part}
 use Rattle.actions.specs.declared.items.Part.TheVariants as part
 use Rattle.actions.specs.declared.items.Items.{Items}
 use Rattle.actions.specs.declared.items.Items.TheVariants.{Entry, One, Weighted, Pair, WeightedPair}
 use Rattle.actions.specs.Extremes.{better_of}
 use Rattle.actions.specs.Feeding.{Fed, by_cluster, from_cluster, in_file_order}
-use Rattle.actions.specs.Holding.{Holds, NumbersFit, kind_of, made}
+use Rattle.actions.specs.Holding.{Holds, NumbersFit}
 use Rattle.actions.specs.Values.{fed_value}
 use Rattle.actions.specs.Parts.{Suits, first_numbers, first_scalar, part_values, second_part, values_of, weight_part}
 use Rattle.actions.proofs.Folds.{extreme_numbers, fold_numbers, taken_singles}

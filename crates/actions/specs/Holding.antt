@@ -1,5 +1,5 @@
 -- What an accumulator holds.
-use Rattle.std.specs.Prelude.{ℕ, ◌≡◌, ◌≤◌, ◌+◌, ◌*◌, ◌^◌, ⊤, List, [], ◌∷◌, FitsSigned, length, map, All, nat_abs}
+use Rattle.std.specs.Prelude.{ℕ, ◌≡◌, ◌≤◌, ◌*◌, ⊤, List, [], ◌∷◌, FitsSigned, length, map, nat_abs}
 use Rattle.std.specs.Int.{w64}
 use Rattle.rdf_values.specs.declared.action.ActionKind.{ActionKind}
 use Rattle.rdf_values.specs.declared.action.ActionKind.TheVariants as kind

@@ -1,7 +1,5 @@
-use Rattle.std.proofs.Common.{rules, arith, ◌≡◌, ◌<◌, ◌++◌, ◌∷◌, [], ◌∙◌, ap, sym, subst, get_or, length, pos, take, List, ℤ, w64, FitsSigned, append_assoc}
+use Rattle.std.proofs.Common.{rules, arith, ◌≡◌, ◌<◌, ◌++◌, ◌∙◌, sym, subst, get_or, length, pos, take, w64, FitsSigned}
 use Rattle.std.proofs.lemmas.Int.{to_z-of_z}
-use Rattle.rdf_values.specs.declared.item.Item.{Item}
-use Rattle.rdf_values.specs.declared.item.Item.TheVariants.{Point}
 use Rattle.rdf_values.specs.Spread.{points, weights}
 use Rattle.histograms.specs.OneAxis.{HasFilled}
 use Rattle.actions.specs.Parts.{part_values}

@@ -1,4 +1,4 @@
-use Rattle.std.proofs.Common.{rules, arith, ◌≡◌, ◌≤◌, ◌<◌, ◌+◌, ◌++◌, ◌∙◌, ap, sym, ℕ, List, All}
+use Rattle.std.proofs.Common.{arith}
 use Rattle.rdf_values.specs.Spread.{spread}
 use Rattle.actions.specs.Holding.{kind_of}
 use Rattle.actions.specs.Parts.{values_of}

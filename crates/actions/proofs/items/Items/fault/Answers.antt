@@ -1,4 +1,4 @@
-use Rattle.std.proofs.Common.{rules, arith, ◌≡◌, ◌<◌, ap, ◌∙◌, sym}
+use Rattle.std.proofs.Common.{◌∙◌}
 use Rattle.actions.proofs.Faults.{fault_pair, fault_weighted}
 use Rattle.actions.proofs.items.Items.fault.Goals as goal
 

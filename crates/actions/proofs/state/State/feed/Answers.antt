@@ -1,6 +1,5 @@
-use Rattle.std.proofs.Common.{rules, arith, ◌≡◌, ◌≤◌, ◌+◌, ◌*◌, ◌^◌, ◌++◌, ◌∷◌, [], ◌∙◌, ap, sym, ℕ, List, All, length, w64, FitsSigned, ◌+ℤ◌, refl}
-use Rattle.std.specs.Prelude.{fold, nat_abs}
-use Rattle.std.specs.Option.{option_to_list}
+use Rattle.std.proofs.Common.{rules, arith, ◌∷◌, [], ◌∙◌, ap, w64, FitsSigned, ◌+ℤ◌, refl}
+use Rattle.std.specs.Prelude.{fold}
 use Rattle.std.specs.Int.{w128, int_max, int_min}
 use Rattle.std.proofs.lemmas.Int.{to_z-of_z}
 use Rattle.rdf_values.specs.Fold.{reduce_step}

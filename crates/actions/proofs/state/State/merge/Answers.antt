@@ -1,9 +1,6 @@
-use Rattle.std.proofs.Common.{rules, arith, ◌≡◌, ◌<◌, ◌^◌, ◌+ℤ◌, ◌∙◌, ap, sym, w64, FitsSigned}
-use Rattle.std.specs.Prelude.{nat_abs}
+use Rattle.std.proofs.Common.{rules, arith, ◌≡◌, ◌+ℤ◌, ◌∙◌, w64, FitsSigned}
 use Rattle.std.specs.Int.{w128}
 use Rattle.std.proofs.lemmas.Int.{to_z-of_z}
-use Rattle.rdf_values.specs.declared.action.ReduceOp.{ReduceOp}
-use Rattle.rdf_values.specs.Fold.{reduce_step}
 use Rattle.actions.proofs.Merges.{merge_count, merge_flat, merge_max, merge_min, merge_reduce, merge_square, merge_sum, merge_take}
 use Rattle.actions.proofs.Sums.{fits_sum, abs_add}
 use Rattle.actions.proofs.state.State.merge.Goals as goal
