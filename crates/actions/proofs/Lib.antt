@@ -1,0 +1,11 @@
+pub mod Faults
+pub mod Folds
+pub mod Merges
+pub mod Merging
+pub mod Operations
+pub mod Order
+pub mod Points
+pub mod Reductions
+pub mod States
+pub mod Sums
+pub mod Unordered

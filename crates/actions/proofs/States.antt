@@ -1,0 +1,200 @@
+-- What an accumulator holds after one more entry.
+use Rattle.std.proofs.Common.{ℕ, ◌≡◌, ◌≤◌, ◌+◌, map, length, All, List, [], ◌∷◌, ◌++◌, ℤ, pos, ◌+ℤ◌, refl, ap, sym, ◌∙◌, length-append, lit≤, subst, w64, FitsSigned}
+use Rattle.std.specs.Prelude.{flat_map, Option, None, Result, Ok, Err, OnOk, fold}
+use Rattle.std.proofs.lemmas.List.{map-append}
+use Rattle.std.proofs.lemmas.List.Elements.{All-head, All-tail}
+use Rattle.std.specs.Int.{int_max, int_min}
+use Rattle.rdf_values.specs.declared.action.ActionKind.TheVariants as kind
+use Rattle.rdf_values.specs.declared.action.ReduceOp.{ReduceOp}
+use Rattle.rdf_values.specs.declared.value.Value.{Value}
+use Rattle.rdf_values.specs.declared.value.Scalar.{Scalar}
+use Rattle.rdf_values.specs.declared.item.Item.{Item}
+use Rattle.rdf_values.specs.declared.item.Item.TheVariants.{Number, Single, Unit}
+use Rattle.rdf_values.specs.Fold.{Cell, Count, Extreme, Filled, Flat, Reduced, Square, Sum, Taken, extreme, numbers_of, reduce_start, reduce_step, scalar_of}
+use Rattle.rdf_values.specs.Spread.{points, points2, spread, weights}
+use Rattle.histograms.specs.OneAxis.{HasFilled, flat_cells}
+use Rattle.histograms.specs.OneAxis as one
+use Rattle.histograms.specs.TwoAxes.{HasFilled2, square_cells}
+use Rattle.histograms.specs.TwoAxes as two
+use Rattle.actions.specs.declared.taken.TakenValue.{TakenValue}
+use Rattle.actions.specs.declared.state.State.TheVariants as state
+use Rattle.actions.specs.declared.items.Part.TheVariants as part
+use Rattle.actions.specs.declared.items.Items.{Items}
+use Rattle.actions.specs.declared.items.Items.TheVariants.{Entry, One, Weighted, Pair, WeightedPair}
+use Rattle.actions.specs.Extremes.{better_of}
+use Rattle.actions.specs.Feeding.{Fed, by_cluster, from_cluster, in_file_order}
+use Rattle.actions.specs.Holding.{Holds, NumbersFit}
+use Rattle.actions.specs.Values.{fed_value}
+use Rattle.actions.specs.Parts.{Suits, first_numbers, first_scalar, part_values, second_part, values_of, weight_part}
+use Rattle.actions.proofs.Folds.{extreme_numbers, fold_numbers, taken_singles}
+use Rattle.actions.proofs.Order.{by_cluster-feed, in_file_order-feed}
+
+-- numbers out of a result
+abbrev pub the_count : Filled → ℕ
+the_count (Count n) = n
+the_count f = 0
+
+abbrev pub the_sum : Filled → ℤ → ℤ
+the_sum (Sum z) d = z
+the_sum (Reduced z) d = z
+the_sum f d = d
+
+abbrev pub the_extreme : Filled → Option ℤ
+the_extreme (Extreme o) = o
+the_extreme f = None
+
+abbrev pub the_taken : Filled → List Scalar
+the_taken (Taken xs) = xs
+the_taken f = []
+
+abbrev pub the_flat : Filled → List Cell
+the_flat (Flat cells) = cells
+the_flat f = []
+
+abbrev pub the_square : Filled → List (List Cell)
+the_square (Square cells) = cells
+the_square f = []
+
+-- the items of one column
+spread_sum : (c : List ℕ) (vs : List Value) → spread (kind.Sum c) vs ≡ map Number (first_numbers vs)
+spread_sum c [] = refl
+spread_sum c (v ∷ vs) = refl
+
+spread_min : (c : List ℕ) (vs : List Value) → spread (kind.Min c) vs ≡ map Number (first_numbers vs)
+spread_min c [] = refl
+spread_min c (v ∷ vs) = refl
+
+spread_max : (c : List ℕ) (vs : List Value) → spread (kind.Max c) vs ≡ map Number (first_numbers vs)
+spread_max c [] = refl
+spread_max c (v ∷ vs) = refl
+
+spread_reduce : (o : ReduceOp) (c : List ℕ) (vs : List Value) → spread (kind.Reduce o c) vs ≡ map Number (first_numbers vs)
+spread_reduce o c [] = refl
+spread_reduce o c (v ∷ vs) = refl
+
+spread_take : (c : List ℕ) (vs : List Value) → spread (kind.Take c) vs ≡ map Single (first_scalar vs)
+spread_take c [] = refl
+spread_take c (v ∷ vs) = refl
+
+-- values of one cluster
+abbrev pub values_from : ℕ → List Scalar → List TakenValue
+values_from cluster xs = map (λ x. record { cluster = cluster; value = x }) xs
+
+values_fed : (xs : List Scalar) (cluster : ℕ) → map fed_value (values_from cluster xs) ≡ from_cluster cluster (map Single xs)
+values_fed [] cluster = refl
+values_fed (x ∷ xs) cluster = ap (λ l. record { cluster = cluster; item = Single x } ∷ l) (values_fed xs cluster)
+
+values_plain : (xs : List Scalar) (cluster : ℕ) → map (λ (v : TakenValue). v.value) (values_from cluster xs) ≡ xs
+values_plain [] cluster = refl
+values_plain (x ∷ xs) cluster = ap (λ l. x ∷ l) (values_plain xs cluster)
+
+pub numbers_fit-append : (a b : List Fed) → NumbersFit a → NumbersFit b → NumbersFit (a ++ b)
+numbers_fit-append [] b h k = k
+numbers_fit-append (f ∷ fs) b h k = (h.0, numbers_fit-append fs b h.1 k)
+
+fits_numbers : (zs : List ℤ) (cluster : ℕ) → All (λ z. FitsSigned w64 z) zs → NumbersFit (from_cluster cluster (map Number zs))
+fits_numbers [] cluster h = tt
+fits_numbers (z ∷ zs) cluster h = (All-head (λ y. FitsSigned w64 y) z zs h, fits_numbers zs cluster (All-tail (λ y. FitsSigned w64 y) z zs h))
+
+module _ (fed : List Fed) (cluster : ℕ) (below : All (λ f. f.cluster ≤ cluster) fed) where
+  after : (is js : List Item) → is ≡ js → in_file_order (fed ++ from_cluster cluster is) ≡ in_file_order fed ++ js
+  after is js e = ap (λ l. in_file_order (fed ++ from_cluster cluster l)) e ∙ in_file_order-feed fed cluster js below
+
+  pub holds_count : (n : ℕ) → Holds (state.Count n) fed → Holds (state.Count (n + 1)) (fed ++ from_cluster cluster (spread kind.Count []))
+  holds_count n h = record {
+    made = ap Count (ap (λ k. k + 1) (ap the_count h.made) ∙ sym (ap length (in_file_order-feed fed cluster (Unit ∷ []) below) ∙ length-append (in_file_order fed) (Unit ∷ [])));
+    kept = refl;
+    fit = tt;
+  }
+
+  pub holds_sum : (c : List ℕ) (z z' : ℤ) (vs : List Value) → z' ≡ fold ◌+ℤ◌ z (first_numbers vs) → Holds (state.Sum c z) fed → Holds (state.Sum c z') (fed ++ from_cluster cluster (spread (kind.Sum c) vs))
+  holds_sum c z z' vs e h = record {
+    made = ap Sum (e ∙ ap (λ a. fold ◌+ℤ◌ a (first_numbers vs)) (ap (λ f. the_sum f z) h.made)
+        ∙ sym (ap (λ l. fold ◌+ℤ◌ (pos 0) (numbers_of l)) (after (spread (kind.Sum c) vs) (map Number (first_numbers vs)) (spread_sum c vs)) ∙ fold_numbers ◌+ℤ◌ (pos 0) (in_file_order fed) (first_numbers vs)));
+    kept = refl;
+    fit = tt;
+  }
+
+  pub holds_min : (c : List ℕ) (o o' : Option ℤ) (vs : List Value) → o' ≡ fold (better_of int_min) o (first_numbers vs) → Holds (state.Min c o) fed → Holds (state.Min c o') (fed ++ from_cluster cluster (spread (kind.Min c) vs))
+  holds_min c o o' vs e h = record {
+    made = ap Extreme (e ∙ ap (λ a. fold (better_of int_min) a (first_numbers vs)) (ap the_extreme h.made)
+        ∙ sym (ap (λ l. extreme int_min (numbers_of l)) (after (spread (kind.Min c) vs) (map Number (first_numbers vs)) (spread_min c vs)) ∙ extreme_numbers int_min (in_file_order fed) (first_numbers vs)));
+    kept = refl;
+    fit = tt;
+  }
+
+  pub holds_max : (c : List ℕ) (o o' : Option ℤ) (vs : List Value) → o' ≡ fold (better_of int_max) o (first_numbers vs) → Holds (state.Max c o) fed → Holds (state.Max c o') (fed ++ from_cluster cluster (spread (kind.Max c) vs))
+  holds_max c o o' vs e h = record {
+    made = ap Extreme (e ∙ ap (λ a. fold (better_of int_max) a (first_numbers vs)) (ap the_extreme h.made)
+        ∙ sym (ap (λ l. extreme int_max (numbers_of l)) (after (spread (kind.Max c) vs) (map Number (first_numbers vs)) (spread_max c vs)) ∙ extreme_numbers int_max (in_file_order fed) (first_numbers vs)));
+    kept = refl;
+    fit = tt;
+  }
+
+  pub holds_reduce : (c : List ℕ) (o : ReduceOp) (z z' : ℤ) (vs : List Value) → z' ≡ fold (reduce_step o) z (first_numbers vs) → All (λ z. FitsSigned w64 z) (first_numbers vs) → Holds (state.Reduce c (record { op = o; value = z })) fed
+      → Holds (state.Reduce c (record { op = o; value = z' })) (fed ++ from_cluster cluster (spread (kind.Reduce o c) vs))
+  holds_reduce c o z z' vs e fits h = record {
+    made = ap Reduced (e ∙ ap (λ a. fold (reduce_step o) a (first_numbers vs)) (ap (λ f. the_sum f z) h.made)
+        ∙ sym (ap (λ l. fold (reduce_step o) (reduce_start o) (numbers_of l)) (after (spread (kind.Reduce o c) vs) (map Number (first_numbers vs)) (spread_reduce o c vs)) ∙ fold_numbers (reduce_step o) (reduce_start o) (in_file_order fed) (first_numbers vs)));
+    kept = refl;
+    fit = numbers_fit-append fed (from_cluster cluster (spread (kind.Reduce o c) vs)) h.fit (subst (λ l. NumbersFit (from_cluster cluster l)) (sym (spread_reduce o c vs)) (fits_numbers (first_numbers vs) cluster fits));
+  }
+
+  pub holds_take : (c : List ℕ) (ts ts' : List TakenValue) (xs : List Scalar) (vs : List Value) → ts' ≡ ts ++ values_from cluster xs → xs ≡ first_scalar vs → Holds (state.Take c ts) fed → Holds (state.Take c ts') (fed ++ from_cluster cluster (spread (kind.Take c) vs))
+  holds_take c ts ts' xs vs e f h =
+      let is : spread (kind.Take c) vs ≡ map Single xs = spread_take c vs ∙ ap (map Single) (sym f) in
+      record {
+        made = ap Taken (ap (map (λ (v : TakenValue). v.value)) e ∙ map-append (λ (v : TakenValue). v.value) ts (values_from cluster xs) ∙ ap (λ l. map (λ (v : TakenValue). v.value) ts ++ l) (values_plain xs cluster) ∙ ap (λ l. l ++ xs) (ap the_taken h.made)
+            ∙ sym (ap (flat_map scalar_of) (after (spread (kind.Take c) vs) (map Single xs) is) ∙ taken_singles (in_file_order fed) xs));
+        kept = ap (map fed_value) e ∙ map-append fed_value ts (values_from cluster xs) ∙ ap (λ l. map fed_value ts ++ l) (values_fed xs cluster) ∙ ap (λ l. l ++ from_cluster cluster (map Single xs)) h.kept
+            ∙ sym (ap (λ l. by_cluster (fed ++ from_cluster cluster l)) is ∙ by_cluster-feed fed cluster (map Single xs) below);
+        fit = tt;
+      }
+
+  pub holds_flat : (g g' : one.Flat) (x : List ℕ) (o : Option (List ℕ)) (is js : List Item) → is ≡ js → ((before : List Item) → HasFilled g before → HasFilled g' (before ++ js))
+      → Holds (state.Histo1D g x o) fed → Holds (state.Histo1D g' x o) (fed ++ from_cluster cluster is)
+  holds_flat g g' x o is js e fill h = record {
+    made = ap Flat ((fill (in_file_order fed) (record { cells = ap the_flat h.made })).cells ∙ sym (ap (flat_cells g'.edges) (after is js e)));
+    kept = refl;
+    fit = tt;
+  }
+
+  pub holds_square : (g g' : two.Square) (x y : List ℕ) (o : Option (List ℕ)) (is js : List Item) → is ≡ js → ((before : List Item) → HasFilled2 g before → HasFilled2 g' (before ++ js))
+      → Holds (state.Histo2D g x y o) fed → Holds (state.Histo2D g' x y o) (fed ++ from_cluster cluster is)
+  holds_square g g' x y o is js e fill h = record {
+    made = ap Square ((fill (in_file_order fed) (record { cells = ap the_square h.made })).cells ∙ sym (ap (square_cells g'.x_edges g'.y_edges) (after is js e)));
+    kept = refl;
+    fit = tt;
+  }
+
+-- one column gives at most 4,096 numbers
+pub first_short : (c : List ℕ) (items : Items) → Suits (kind.Sum c) items → length (first_numbers (values_of items)) ≤ 4096
+first_short c Entry h = absurd h
+first_short c (One (part.Int z)) h = lit≤ tt
+first_short c (One (part.Bool b)) h = absurd h
+first_short c (One (part.Vect zs)) h = h
+first_short c (Weighted x w) h = absurd h
+first_short c (Pair x y) h = absurd h
+first_short c (WeightedPair x y w) h = absurd h
+
+-- the points of an entry
+pub spread_flat : (edges : List ℤ) (x : List ℕ) (o : Option (List ℕ)) (items : Items) → Suits (kind.Histo1D edges x o) items
+    → spread (kind.Histo1D edges x o) (values_of items) ≡ points (first_numbers (values_of items)) (weights (length (first_numbers (values_of items))) (part_values (weight_part items)))
+spread_flat edges x o Entry h = absurd h
+spread_flat edges x o (One p) h = refl
+spread_flat edges x o (Weighted p w) h = refl
+spread_flat edges x o (Pair p q) h = absurd h
+spread_flat edges x o (WeightedPair p q w) h = absurd h
+
+pub spread_square : (xs ys : List ℤ) (x y : List ℕ) (o : Option (List ℕ)) (items : Items) → Suits (kind.Histo2D xs ys x y o) items
+    → spread (kind.Histo2D xs ys x y o) (values_of items) ≡ points2 (first_numbers (values_of items)) (second_part items) (weights (length (first_numbers (values_of items))) (part_values (weight_part items)))
+spread_square xs ys x y o Entry h = absurd h
+spread_square xs ys x y o (One p) h = absurd h
+spread_square xs ys x y o (Weighted p w) h = absurd h
+spread_square xs ys x y o (Pair p q) h = refl
+spread_square xs ys x y o (WeightedPair p q w) h = refl
+
+-- what follows where a call succeeds
+pub on_ok : {T E : Type 0} (r : Result T E) (P Q : Type 0) → OnOk r P → (P → Q) → OnOk r Q
+on_ok (Ok x) P Q h f = f h
+on_ok (Err e) P Q h f = h

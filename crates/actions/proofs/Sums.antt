@@ -1,0 +1,19 @@
+-- Sums in 128 bits.
+use Rattle.std.proofs.Common.{ℕ, ◌+◌, ◌*◌, ◌^◌, ◌<◌, ◌≤◌, ℤ, pos, negsuc, ◌+ℤ◌, arith, w64, FitsSigned}
+use Rattle.std.specs.Prelude.{nat_abs}
+use Rattle.std.specs.Int.{w128}
+use Rattle.std.proofs.lemmas.Int.{ints, fits_signed_from_abs}
+
+pub abs_add : (a b : ℤ) → nat_abs (a +ℤ b) ≤ nat_abs a + nat_abs b
+abs_add a b = grind (arith, ints)
+
+pub abs_of_fit : (w : ℤ) → FitsSigned w64 w → nat_abs w ≤ 2 ^ 63
+abs_of_fit (pos n) h = let s = h.sfits in omega arith
+abs_of_fit (negsuc n) h = let s = h.sfits in omega arith
+
+pub fits_sum : (z : ℤ) → nat_abs z < 2 ^ 127 → FitsSigned w128 z
+fits_sum z h = fits_signed_from_abs w128 z h
+
+-- one more number of 64 bits adds at most 2^63
+pub sum_bound : (sum z : ℤ) (a i : ℕ) → FitsSigned w64 z → nat_abs sum ≤ a + i * 2 ^ 63 → nat_abs (sum +ℤ z) ≤ a + (i + 1) * 2 ^ 63
+sum_bound sum z a i fits h = let more = abs_add sum z in let small = abs_of_fit z fits in omega arith

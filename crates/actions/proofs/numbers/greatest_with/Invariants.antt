@@ -1,0 +1,8 @@
+use Rattle.std.proofs.Common.{◌≡◌, take}
+use Rattle.std.specs.Prelude.{fold}
+use Rattle.std.specs.Int.{int_max}
+use Rattle.actions.specs.Extremes.{better_of}
+use Rattle.actions.proofs.numbers.greatest_with.Given as goal
+
+abbrev pub invariant-loop-number : goal.invariant-loop-number
+invariant-loop-number l = l.best ≡ fold (better_of int_max) l.initial.best (take l.number-index l.numbers)

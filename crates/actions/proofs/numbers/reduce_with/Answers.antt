@@ -1,0 +1,23 @@
+use Rattle.std.proofs.Common.{rules, arith, ◌≡◌, ◌<◌, ◌∙◌, ap, sym, get_or, length, pos, subst, ⊎_elim, w64, FitsSigned}
+use Rattle.std.proofs.lemmas.Int.{to_z-of_z}
+use Rattle.std.proofs.lemmas.Bool.{cases_eq}
+use Rattle.std.proofs.lemmas.List.{get_or_default}
+use Rattle.std.proofs.lemmas.List.Sums.{fold_more}
+use Rattle.rdf_values.specs.Fold.{reduce_step}
+use Rattle.actions.proofs.numbers.reduce_with.Goals as goal
+
+pub loop-number-preserved : goal.loop-number-preserved
+loop-number-preserved c =
+    let xs = c.args.numbers.now in
+    let number = get_or xs c.loop-number.number-index (pos 0) in
+    let fits_number : FitsSigned w64 number = search rules in
+    let fits_result : FitsSigned w64 c.reduce-value.result = search rules in
+    let below : c.loop-number.number-index < length xs = search rules in
+    record {
+      reduced = to_z-of_z w64 c.reduce-value.result fits_result ∙ c.reduce-value.ensures ∙ ap (reduce_step c.args.op _) (to_z-of_z w64 number fits_number) ∙ ap (λ v. reduce_step c.args.op v number) c.loop-number.invariant.reduced
+          ∙ sym (fold_more (reduce_step c.args.op) _ xs c.loop-number.number-index (pos 0) below);
+      fit = λ k d l. ⊎_elim
+          (λ (e : k ≡ c.loop-number.number-index). subst (λ i. FitsSigned w64 (get_or xs i d)) (sym e) (subst (λ z. FitsSigned w64 z) (get_or_default xs c.loop-number.number-index (pos 0) d below) fits_number))
+          (λ (ne : k ≡ c.loop-number.number-index → ⊥). c.loop-number.invariant.fit k d (omega arith))
+          (cases_eq k c.loop-number.number-index);
+    }

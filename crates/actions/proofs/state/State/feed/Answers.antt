@@ -1,0 +1,61 @@
+use Rattle.std.proofs.Common.{rules, arith, ◌∷◌, [], ◌∙◌, ap, w64, FitsSigned, ◌+ℤ◌, refl}
+use Rattle.std.specs.Prelude.{fold}
+use Rattle.std.specs.Int.{w128, int_max, int_min}
+use Rattle.std.proofs.lemmas.Int.{to_z-of_z}
+use Rattle.rdf_values.specs.Fold.{reduce_step}
+use Rattle.actions.specs.Extremes.{better_of}
+use Rattle.actions.proofs.States.{first_short, holds_count, holds_flat, holds_max, holds_min, holds_reduce, holds_square, holds_sum, holds_take, on_ok, spread_flat, spread_square}
+use Rattle.actions.proofs.state.State.feed.Goals as goal
+
+pub returns-in-Count-clause-fed : goal.returns-in-Count-clause-fed
+returns-in-Count-clause-fed c = λ fed below held. rw c.in-Count.is (holds_count fed c.args.cluster below c.in-Count.entries (rw c.in-Count.is at held))
+
+pub returns-in-Sum-clause-within : goal.returns-in-Sum-clause-within
+returns-in-Sum-clause-within c = λ n within.
+    let fits : FitsSigned w128 c.sum_with.result = search rules in
+    let fits_sum : FitsSigned w128 c.in-Sum.sum = search rules in
+    let before = rw c.in-Sum.is at within in
+    let short = first_short c.in-Sum.column c.args.items.now (rw c.in-Sum.is at c.requires.suits) in
+    let bounded = rw (to_z-of_z w128 c.in-Sum.sum fits_sum, c.first.ensures) at c.sum_with.ensures.bounded in
+    rw (to_z-of_z w128 c.sum_with.result fits) (omega arith)
+
+pub returns-in-Sum-clause-fed : goal.returns-in-Sum-clause-fed
+returns-in-Sum-clause-fed c = λ fed below held.
+    let fits : FitsSigned w128 c.sum_with.result = search rules in
+    let fits_sum : FitsSigned w128 c.in-Sum.sum = search rules in
+    rw c.in-Sum.is (holds_sum fed c.args.cluster below c.in-Sum.column c.in-Sum.sum _ _
+    (to_z-of_z w128 c.sum_with.result fits ∙ c.sum_with.ensures.value ∙ ap (λ z. fold ◌+ℤ◌ z c.first.result.now) (to_z-of_z w128 c.in-Sum.sum fits_sum) ∙ ap (fold ◌+ℤ◌ c.in-Sum.sum) c.first.ensures) (rw c.in-Sum.is at held))
+
+pub returns-in-Min-clause-fed : goal.returns-in-Min-clause-fed
+returns-in-Min-clause-fed c = λ fed below held.
+    rw c.in-Min.is (holds_min fed c.args.cluster below c.in-Min.column c.in-Min.least _ _ (c.least_with.ensures ∙ ap (fold (better_of int_min) c.in-Min.least) c.first-in-Min.ensures) (rw c.in-Min.is at held))
+
+pub returns-in-Max-clause-fed : goal.returns-in-Max-clause-fed
+returns-in-Max-clause-fed c = λ fed below held.
+    rw c.in-Max.is (holds_max fed c.args.cluster below c.in-Max.column c.in-Max.greatest _ _ (c.greatest_with.ensures ∙ ap (fold (better_of int_max) c.in-Max.greatest) c.first-in-Max.ensures) (rw c.in-Max.is at held))
+
+pub returns-in-Some-clause-fed : goal.returns-in-Some-clause-fed
+returns-in-Some-clause-fed c = λ fed below held.
+    on_ok c.push.result _ _ c.push.ensures.ok (λ pushed. rw c.in-Take.is (holds_take fed c.args.cluster below c.in-Take.column c.in-Take.values _ (c.in-Some.value ∷ []) _ pushed c.in-Some.ensures (rw c.in-Take.is at held)))
+
+pub returns-in-Reduce-clause-fed : goal.returns-in-Reduce-clause-fed
+returns-in-Reduce-clause-fed c = λ fed below held.
+    let fits : FitsSigned w64 c.reduce_with-reduction.result = search rules in
+    let fits_value : FitsSigned w64 c.in-Reduce.reduction.value = search rules in
+    rw c.in-Reduce.is (holds_reduce fed c.args.cluster below c.in-Reduce.column c.in-Reduce.reduction.op c.in-Reduce.reduction.value _ _
+    (to_z-of_z w64 c.reduce_with-reduction.result fits ∙ c.reduce_with-reduction.ensures.value ∙ ap (λ z. fold (reduce_step c.in-Reduce.reduction.op) z c.first-in-Reduce.result.now) (to_z-of_z w64 c.in-Reduce.reduction.value fits_value)
+    ∙ ap (fold (reduce_step c.in-Reduce.reduction.op) c.in-Reduce.reduction.value) c.first-in-Reduce.ensures) (rw c.first-in-Reduce.ensures at c.reduce_with-reduction.ensures.fit) (rw c.in-Reduce.is at held))
+
+pub returns-in-Histo1D-clause-fed : goal.returns-in-Histo1D-clause-fed
+returns-in-Histo1D-clause-fed c = λ fed below held.
+    let suits = rw c.in-Histo1D.is at c.requires.suits in
+    rw c.in-Histo1D.is (holds_flat fed c.args.cluster below c.in-Histo1D.hist c.fill_points.new.hist c.in-Histo1D.x c.in-Histo1D.weight _ _
+    (spread_flat c.in-Histo1D.hist.edges c.in-Histo1D.x c.in-Histo1D.weight c.args.items.now suits ∙ rw (← c.first-in-Histo1D.ensures, ← c.weight.ensures) refl)
+    c.fill_points.ensures.filled (rw c.in-Histo1D.is at held))
+
+pub returns-in-Histo2D-clause-fed : goal.returns-in-Histo2D-clause-fed
+returns-in-Histo2D-clause-fed c = λ fed below held.
+    let suits = rw c.in-Histo2D.is at c.requires.suits in
+    rw c.in-Histo2D.is (holds_square fed c.args.cluster below c.in-Histo2D.hist c.fill_pairs.new.hist c.in-Histo2D.x c.in-Histo2D.y c.in-Histo2D.weight _ _
+    (spread_square c.in-Histo2D.hist.x_edges c.in-Histo2D.hist.y_edges c.in-Histo2D.x c.in-Histo2D.y c.in-Histo2D.weight c.args.items.now suits ∙ rw (← c.first-in-Histo2D.ensures, ← c.second.ensures, ← c.weight-in-Histo2D.ensures) refl)
+    c.fill_pairs.ensures.filled (rw c.in-Histo2D.is at held))

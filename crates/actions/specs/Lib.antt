@@ -1,0 +1,7 @@
+pub mod Accumulators
+pub mod Extremes
+pub mod Feeding
+pub mod Fillings
+pub mod Holding
+pub mod Parts
+pub mod Values

@@ -1,0 +1,118 @@
+// Accumulators.
+ghost use Rattle.std.specs.Prelude.{◌≡◌};
+
+use crate::filled::Filled;
+use crate::items::Items;
+use crate::state::State;
+use rdf_values::{ActionKind, EntryFault, Memory};
+use std::alloc::Global;
+use std::marker::Model;
+
+/// Why an entry could not be fed. `Memory` comes from a Take alone.
+#[derive(Clone, Copy, Debug, PartialEq, Eq)]
+pub enum FeedStop {
+    Fault(EntryFault),
+    Memory,
+}
+
+/// What an action made of the items that entries fed, those of lower clusters first.
+#[derive(Drop)]
+pub struct Acc {
+    alloc: Global,
+    entries: u32,
+    last: u32,
+    state: State,
+}
+
+impl Model for Acc {
+    ghost use Rattle.actions.specs.Holding.{kept, kind_of, made};
+    ghost use Rattle.actions.specs.Accumulators.{Accumulator, KeepsCount};
+
+    ghost Value = { Accumulator };
+
+    ghost view = { λ a. record { kind = kind_of a.state; entries = a.entries; last = a.last; filled = made a.state; kept = kept a.state } };
+
+    ghost invariant = { λ a. KeepsCount a.entries a.state };
+}
+
+impl Acc {
+    ghost use Rattle.std.specs.Prelude.{◌≡◌, ◌↔◌, ◌≤◌, ◌<◌, ◌+◌, ◌++◌, [], List, None, Some, Err, IfOk, OnErr, OnOk, max};
+    ghost use Rattle.rdf_values.specs.declared.fault.EntryFault.{EntryFault};
+    ghost use Rattle.rdf_values.specs.Spread.{feed_fault, spread};
+    ghost use Rattle.rdf_values.specs.Fold.{fold_items};
+    ghost use Rattle.actions.specs.Accumulators.{HasFed};
+    ghost use Rattle.actions.specs.Feeding.{Fed, from_cluster, in_file_order};
+    ghost use Rattle.actions.specs.Fillings.{filled_seen};
+    ghost use Rattle.actions.specs.Holding.{HasEdges, IsTake, kept_of};
+    ghost use Rattle.actions.specs.Parts.{Suits, values_of};
+
+    /// An accumulator of the action, to which nothing was fed.
+    pub fn new(alloc: Global, kind: &ActionKind) -> Result<Acc, Memory>
+        requires { HasEdges kind.now }
+        ensures made { IfOk result (λ acc. acc ≡ record { kind = kind.now; entries = 0; last = 0; filled = fold_items kind.now []; kept = kept_of kind.now [] }) }
+        ensures fed { IfOk result (λ acc. HasFed acc []) }
+    {
+        let state = State::new(alloc, kind)?;
+        Ok(Acc {
+            alloc,
+            entries: 0,
+            last: 0,
+            state,
+        })
+    }
+
+    /// Takes in the items of an entry of a cluster; clusters don't fall.
+    pub fn feed(&mut self, cluster: u32, items: &Items<'_>) -> Result<(), FeedStop>
+        requires suits { Suits self.old.kind items.now }
+        requires rising { self.old.last ≤ cluster }
+        requires room { self.old.entries < 1000000 }
+        ensures fault { (fault : EntryFault) → (result ≡ Err (FeedStop.Fault fault)) ↔ (feed_fault self.old.kind (values_of items.now) ≡ Some fault) }
+        ensures memory { result ≡ Err FeedStop.Memory → IsTake self.old.kind }
+        ensures err { OnErr result (self.new ≡ self.old) }
+        ensures kind { self.new.kind ≡ self.old.kind }
+        ensures entries { OnOk result (self.new.entries ≡ self.old.entries + 1) }
+        ensures last { OnOk result (self.new.last ≡ cluster) }
+        ensures fed { (fed : List Fed) → HasFed self.old fed → OnOk result (HasFed self.new (fed ++ from_cluster cluster (spread self.old.kind (values_of items.now)))) }
+    {
+        if let Some(fault) = items.fault() {
+            return Err(FeedStop::Fault(fault));
+        }
+        match self.state.feed(cluster, items) {
+            Ok(()) => {
+                self.entries += 1;
+                self.last = cluster;
+                Ok(())
+            }
+            Err(Memory) => Err(FeedStop::Memory),
+        }
+    }
+
+    /// Takes in all that was fed to another accumulator of the same action; after `Memory` nothing has changed.
+    pub fn merge(&mut self, other: Acc) -> Result<(), Memory>
+        requires kind { other.kind ≡ self.old.kind }
+        requires room { self.old.entries + other.entries ≤ 1000000 }
+        ensures memory { OnErr result (IsTake self.old.kind) }
+        ensures err { OnErr result (self.new ≡ self.old) }
+        ensures kind { self.new.kind ≡ self.old.kind }
+        ensures entries { OnOk result (self.new.entries ≡ self.old.entries + other.entries) }
+        ensures last { OnOk result (self.new.last ≡ max self.old.last other.last) }
+        ensures fed { (fed more : List Fed) → HasFed self.old fed → HasFed other more → OnOk result (HasFed self.new (fed ++ more)) }
+    {
+        match self.state.merge(self.alloc, &other.state) {
+            Ok(()) => {
+                self.entries += other.entries;
+                self.last = self.last.max(other.last);
+                Ok(())
+            }
+            Err(Memory) => Err(Memory),
+        }
+    }
+
+    /// What was made of the items so far.
+    pub fn filled(&self) -> Filled<'_>
+        ensures value { filled_seen result ≡ self.now.filled }
+        ensures fed { (fed : List Fed) → HasFed self.now fed → filled_seen result ≡ fold_items self.now.kind (in_file_order fed) }
+    {
+        self.state.filled()
+    }
+}

@@ -1,0 +1,55 @@
+// Filling histograms with the points of an entry.
+ghost use Rattle.std.specs.Prelude.{◌≡◌, ◌<◌, ◌≤◌, ◌+◌, ◌^◌, ◌++◌, ℕ, List, length, All, pos, slice_index_or};
+ghost use Rattle.rdf_values.specs.declared.item.Item.{Item};
+ghost use Rattle.rdf_values.specs.Spread.{points, points2, weights};
+ghost use Rattle.histograms.specs.Cells.{IsWeight};
+ghost use Rattle.histograms.specs.OneAxis.{HasFilled};
+ghost use Rattle.histograms.specs.TwoAxes.{HasFilled2};
+ghost use Rattle.actions.specs.Parts.{HasWeight, part_values};
+
+use crate::items::Part;
+use histograms::{Hist1, Hist2, MOST_FILLS};
+
+/// The weight of an entry's point by its place: 1 where none is given, or the number for each, or the vector's.
+pub fn weight_at(weight: &Option<Part<'_>>, i: usize) -> i64
+    requires small { i < 2 ^ 60 }
+    requires there { HasWeight i weight.now }
+    ensures { (n : ℕ) → i < n → slice_index_or (weights n (part_values weight.now)) i (pos 0) ≡ result }
+{
+    match weight {
+        None => 1,
+        Some(Part::Int(weight)) => *weight,
+        Some(Part::Vect(weights)) => weights[i],
+        Some(Part::Bool(_)) => unreachable!(),
+    }
+}
+
+/// Fills the points of one entry, each with its weight.
+pub fn fill_points(hist: &mut Hist1, xs: &[i64], weight: &Option<Part<'_>>)
+    requires lengths { length (weights (length xs.now) (part_values weight.now)) ≡ length xs.now }
+    requires weights { All IsWeight (weights (length xs.now) (part_values weight.now)) }
+    requires room { hist.old.fills + length xs.now ≤ MOST_FILLS }
+    ensures edges { hist.new.edges ≡ hist.old.edges }
+    ensures fills { hist.new.fills ≡ hist.old.fills + length xs.now }
+    ensures filled { (before : List Item) → HasFilled hist.old before → HasFilled hist.new (before ++ points xs.now (weights (length xs.now) (part_values weight.now))) }
+{
+    for (i, x) in xs.iter().enumerate() {
+        hist.fill(*x, weight_at(weight, i));
+    }
+}
+
+/// Fills the pairs of one entry, each with its weight.
+pub fn fill_pairs(hist: &mut Hist2, xs: &[i64], ys: &[i64], weight: &Option<Part<'_>>)
+    requires pairs { length ys.now ≡ length xs.now }
+    requires lengths { length (weights (length xs.now) (part_values weight.now)) ≡ length xs.now }
+    requires weights { All IsWeight (weights (length xs.now) (part_values weight.now)) }
+    requires room { hist.old.fills + length xs.now ≤ MOST_FILLS }
+    ensures x_edges { hist.new.x_edges ≡ hist.old.x_edges }
+    ensures y_edges { hist.new.y_edges ≡ hist.old.y_edges }
+    ensures fills { hist.new.fills ≡ hist.old.fills + length xs.now }
+    ensures filled { (before : List Item) → HasFilled2 hist.old before → HasFilled2 hist.new (before ++ points2 xs.now ys.now (weights (length xs.now) (part_values weight.now))) }
+{
+    for (i, x) in xs.iter().enumerate() {
+        hist.fill(*x, ys[i], weight_at(weight, i));
+    }
+}

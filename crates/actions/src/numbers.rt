@@ -1,0 +1,127 @@
+// Folds of numbers.
+ghost use Rattle.std.specs.Prelude.{◌≡◌, ◌+◌, ◌*◌, ◌≤◌, ◌<◌, ◌^◌, ◌+ℤ◌, nat_abs, All, FitsSigned, length, fold};
+ghost use Rattle.std.specs.Int.{int_max, int_min, w64};
+ghost use Rattle.rdf_values.specs.Fold.{reduce_start, reduce_step};
+ghost use Rattle.actions.specs.Extremes.{better_of, better_of_two};
+
+use rdf_values::ReduceOp;
+
+/// An operation, and what it made of the numbers so far.
+#[derive(Clone, Copy, Debug)]
+pub struct Reduction {
+    pub op: ReduceOp,
+    pub value: i64,
+}
+
+/// The sum with more numbers.
+pub fn sum_with(sum: i128, numbers: &[i64]) -> i128
+    requires { nat_abs sum + length numbers.now * 2 ^ 63 < 2 ^ 127 }
+    ensures value { result ≡ fold ◌+ℤ◌ sum numbers.now }
+    ensures bounded { nat_abs result ≤ nat_abs sum + length numbers.now * 2 ^ 63 }
+{
+    let mut sum = sum;
+    for number in numbers {
+        sum += *number as i128;
+    }
+    sum
+}
+
+/// The lesser one, if there are any.
+pub fn least(a: Option<i64>, b: i64) -> i64
+    ensures { Some result ≡ better_of int_min a b }
+{
+    match a {
+        Some(a) => a.min(b),
+        None => b,
+    }
+}
+
+/// The greater one, if there are any.
+pub fn greatest(a: Option<i64>, b: i64) -> i64
+    ensures { Some result ≡ better_of int_max a b }
+{
+    match a {
+        Some(a) => a.max(b),
+        None => b,
+    }
+}
+
+/// The least of a number, if there is one, and more numbers.
+pub fn least_with(best: Option<i64>, numbers: &[i64]) -> Option<i64>
+    ensures { result ≡ fold (better_of int_min) best numbers.now }
+{
+    let mut best = best;
+    for number in numbers {
+        best = Some(least(best, *number));
+    }
+    best
+}
+
+/// The greatest of a number, if there is one, and more numbers.
+pub fn greatest_with(best: Option<i64>, numbers: &[i64]) -> Option<i64>
+    ensures { result ≡ fold (better_of int_max) best numbers.now }
+{
+    let mut best = best;
+    for number in numbers {
+        best = Some(greatest(best, *number));
+    }
+    best
+}
+
+/// The lesser of two numbers that may both be missing.
+pub fn least_of(a: Option<i64>, b: Option<i64>) -> Option<i64>
+    ensures { result ≡ better_of_two int_min a b }
+{
+    match b {
+        Some(b) => Some(least(a, b)),
+        None => a,
+    }
+}
+
+/// The greater of two numbers that may both be missing.
+pub fn greatest_of(a: Option<i64>, b: Option<i64>) -> Option<i64>
+    ensures { result ≡ better_of_two int_max a b }
+{
+    match b {
+        Some(b) => Some(greatest(a, b)),
+        None => a,
+    }
+}
+
+/// The number from which an operation starts: it changes no number.
+pub fn start(op: ReduceOp) -> i64
+    ensures { result ≡ reduce_start op }
+{
+    match op {
+        ReduceOp::Min => i64::MAX,
+        ReduceOp::Max => i64::MIN,
+        ReduceOp::And => -1,
+        ReduceOp::Or | ReduceOp::Xor | ReduceOp::WrapAdd => 0,
+    }
+}
+
+/// The operation on two numbers.
+pub fn reduce(op: ReduceOp, a: i64, b: i64) -> i64
+    ensures { result ≡ reduce_step op a b }
+{
+    match op {
+        ReduceOp::Min => a.min(b),
+        ReduceOp::Max => a.max(b),
+        ReduceOp::And => a & b,
+        ReduceOp::Or => a | b,
+        ReduceOp::Xor => a ^ b,
+        ReduceOp::WrapAdd => a.wrapping_add(b),
+    }
+}
+
+/// The operation over more numbers, from left to right.
+pub fn reduce_with(op: ReduceOp, value: i64, numbers: &[i64]) -> i64
+    ensures value { result ≡ fold (reduce_step op) value numbers.now }
+    ensures fit { All (λ z. FitsSigned w64 z) numbers.now }
+{
+    let mut value = value;
+    for number in numbers {
+        value = reduce(op, value, *number);
+    }
+    value
+}

@@ -1,0 +1,272 @@
+// What an accumulator holds.
+ghost use Rattle.std.specs.Prelude.{◌≡◌, IfOk};
+ghost use Rattle.histograms.specs.Axis.{IsAxis};
+
+use crate::filled::Filled;
+use crate::fills::{fill_pairs, fill_points};
+use crate::items::Items;
+use crate::numbers::{
+    Reduction, greatest_of, greatest_with, least_of, least_with, reduce, reduce_with, start,
+    sum_with,
+};
+use crate::taken::{Taken, TakenValue, merged};
+use histograms::{EdgeRefusal, Edges, Hist1, Hist2};
+use rdf_values::{ActionKind, IntList, ListOf, Memory, Name};
+use std::alloc::Global;
+
+/// The action with the names of its columns, and what it made of the items so far.
+#[derive(Drop)]
+pub enum State {
+    Count(u64),
+    Sum {
+        column: Name,
+        sum: i128,
+    },
+    Min {
+        column: Name,
+        least: Option<i64>,
+    },
+    Max {
+        column: Name,
+        greatest: Option<i64>,
+    },
+    /// The values by cluster, those of one cluster in the order of feeding.
+    Take {
+        column: Name,
+        values: ListOf<TakenValue>,
+    },
+    Reduce {
+        column: Name,
+        reduction: Reduction,
+    },
+    Histo1D {
+        hist: Hist1,
+        x: Name,
+        weight: Option<Name>,
+    },
+    Histo2D {
+        hist: Hist2,
+        x: Name,
+        y: Name,
+        weight: Option<Name>,
+    },
+}
+
+// The axis of edges that make one.
+fn axis(alloc: Global, edges: &IntList) -> Result<Edges, Memory>
+    requires { IsAxis edges.now }
+    ensures { IfOk result (λ axis. axis ≡ edges.now) }
+{
+    match Edges::new(alloc, edges.as_slice()) {
+        Ok(axis) => Ok(axis),
+        Err(EdgeRefusal::Memory) => Err(Memory),
+        Err(EdgeRefusal::BadEdges) => unreachable!(),
+    }
+}
+
+// A copy of a name that may be missing.
+fn copy_of(alloc: Global, name: &Option<Name>) -> Result<Option<Name>, Memory>
+    ensures { IfOk result (λ copy. copy ≡ name.now) }
+{
+    match name {
+        Some(name) => Ok(Some(name.copy(alloc)?)),
+        None => Ok(None),
+    }
+}
+
+impl State {
+    ghost use Rattle.std.specs.Prelude.{◌≡◌, ◌≤◌, ◌+◌, ◌++◌, [], ℕ, List, All, None, IfOk, OnErr, OnOk};
+    ghost use Rattle.rdf_values.specs.Spread.{feed_fault, spread};
+    ghost use Rattle.actions.specs.Feeding.{Fed, from_cluster};
+    ghost use Rattle.actions.specs.Holding.{HasEdges, Holds, IsTake, IsWithin, kind_of, made};
+    ghost use Rattle.actions.specs.Fillings.{filled_seen};
+    ghost use Rattle.actions.specs.Parts.{Suits, values_of};
+
+    /// The state of an action to which nothing was fed.
+    pub fn new(alloc: Global, kind: &ActionKind) -> Result<State, Memory>
+        requires { HasEdges kind.now }
+        ensures { IfOk result (λ state. (kind_of state ≡ kind.now) × Holds state [] × IsWithin 0 state) }
+    {
+        match kind {
+            ActionKind::Count => Ok(State::Count(0)),
+            ActionKind::Sum(column) => Ok(State::Sum {
+                column: column.copy(alloc)?,
+                sum: 0,
+            }),
+            ActionKind::Min(column) => Ok(State::Min {
+                column: column.copy(alloc)?,
+                least: None,
+            }),
+            ActionKind::Max(column) => Ok(State::Max {
+                column: column.copy(alloc)?,
+                greatest: None,
+            }),
+            ActionKind::Take(column) => Ok(State::Take {
+                column: column.copy(alloc)?,
+                values: ListOf::new(alloc),
+            }),
+            ActionKind::Reduce(op, column) => Ok(State::Reduce {
+                column: column.copy(alloc)?,
+                reduction: Reduction {
+                    op: *op,
+                    value: start(*op),
+                },
+            }),
+            ActionKind::Histo1D { x_edges, x, weight } => Ok(State::Histo1D {
+                hist: Hist1::new(alloc, axis(alloc, x_edges)?)?,
+                x: x.copy(alloc)?,
+                weight: copy_of(alloc, weight)?,
+            }),
+            ActionKind::Histo2D {
+                x_edges,
+                y_edges,
+                x,
+                y,
+                weight,
+            } => Ok(State::Histo2D {
+                hist: Hist2::new(alloc, axis(alloc, x_edges)?, axis(alloc, y_edges)?)?,
+                x: x.copy(alloc)?,
+                y: y.copy(alloc)?,
+                weight: copy_of(alloc, weight)?,
+            }),
+        }
+    }
+
+    /// Takes in what an entry of a cluster feeds.
+    pub fn feed(&mut self, cluster: u32, items: &Items<'_>) -> Result<(), Memory>
+        requires suits { Suits (kind_of self.old) items.now }
+        requires no_fault { feed_fault (kind_of self.old) (values_of items.now) ≡ None }
+        requires room { IsWithin 999999 self.old }
+        ensures kind { kind_of self.new ≡ kind_of self.old }
+        ensures memory { OnErr result (IsTake (kind_of self.old)) }
+        ensures err { OnErr result (self.new ≡ self.old) }
+        ensures within { (n : ℕ) → IsWithin n self.old → IsWithin (n + 1) self.new }
+        ensures fed { (fed : List Fed) → All (λ f. f.cluster ≤ cluster) fed → Holds self.old fed → OnOk result (Holds self.new (fed ++ from_cluster cluster (spread (kind_of self.old) (values_of items.now)))) }
+    {
+        match self {
+            State::Count(entries) => {
+                *entries += 1;
+                Ok(())
+            }
+            State::Sum { sum, .. } => {
+                *sum = sum_with(*sum, items.first());
+                Ok(())
+            }
+            State::Min { least, .. } => {
+                *least = least_with(*least, items.first());
+                Ok(())
+            }
+            State::Max { greatest, .. } => {
+                *greatest = greatest_with(*greatest, items.first());
+                Ok(())
+            }
+            State::Take { values, .. } => match items.scalar() {
+                Some(value) => values.push(TakenValue { cluster, value }),
+                None => Ok(()),
+            },
+            State::Reduce { reduction, .. } => {
+                reduction.value = reduce_with(reduction.op, reduction.value, items.first());
+                Ok(())
+            }
+            State::Histo1D { hist, .. } => {
+                fill_points(hist, items.first(), &items.weight());
+                Ok(())
+            }
+            State::Histo2D { hist, .. } => {
+                fill_pairs(hist, items.first(), items.second(), &items.weight());
+                Ok(())
+            }
+        }
+    }
+
+    /// Takes in all that another state of the same action holds.
+    pub fn merge(&mut self, alloc: Global, other: &State) -> Result<(), Memory>
+        requires kind { kind_of other.now ≡ kind_of self.old }
+        requires room { IsWithin 1000000 self.old }
+        requires other_room { IsWithin 1000000 other.now }
+        ensures kind { kind_of self.new ≡ kind_of self.old }
+        ensures memory { OnErr result (IsTake (kind_of self.old)) }
+        ensures err { OnErr result (self.new ≡ self.old) }
+        ensures within { (n m : ℕ) → IsWithin n self.old → IsWithin m other.now → OnOk result (IsWithin (n + m) self.new) }
+        ensures fed { (a b : List Fed) → Holds self.old a → Holds other.now b → OnOk result (Holds self.new (a ++ b)) }
+    {
+        match self {
+            State::Count(entries) => match other {
+                State::Count(more) => {
+                    *entries += *more;
+                    Ok(())
+                }
+                _ => unreachable!(),
+            },
+            State::Sum { sum, .. } => match other {
+                State::Sum { sum: more, .. } => {
+                    *sum += *more;
+                    Ok(())
+                }
+                _ => unreachable!(),
+            },
+            State::Min { least, .. } => match other {
+                State::Min { least: more, .. } => {
+                    *least = least_of(*least, *more);
+                    Ok(())
+                }
+                _ => unreachable!(),
+            },
+            State::Max { greatest, .. } => match other {
+                State::Max { greatest: more, .. } => {
+                    *greatest = greatest_of(*greatest, *more);
+                    Ok(())
+                }
+                _ => unreachable!(),
+            },
+            State::Take { values, .. } => match other {
+                State::Take { values: more, .. } => {
+                    *values = merged(alloc, values.as_slice(), more.as_slice())?;
+                    Ok(())
+                }
+                _ => unreachable!(),
+            },
+            State::Reduce { reduction, .. } => match other {
+                State::Reduce {
+                    reduction: more,
+                    ..
+                } => {
+                    reduction.value = reduce(reduction.op, reduction.value, more.value);
+                    Ok(())
+                }
+                _ => unreachable!(),
+            },
+            State::Histo1D { hist, .. } => match other {
+                State::Histo1D { hist: more, .. } => {
+                    hist.merge(more);
+                    Ok(())
+                }
+                _ => unreachable!(),
+            },
+            State::Histo2D { hist, .. } => match other {
+                State::Histo2D { hist: more, .. } => {
+                    hist.merge(more);
+                    Ok(())
+                }
+                _ => unreachable!(),
+            },
+        }
+    }
+
+    /// What was made of the items so far.
+    pub fn filled(&self) -> Filled<'_>
+        requires { IsWithin 1000000 self.now }
+        ensures { filled_seen result ≡ made self.now }
+    {
+        match self {
+            State::Count(entries) => Filled::Count(*entries),
+            State::Sum { sum, .. } => Filled::Sum(*sum),
+            State::Min { least, .. } => Filled::Extreme(*least),
+            State::Max { greatest, .. } => Filled::Extreme(*greatest),
+            State::Take { values, .. } => Filled::Taken(Taken::new(values.as_slice())),
+            State::Reduce { reduction, .. } => Filled::Number(reduction.value),
+            State::Histo1D { hist, .. } => Filled::Flat(hist),
+            State::Histo2D { hist, .. } => Filled::Square(hist),
+        }
+    }
+}

@@ -1,0 +1,125 @@
+-- What a cell holds after one more point.
+use Rattle.std.proofs.Common.{ℕ, zero, suc, ◌≡◌, ◌+◌, ◌<◌, ◌≤◌, length, get_or, set, map, List, [], ◌∷◌, ◌++◌, ℤ, pos, ◌+ℤ◌, ◌*ℤ◌, arith, refl, ap, sym, ◌∙◌, ⊎_elim, add-one}
+use Rattle.std.specs.Prelude.{flat_map, fold}
+use Rattle.std.proofs.lemmas.Bool.{cases_eq, eq-eqb, ne_eqb}
+use Rattle.std.proofs.lemmas.Grind.{flat_map-append}
+use Rattle.std.proofs.lemmas.List.{append-nil, get_or-map, get_or-set_other, get_or-set_same, get_or_append_left, get_or_at, length-map, length-set, map-append, same_lists}
+use Rattle.std.proofs.lemmas.List.Sums.{fold-append}
+use Rattle.std.proofs.Math.IntN.{+ℤ_idl, +ℤ_idr, +ℤ_assoc}
+use Rattle.rdf_values.proofs.Below.{length-below}
+use Rattle.rdf_values.specs.Cuts.{below}
+use Rattle.rdf_values.specs.declared.item.Item.{Item}
+use Rattle.rdf_values.specs.declared.item.Item.TheVariants.{Point}
+use Rattle.rdf_values.specs.Fold.{Cell, bin, cell_of, cells_on, flat_cell, integer_sum, weight_in}
+use Rattle.histograms.specs.declared.cell_sum.CellSum.{CellSum}
+use Rattle.histograms.specs.Cells.{cell_seen, together, with_weight}
+use Rattle.histograms.specs.OneAxis.{flat_cells}
+
+sum_from : (zs : List ℤ) (a : ℤ) → fold ◌+ℤ◌ a zs ≡ a +ℤ integer_sum zs
+sum_from [] a = sym (+ℤ_idr a)
+sum_from (z ∷ zs) a =
+    let head : pos 0 +ℤ z ≡ z = +ℤ_idl z in
+    sum_from zs (a +ℤ z) ∙ +ℤ_assoc a z (integer_sum zs) ∙ ap (λ s. a +ℤ s) (sym (rw head (sum_from zs z)))
+
+pub integer_sum-append : (xs ys : List ℤ) → integer_sum (xs ++ ys) ≡ integer_sum xs +ℤ integer_sum ys
+integer_sum-append xs ys = fold-append ◌+ℤ◌ (pos 0) xs ys ∙ sum_from ys (integer_sum xs)
+
+-- two cells of the definitions together
+abbrev pub joined : Cell → Cell → Cell
+joined cell more = record { sum = cell.sum +ℤ more.sum; squares = cell.squares +ℤ more.squares }
+
+pub cell_of-append : (ws vs : List ℤ) → cell_of (ws ++ vs) ≡ joined (cell_of ws) (cell_of vs)
+cell_of-append ws vs =
+    let squares : integer_sum (map (λ w. w *ℤ w) (ws ++ vs)) ≡ integer_sum (map (λ w. w *ℤ w) ws) +ℤ integer_sum (map (λ w. w *ℤ w) vs) = rw (map-append (λ w. w *ℤ w) ws vs) (integer_sum-append (map (λ w. w *ℤ w) ws) (map (λ w. w *ℤ w) vs)) in
+    rw (integer_sum-append ws vs, squares) refl
+
+pub length-cells_on : (edges : List ℤ) → length (cells_on edges) ≡ length edges + 1
+length-cells_on edges = length-below (suc (length edges)) ∙ sym (add-one (length edges))
+
+get_or-below : {X : Type 0} (f : ℕ → X) (n k : ℕ) (d : X) → k < n → get_or (map f (below n)) k d ≡ f k
+get_or-below f zero k d l = absurd (omega arith)
+get_or-below f (suc n) k d l =
+    let size : length (map f (below n)) ≡ n = length-map (below n) f ∙ length-below n in
+    rw (map-append f (below n) (n ∷ []))
+    (⊎_elim
+    (λ (e : k ≡ n). ap (λ i. get_or (map f (below n) ++ f n ∷ []) i d) e ∙ get_or_at (map f (below n)) (f n) [] d n size ∙ ap f (sym e))
+    (λ (ne : k ≡ n → ⊥). get_or_append_left (map f (below n)) (f n ∷ []) d k (omega arith) ∙ get_or-below f n k d (omega arith))
+    (cases_eq k n))
+
+-- what stands at the place of a cell
+pub get_or-cells_on : {X : Type 0} (f : ℕ → X) (edges : List ℤ) (k : ℕ) (d : X) → k ≤ length edges → get_or (map f (cells_on edges)) k d ≡ f k
+get_or-cells_on f edges k d l = get_or-below f (suc (length edges)) k d (omega arith)
+
+-- the weights of a cell after one more point
+weights_yes : (edges : List ℤ) (x w : ℤ) (k : ℕ) → k ≡ bin edges x → flat_map (weight_in edges k) (Point x w ∷ []) ≡ w ∷ []
+weights_yes edges x w k e = rw (eq-eqb (bin edges x) k (sym e)) refl
+
+weights_no : (edges : List ℤ) (x w : ℤ) (k : ℕ) → (k ≡ bin edges x → ⊥) → flat_map (weight_in edges k) (Point x w ∷ []) ≡ []
+weights_no edges x w k ne = rw (ne_eqb (bin edges x) k (λ e. ne (sym e))) refl
+
+cell_yes : (edges : List ℤ) (points : List Item) (x w : ℤ) (k : ℕ) → k ≡ bin edges x
+    → flat_cell edges (points ++ Point x w ∷ []) k ≡ joined (flat_cell edges points k) (record { sum = w; squares = w *ℤ w })
+cell_yes edges points x w k e =
+    let ws = flat_map (weight_in edges k) points in
+    let split : flat_map (weight_in edges k) (points ++ Point x w ∷ []) ≡ ws ++ w ∷ [] = flat_map-append (weight_in edges k) points (Point x w ∷ []) ∙ ap (λ vs. ws ++ vs) (weights_yes edges x w k e) in
+    ap cell_of split ∙ cell_of-append ws (w ∷ []) ∙ rw (+ℤ_idl w, +ℤ_idl (w *ℤ w)) refl
+
+cell_no : (edges : List ℤ) (points : List Item) (x w : ℤ) (k : ℕ) → (k ≡ bin edges x → ⊥)
+    → flat_cell edges (points ++ Point x w ∷ []) k ≡ flat_cell edges points k
+cell_no edges points x w k ne =
+    let ws = flat_map (weight_in edges k) points in
+    ap cell_of (flat_map-append (weight_in edges k) points (Point x w ∷ []) ∙ ap (λ vs. ws ++ vs) (weights_no edges x w k ne) ∙ append-nil ws)
+
+pub length-flat_cells : (edges : List ℤ) (points : List Item) → length (flat_cells edges points) ≡ length edges + 1
+length-flat_cells edges points = length-map (cells_on edges) (flat_cell edges points) ∙ length-cells_on edges
+
+-- a cell that is kept, where the cells are those of points
+kept_at : (edges : List ℤ) (points : List Item) (cells : List CellSum) (k : ℕ) (d : CellSum) → length cells ≡ length edges + 1 → map cell_seen cells ≡ flat_cells edges points → k ≤ length edges
+    → cell_seen (get_or cells k d) ≡ flat_cell edges points k
+kept_at edges points cells k d size same l =
+    let e = cell_seen d in
+    sym (get_or-map cell_seen cells k d e (omega arith)) ∙ ap (λ cs. get_or cs k e) same ∙ get_or-cells_on (flat_cell edges points) edges k e l
+
+-- cells are those of points, where each is
+pub from_places : (edges : List ℤ) (points : List Item) (cells : List CellSum) → length cells ≡ length edges + 1
+    → ((k : ℕ) (d : CellSum) → k ≤ length edges → cell_seen (get_or cells k d) ≡ flat_cell edges points k)
+    → map cell_seen cells ≡ flat_cells edges points
+from_places edges points cells size each =
+    same_lists (map cell_seen cells) (flat_cells edges points) (length-map cells cell_seen ∙ size ∙ sym (length-flat_cells edges points))
+    (λ k d l.
+    let below : k < length cells = rw length-map at l in
+    let within : k ≤ length edges = omega arith in
+    get_or-map cell_seen cells k (get_or cells k (record { sum = pos 0; squares = pos 0 })) d below ∙ each k (get_or cells k (record { sum = pos 0; squares = pos 0 })) within
+    ∙ sym (get_or-cells_on (flat_cell edges points) edges k d within))
+
+-- the cells after one more point
+pub flat_cells-point : (edges : List ℤ) (points : List Item) (x w : ℤ) (cells : List CellSum) (cell : CellSum) → length cells ≡ length edges + 1 → bin edges x ≤ length edges
+    → cell ≡ get_or cells (bin edges x) cell → map cell_seen cells ≡ flat_cells edges points
+    → map cell_seen (set cells (bin edges x) (with_weight cell w)) ≡ flat_cells edges (points ++ Point x w ∷ [])
+flat_cells-point edges points x w cells cell size within read same =
+    let place = bin edges x in
+    from_places edges (points ++ Point x w ∷ []) (set cells place (with_weight cell w)) (length-set cells place (with_weight cell w) ∙ size)
+    (λ k d l. ⊎_elim
+    (λ (e : k ≡ place).
+    let here : cell_seen cell ≡ flat_cell edges points k = ap cell_seen (read ∙ ap (λ i. get_or cells i cell) (sym e)) ∙ kept_at edges points cells k cell size same l in
+    let now : get_or (set cells place (with_weight cell w)) k d ≡ with_weight cell w = ap (λ i. get_or (set cells place (with_weight cell w)) i d) e ∙ get_or-set_same cells place (with_weight cell w) d (omega arith) in
+    ap cell_seen now ∙ ap (λ c. joined c (record { sum = w; squares = w *ℤ w })) here ∙ sym (cell_yes edges points x w k e))
+    (λ (ne : k ≡ place → ⊥).
+    ap cell_seen (get_or-set_other cells place k (with_weight cell w) d ne) ∙ kept_at edges points cells k d size same l ∙ sym (cell_no edges points x w k ne))
+    (cases_eq k place))
+
+-- the cells of two lists of points
+pub flat_cells-append : (edges : List ℤ) (points more : List Item) (cells others all : List CellSum) → length cells ≡ length edges + 1 → length others ≡ length edges + 1 → length all ≡ length edges + 1
+    → ((k : ℕ) (d : CellSum) → k < length cells → get_or all k d ≡ together (get_or cells k d) (get_or others k d))
+    → map cell_seen cells ≡ flat_cells edges points → map cell_seen others ≡ flat_cells edges more → map cell_seen all ≡ flat_cells edges (points ++ more)
+flat_cells-append edges points more cells others all size size' size'' each same same' =
+    from_places edges (points ++ more) all size''
+    (λ k d l.
+    ap cell_seen (each k d (omega arith)) ∙ ap (λ c. joined c (cell_seen (get_or others k d))) (kept_at edges points cells k d size same l)
+    ∙ ap (λ c. joined (flat_cell edges points k) c) (kept_at edges more others k d size' same' l)
+    ∙ sym (ap cell_of (flat_map-append (weight_in edges k) points more) ∙ cell_of-append (flat_map (weight_in edges k) points) (flat_map (weight_in edges k) more)))
+
+-- cells without weights are those of no points
+pub flat_cells-none : (edges : List ℤ) (cells : List CellSum) → length cells ≡ length edges + 1
+    → ((k : ℕ) (d : CellSum) → k ≤ length edges → get_or cells k d ≡ record { sum = pos 0; squares = pos 0 }) → map cell_seen cells ≡ flat_cells edges []
+flat_cells-none edges cells size each = from_places edges [] cells size (λ k d l. ap cell_seen (each k d l))

@@ -1,0 +1,4 @@
+pub mod Bounds
+pub mod Filling
+pub mod FillingPairs
+pub mod Rising

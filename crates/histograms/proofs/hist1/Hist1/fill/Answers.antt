@@ -1,0 +1,33 @@
+use Rattle.std.proofs.Common.{◌≡◌, ◌<◌, ◌≤◌, ◌+◌, ◌∙◌, length, map, get_or, set, arith, ap, sym, subst, w64, length-set}
+use Rattle.std.proofs.lemmas.Int.{to_z-of_z}
+use Rattle.rdf_values.specs.Fold.{bin}
+use Rattle.histograms.specs.Cells.{IsBounded, cell_seen, with_weight}
+use Rattle.histograms.proofs.Bounds.{all_bounded_with, bounded_with}
+use Rattle.histograms.proofs.Filling.{flat_cells-point}
+use Rattle.histograms.proofs.hist1.Hist1.fill.Goals as goal
+
+pub invariant_of-self : goal.invariant_of-self
+invariant_of-self c =
+    let kept : c.with.result ≡ with_weight c.index.result.now c.args.weight = c.with.ensures ∙ ap (with_weight c.index.result.now) (to_z-of_z w64 c.args.weight c.ranges.weight) in
+    let room = rw (← c.self.view_is) at c.requires.room in
+    let below : c.bin-place.result < length c.self.inside.cells.items = let size = c.self.invariant.size in let within = c.bin-place.ensures.within in omega arith in
+    let old : IsBounded c.self.inside.fills c.index.result.now = subst (IsBounded c.self.inside.fills) (sym c.index.ensures) (c.self.invariant.bounded c.bin-place.result c.index.result.now below) in
+    let new : IsBounded (c.self.inside.fills + 1) c.with.result = subst (IsBounded (c.self.inside.fills + 1)) (sym kept) (bounded_with c.self.inside.fills c.index.result.now c.args.weight c.requires.weight old) in
+    record {
+      axis = c.self.invariant.axis;
+      size = rw length-set c.self.invariant.size;
+      few = omega arith;
+      bounded = all_bounded_with c.self.inside.fills c.self.inside.cells.items c.bin-place.result c.with.result new c.self.invariant.bounded;
+    }
+
+pub returns-clause-filled : goal.returns-clause-filled
+returns-clause-filled c = λ points held.
+    let cells = c.self.inside.cells.items in
+    let edges = c.self.inside.x in
+    let kept : c.with.result ≡ with_weight c.index.result.now c.args.weight = c.with.ensures ∙ ap (with_weight c.index.result.now) (to_z-of_z w64 c.args.weight c.ranges.weight) in
+    let place : c.bin-place.result ≡ bin edges c.args.x = c.bin-place.ensures.value ∙ ap (bin edges) (to_z-of_z w64 c.args.x c.ranges.x) in
+    let before = rw (← c.self.view_is) at held in
+    record {
+      cells = ap (λ v. map cell_seen (set cells c.bin-place.result v)) kept ∙ ap (λ i. map cell_seen (set cells i (with_weight c.index.result.now c.args.weight))) place
+          ∙ flat_cells-point edges points c.args.x c.args.weight cells c.index.result.now c.self.invariant.size (subst (λ i. i ≤ length edges) place c.bin-place.ensures.within) (c.index.ensures ∙ ap (λ i. get_or cells i c.index.result.now) place) before.cells;
+    }

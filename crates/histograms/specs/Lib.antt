@@ -1,0 +1,4 @@
+pub mod Axis
+pub mod Cells
+pub mod OneAxis
+pub mod TwoAxes

@@ -1,0 +1,75 @@
+// The edges of an axis.
+ghost use Rattle.std.specs.Prelude.{◌≡◌, ◌↔◌, ◌<◌, ◌-◌, ◌^◌, ◌+◌, ◌*◌, ◌≤◌, ℤ, List, length, true, false, IfOk};
+ghost use Rattle.rdf_values.specs.Fold.{bin};
+ghost use Rattle.rdf_values.specs.Verdict.{are_edges, rises};
+ghost use Rattle.histograms.specs.Axis.{IsAxis};
+
+use rdf_values::Memory;
+use std::alloc::Global;
+use std::marker::Model;
+
+/// Why there is no axis of some edges: `BadEdges` for fewer than two, or where they don't strictly rise.
+#[derive(Clone, Copy, Debug, PartialEq, Eq)]
+pub enum EdgeRefusal {
+    BadEdges,
+    Memory,
+}
+
+/// At least two edges that strictly rise.
+#[derive(Debug, Drop)]
+pub struct Edges {
+    edges: Vec<i64>,
+}
+
+impl Model for Edges {
+    ghost Value = { List ℤ };
+
+    ghost view = { λ a. a.edges.items };
+
+    ghost invariant = { λ a. IsAxis a.edges.items };
+}
+
+fn rises(edges: &[i64]) -> bool
+    ensures { result ≡ rises edges.now }
+{
+    edges.is_sorted_by(|a, b| a < b)
+}
+
+impl Edges {
+    /// The edges as an axis.
+    pub fn new(alloc: Global, edges: &[i64]) -> Result<Edges, EdgeRefusal>
+        requires few { length edges.now < 2 ^ 32 - 1 }
+        ensures bad { (result ≡ Err EdgeRefusal.BadEdges) ↔ (are_edges edges.now ≡ false) }
+        ensures ok { IfOk result (λ axis. axis ≡ edges.now) }
+    {
+        if edges.len() < 2 || !rises(edges) {
+            return Err(EdgeRefusal::BadEdges);
+        }
+        match Vec::from_slice(alloc, edges) {
+            Ok(edges) => Ok(Edges { edges }),
+            Err(_) => Err(EdgeRefusal::Memory),
+        }
+    }
+
+    /// The number of cells: one below the first edge, one from each edge on.
+    pub fn cells(&self) -> u32
+        ensures { result ≡ length self.now + 1 }
+    {
+        self.edges.len() as u32 + 1
+    }
+
+    /// The cell of a value: 0 for underflow, then the bins in order, the last cell for overflow.
+    pub fn bin(&self, value: i64) -> u32
+        ensures value { result ≡ bin self.now value }
+        ensures within { result ≤ length self.now }
+    {
+        self.edges.as_slice().partition_point(|edge| *edge <= value) as u32
+    }
+}
+
+/// The place of a cell of two axes in a list row by row, where a row has so many cells.
+pub fn place(row_cells: u32, i: u32, j: u32) -> usize
+    ensures { result ≡ i * row_cells + j }
+{
+    i as usize * row_cells as usize + j as usize
+}
