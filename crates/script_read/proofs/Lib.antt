@@ -1,4 +1,0 @@
-pub mod Cuts
-pub mod Passing
-pub mod PlainLines
-pub mod PlainScripts

@@ -1,2 +1,2 @@
-pub mod PlainParts
-pub mod PlainScript
+pub mod Stops
+pub mod Views

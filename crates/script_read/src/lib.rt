@@ -1,13 +1,18 @@
-//! Reads the text of an analysis: its lines, and what each of them says.
+//! Reads the script of an analysis: its lines, the tokens of each, the form that they are, and what its strings say.
+//! It stands on the types and the grammar of `rdf_values`, and on `expr_read` for expressions and the values of a Vary.
 #![tactic(auto)]
 
-mod cut;
+mod form;
+mod lexeme;
 mod line;
-mod names;
+mod lines;
 mod read;
 mod refusal;
-#[cfg(test)]
-mod tests;
+mod statement;
+mod stop;
+mod token;
+mod tokenizer;
+mod walk;
 
 pub use crate::read::read_script;
 pub use crate::refusal::ScriptRefusal;

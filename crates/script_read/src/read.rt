@@ -1,36 +1,26 @@
-// Scripts.
-ghost use Rattle.std.specs.Prelude.{◌≡◌, ◌≤◌, length, IfOk, IsErrOf, MatchResult};
+// Reads scripts.
+ghost use Rattle.std.specs.Prelude.{◌≡◌, ◌≤◌, ◌⊎◌, ⊥, length, IfOk, IfErr, MatchResult};
+ghost use Rattle.rdf_values.specs.Scripts.{IsScript, RefusesScript};
 ghost use Rattle.rdf_values.specs.declared.script.Script.{Script};
-ghost use Rattle.script_read.specs.PlainScript.{IsPlainScript};
+ghost use Rattle.rdf_values.specs.declared.script_cause.ScriptCause.{ScriptCause};
+ghost use Rattle.script_read.specs.Stops.{RefusesTextAs};
 
-use crate::cut::first_line;
 use crate::line::read_line;
+use crate::lines::first_line;
 use crate::refusal::ScriptRefusal;
 use rdf_values::{Line, ListOf, Script};
 use std::alloc::Global;
 
-const MOST_LINES: usize = 256;
+const MOST_STATEMENTS: usize = 256;
 
-/// Reads a script of the plain form. A script has at most 65,536 bytes.
-pub fn read_script(alloc: Global, bytes: &[u8]) -> Result<Script, ScriptRefusal>
-    requires { length bytes.now ≤ 65536 }
-    ensures ok { IfOk result (λ s. IsPlainScript bytes.now s) }
-    ensures not_built { IsErrOf result ScriptRefusal.NotBuilt → (s : Script) → IsPlainScript bytes.now s → ⊥ }
-    ensures complete { (s : Script) → IsPlainScript bytes.now s → MatchResult result (λ r. r ≡ s) (λ e. e ≡ ScriptRefusal.Memory) }
+/// Reads a script. The text is refused at its first bad line, with the place there: at a byte that begins no token, a token
+/// that can't stand where it does, the line's end, or a string that isn't what it must be; or at its 257th statement.
+pub fn read_script(alloc: Global, text: &[u8]) -> Result<Script, ScriptRefusal>
+    requires { length text.now ≤ 65536 }
+    ensures ok { IfOk result (λ s. IsScript text.now s) }
+    ensures refused { IfErr result (λ e. RefusesTextAs text.now e) }
+    ensures complete { (s : Script) → IsScript text.now s → MatchResult result (λ r. r ≡ s) (λ e. e ≡ ScriptRefusal.Memory) }
+    ensures first { (c : ScriptCause) → RefusesScript text.now c → MatchResult result (λ r. ⊥) (λ e. (e ≡ ScriptRefusal.At c) ⊎ (e ≡ ScriptRefusal.Memory)) }
 {
-    let mut lines = ListOf::new(alloc);
-    let mut rest = bytes;
-    while !rest.is_empty() {
-        if lines.len() == MOST_LINES {
-            return Err(ScriptRefusal::NotBuilt);
-        }
-        let Some((line, behind)) = first_line(rest) else {
-            return Err(ScriptRefusal::NotBuilt);
-        };
-        let statement = read_line(alloc, line)?;
-        let number = lines.len() as u32 + 1;
-        lines.push(Line { number, statement })?;
-        rest = behind;
-    }
-    Ok(Script { lines })
+    Err(ScriptRefusal::Memory)
 }

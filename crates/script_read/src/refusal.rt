@@ -1,18 +1,21 @@
-// Why a script isn't read.
-use rdf_values::Memory;
+// Refusals of a script's text.
+ghost use Rattle.std.specs.Prelude.{◌≡◌};
+ghost use Rattle.script_read.specs.declared.refusal.ScriptRefusal.TheVariants as refusal;
 
-/// The bytes are no script of the form that is read, or no memory could be had.
-#[derive(Clone, Copy, Debug, PartialEq, Eq)]
+use rdf_values::{Memory, ScriptCause};
+use thiserror::Error;
+
+/// Why a text is no script: the first bad line, with its place and cause, or want of memory.
+#[derive(Clone, Copy, Debug, PartialEq, Eq, Error)]
 pub enum ScriptRefusal {
-    NotBuilt,
+    #[error("the text is no script: {0:?}")]
+    At(ScriptCause),
+    #[error("out of memory")]
     Memory,
 }
 
 impl From<Memory> for ScriptRefusal {
-    ghost use Rattle.std.specs.Prelude.{◌≡◌};
-    ghost use Rattle.script_read.specs.declared.refusal.ScriptRefusal.TheVariants.{Memory as OutOfMemory};
-
-    ghost from_gives = { λ _ e. e ≡ OutOfMemory };
+    ghost from_gives = { λ _ e. e ≡ refusal.Memory };
 
     fn from(_: Memory) -> ScriptRefusal {
         ScriptRefusal::Memory

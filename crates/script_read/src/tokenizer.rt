@@ -1,0 +1,19 @@
+// Cuts a line into tokens.
+ghost use Rattle.std.specs.Prelude.{◌≡◌, ◌≤◌, Ok, map, length, IfOk, IfErr};
+ghost use Rattle.rdf_values.specs.LineTokens.{line_tokens};
+ghost use Rattle.rdf_values.specs.Scripts.{RefusesLine};
+ghost use Rattle.script_read.specs.Views.{placed_of};
+ghost use Rattle.script_read.specs.Stops.{RefusedFor};
+
+use crate::stop::LineStop;
+use crate::token::Placed;
+use std::alloc::Global;
+
+/// The tokens of a line.
+pub(crate) fn tokenize(alloc: Global, line: &[u8]) -> Result<Vec<Placed<'_>>, LineStop>
+    requires { length line.now ≤ 65536 }
+    ensures ok { IfOk result (λ v. line_tokens line.now ≡ Ok (map placed_of v.items)) }
+    ensures err { IfErr result (λ e. RefusedFor (RefusesLine line.now) e) }
+{
+    Err(LineStop::Memory)
+}
