@@ -1,5 +1,5 @@
 // Reads scripts.
-ghost use Rattle.std.specs.Prelude.{◌≡◌, ◌≤◌, ◌⊎◌, ⊥, length, IfOk, IfErr, MatchResult};
+ghost use Rattle.std.specs.Prelude.{◌≡◌, ◌≤◌, ◌⊎◌, length, IfOk, IfErr, MatchResult};
 ghost use Rattle.rdf_values.specs.Scripts.{IsScript, RefusesScript};
 ghost use Rattle.rdf_values.specs.declared.script.Script.{Script};
 ghost use Rattle.rdf_values.specs.declared.script_cause.ScriptCause.{ScriptCause};
