@@ -3,9 +3,7 @@
 #![tactic(auto)]
 
 mod form;
-mod lexeme;
 mod line;
-mod lines;
 mod read;
 mod refusal;
 mod statement;

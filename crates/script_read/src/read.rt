@@ -5,13 +5,9 @@ ghost use Rattle.rdf_values.specs.declared.script.Script.{Script};
 ghost use Rattle.rdf_values.specs.declared.script_cause.ScriptCause.{ScriptCause};
 ghost use Rattle.script_read.specs.Stops.{RefusesTextAs};
 
-use crate::line::read_line;
-use crate::lines::first_line;
 use crate::refusal::ScriptRefusal;
-use rdf_values::{Line, ListOf, Script};
+use rdf_values::Script;
 use std::alloc::Global;
-
-const MOST_STATEMENTS: usize = 256;
 
 /// Reads a script. The text is refused at its first bad line, with the place there: at a byte that begins no token, a token
 /// that can't stand where it does, the line's end, or a string that isn't what it must be; or at its 257th statement.
