@@ -8,6 +8,8 @@ use Rattle.script_read.specs.declared.token.Token.{Token}
 use Rattle.script_read.specs.declared.token.Token.TheVariants as token
 use Rattle.script_read.specs.declared.token.Quoted.{Quoted}
 use Rattle.script_read.specs.declared.token.Placed.{Placed}
+use Rattle.script_read.specs.declared.lexeme.Lexeme.{Lexeme}
+use Rattle.script_read.specs.declared.lexeme.Lexeme.TheVariants as lexeme
 use Rattle.script_read.specs.declared.form.OneOrMore.{OneOrMore}
 use Rattle.script_read.specs.declared.form.Method.{Method}
 use Rattle.script_read.specs.declared.form.Method.TheVariants as method
@@ -33,6 +35,12 @@ token_of token.Comma = t.Comma
 
 abbrev pub placed_of : Placed → PlacedToken
 placed_of p = record { token = token_of p.token; place = p.place }
+
+abbrev pub lexeme_of : Lexeme → t.Lexeme
+lexeme_of lexeme.Blank = t.Blank
+lexeme_of lexeme.Comment = t.Comment
+lexeme_of lexeme.Bad = t.Bad
+lexeme_of (lexeme.Found token more) = t.Found (token_of token) more
 
 -- ---- forms
 

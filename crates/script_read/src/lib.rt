@@ -3,6 +3,7 @@
 #![tactic(auto)]
 
 mod form;
+mod lexeme;
 mod line;
 mod read;
 mod refusal;

@@ -5,6 +5,7 @@ ghost use Rattle.rdf_values.specs.Scripts.{RefusesLine};
 ghost use Rattle.script_read.specs.Views.{placed_of};
 ghost use Rattle.script_read.specs.Stops.{RefusedFor};
 
+use crate::lexeme::{Lexeme, lexeme_at};
 use crate::stop::LineStop;
 use crate::token::Placed;
 use std::alloc::Global;
@@ -15,5 +16,25 @@ pub(crate) fn tokenize(alloc: Global, line: &[u8]) -> Result<Vec<Placed<'_>>, Li
     ensures ok { IfOk result (λ v. line_tokens line.now ≡ Ok (map placed_of v.items)) }
     ensures err { IfErr result (λ e. RefusedFor (RefusesLine line.now) e) }
 {
-    Err(LineStop::Memory)
+    let mut found = Vec::new(alloc);
+    let mut place = 0;
+    while place < line.len() {
+        match lexeme_at(line, place) {
+            Lexeme::Blank => place += 1,
+            Lexeme::Comment => break,
+            Lexeme::Bad => {
+                return Err(LineStop::Syntax {
+                    place: place as u32,
+                });
+            }
+            Lexeme::Found { token, more } => {
+                found.push(Placed {
+                    token,
+                    place: place as u32,
+                })?;
+                place += 1 + more;
+            }
+        }
+    }
+    Ok(found)
 }

@@ -1,0 +1,112 @@
+-- One more token of a line.
+use Rattle.std.proofs.Common.{◌≡◌, ◌≤◌, ◌<◌, ◌+◌, ◌∙◌, ℕ, Bool, true, false, Some, None, List, [], ◌∷◌, ◌++◌, length, get_or, drop, Ok, Err, arith, refl, ap, sym, subst, append_assoc, length-drop}
+use Rattle.std.specs.Prelude.{Result, Option, ◌&&◌, ◌||◌, ◌==◌, ℤ, take_while, nat_lt, if◌then◌else◌}
+use Rattle.std.specs.List.{list_all}
+use Rattle.std.proofs.lemmas.List.{drop_more, drop_all, drop-drop, append-nil}
+use Rattle.std.proofs.lemmas.List.Folds.{length-prefix_len}
+use Rattle.std.proofs.lemmas.List.Sums.{prefix_len-le-length}
+use Rattle.std.proofs.lemmas.Bool.Decides.{nat_tests}
+use Rattle.rdf_values.specs.Names.{between, is_digit, is_name, is_word_start, is_word_byte}
+use Rattle.rdf_values.specs.Tokens.{is_blank}
+use Rattle.rdf_values.specs.LineTokens.{LineToken, PlacedToken, Lexeme, Equals, Dot, Open, Close, OpenBracket, CloseBracket, Comma, Blank, Comment, Bad, Found, lexeme, word_lexeme, integer_lexeme, string_lexeme, content_of, mark_lexeme, with_token, with_lexeme, tokens_from}
+use Rattle.rdf_values.proofs.ScriptSteps.{tokens_behind}
+
+-- ---- how many bytes a lexeme has
+
+run_short : (p : ℕ → Bool) (xs : List ℕ) → length (take_while p xs) ≤ length xs
+run_short p xs = rw length-prefix_len (prefix_len-le-length p xs)
+
+-- the lexeme has no more than so many bytes behind its first
+abbrev IsWithin : ℕ → Lexeme → Type 0
+IsWithin most Blank = Unit {0}
+IsWithin most Comment = Unit {0}
+IsWithin most Bad = Unit {0}
+IsWithin most (Found token more) = more ≤ most
+
+fits_or : (most : ℕ) (b : Bool) (x y : Lexeme) → IsWithin most x → IsWithin most y → IsWithin most (if b then x else y)
+fits_or most true x y h k = h
+fits_or most false x y h k = k
+
+word_fits : (c : ℕ) (cs : List ℕ) → IsWithin (length cs) (word_lexeme (c ∷ take_while is_word_byte cs))
+unfolding word_lexeme
+word_fits c cs = let short = run_short is_word_byte cs in fits_or (length cs) (is_name (c ∷ take_while is_word_byte cs)) _ _ (omega arith) tt
+
+integer_fits : (most more : ℕ) (z : Option ℤ) → more ≤ most → IsWithin most (integer_lexeme more z)
+integer_fits most more None h = tt
+integer_fits most more (Some z) h = h
+
+string_by : (most size : ℕ) (token : LineToken) (b : Bool) → IsWithin most (if nat_lt size most && b then Found token (size + 1) else Bad)
+string_by most size token b = by_size (nat_lt size most) refl
+  where
+    by_size : (d : Bool) → nat_lt size most ≡ d → IsWithin most (if d && b then Found token (size + 1) else Bad)
+    by_size true e = let fits : size + 1 ≤ most = grind (arith, nat_tests) in fits_or most b _ _ fits tt
+    by_size false e = tt
+
+string_fits : (place : ℕ) (cs : List ℕ) → IsWithin (length cs) (string_lexeme place cs)
+unfolding string_lexeme
+string_fits place cs = string_by (length cs) (length (content_of cs)) _ (list_all (between 32 126) (content_of cs))
+
+mark_fits : (most c : ℕ) → IsWithin most (mark_lexeme c)
+mark_fits most c =
+    let none : 0 ≤ most = omega arith in
+    fits_or most (c == 61) (Found Equals 0) _ none (fits_or most (c == 46) (Found Dot 0) _ none (fits_or most (c == 40) (Found Open 0) _ none
+    (fits_or most (c == 41) (Found Close 0) _ none (fits_or most (c == 91) (Found OpenBracket 0) _ none (fits_or most (c == 93) (Found CloseBracket 0) _ none
+    (fits_or most (c == 44) (Found Comma 0) _ none tt))))))
+
+lexeme_fits : (place c : ℕ) (cs : List ℕ) → IsWithin (length cs) (lexeme place c cs)
+unfolding lexeme
+lexeme_fits place c cs =
+    let most = length cs in
+    fits_or most (is_blank c) _ _ tt (fits_or most (c == 35) _ _ tt (fits_or most (is_word_start c) _ _ (word_fits c cs)
+    (fits_or most (is_digit c || c == 45) _ _ (integer_fits most _ _ (run_short is_digit cs)) (fits_or most (c == 34) _ _ (string_fits place cs) (mark_fits most c)))))
+
+-- ---- at a place of a line, after the tokens found
+
+abbrev pub before : List PlacedToken → Result (List PlacedToken) ℕ → Result (List PlacedToken) ℕ
+before ts (Ok us) = Ok (ts ++ us)
+before ts (Err p) = Err p
+
+-- the tokens of a line, of which some were found, and the next byte stands at the place
+abbrev pub goes_on : List PlacedToken → List ℕ → ℕ → Result (List PlacedToken) ℕ
+goes_on found line i = before found (tokens_from (drop i line) 0 i)
+
+before_token : (found : List PlacedToken) (t : LineToken) (i : ℕ) (r : Result (List PlacedToken) ℕ) → before found (with_token t i r) ≡ before (found ++ record { token = t; place = i } ∷ []) r
+before_token found t i (Ok ts) = ap Ok (sym (append_assoc found _ ts))
+before_token found t i (Err p) = refl
+
+at_first : (place c : ℕ) (cs : List ℕ) (x : Lexeme) → lexeme place c cs ≡ x → tokens_from (c ∷ cs) 0 place ≡ with_lexeme place x (λ more. tokens_from cs more (place + 1))
+unfolding tokens_from
+at_first place c cs x e = rw e refl
+
+at_place : (found : List PlacedToken) (line : List ℕ) (i : ℕ) (x : Lexeme) → i < length line → lexeme i (get_or line i 0) (drop (i + 1) line) ≡ x
+    → goes_on found line i ≡ before found (with_lexeme i x (λ more. tokens_from (drop (i + 1) line) more (i + 1)))
+at_place found line i x h e = rw (drop_more line i 0 h) (ap (before found) (at_first i (get_or line i 0) (drop (i + 1) line) x e))
+
+pub step_blank : (found : List PlacedToken) (line : List ℕ) (i : ℕ) → i < length line → lexeme i (get_or line i 0) (drop (i + 1) line) ≡ Blank → goes_on found line i ≡ goes_on found line (i + 1)
+step_blank found line i h e = at_place found line i Blank h e
+
+pub step_comment : (found : List PlacedToken) (line : List ℕ) (i : ℕ) → i < length line → lexeme i (get_or line i 0) (drop (i + 1) line) ≡ Comment → goes_on found line i ≡ Ok found
+step_comment found line i h e = at_place found line i Comment h e ∙ ap Ok (append-nil found)
+
+pub step_bad : (found : List PlacedToken) (line : List ℕ) (i : ℕ) → i < length line → lexeme i (get_or line i 0) (drop (i + 1) line) ≡ Bad → goes_on found line i ≡ Err i
+step_bad found line i h e = at_place found line i Bad h e
+
+-- the bytes of a token stand in the line
+pub token_within : (line : List ℕ) (i : ℕ) (t : LineToken) (more : ℕ) → i < length line → lexeme i (get_or line i 0) (drop (i + 1) line) ≡ Found t more → i + (1 + more) ≤ length line
+token_within line i t more h e =
+    let short = subst (IsWithin (length (drop (i + 1) line))) e (lexeme_fits i (get_or line i 0) (drop (i + 1) line)) in
+    omega (arith, short, length-drop (i + 1) line)
+
+pub step_token : (found : List PlacedToken) (line : List ℕ) (i : ℕ) (t : LineToken) (more : ℕ) → i < length line → lexeme i (get_or line i 0) (drop (i + 1) line) ≡ Found t more
+    → goes_on found line i ≡ goes_on (found ++ record { token = t; place = i } ∷ []) line (i + (1 + more))
+step_token found line i t more h e =
+    let short : more ≤ length (drop (i + 1) line) = let all = token_within line i t more h e in omega (arith, all, length-drop (i + 1) line) in
+    let there : i + 1 + more ≡ i + (1 + more) = omega arith in
+    let behind = tokens_behind (drop (i + 1) line) more (i + 1) short in
+    at_place found line i (Found t more) h e
+    ∙ before_token found t i _
+    ∙ ap (before (found ++ record { token = t; place = i } ∷ [])) (behind ∙ rw (drop-drop more (i + 1) line, there) refl)
+
+pub at_end : (found : List PlacedToken) (line : List ℕ) (i : ℕ) → length line ≤ i → goes_on found line i ≡ Ok found
+unfolding tokens_from
+at_end found line i h = rw (drop_all i line h) (ap Ok (append-nil found))

@@ -1,0 +1,52 @@
+use Rattle.std.proofs.Common.{◌≡◌, ◌∙◌, ◌∷◌, ◌++◌, [], map, sym, refl, arith}
+use Rattle.std.proofs.lemmas.List.{drop_more, map-append}
+use Rattle.std.proofs.lemmas.Grind.{common_steps}
+use Rattle.rdf_values.specs.Scripts.{at_byte}
+use Rattle.script_read.specs.Views.{placed_of}
+use Rattle.script_read.proofs.TokenSteps.{step_blank, step_comment, step_bad, step_token, token_within, at_end}
+use Rattle.script_read.proofs.tokenizer.tokenize.Goals as goal
+use Rattle.script_read.proofs.tokenizer.tokenize.Goals.{else-loop-place-test, then-loop-place-test+in-Comment}
+
+pub loop-place-preserved-in-Blank : goal.loop-place-preserved-in-Blank
+loop-place-preserved-in-Blank c =
+    let here = c.in-Blank.ensures _ _ (drop_more c.args.line.now c.loop-place.place 0 (omega arith)) in
+    record {
+      same = c.loop-place.invariant.same ∙ step_blank _ c.args.line.now c.loop-place.place (omega arith) (sym here);
+      within = omega arith;
+    }
+
+pub returns-in-Bad-clause-err : goal.returns-in-Bad-clause-err
+returns-in-Bad-clause-err c =
+    let here = c.in-Bad.ensures _ _ (drop_more c.args.line.now c.loop-place.place 0 (omega arith)) in
+    at_byte (c.loop-place.invariant.same ∙ step_bad _ c.args.line.now c.loop-place.place (omega arith) (sym here))
+
+pub overflow_add-place-in-Found : goal.overflow_add-place-in-Found
+overflow_add-place-in-Found c =
+    let here = c.in-Found.ensures _ _ (drop_more c.args.line.now c.loop-place.place 0 (omega arith)) in
+    let size = token_within c.args.line.now c.loop-place.place _ _ (omega arith) (sym here) in
+    omega arith
+
+pub overflow_add-place-in-Found-2 : goal.overflow_add-place-in-Found-2
+overflow_add-place-in-Found-2 c =
+    let here = c.in-Found.ensures _ _ (drop_more c.args.line.now c.loop-place.place 0 (omega arith)) in
+    let size = token_within c.args.line.now c.loop-place.place _ _ (omega arith) (sym here) in
+    omega arith
+
+pub loop-place-preserved : goal.loop-place-preserved
+loop-place-preserved c =
+    let here = c.in-Found.ensures _ _ (drop_more c.args.line.now c.loop-place.place 0 (omega arith)) in
+    let size = token_within c.args.line.now c.loop-place.place _ _ (omega arith) (sym here) in
+    let one = step_token (map placed_of c.loop-place.found.items) c.args.line.now c.loop-place.place _ _ (omega arith) (sym here) in
+    let pushed : c.push.new.self.items ≡ c.loop-place.found.items ++ record { token = c.in-Found.token; place = c.loop-place.place } ∷ [] = grind (arith, common_steps) in
+    record {
+      same = c.loop-place.invariant.same ∙ one ∙ rw (pushed, map-append) refl;
+      within = omega arith;
+    }
+
+pub returns-clause-ok : goal.returns-clause-ok
+returns-clause-ok c = elim c.loop-place-test.branch [
+  | else-loop-place-test w ↦ c.loop-place.invariant.same ∙ at_end _ c.args.line.now c.loop-place.place (omega arith)
+  | then-loop-place-test+in-Comment w ↦
+      let here = w.in-Comment.ensures _ _ (drop_more c.args.line.now c.loop-place.place 0 (omega arith)) in
+      c.loop-place.invariant.same ∙ step_comment _ c.args.line.now c.loop-place.place (omega arith) (sym here)
+]

@@ -1,0 +1,149 @@
+// What a line begins with at a place.
+ghost use Rattle.std.specs.Prelude.{◌≡◌, ◌==◌, ◌+◌, ◌-◌, ◌<◌, ◌≤◌, ◌∷◌, ◌||◌, ℕ, List, true, length, drop, position, take_while};
+ghost use Rattle.std.specs.List.{list_all};
+ghost use Rattle.rdf_values.specs.Names.{between, is_digit, is_name, is_word, is_word_byte};
+ghost use Rattle.rdf_values.specs.Integers.{integer_of};
+ghost use Rattle.rdf_values.specs.LineTokens.{lexeme, word_lexeme, integer_lexeme, string_lexeme, mark_lexeme};
+ghost use Rattle.script_read.specs.Views.{lexeme_of};
+
+use crate::token::{Quoted, Token, Word};
+use rdf_values::name::{is_word_byte, is_word_start};
+use rdf_values::read_integer;
+
+const LONGEST_NAME: usize = 64;
+
+/// A blank, a comment to the end of the line, a byte that begins no token, or a token with so many bytes behind its first.
+#[derive(Clone, Copy)]
+pub(crate) enum Lexeme<'a> {
+    Blank,
+    Comment,
+    Bad,
+    Found { token: Token<'a>, more: usize },
+}
+
+fn is_digit(byte: u8) -> bool
+    ensures { result ≡ is_digit byte }
+{
+    byte.is_ascii_digit()
+}
+
+fn begins_integer(byte: u8) -> bool
+    ensures { result ≡ (is_digit byte || byte == 45) }
+{
+    is_digit(byte) || byte == b'-'
+}
+
+fn are_printable(bytes: &[u8]) -> bool
+    ensures { result ≡ list_all (between 32 126) bytes.now }
+{
+    bytes.iter().all(|byte| *byte >= 0x20 && *byte <= 0x7E)
+}
+
+// Whether the word is a name.
+#[tactic(auto, unfolding(rdf_values::specs::Names::is_name))]
+fn is_name(word: &[u8]) -> bool
+    requires { is_word word.now ≡ true }
+    ensures { result ≡ is_name word.now }
+{
+    word.len() <= LONGEST_NAME && word != b"true".as_slice() && word != b"false".as_slice()
+}
+
+fn word_size(text: &[u8]) -> usize
+    ensures { result ≡ length (take_while is_word_byte text.now) }
+{
+    text.iter().take_while(|byte| is_word_byte(**byte)).count()
+}
+
+fn digits_size(text: &[u8]) -> usize
+    ensures { result ≡ length (take_while is_digit text.now) }
+{
+    text.iter().take_while(|byte| is_digit(**byte)).count()
+}
+
+fn quote_place(text: &[u8]) -> Option<usize>
+    ensures { result ≡ position (λ c. c == 34) text.now }
+{
+    text.iter().position(|byte| *byte == b'"')
+}
+
+// The lexeme of a word.
+#[tactic(auto, unfolding(rdf_values::specs::LineTokens::word_lexeme))]
+fn word(bytes: &[u8]) -> Lexeme<'_>
+    requires { is_word bytes.now ≡ true }
+    ensures { lexeme_of result ≡ word_lexeme bytes.now }
+{
+    if !is_name(bytes) {
+        return Lexeme::Bad;
+    }
+    Lexeme::Found {
+        token: Token::Word(Word { bytes }),
+        more: bytes.len() - 1,
+    }
+}
+
+// The lexeme of some digits, maybe behind a `-`.
+fn integer(text: &[u8]) -> Lexeme<'static>
+    requires { 0 < length text.now }
+    ensures { lexeme_of result ≡ integer_lexeme (length text.now - 1) (integer_of text.now) }
+{
+    match read_integer(text) {
+        Some(number) => Lexeme::Found {
+            token: Token::Number(number),
+            more: text.len() - 1,
+        },
+        None => Lexeme::Bad,
+    }
+}
+
+// The lexeme of a string whose quote stands at the place, before the text.
+#[tactic(auto, unfolding(rdf_values::specs::LineTokens::string_lexeme))]
+fn string(place: u32, text: &[u8]) -> Lexeme<'_>
+    requires { place + length text.now < 65536 }
+    ensures { lexeme_of result ≡ string_lexeme place text.now }
+{
+    let Some(end) = quote_place(text) else {
+        return Lexeme::Bad;
+    };
+    let content = &text[..end];
+    if !are_printable(content) {
+        return Lexeme::Bad;
+    }
+    Lexeme::Found {
+        token: Token::Quoted(Quoted { place, content }),
+        more: end + 1,
+    }
+}
+
+fn mark(byte: u8) -> Lexeme<'static>
+    ensures { lexeme_of result ≡ mark_lexeme byte }
+{
+    let token = match byte {
+        b'=' => Token::Equals,
+        b'.' => Token::Dot,
+        b'(' => Token::Open,
+        b')' => Token::Close,
+        b'[' => Token::OpenBracket,
+        b']' => Token::CloseBracket,
+        b',' => Token::Comma,
+        _ => return Lexeme::Bad,
+    };
+    Lexeme::Found { token, more: 0 }
+}
+
+/// What the line has at the place.
+#[tactic(auto, unfolding(rdf_values::specs::LineTokens::lexeme))]
+pub(crate) fn lexeme_at(line: &[u8], place: usize) -> Lexeme<'_>
+    requires inside { place < length line.now }
+    requires short { length line.now ≤ 65536 }
+    ensures { (c : ℕ) (cs : List ℕ) → drop place line.now ≡ c ∷ cs → lexeme_of result ≡ lexeme place c cs }
+{
+    let text = &line[place..];
+    match text[0] {
+        b' ' | b'\t' => Lexeme::Blank,
+        b'#' => Lexeme::Comment,
+        b'"' => string(place as u32, &text[1..]),
+        first if is_word_start(first) => word(&text[..word_size(text)]),
+        first if begins_integer(first) => integer(&text[..1 + digits_size(&text[1..])]),
+        first => mark(first),
+    }
+}
