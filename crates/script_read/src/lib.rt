@@ -9,6 +9,8 @@ mod read;
 mod refusal;
 mod statement;
 mod stop;
+#[cfg(test)]
+mod tests;
 mod token;
 mod tokenizer;
 mod walk;
