@@ -6,6 +6,7 @@ use rdf_values::{
     ScriptCause, Statement, Text, VaryValues,
 };
 use std::alloc::Global;
+use std::process::Abort;
 use std::test::Fail;
 
 const LONGEST_TEXT: usize = 65_536;
@@ -400,139 +401,121 @@ fn long_text(alloc: Global, lines: u32, end: &str) -> Result<Text, Memory> {
     Ok(out)
 }
 
+// Each text of the rows says what stands beside it.
+fn check_rows(rt: &impl Abort, alloc: Global, rows: &[(&str, &str)]) -> Result<(), Fail> {
+    for (text, wanted) in rows {
+        let got = answer(alloc, text)?;
+        assert_eq!(rt; got.as_bytes(), wanted.as_bytes(), "at {text}");
+    }
+    Ok(())
+}
+
+// ---- tests
+
 #[test]
 fn reads_definitions_and_filters(rt: HostRuntime) -> Result<(), Fail> {
     let cases = [
         (
-            "p = df.Define(\"q\", \"pt*2\")",
+            r#"p = df.Define("q", "pt*2")"#,
             "1 p = Define(df; q; pt * 2)",
         ),
         (
-            "p = df.Redefine(\"q\", \"(pt + w) * 2\")",
+            r#"p = df.Redefine("q", "(pt + w) * 2")"#,
             "1 p = Redefine(df; q; (pt + w) * 2)",
         ),
-        ("p = df.Alias(\"q\", \"pt\")", "1 p = Alias(df; q; pt)"),
-        ("f = df.Filter(\"pt > 20\")", "1 f = Filter(df; pt > 20; -)"),
+        (r#"p = df.Alias("q", "pt")"#, "1 p = Alias(df; q; pt)"),
         (
-            "f = df.Filter(\"pt > 20\", \"pt above 20, or not\")",
+            r#"f = df.Filter("pt > 20")"#,
+            "1 f = Filter(df; pt > 20; -)",
+        ),
+        (
+            r#"f = df.Filter("pt > 20", "pt above 20, or not")"#,
             "1 f = Filter(df; pt > 20; pt above 20, or not)",
         ),
     ];
-    for (text, wanted) in cases {
-        let got = answer(rt.alloc(), text)?;
-        assert_eq!(rt; got.as_bytes(), wanted.as_bytes(), "at {text}");
-    }
-    Ok(())
+    check_rows(&rt, rt.alloc(), &cases)
 }
 
 #[test]
 fn reads_variations(rt: HostRuntime) -> Result<(), Fail> {
     let cases = [
         (
-            "v = df.Vary(\"pt\", \"{pt - 1, pt + 1}\", [\"down\", \"up\"])",
+            r#"v = df.Vary("pt", "{pt - 1, pt + 1}", ["down", "up"])"#,
             "1 v = Vary(df; pt; {pt - 1, pt + 1}; down, up; pt)",
         ),
         (
-            "v = df.Vary(\"pt\", \"{pt - 1, pt + 1}\", [\"down\", \"up\"], \"jes\")",
+            r#"v = df.Vary("pt", "{pt - 1, pt + 1}", ["down", "up"], "jes")"#,
             "1 v = Vary(df; pt; {pt - 1, pt + 1}; down, up; jes)",
         ),
         (
-            "v = df.Vary(\"pt\", \"shifts\", [\"up\"])",
+            r#"v = df.Vary("pt", "shifts", ["up"])"#,
             "1 v = Vary(df; pt; shifts; up; pt)",
         ),
         (
-            "v = df.Vary([\"pt\", \"w\"], \"{{pt - 1, pt + 1}, {w, 2 * w}}\", [\"down\", \"up\"], \"jes\")",
+            r#"v = df.Vary(["pt", "w"], "{{pt - 1, pt + 1}, {w, 2 * w}}", ["down", "up"], "jes")"#,
             "1 v = Vary(df; pt, w; {pt - 1, pt + 1}{w, 2 * w}; down, up; jes)",
         ),
         (
-            "v = df.Vary([\"pt\"], \"shifts\", [\"up\"], \"jes\")",
+            r#"v = df.Vary(["pt"], "shifts", ["up"], "jes")"#,
             "1 v = Vary(df; pt; shifts; up; jes)",
         ),
-        ("v = df.Vary([\"pt\"], \"shifts\", [\"up\"])", "S1 1:36"),
+        (r#"v = df.Vary(["pt"], "shifts", ["up"])"#, "S1 1:36"),
     ];
-    for (text, wanted) in cases {
-        let got = answer(rt.alloc(), text)?;
-        assert_eq!(rt; got.as_bytes(), wanted.as_bytes(), "at {text}");
-    }
-    Ok(())
+    check_rows(&rt, rt.alloc(), &cases)
 }
 
 #[test]
 fn reads_actions_of_a_column(rt: HostRuntime) -> Result<(), Fail> {
     let cases = [
         ("n = df.Count()", "1 n = Count(df)"),
-        ("s = df.Sum(\"pt\")", "1 s = Sum(df; pt)"),
-        ("s = df.Min(\"pt\")", "1 s = Min(df; pt)"),
-        ("s = df.Max(\"pt\")", "1 s = Max(df; pt)"),
-        ("s = df.Take(\"pt\")", "1 s = Take(df; pt)"),
+        (r#"s = df.Sum("pt")"#, "1 s = Sum(df; pt)"),
+        (r#"s = df.Min("pt")"#, "1 s = Min(df; pt)"),
+        (r#"s = df.Max("pt")"#, "1 s = Max(df; pt)"),
+        (r#"s = df.Take("pt")"#, "1 s = Take(df; pt)"),
         ("r = f.Report()", "1 r = Report(f)"),
     ];
-    for (text, wanted) in cases {
-        let got = answer(rt.alloc(), text)?;
-        assert_eq!(rt; got.as_bytes(), wanted.as_bytes(), "at {text}");
-    }
-    Ok(())
+    check_rows(&rt, rt.alloc(), &cases)
 }
 
 #[test]
 fn reads_reductions(rt: HostRuntime) -> Result<(), Fail> {
     let cases = [
+        (r#"m = df.Reduce("min", "pt")"#, "1 m = Reduce(df; min; pt)"),
+        (r#"m = df.Reduce("max", "pt")"#, "1 m = Reduce(df; max; pt)"),
+        (r#"m = df.Reduce("and", "pt")"#, "1 m = Reduce(df; and; pt)"),
+        (r#"m = df.Reduce("or", "pt")"#, "1 m = Reduce(df; or; pt)"),
+        (r#"m = df.Reduce("xor", "pt")"#, "1 m = Reduce(df; xor; pt)"),
         (
-            "m = df.Reduce(\"min\", \"pt\")",
-            "1 m = Reduce(df; min; pt)",
-        ),
-        (
-            "m = df.Reduce(\"max\", \"pt\")",
-            "1 m = Reduce(df; max; pt)",
-        ),
-        (
-            "m = df.Reduce(\"and\", \"pt\")",
-            "1 m = Reduce(df; and; pt)",
-        ),
-        ("m = df.Reduce(\"or\", \"pt\")", "1 m = Reduce(df; or; pt)"),
-        (
-            "m = df.Reduce(\"xor\", \"pt\")",
-            "1 m = Reduce(df; xor; pt)",
-        ),
-        (
-            "m = df.Reduce(\"wrapadd\", \"pt\")",
+            r#"m = df.Reduce("wrapadd", "pt")"#,
             "1 m = Reduce(df; wrapadd; pt)",
         ),
-        ("m = df.Reduce(\"add\", \"pt\")", "S1 1:14"),
-        ("m = df.Reduce(\"Min\", \"pt\")", "S1 1:14"),
+        (r#"m = df.Reduce("add", "pt")"#, "S1 1:14"),
+        (r#"m = df.Reduce("Min", "pt")"#, "S1 1:14"),
     ];
-    for (text, wanted) in cases {
-        let got = answer(rt.alloc(), text)?;
-        assert_eq!(rt; got.as_bytes(), wanted.as_bytes(), "at {text}");
-    }
-    Ok(())
+    check_rows(&rt, rt.alloc(), &cases)
 }
 
 #[test]
 fn reads_histograms(rt: HostRuntime) -> Result<(), Fail> {
     let cases = [
         (
-            "h = df.Histo1D([0, 10, 20], \"pt\")",
+            r#"h = df.Histo1D([0, 10, 20], "pt")"#,
             "1 h = Histo1D(df; 0, 10, 20; pt; -)",
         ),
         (
-            "h = df.Histo1D([-9223372036854775808, 9223372036854775807], \"pt\", \"w\")",
+            r#"h = df.Histo1D([-9223372036854775808, 9223372036854775807], "pt", "w")"#,
             "1 h = Histo1D(df; -9223372036854775808, 9223372036854775807; pt; w)",
         ),
         (
-            "h = df.Histo2D([-1, 1], [7], \"x\", \"y\")",
+            r#"h = df.Histo2D([-1, 1], [7], "x", "y")"#,
             "1 h = Histo2D(df; -1, 1; 7; x; y; -)",
         ),
         (
-            "h = df.Histo2D([3], [-2, 0, 5], \"x\", \"y\", \"w\")",
+            r#"h = df.Histo2D([3], [-2, 0, 5], "x", "y", "w")"#,
             "1 h = Histo2D(df; 3; -2, 0, 5; x; y; w)",
         ),
     ];
-    for (text, wanted) in cases {
-        let got = answer(rt.alloc(), text)?;
-        assert_eq!(rt; got.as_bytes(), wanted.as_bytes(), "at {text}");
-    }
-    Ok(())
+    check_rows(&rt, rt.alloc(), &cases)
 }
 
 #[test]
@@ -546,11 +529,7 @@ fn reads_what_is_asked_of_results(rt: HostRuntime) -> Result<(), Fail> {
             "1 n = Count(df) / 2 Watch(n) / 3 Print(n)",
         ),
     ];
-    for (text, wanted) in cases {
-        let got = answer(rt.alloc(), text)?;
-        assert_eq!(rt; got.as_bytes(), wanted.as_bytes(), "at {text}");
-    }
-    Ok(())
+    check_rows(&rt, rt.alloc(), &cases)
 }
 
 #[test]
@@ -559,7 +538,7 @@ fn passes_over_blanks_and_comments(rt: HostRuntime) -> Result<(), Fail> {
         ("", ""),
         ("\n \t\n# no statement\r\n", ""),
         ("\tn=df . Count ( )  ", "1 n = Count(df)"),
-        ("n = df.Count() # of \"df", "1 n = Count(df)"),
+        (r#"n = df.Count() # of "df"#, "1 n = Count(df)"),
         (
             "f = df.Filter(\"pt > 20\", \"# 1\") # 2",
             "1 f = Filter(df; pt > 20; # 1)",
@@ -569,11 +548,7 @@ fn passes_over_blanks_and_comments(rt: HostRuntime) -> Result<(), Fail> {
             "3 n = Count(df) / 6 Print(n)",
         ),
     ];
-    for (text, wanted) in cases {
-        let got = answer(rt.alloc(), text)?;
-        assert_eq!(rt; got.as_bytes(), wanted.as_bytes(), "at {text}");
-    }
-    Ok(())
+    check_rows(&rt, rt.alloc(), &cases)
 }
 
 #[test]
@@ -589,11 +564,7 @@ fn ends_lines_at_an_lf_and_a_cr_before_it(rt: HostRuntime) -> Result<(), Fail> {
         ("Print(n)\r", "S1 1:8"),
         ("Print(n)\r\r\n", "S1 1:8"),
     ];
-    for (text, wanted) in cases {
-        let got = answer(rt.alloc(), text)?;
-        assert_eq!(rt; got.as_bytes(), wanted.as_bytes(), "at {text}");
-    }
-    Ok(())
+    check_rows(&rt, rt.alloc(), &cases)
 }
 
 #[test]
@@ -601,35 +572,27 @@ fn refuses_bytes_that_begin_no_token(rt: HostRuntime) -> Result<(), Fail> {
     let cases = [
         ("n = df.Count();", "S1 1:14"),
         ("s = df.Sum('pt')", "S1 1:11"),
-        ("s = df.Sum(\"pt)", "S1 1:11"),
+        (r#"s = df.Sum("pt)"#, "S1 1:11"),
         ("s = df.Sum(\"p\tt\")", "S1 1:11"),
-        ("s = df.Sum(\"pä\")", "S1 1:11"),
-        ("s = df.Sum(\"pt\"\")", "S1 1:15"),
+        (r#"s = df.Sum("pä")"#, "S1 1:11"),
+        (r#"s = df.Sum("pt"")"#, "S1 1:15"),
         ("true = df.Count()", "S1 1:0"),
         ("n = false.Count()", "S1 1:4"),
     ];
-    for (text, wanted) in cases {
-        let got = answer(rt.alloc(), text)?;
-        assert_eq!(rt; got.as_bytes(), wanted.as_bytes(), "at {text}");
-    }
-    Ok(())
+    check_rows(&rt, rt.alloc(), &cases)
 }
 
 #[test]
 fn refuses_integers_that_are_not_canonical(rt: HostRuntime) -> Result<(), Fail> {
     let cases = [
-        ("h = df.Histo1D([05], \"pt\")", "S1 1:16"),
-        ("h = df.Histo1D([-0], \"pt\")", "S1 1:16"),
-        ("h = df.Histo1D([1, -], \"pt\")", "S1 1:19"),
-        ("h = df.Histo1D([1, +5], \"pt\")", "S1 1:19"),
-        ("h = df.Histo1D([9223372036854775808], \"pt\")", "S1 1:16"),
-        ("h = df.Histo1D([-9223372036854775809], \"pt\")", "S1 1:16"),
+        (r#"h = df.Histo1D([05], "pt")"#, "S1 1:16"),
+        (r#"h = df.Histo1D([-0], "pt")"#, "S1 1:16"),
+        (r#"h = df.Histo1D([1, -], "pt")"#, "S1 1:19"),
+        (r#"h = df.Histo1D([1, +5], "pt")"#, "S1 1:19"),
+        (r#"h = df.Histo1D([9223372036854775808], "pt")"#, "S1 1:16"),
+        (r#"h = df.Histo1D([-9223372036854775809], "pt")"#, "S1 1:16"),
     ];
-    for (text, wanted) in cases {
-        let got = answer(rt.alloc(), text)?;
-        assert_eq!(rt; got.as_bytes(), wanted.as_bytes(), "at {text}");
-    }
-    Ok(())
+    check_rows(&rt, rt.alloc(), &cases)
 }
 
 #[test]
@@ -640,14 +603,10 @@ fn refuses_lines_that_end_early(rt: HostRuntime) -> Result<(), Fail> {
         ("n = df.Count", "S1 1:12"),
         ("n = df.Count(", "S1 1:13"),
         ("h = df.Histo1D([1, 2", "S1 1:20"),
-        ("f = df.Filter(\"pt > 20\", \"x\"", "S1 1:28"),
+        (r#"f = df.Filter("pt > 20", "x""#, "S1 1:28"),
         ("Print(n\nPrint(n)", "S1 1:7"),
     ];
-    for (text, wanted) in cases {
-        let got = answer(rt.alloc(), text)?;
-        assert_eq!(rt; got.as_bytes(), wanted.as_bytes(), "at {text}");
-    }
-    Ok(())
+    check_rows(&rt, rt.alloc(), &cases)
 }
 
 #[test]
@@ -662,115 +621,82 @@ fn refuses_words_that_cannot_stand(rt: HostRuntime) -> Result<(), Fail> {
         ("n = df.Count() x", "S1 1:15"),
         ("2n = df.Count()", "S1 1:0"),
     ];
-    for (text, wanted) in cases {
-        let got = answer(rt.alloc(), text)?;
-        assert_eq!(rt; got.as_bytes(), wanted.as_bytes(), "at {text}");
-    }
-    Ok(())
+    check_rows(&rt, rt.alloc(), &cases)
 }
 
 #[test]
 fn refuses_marks_that_cannot_stand(rt: HostRuntime) -> Result<(), Fail> {
     let cases = [
         ("n == df.Count()", "S1 1:3"),
-        ("n = df.Count(\"pt\")", "S1 1:13"),
+        (r#"n = df.Count("pt")"#, "S1 1:13"),
         ("s = df.Sum()", "S1 1:11"),
-        ("s = df.Sum(\"pt\", \"w\")", "S1 1:15"),
-        ("s = df.Sum([\"pt\"])", "S1 1:11"),
-        ("d = df.Define(\"p\" \"pt\")", "S1 1:18"),
-        ("f = df.Filter(\"pt > 20\", \"x\", \"y\")", "S1 1:28"),
+        (r#"s = df.Sum("pt", "w")"#, "S1 1:15"),
+        (r#"s = df.Sum(["pt"])"#, "S1 1:11"),
+        (r#"d = df.Define("p" "pt")"#, "S1 1:18"),
+        (r#"f = df.Filter("pt > 20", "x", "y")"#, "S1 1:28"),
         ("Print(n, m)", "S1 1:7"),
     ];
-    for (text, wanted) in cases {
-        let got = answer(rt.alloc(), text)?;
-        assert_eq!(rt; got.as_bytes(), wanted.as_bytes(), "at {text}");
-    }
-    Ok(())
+    check_rows(&rt, rt.alloc(), &cases)
 }
 
 #[test]
 fn refuses_lists_that_are_none(rt: HostRuntime) -> Result<(), Fail> {
     let cases = [
-        ("h = df.Histo1D([], \"pt\")", "S1 1:16"),
-        ("h = df.Histo1D([1 2], \"pt\")", "S1 1:18"),
-        ("h = df.Histo1D([1,], \"pt\")", "S1 1:18"),
-        ("h = df.Histo1D([\"1\"], \"pt\")", "S1 1:16"),
-        ("h = df.Histo2D([1], \"x\", \"y\")", "S1 1:20"),
-        ("v = df.Vary(\"pt\", \"shifts\", [])", "S1 1:29"),
-        ("v = df.Vary(\"pt\", \"shifts\", \"up\")", "S1 1:28"),
-        ("v = df.Vary([1], \"shifts\", [\"up\"], \"jes\")", "S1 1:13"),
+        (r#"h = df.Histo1D([], "pt")"#, "S1 1:16"),
+        (r#"h = df.Histo1D([1 2], "pt")"#, "S1 1:18"),
+        (r#"h = df.Histo1D([1,], "pt")"#, "S1 1:18"),
+        (r#"h = df.Histo1D(["1"], "pt")"#, "S1 1:16"),
+        (r#"h = df.Histo2D([1], "x", "y")"#, "S1 1:20"),
+        (r#"v = df.Vary("pt", "shifts", [])"#, "S1 1:29"),
+        (r#"v = df.Vary("pt", "shifts", "up")"#, "S1 1:28"),
+        (r#"v = df.Vary([1], "shifts", ["up"], "jes")"#, "S1 1:13"),
     ];
-    for (text, wanted) in cases {
-        let got = answer(rt.alloc(), text)?;
-        assert_eq!(rt; got.as_bytes(), wanted.as_bytes(), "at {text}");
-    }
-    Ok(())
+    check_rows(&rt, rt.alloc(), &cases)
 }
 
 #[test]
 fn refuses_strings_that_are_no_names(rt: HostRuntime) -> Result<(), Fail> {
     let cases = [
-        ("d = df.Define(\"2p\", \"pt\")", "S1 1:14"),
-        ("d = df.Define(\"\", \"pt\")", "S1 1:14"),
-        ("p = df.Alias(\"q\", \"pt w\")", "S1 1:18"),
-        ("s = df.Sum(\"true\")", "S1 1:11"),
-        ("h = df.Histo2D([1], [1], \"x\", \"y\", \"1\")", "S1 1:35"),
+        (r#"d = df.Define("2p", "pt")"#, "S1 1:14"),
+        (r#"d = df.Define("", "pt")"#, "S1 1:14"),
+        (r#"p = df.Alias("q", "pt w")"#, "S1 1:18"),
+        (r#"s = df.Sum("true")"#, "S1 1:11"),
+        (r#"h = df.Histo2D([1], [1], "x", "y", "1")"#, "S1 1:35"),
         (
-            "v = df.Vary([\"pt\", \"w \"], \"shifts\", [\"up\"], \"jes\")",
+            r#"v = df.Vary(["pt", "w "], "shifts", ["up"], "jes")"#,
             "S1 1:19",
         ),
-        (
-            "v = df.Vary(\"pt\", \"shifts\", [\"up\", \"down \"])",
-            "S1 1:35",
-        ),
-        (
-            "v = df.Vary(\"pt\", \"shifts\", [\"up\"], \"j-s\")",
-            "S1 1:36",
-        ),
+        (r#"v = df.Vary("pt", "shifts", ["up", "down "])"#, "S1 1:35"),
+        (r#"v = df.Vary("pt", "shifts", ["up"], "j-s")"#, "S1 1:36"),
     ];
-    for (text, wanted) in cases {
-        let got = answer(rt.alloc(), text)?;
-        assert_eq!(rt; got.as_bytes(), wanted.as_bytes(), "at {text}");
-    }
-    Ok(())
+    check_rows(&rt, rt.alloc(), &cases)
 }
 
 #[test]
 fn refuses_expressions_in_the_place_of_their_byte(rt: HostRuntime) -> Result<(), Fail> {
     let cases = [
-        ("d = df.Define(\"p\", \"9223372036854775808\")", "E2 1:20"),
-        ("d = df.Define(\"p\", \"\")", "E3 1:20"),
-        ("d = df.Redefine(\"p\", \"pt +\")", "E3 1:26"),
-        ("f = df.Filter(\"pt = 1\")", "E1 1:18"),
-        ("f = df.Filter(\"pt > 20\", \"\")", "S1 1:25"),
-        ("v = df.Vary(\"pt\", \"{pt, }\", [\"up\"])", "E3 1:24"),
-        (
-            "v = df.Vary([\"pt\"], \"{{07}}\", [\"up\"], \"jes\")",
-            "E2 1:23",
-        ),
+        (r#"d = df.Define("p", "9223372036854775808")"#, "E2 1:20"),
+        (r#"d = df.Define("p", "")"#, "E3 1:20"),
+        (r#"d = df.Redefine("p", "pt +")"#, "E3 1:26"),
+        (r#"f = df.Filter("pt = 1")"#, "E1 1:18"),
+        (r#"f = df.Filter("pt > 20", "")"#, "S1 1:25"),
+        (r#"v = df.Vary("pt", "{pt, }", ["up"])"#, "E3 1:24"),
+        (r#"v = df.Vary(["pt"], "{{07}}", ["up"], "jes")"#, "E2 1:23"),
     ];
-    for (text, wanted) in cases {
-        let got = answer(rt.alloc(), text)?;
-        assert_eq!(rt; got.as_bytes(), wanted.as_bytes(), "at {text}");
-    }
-    Ok(())
+    check_rows(&rt, rt.alloc(), &cases)
 }
 
 #[test]
 fn refuses_the_first_bad_string_and_a_bad_token_before_it(rt: HostRuntime) -> Result<(), Fail> {
     let cases = [
-        ("d = df.Define(\"2p\", \"pt +\")", "S1 1:14"),
-        ("f = df.Filter(\"pt +\", \"\")", "E3 1:19"),
-        ("m = df.Reduce(\"add\", \"2p\")", "S1 1:14"),
-        ("d = df.Define(\"2p\", \"pt\") x", "S1 1:26"),
-        ("d = df.Define(\"2p\", \"pt\") 05", "S1 1:26"),
-        ("d = df.Define(\"2p\")", "S1 1:18"),
+        (r#"d = df.Define("2p", "pt +")"#, "S1 1:14"),
+        (r#"f = df.Filter("pt +", "")"#, "E3 1:19"),
+        (r#"m = df.Reduce("add", "2p")"#, "S1 1:14"),
+        (r#"d = df.Define("2p", "pt") x"#, "S1 1:26"),
+        (r#"d = df.Define("2p", "pt") 05"#, "S1 1:26"),
+        (r#"d = df.Define("2p")"#, "S1 1:18"),
     ];
-    for (text, wanted) in cases {
-        let got = answer(rt.alloc(), text)?;
-        assert_eq!(rt; got.as_bytes(), wanted.as_bytes(), "at {text}");
-    }
-    Ok(())
+    check_rows(&rt, rt.alloc(), &cases)
 }
 
 #[test]
@@ -781,18 +707,14 @@ fn refuses_the_first_bad_line(rt: HostRuntime) -> Result<(), Fail> {
         ("Print()\ns = df.Sum(\"2\")", "S1 1:6"),
         ("s = df.Sum(\"2\")\nPrint()", "S1 1:11"),
     ];
-    for (text, wanted) in cases {
-        let got = answer(rt.alloc(), text)?;
-        assert_eq!(rt; got.as_bytes(), wanted.as_bytes(), "at {text}");
-    }
-    Ok(())
+    check_rows(&rt, rt.alloc(), &cases)
 }
 
 #[test]
 fn keeps_the_lengths_of_names_and_labels(rt: HostRuntime) -> Result<(), Fail> {
     let cases = [
         (
-            "aaaaaaaaaaaaaaaaaaaaaaaaaaaaaaaaaaaaaaaaaaaaaaaaaaaaaaaaaaaaaaaa = df.Sum(\"aaaaaaaaaaaaaaaaaaaaaaaaaaaaaaaaaaaaaaaaaaaaaaaaaaaaaaaaaaaaaaaa\")",
+            r#"aaaaaaaaaaaaaaaaaaaaaaaaaaaaaaaaaaaaaaaaaaaaaaaaaaaaaaaaaaaaaaaa = df.Sum("aaaaaaaaaaaaaaaaaaaaaaaaaaaaaaaaaaaaaaaaaaaaaaaaaaaaaaaaaaaaaaaa")"#,
             "1 aaaaaaaaaaaaaaaaaaaaaaaaaaaaaaaaaaaaaaaaaaaaaaaaaaaaaaaaaaaaaaaa = Sum(df; aaaaaaaaaaaaaaaaaaaaaaaaaaaaaaaaaaaaaaaaaaaaaaaaaaaaaaaaaaaaaaaa)",
         ),
         (
@@ -800,23 +722,19 @@ fn keeps_the_lengths_of_names_and_labels(rt: HostRuntime) -> Result<(), Fail> {
             "S1 1:4",
         ),
         (
-            "s = df.Sum(\"aaaaaaaaaaaaaaaaaaaaaaaaaaaaaaaaaaaaaaaaaaaaaaaaaaaaaaaaaaaaaaaaa\")",
+            r#"s = df.Sum("aaaaaaaaaaaaaaaaaaaaaaaaaaaaaaaaaaaaaaaaaaaaaaaaaaaaaaaaaaaaaaaaa")"#,
             "S1 1:11",
         ),
         (
-            "f = df.Filter(\"pt\", \"----------------------------------------------------------------\")",
+            r#"f = df.Filter("pt", "----------------------------------------------------------------")"#,
             "1 f = Filter(df; pt; ----------------------------------------------------------------)",
         ),
         (
-            "f = df.Filter(\"pt\", \"-----------------------------------------------------------------\")",
+            r#"f = df.Filter("pt", "-----------------------------------------------------------------")"#,
             "S1 1:20",
         ),
     ];
-    for (text, wanted) in cases {
-        let got = answer(rt.alloc(), text)?;
-        assert_eq!(rt; got.as_bytes(), wanted.as_bytes(), "at {text}");
-    }
-    Ok(())
+    check_rows(&rt, rt.alloc(), &cases)
 }
 
 #[test]
