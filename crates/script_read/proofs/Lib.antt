@@ -1,0 +1,4 @@
+pub mod FirstBads
+pub mod ManyNames
+pub mod Places
+pub mod StringStops

@@ -8,6 +8,7 @@ mod read;
 mod refusal;
 mod statement;
 mod stop;
+mod strings;
 mod token;
 mod tokenizer;
 mod walk;
