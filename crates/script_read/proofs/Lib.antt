@@ -1,4 +1,5 @@
 pub mod FirstBads
 pub mod ManyNames
 pub mod Places
+pub mod Said
 pub mod StringStops
