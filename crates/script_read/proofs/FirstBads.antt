@@ -1,9 +1,9 @@
 -- Refusals of the first bad string of several.
-use Rattle.std.proofs.Common.{◌≡◌, ◌<◌, ◌+◌, ◌∙◌, ℕ, true, List, [], ◌∷◌, ◌++◌, length, map, get_or, take, drop, Option, Some, None, Ok, Err, refl, sym, ap, subst}
+use Rattle.std.proofs.Common.{◌≡◌, ◌∙◌, ℕ, List, [], ◌∷◌, ◌++◌, ap}
 use Rattle.std.specs.Prelude.{Result, IfErr}
 use Rattle.std.specs.Result.{IsErrAnd}
 use Rattle.std.proofs.lemmas.Result.{err_from_is_err_and}
-use Rattle.rdf_values.specs.Names.{is_name, is_label}
+use Rattle.rdf_values.specs.Names.{is_name}
 use Rattle.rdf_values.specs.Tree.{NamedTree}
 use Rattle.rdf_values.specs.Scans.{ReadsText, ReadsValuesText}
 use Rattle.rdf_values.specs.LineTokens.{QuotedText}

@@ -1,5 +1,5 @@
 -- Names read one after another.
-use Rattle.std.proofs.Common.{◌≡◌, ◌<◌, ◌≤◌, ◌+◌, ◌∙◌, ℕ, List, [], ◌∷◌, ◌++◌, length, map, get_or, take, drop, refl, sym, ap, subst}
+use Rattle.std.proofs.Common.{◌≡◌, ◌<◌, ◌≤◌, ◌+◌, ◌∙◌, ℕ, List, [], ◌∷◌, ◌++◌, length, map, get_or, take, drop, sym, ap, subst}
 use Rattle.std.proofs.lemmas.List.{take_more, drop_more, take-append-drop, map-append, take_all}
 use Rattle.rdf_values.specs.LineTokens.{QuotedText}
 use Rattle.rdf_values.specs.Statements.{IsName, AreNames, no_names, more_names, Wanted, AName, IsBad, FirstBad, wanted_names}

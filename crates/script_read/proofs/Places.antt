@@ -1,16 +1,15 @@
 -- A refusal of an expression's text stands in the text, or at its end.
-use Rattle.std.proofs.Common.{◌≡◌, ◌≤◌, ◌<◌, ◌+◌, ◌-◌, ◌∙◌, ℕ, zero, suc, Bool, true, false, List, [], ◌∷◌, ◌++◌, length, drop, Option, Some, None, Ok, Err, arith, refl, sym, subst, length-drop}
-use Rattle.std.specs.Prelude.{Result, MatchResult, nat_le, if◌then◌else◌}
-use Rattle.std.specs.List.{prefix_len}
+use Rattle.std.proofs.Common.{◌≡◌, ◌≤◌, ◌+◌, ℕ, zero, suc, Bool, true, false, List, [], ◌∷◌, length, drop, Option, Some, None, Ok, Err, arith, refl, sym, subst, length-drop}
+use Rattle.std.specs.Prelude.{Result, MatchResult, nat_le}
 use Rattle.std.proofs.lemmas.List.Sums.{prefix_len-le-length}
-use Rattle.rdf_values.specs.Tokens.{Token, Placed, Refusal, First, is_blank, blanks, behind, from, earlier, too_many, before, and_then, first_token, tokens_at, tokens_within, tokens}
+use Rattle.rdf_values.specs.Tokens.{Token, Placed, Refusal, First, is_blank, blanks, behind, from, earlier, too_many, before, and_then, first_token, tokens_at, tokens}
 use Rattle.rdf_values.specs.Scans.{Wanted, Operator, AfterName, Nothing, OpenMark, ScanState, Refused, ending, scan, scan_step, continued, Refuses, at_token, at_scan, at_end}
 use Rattle.rdf_values.specs.declared.expr_cause.ExprCause.TheVariants as cause
 use Rattle.expr_read.specs.declared.refusal.ExprRefusal.{ExprRefusal}
 use Rattle.expr_read.specs.declared.refusal.ExprRefusal.TheVariants as no
 use Rattle.expr_read.specs.Answers.{RefusesTextAs}
 use Rattle.expr_read.proofs.Sizes.{IsSized, sized}
-use Rattle.script_read.specs.Strings.{StandsWithin}
+use Rattle.script_read.specs.StringPlaces.{StandsWithin}
 
 -- each token stands before a place, or at it
 data StandBelow (end : ℕ) : List Placed → Type 0 where

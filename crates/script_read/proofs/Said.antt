@@ -1,5 +1,5 @@
 -- What forms say, with lists that are read one by one.
-use Rattle.std.proofs.Common.{◌≡◌, ◌≤◌, ◌∙◌, ℕ, ℤ, List, [], ◌∷◌, length, take, Option, Some, None, ap, sym}
+use Rattle.std.proofs.Common.{◌≡◌, ◌≤◌, ◌∙◌, ℕ, ℤ, List, [], ◌∷◌, length, take, Option, Some, None, ap}
 use Rattle.std.proofs.lemmas.List.{take_all}
 use Rattle.rdf_values.specs.Scans.{ReadsValuesText}
 use Rattle.rdf_values.specs.LineTokens.{QuotedText}

@@ -8,7 +8,7 @@ use Rattle.expr_read.specs.declared.refusal.ExprRefusal.{ExprRefusal}
 use Rattle.expr_read.specs.declared.refusal.ExprRefusal.TheVariants as no
 use Rattle.expr_read.specs.Answers.{RefusesTextAs}
 use Rattle.script_read.specs.Stops.{RefusedFor}
-use Rattle.script_read.specs.Strings.{stop_in}
+use Rattle.script_read.specs.StringPlaces.{stop_in}
 
 pub no_expression : (q : QuotedText) (e : ExprRefusal) → RefusesTextAs (Reads 0) begin_expr q.content e → RefusedFor (IsBad (q, AnExpression)) (stop_in q e)
 no_expression q (no.At cause place) h = st.no_expression h

@@ -1,4 +1,4 @@
 pub mod Methods
 pub mod Stops
-pub mod Strings
+pub mod StringPlaces
 pub mod Views

@@ -1,4 +1,4 @@
--- What kind of method it is.
+-- Which methods are actions, and how a Vary of one column is named.
 use Rattle.std.specs.Prelude.{◌≡◌, ℕ, List, Option, Some, None}
 use Rattle.rdf_values.specs.LineTokens.{QuotedText}
 use Rattle.rdf_values.specs.LineForms.{Method}

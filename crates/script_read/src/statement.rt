@@ -118,11 +118,7 @@ fn filter(
 }
 
 // The name of a Vary of one column: its own, or the column's.
-fn variation(
-    alloc: Global,
-    column: &Name,
-    name: &Option<Quoted<'_>>,
-) -> Result<Name, LineStop>
+fn variation(alloc: Global, column: &Name, name: &Option<Quoted<'_>>) -> Result<Name, LineStop>
     ensures ok { IfOk result (λ n. IsNamed column.now (option_map quoted_of name.now) n) }
     ensures err { IfErr result (λ e. RefusedFor (FirstBad (maybe_wanted (option_map quoted_of name.now) AName)) e) }
 {
@@ -132,6 +128,7 @@ fn variation(
     }
 }
 
+// A list of one name.
 fn only(alloc: Global, name: Name) -> Result<ListOf<Name>, LineStop>
     ensures ok { IfOk result (λ names. names ≡ name ∷ []) }
     ensures err { IfErr result (λ e. e ≡ LineStop.Memory) }
@@ -207,6 +204,7 @@ fn reduce(
     Ok(ActionKind::Reduce(operation, column))
 }
 
+// The edges of an axis.
 fn edges(alloc: Global, numbers: &OneOrMore<i64>) -> Result<IntList, LineStop>
     ensures ok { IfOk result (λ es. es ≡ all_edges (edges_of numbers.now)) }
     ensures err { IfErr result (λ e. e ≡ LineStop.Memory) }
@@ -259,6 +257,7 @@ fn histo2d(
     })
 }
 
+// What an action computes; `booking` reads the other methods.
 fn action_kind(alloc: Global, method: &Method<'_>) -> Result<ActionKind, LineStop>
     requires { IsActionMethod (method_of method.now) }
     ensures ok { IfOk result (λ k. IsAction (method_of method.now) k) }
@@ -301,6 +300,7 @@ fn action(
     })
 }
 
+// What is booked on the parent.
 fn booking(
     alloc: Global,
     node: Name,

@@ -6,7 +6,7 @@ ghost use Rattle.rdf_values.specs.Scans.{ReadsText, ReadsValuesText};
 ghost use Rattle.rdf_values.specs.declared.action.ReduceOp.{ReduceOp as Operation};
 ghost use Rattle.script_read.specs.Views.{quoted_of, strings_of};
 ghost use Rattle.script_read.specs.Stops.{RefusedFor};
-ghost use Rattle.script_read.specs.Strings.{StandsWithin, stop_in};
+ghost use Rattle.script_read.specs.StringPlaces.{StandsWithin, stop_in};
 
 use crate::form::OneOrMore;
 use crate::stop::LineStop;
@@ -58,6 +58,7 @@ pub(crate) fn names(
     Ok(names)
 }
 
+// A label.
 fn label(alloc: Global, quoted: &Quoted<'_>) -> Result<Label, LineStop>
     ensures ok { IfOk result (λ n. (quoted.now.content.now ≡ n) × (is_label n ≡ true)) }
     ensures err { IfErr result (λ e. RefusedFor (IsBad (quoted_of quoted.now, ALabel)) e) }
@@ -84,6 +85,7 @@ pub(crate) fn maybe_label(
     }
 }
 
+// The operation of that text.
 fn operation_named(text: &[u8]) -> Option<ReduceOp>
     ensures { MatchOption result ((o : Operation) → text.now ≡ operation_text o → ⊥) (λ o. text.now ≡ operation_text o) }
 {

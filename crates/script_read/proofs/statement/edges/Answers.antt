@@ -1,4 +1,4 @@
-use Rattle.std.proofs.Common.{◌≡◌, ◌≤◌, length, get_or, ap}
+use Rattle.std.proofs.Common.{◌≤◌, length}
 use Rattle.script_read.proofs.Said.{edges_all}
 use Rattle.script_read.proofs.statement.edges.Goals as goal
 

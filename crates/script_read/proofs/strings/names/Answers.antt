@@ -1,4 +1,4 @@
-use Rattle.std.proofs.Common.{◌≡◌, ◌<◌, ◌≤◌, length, get_or, arith}
+use Rattle.std.proofs.Common.{◌<◌, ◌≤◌, length}
 use Rattle.rdf_values.specs.Statements.{no_names, more_names}
 use Rattle.script_read.proofs.FirstBads.{handed_on, refused_here}
 use Rattle.script_read.proofs.ManyNames.{names_further, names_all, names_refused}
