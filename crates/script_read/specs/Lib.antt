@@ -1,2 +1,4 @@
+pub mod Methods
 pub mod Stops
+pub mod StringPlaces
 pub mod Views

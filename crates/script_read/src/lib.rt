@@ -11,6 +11,7 @@ mod statement;
 mod stop;
 #[cfg(test)]
 mod tests;
+mod strings;
 mod token;
 mod tokenizer;
 mod walk;

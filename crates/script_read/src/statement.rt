@@ -1,18 +1,363 @@
 // What a form says.
-ghost use Rattle.std.specs.Prelude.{◌≡◌, IfOk, IfErr};
-ghost use Rattle.rdf_values.specs.Statements.{Says, FirstBad, form_strings};
-ghost use Rattle.script_read.specs.Views.{form_of};
+ghost use Rattle.std.specs.Prelude.{◌≡◌, [], ◌∷◌, option_map, IfOk, IfErr};
+ghost use Rattle.rdf_values.specs.LineForms as line;
+ghost use Rattle.rdf_values.specs.Scans.{ReadsText};
+ghost use Rattle.rdf_values.specs.Statements.{Says, IsName, IsAction, AName, AnExpression, FirstBad, all_edges, maybe_wanted, form_strings, method_strings};
+ghost use Rattle.script_read.specs.Views.{quoted_of, strings_of, edges_of, method_of, form_of};
 ghost use Rattle.script_read.specs.Stops.{RefusedFor};
+ghost use Rattle.script_read.specs.Methods.{IsActionMethod, IsNamed};
 
-use crate::form::Form;
+use crate::form::{Form, Method, OneOrMore};
 use crate::stop::LineStop;
-use rdf_values::Statement;
+use crate::strings;
+use crate::token::{Quoted, Word};
+use rdf_values::{ActionKind, Expr, IntList, ListOf, Name, Statement};
 use std::alloc::Global;
+
+// The name that a word is.
+fn name_of(alloc: Global, word: &Word<'_>) -> Result<Name, LineStop>
+    ensures ok { IfOk result (λ n. n ≡ word.now.bytes.now) }
+    ensures err { IfErr result (λ e. e ≡ LineStop.Memory) }
+{
+    match Name::read(alloc, word.bytes)? {
+        Some(name) => Ok(name),
+        None => unreachable!(),
+    }
+}
+
+// The column and the expression of a Define or a Redefine.
+fn definition(
+    alloc: Global,
+    column: &Quoted<'_>,
+    expr: &Quoted<'_>,
+) -> Result<(Name, Expr), LineStop>
+    ensures ok { IfOk result (λ r. IsName (quoted_of column.now) r.0 × ReadsText expr.now.content.now r.1) }
+    ensures err { IfErr result (λ e. RefusedFor (FirstBad ((quoted_of column.now, AName) ∷ (quoted_of expr.now, AnExpression) ∷ [])) e) }
+{
+    let column = strings::name(alloc, column)?;
+    let expr = strings::expression(alloc, expr)?;
+    Ok((column, expr))
+}
+
+fn define(
+    alloc: Global,
+    node: Name,
+    parent: Name,
+    column: &Quoted<'_>,
+    expr: &Quoted<'_>,
+) -> Result<Statement, LineStop>
+    ensures ok { IfOk result (λ s. Says (line.Books node parent (line.Define (quoted_of column.now) (quoted_of expr.now))) s) }
+    ensures err { IfErr result (λ e. RefusedFor (FirstBad (method_strings (line.Define (quoted_of column.now) (quoted_of expr.now)))) e) }
+{
+    let (column, expr) = definition(alloc, column, expr)?;
+    Ok(Statement::Define {
+        node,
+        parent,
+        column,
+        expr,
+    })
+}
+
+fn redefine(
+    alloc: Global,
+    node: Name,
+    parent: Name,
+    column: &Quoted<'_>,
+    expr: &Quoted<'_>,
+) -> Result<Statement, LineStop>
+    ensures ok { IfOk result (λ s. Says (line.Books node parent (line.Redefine (quoted_of column.now) (quoted_of expr.now))) s) }
+    ensures err { IfErr result (λ e. RefusedFor (FirstBad (method_strings (line.Redefine (quoted_of column.now) (quoted_of expr.now)))) e) }
+{
+    let (column, expr) = definition(alloc, column, expr)?;
+    Ok(Statement::Redefine {
+        node,
+        parent,
+        column,
+        expr,
+    })
+}
+
+fn alias(
+    alloc: Global,
+    node: Name,
+    parent: Name,
+    column: &Quoted<'_>,
+    target: &Quoted<'_>,
+) -> Result<Statement, LineStop>
+    ensures ok { IfOk result (λ s. Says (line.Books node parent (line.Alias (quoted_of column.now) (quoted_of target.now))) s) }
+    ensures err { IfErr result (λ e. RefusedFor (FirstBad (method_strings (line.Alias (quoted_of column.now) (quoted_of target.now)))) e) }
+{
+    let column = strings::name(alloc, column)?;
+    let target = strings::name(alloc, target)?;
+    Ok(Statement::Alias {
+        node,
+        parent,
+        column,
+        target,
+    })
+}
+
+fn filter(
+    alloc: Global,
+    node: Name,
+    parent: Name,
+    expr: &Quoted<'_>,
+    label: &Option<Quoted<'_>>,
+) -> Result<Statement, LineStop>
+    ensures ok { IfOk result (λ s. Says (line.Books node parent (line.Filter (quoted_of expr.now) (option_map quoted_of label.now))) s) }
+    ensures err { IfErr result (λ e. RefusedFor (FirstBad (method_strings (line.Filter (quoted_of expr.now) (option_map quoted_of label.now)))) e) }
+{
+    let expr = strings::expression(alloc, expr)?;
+    let label = strings::maybe_label(alloc, label)?;
+    Ok(Statement::Filter {
+        node,
+        parent,
+        expr,
+        label,
+    })
+}
+
+// The name of a Vary of one column: its own, or the column's.
+fn variation(alloc: Global, column: &Name, name: &Option<Quoted<'_>>) -> Result<Name, LineStop>
+    ensures ok { IfOk result (λ n. IsNamed column.now (option_map quoted_of name.now) n) }
+    ensures err { IfErr result (λ e. RefusedFor (FirstBad (maybe_wanted (option_map quoted_of name.now) AName)) e) }
+{
+    match name {
+        Some(name) => strings::name(alloc, name),
+        None => Ok(column.copy(alloc)?),
+    }
+}
+
+// A list of one name.
+fn only(alloc: Global, name: Name) -> Result<ListOf<Name>, LineStop>
+    ensures ok { IfOk result (λ names. names ≡ name ∷ []) }
+    ensures err { IfErr result (λ e. e ≡ LineStop.Memory) }
+{
+    let mut names = ListOf::new(alloc);
+    names.push(name)?;
+    Ok(names)
+}
+
+fn vary_one(
+    alloc: Global,
+    node: Name,
+    parent: Name,
+    column: &Quoted<'_>,
+    values: &Quoted<'_>,
+    tags: &OneOrMore<Quoted<'_>>,
+    name: &Option<Quoted<'_>>,
+) -> Result<Statement, LineStop>
+    ensures ok { IfOk result (λ s. Says (line.Books node parent (line.VaryOne (quoted_of column.now) (quoted_of values.now) (strings_of tags.now) (option_map quoted_of name.now))) s) }
+    ensures err { IfErr result (λ e. RefusedFor (FirstBad (method_strings (line.VaryOne (quoted_of column.now) (quoted_of values.now) (strings_of tags.now) (option_map quoted_of name.now)))) e) }
+{
+    let column = strings::name(alloc, column)?;
+    let values = strings::values(alloc, values)?;
+    let tags = strings::names(alloc, tags)?;
+    let name = variation(alloc, &column, name)?;
+    let columns = only(alloc, column)?;
+    Ok(Statement::Vary {
+        node,
+        parent,
+        columns,
+        values,
+        tags,
+        name,
+    })
+}
+
+fn vary_all(
+    alloc: Global,
+    node: Name,
+    parent: Name,
+    columns: &OneOrMore<Quoted<'_>>,
+    values: &Quoted<'_>,
+    tags: &OneOrMore<Quoted<'_>>,
+    name: &Quoted<'_>,
+) -> Result<Statement, LineStop>
+    ensures ok { IfOk result (λ s. Says (line.Books node parent (line.VaryAll (strings_of columns.now) (quoted_of values.now) (strings_of tags.now) (quoted_of name.now))) s) }
+    ensures err { IfErr result (λ e. RefusedFor (FirstBad (method_strings (line.VaryAll (strings_of columns.now) (quoted_of values.now) (strings_of tags.now) (quoted_of name.now)))) e) }
+{
+    let columns = strings::names(alloc, columns)?;
+    let values = strings::values(alloc, values)?;
+    let tags = strings::names(alloc, tags)?;
+    let name = strings::name(alloc, name)?;
+    Ok(Statement::Vary {
+        node,
+        parent,
+        columns,
+        values,
+        tags,
+        name,
+    })
+}
+
+fn reduce(
+    alloc: Global,
+    operation: &Quoted<'_>,
+    column: &Quoted<'_>,
+) -> Result<ActionKind, LineStop>
+    ensures ok { IfOk result (λ k. IsAction (line.Reduce (quoted_of operation.now) (quoted_of column.now)) k) }
+    ensures err { IfErr result (λ e. RefusedFor (FirstBad (method_strings (line.Reduce (quoted_of operation.now) (quoted_of column.now)))) e) }
+{
+    let operation = strings::operation(operation)?;
+    let column = strings::name(alloc, column)?;
+    Ok(ActionKind::Reduce(operation, column))
+}
+
+// The edges of an axis.
+fn edges(alloc: Global, numbers: &OneOrMore<i64>) -> Result<IntList, LineStop>
+    ensures ok { IfOk result (λ es. es ≡ all_edges (edges_of numbers.now)) }
+    ensures err { IfErr result (λ e. e ≡ LineStop.Memory) }
+{
+    let mut edges = IntList::new(alloc);
+    edges.push(numbers.first)?;
+    for edge in &numbers.rest {
+        edges.push(*edge)?;
+    }
+    Ok(edges)
+}
+
+fn histo1d(
+    alloc: Global,
+    x_edges: &OneOrMore<i64>,
+    x: &Quoted<'_>,
+    weight: &Option<Quoted<'_>>,
+) -> Result<ActionKind, LineStop>
+    ensures ok { IfOk result (λ k. IsAction (line.Histo1D (edges_of x_edges.now) (quoted_of x.now) (option_map quoted_of weight.now)) k) }
+    ensures err { IfErr result (λ e. RefusedFor (FirstBad (method_strings (line.Histo1D (edges_of x_edges.now) (quoted_of x.now) (option_map quoted_of weight.now)))) e) }
+{
+    let x_edges = edges(alloc, x_edges)?;
+    let x = strings::name(alloc, x)?;
+    let weight = strings::maybe_name(alloc, weight)?;
+    Ok(ActionKind::Histo1D { x_edges, x, weight })
+}
+
+fn histo2d(
+    alloc: Global,
+    x_edges: &OneOrMore<i64>,
+    y_edges: &OneOrMore<i64>,
+    x: &Quoted<'_>,
+    y: &Quoted<'_>,
+    weight: &Option<Quoted<'_>>,
+) -> Result<ActionKind, LineStop>
+    ensures ok { IfOk result (λ k. IsAction (line.Histo2D (edges_of x_edges.now) (edges_of y_edges.now) (quoted_of x.now) (quoted_of y.now) (option_map quoted_of weight.now)) k) }
+    ensures err { IfErr result (λ e. RefusedFor (FirstBad (method_strings (line.Histo2D (edges_of x_edges.now) (edges_of y_edges.now) (quoted_of x.now) (quoted_of y.now) (option_map quoted_of weight.now)))) e) }
+{
+    let x_edges = edges(alloc, x_edges)?;
+    let y_edges = edges(alloc, y_edges)?;
+    let x = strings::name(alloc, x)?;
+    let y = strings::name(alloc, y)?;
+    let weight = strings::maybe_name(alloc, weight)?;
+    Ok(ActionKind::Histo2D {
+        x_edges,
+        y_edges,
+        x,
+        y,
+        weight,
+    })
+}
+
+// What an action computes; `booking` reads the other methods.
+fn action_kind(alloc: Global, method: &Method<'_>) -> Result<ActionKind, LineStop>
+    requires { IsActionMethod (method_of method.now) }
+    ensures ok { IfOk result (λ k. IsAction (method_of method.now) k) }
+    ensures err { IfErr result (λ e. RefusedFor (FirstBad (method_strings (method_of method.now))) e) }
+{
+    match method {
+        Method::Count => Ok(ActionKind::Count),
+        Method::Sum { column } => Ok(ActionKind::Sum(strings::name(alloc, column)?)),
+        Method::Min { column } => Ok(ActionKind::Min(strings::name(alloc, column)?)),
+        Method::Max { column } => Ok(ActionKind::Max(strings::name(alloc, column)?)),
+        Method::Take { column } => Ok(ActionKind::Take(strings::name(alloc, column)?)),
+        Method::Reduce { operation, column } => reduce(alloc, operation, column),
+        Method::Histo1D { x_edges, x, weight } => histo1d(alloc, x_edges, x, weight),
+        Method::Histo2D {
+            x_edges,
+            y_edges,
+            x,
+            y,
+            weight,
+        } => histo2d(alloc, x_edges, y_edges, x, y, weight),
+        _ => unreachable!(),
+    }
+}
+
+fn action(
+    alloc: Global,
+    node: Name,
+    parent: Name,
+    method: &Method<'_>,
+) -> Result<Statement, LineStop>
+    requires { IsActionMethod (method_of method.now) }
+    ensures ok { IfOk result (λ s. Says (line.Books node parent (method_of method.now)) s) }
+    ensures err { IfErr result (λ e. RefusedFor (FirstBad (method_strings (method_of method.now))) e) }
+{
+    let kind = action_kind(alloc, method)?;
+    Ok(Statement::Action {
+        result: node,
+        parent,
+        kind,
+    })
+}
+
+// What is booked on the parent.
+fn booking(
+    alloc: Global,
+    node: Name,
+    parent: Name,
+    method: &Method<'_>,
+) -> Result<Statement, LineStop>
+    ensures ok { IfOk result (λ s. Says (line.Books node parent (method_of method.now)) s) }
+    ensures err { IfErr result (λ e. RefusedFor (FirstBad (method_strings (method_of method.now))) e) }
+{
+    match method {
+        Method::Define { column, expr } => define(alloc, node, parent, column, expr),
+        Method::Redefine { column, expr } => redefine(alloc, node, parent, column, expr),
+        Method::Alias { column, target } => alias(alloc, node, parent, column, target),
+        Method::Filter { expr, label } => filter(alloc, node, parent, expr, label),
+        Method::VaryOne {
+            column,
+            values,
+            tags,
+            name,
+        } => vary_one(alloc, node, parent, column, values, tags, name),
+        Method::VaryAll {
+            columns,
+            values,
+            tags,
+            name,
+        } => vary_all(alloc, node, parent, columns, values, tags, name),
+        Method::Report => Ok(Statement::Report {
+            result: node,
+            parent,
+        }),
+        _ => action(alloc, node, parent, method),
+    }
+}
 
 /// The statement that the form is, if its strings are what they must be; else the first that isn't refuses it.
 pub(crate) fn read_statement(alloc: Global, form: &Form<'_>) -> Result<Statement, LineStop>
     ensures ok { IfOk result (λ s. Says (form_of form.now) s) }
     ensures err { IfErr result (λ e. RefusedFor (FirstBad (form_strings (form_of form.now))) e) }
 {
-    Err(LineStop::Memory)
+    match form {
+        Form::Books {
+            name,
+            parent,
+            method,
+        } => {
+            let node = name_of(alloc, name)?;
+            let parent = name_of(alloc, parent)?;
+            booking(alloc, node, parent, method)
+        }
+        Form::Print { result: name } => Ok(Statement::Print {
+            result: name_of(alloc, name)?,
+        }),
+        Form::VariationsFor { result: name } => Ok(Statement::VariationsFor {
+            result: name_of(alloc, name)?,
+        }),
+        Form::Watch { result: name } => Ok(Statement::Watch {
+            result: name_of(alloc, name)?,
+        }),
+    }
 }

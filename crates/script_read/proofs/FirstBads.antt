@@ -1,0 +1,75 @@
+-- Refusals of the first bad string of several.
+use Rattle.std.proofs.Common.{◌≡◌, ◌∙◌, ℕ, List, [], ◌∷◌, ◌++◌, ap}
+use Rattle.std.specs.Prelude.{Result, IfErr}
+use Rattle.std.specs.Result.{IsErrAnd}
+use Rattle.std.proofs.lemmas.Result.{err_from_is_err_and}
+use Rattle.rdf_values.specs.Names.{is_name}
+use Rattle.rdf_values.specs.Tree.{NamedTree}
+use Rattle.rdf_values.specs.Scans.{ReadsText, ReadsValuesText}
+use Rattle.rdf_values.specs.LineTokens.{QuotedText}
+use Rattle.rdf_values.specs.Statements.{IsName, IsMaybeName, no_name, a_name, AreNames, no_names, more_names, IsMaybeLabel, no_label, a_label, Wanted, AName, ALabel, AnOperation, AnExpression, SomeValues, IsBad, FirstBad, LineRefusal, here, later, wanted_names, maybe_wanted, operation_text}
+use Rattle.rdf_values.specs.Statements as st
+use Rattle.rdf_values.specs.declared.action.ReduceOp.{ReduceOp}
+use Rattle.rdf_values.specs.declared.vary_values.VaryValues.{VaryValues}
+use Rattle.expr_read.proofs.ReadOnce.{read_once}
+use Rattle.script_read.specs.declared.stop.LineStop.{LineStop}
+use Rattle.script_read.specs.declared.stop.LineStop.TheVariants as stop
+use Rattle.script_read.specs.Stops.{RefusedFor}
+
+-- what a `?` hands on
+pub handed_on : {T : Type 0} (P : LineStop → Type 0) (r : Result T LineStop) (e : LineStop) → IsErrAnd r (λ d. d ≡ e) → P e → IfErr r P
+handed_on P r e is h = let p = err_from_is_err_and r is in rw (p.1, p.2) h
+
+-- ---- good strings
+
+abbrev pub IsGood : QuotedText × Wanted → Type 0
+IsGood w = (q : LineRefusal) → IsBad w q → ⊥
+
+pub data AreGood : List (QuotedText × Wanted) → Type 0 where
+  no_strings : AreGood []
+  more_strings : {w : QuotedText × Wanted} {ws : List (QuotedText × Wanted)} → IsGood w → AreGood ws → AreGood (w ∷ ws)
+
+pub good_name : (t : QuotedText) (x : List ℕ) → IsName t x → IsGood (t, AName)
+good_name t x a q (st.no_name e) = let named = ap is_name a.content ∙ a.name in cc (named, e)
+
+pub good_operation : (t : QuotedText) (o : ReduceOp) → t.content ≡ operation_text o → IsGood (t, AnOperation)
+good_operation t o e q (st.no_operation f) = f o e
+
+pub good_expression : (t : QuotedText) (a : NamedTree) → ReadsText t.content a → IsGood (t, AnExpression)
+good_expression t a e q (st.no_expression {r = r} f) = read_once.tree_or_refusal t.content a r e f
+
+pub good_values : (t : QuotedText) (a : VaryValues) → ReadsValuesText t.content a → IsGood (t, SomeValues)
+good_values t a e q (st.no_values {r = r} f) = read_once.values_or_refusal t.content a r e f
+
+pub good_names : (ts : List QuotedText) (xs : List (List ℕ)) → AreNames ts xs → AreGood (wanted_names ts)
+good_names ts xs no_names = no_strings
+good_names ts xs (more_names {t = t} {ts = us} {x = x} {xs = ys} a ns) = more_strings (good_name t x a) (good_names us ys ns)
+
+-- ---- refusals
+
+pub refused_here : (w : QuotedText × Wanted) (ws : List (QuotedText × Wanted)) (e : LineStop) → RefusedFor (IsBad w) e → RefusedFor (FirstBad (w ∷ ws)) e
+refused_here w ws (stop.Syntax place) h = here h
+refused_here w ws (stop.Expression place cause) h = here h
+refused_here w ws stop.Memory h = tt
+
+pub refused_later : (w : QuotedText × Wanted) (ws : List (QuotedText × Wanted)) (e : LineStop) → IsGood w → RefusedFor (FirstBad ws) e → RefusedFor (FirstBad (w ∷ ws)) e
+refused_later w ws (stop.Syntax place) g h = later g h
+refused_later w ws (stop.Expression place cause) g h = later g h
+refused_later w ws stop.Memory g h = tt
+
+pub refused_after : (vs ws : List (QuotedText × Wanted)) (e : LineStop) → AreGood vs → RefusedFor (FirstBad ws) e → RefusedFor (FirstBad (vs ++ ws)) e
+refused_after vs ws e no_strings h = h
+refused_after vs ws e (more_strings {w = w} {ws = us} g a) h = refused_later w (us ++ ws) e g (refused_after us ws e a h)
+
+bad_before : (vs ws : List (QuotedText × Wanted)) (r : LineRefusal) → FirstBad vs r → FirstBad (vs ++ ws) r
+bad_before vs ws r (here b) = here b
+bad_before vs ws r (later {ss = us} g b) = later g (bad_before us ws r b)
+
+pub refused_before : (vs ws : List (QuotedText × Wanted)) (e : LineStop) → RefusedFor (FirstBad vs) e → RefusedFor (FirstBad (vs ++ ws)) e
+refused_before vs ws (stop.Syntax place) h = bad_before vs ws _ h
+refused_before vs ws (stop.Expression place cause) h = bad_before vs ws _ h
+refused_before vs ws stop.Memory h = tt
+
+-- want of memory refuses nothing
+pub memory_alone : (P : LineRefusal → Type 0) (e : LineStop) → e ≡ stop.Memory → RefusedFor P e
+memory_alone P e h = rw h tt

@@ -1,0 +1,150 @@
+// What the strings of a form must be: names, labels, operations, expressions and the values of a Vary.
+ghost use Rattle.std.specs.Prelude.{◌≡◌, true, length, option_map, IfOk, IfErr, MatchOption};
+ghost use Rattle.rdf_values.specs.Statements.{IsName, IsMaybeName, AreNames, IsMaybeLabel, operation_text, AName, ALabel, AnOperation, AnExpression, SomeValues, IsBad, FirstBad, maybe_wanted, wanted_names, all_strings};
+ghost use Rattle.rdf_values.specs.Names.{is_label};
+ghost use Rattle.rdf_values.specs.Scans.{ReadsText, ReadsValuesText};
+ghost use Rattle.rdf_values.specs.declared.action.ReduceOp.{ReduceOp as Operation};
+ghost use Rattle.script_read.specs.Views.{quoted_of, strings_of};
+ghost use Rattle.script_read.specs.Stops.{RefusedFor};
+ghost use Rattle.script_read.specs.StringPlaces.{StandsWithin, stop_in};
+
+use crate::form::OneOrMore;
+use crate::stop::LineStop;
+use crate::token::Quoted;
+use expr_read::{ExprRefusal, read_expr, read_values};
+use rdf_values::{Expr, Label, ListOf, Name, ReduceOp, VaryValues};
+use std::alloc::Global;
+
+/// A name.
+pub(crate) fn name(alloc: Global, quoted: &Quoted<'_>) -> Result<Name, LineStop>
+    ensures ok { IfOk result (λ n. IsName (quoted_of quoted.now) n) }
+    ensures err { IfErr result (λ e. RefusedFor (IsBad (quoted_of quoted.now, AName)) e) }
+{
+    match Name::read(alloc, quoted.content)? {
+        Some(name) => Ok(name),
+        None => Err(LineStop::Syntax {
+            place: quoted.place,
+        }),
+    }
+}
+
+/// A name, if there is a string.
+pub(crate) fn maybe_name(
+    alloc: Global,
+    quoted: &Option<Quoted<'_>>,
+) -> Result<Option<Name>, LineStop>
+    ensures ok { IfOk result (λ n. IsMaybeName (option_map quoted_of quoted.now) n) }
+    ensures err { IfErr result (λ e. RefusedFor (FirstBad (maybe_wanted (option_map quoted_of quoted.now) AName)) e) }
+{
+    match quoted {
+        Some(quoted) => Ok(Some(name(alloc, quoted)?)),
+        None => Ok(None),
+    }
+}
+
+/// Names, of which there is one at least.
+pub(crate) fn names(
+    alloc: Global,
+    strings: &OneOrMore<Quoted<'_>>,
+) -> Result<ListOf<Name>, LineStop>
+    ensures ok { IfOk result (λ ns. AreNames (all_strings (strings_of strings.now)) ns) }
+    ensures err { IfErr result (λ e. RefusedFor (FirstBad (wanted_names (all_strings (strings_of strings.now)))) e) }
+{
+    let mut names = ListOf::new(alloc);
+    names.push(name(alloc, &strings.first)?)?;
+    for quoted in &strings.rest {
+        names.push(name(alloc, quoted)?)?;
+    }
+    Ok(names)
+}
+
+// A label.
+fn label(alloc: Global, quoted: &Quoted<'_>) -> Result<Label, LineStop>
+    ensures ok { IfOk result (λ n. (quoted.now.content.now ≡ n) × (is_label n ≡ true)) }
+    ensures err { IfErr result (λ e. RefusedFor (IsBad (quoted_of quoted.now, ALabel)) e) }
+{
+    match Label::read(alloc, quoted.content)? {
+        Some(label) => Ok(label),
+        None => Err(LineStop::Syntax {
+            place: quoted.place,
+        }),
+    }
+}
+
+/// A label, if there is a string.
+pub(crate) fn maybe_label(
+    alloc: Global,
+    quoted: &Option<Quoted<'_>>,
+) -> Result<Option<Label>, LineStop>
+    ensures ok { IfOk result (λ n. IsMaybeLabel (option_map quoted_of quoted.now) n) }
+    ensures err { IfErr result (λ e. RefusedFor (FirstBad (maybe_wanted (option_map quoted_of quoted.now) ALabel)) e) }
+{
+    match quoted {
+        Some(quoted) => Ok(Some(label(alloc, quoted)?)),
+        None => Ok(None),
+    }
+}
+
+// The operation of that text.
+fn operation_named(text: &[u8]) -> Option<ReduceOp>
+    ensures { MatchOption result ((o : Operation) → text.now ≡ operation_text o → ⊥) (λ o. text.now ≡ operation_text o) }
+{
+    match text {
+        b"min" => Some(ReduceOp::Min),
+        b"max" => Some(ReduceOp::Max),
+        b"and" => Some(ReduceOp::And),
+        b"or" => Some(ReduceOp::Or),
+        b"xor" => Some(ReduceOp::Xor),
+        b"wrapadd" => Some(ReduceOp::WrapAdd),
+        _ => None,
+    }
+}
+
+/// The operation of a Reduce.
+pub(crate) fn operation(quoted: &Quoted<'_>) -> Result<ReduceOp, LineStop>
+    ensures ok { IfOk result (λ o. quoted.now.content.now ≡ operation_text o) }
+    ensures err { IfErr result (λ e. RefusedFor (IsBad (quoted_of quoted.now, AnOperation)) e) }
+{
+    match operation_named(quoted.content) {
+        Some(operation) => Ok(operation),
+        None => Err(LineStop::Syntax {
+            place: quoted.place,
+        }),
+    }
+}
+
+// The refusal of what a string holds, as one of the line.
+fn in_line(quoted: &Quoted<'_>, refusal: ExprRefusal) -> LineStop
+    requires { StandsWithin (length quoted.now.content.now) refusal }
+    ensures { result ≡ stop_in (quoted_of quoted.now) refusal }
+{
+    match refusal {
+        ExprRefusal::At { cause, place } => LineStop::Expression {
+            place: quoted.place + 1 + place,
+            cause,
+        },
+        ExprRefusal::Memory => LineStop::Memory,
+    }
+}
+
+/// An expression.
+pub(crate) fn expression(alloc: Global, quoted: &Quoted<'_>) -> Result<Expr, LineStop>
+    ensures ok { IfOk result (λ a. ReadsText quoted.now.content.now a) }
+    ensures err { IfErr result (λ e. RefusedFor (IsBad (quoted_of quoted.now, AnExpression)) e) }
+{
+    match read_expr(alloc, quoted.content) {
+        Ok(expr) => Ok(expr),
+        Err(refusal) => Err(in_line(quoted, refusal)),
+    }
+}
+
+/// The values of a Vary.
+pub(crate) fn values(alloc: Global, quoted: &Quoted<'_>) -> Result<VaryValues, LineStop>
+    ensures ok { IfOk result (λ v. ReadsValuesText quoted.now.content.now v) }
+    ensures err { IfErr result (λ e. RefusedFor (IsBad (quoted_of quoted.now, SomeValues)) e) }
+{
+    match read_values(alloc, quoted.content) {
+        Ok(values) => Ok(values),
+        Err(refusal) => Err(in_line(quoted, refusal)),
+    }
+}
