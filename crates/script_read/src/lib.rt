@@ -4,6 +4,7 @@
 
 mod form;
 mod line;
+mod lines;
 mod read;
 mod refusal;
 mod statement;
