@@ -1,13 +1,15 @@
 -- The reading of a script, line by line.
-use Rattle.std.proofs.Common.{◌≡◌, ◌<◌, ◌≤◌, ◌+◌, ◌⊎◌, inl, inr, ℕ, suc, List, [], ◌∷◌, ◌++◌, length, length-append, append_assoc, add-one, arith, refl, ap, subst, sym}
+use Rattle.std.proofs.Common.{◌≡◌, ◌<◌, ◌≤◌, ◌+◌, ◌⊎◌, inl, inr, ℕ, suc, List, [], ◌∷◌, ◌++◌, length, length-append, append_assoc, arith, refl, ap, subst, Bool, true}
+use Rattle.std.specs.Prelude.{◌==◌}
 use Rattle.std.proofs.lemmas.List.{append-nil}
+use Rattle.std.proofs.lemmas.Bool.Decides.{nat_tests}
 use Rattle.rdf_values.specs.ScriptLines.{lines_of}
 use Rattle.rdf_values.specs.Scripts.{AreLines, IsScript, RefusesLines, RefusesScript}
 use Rattle.rdf_values.specs.Scripts as script
 use Rattle.rdf_values.specs.declared.script.Line.{Line}
 use Rattle.rdf_values.specs.declared.script.Script.{Script}
 use Rattle.rdf_values.specs.declared.script_cause.ScriptCause.{ScriptCause}
-use Rattle.rdf_values.proofs.OneScript.{script_or_refusal, one_cause}
+use Rattle.rdf_values.proofs.OneScript.{one_script, script_or_refusal, one_cause}
 use Rattle.expr_read.proofs.ReadOnce.{read_once}
 use Rattle.script_read.specs.declared.refusal.ScriptRefusal.{ScriptRefusal}
 use Rattle.script_read.specs.declared.refusal.ScriptRefusal.TheVariants as refusal
@@ -57,6 +59,10 @@ pub reads_bad : (text left line behind : List ℕ) (number : ℕ) (found : List 
 reads_bad text left line behind number found (refusal.At c) r e bad = r.refused c (rw e (bad (lines_of behind)))
 reads_bad text left line behind number found refusal.Memory r e bad = tt
 
+pub nothing_left : (left : List ℕ) (b : Bool) → b ≡ (length left == 0) → b ≡ true → left ≡ []
+nothing_left [] b e f = refl
+nothing_left (x ∷ xs) b e f = let no : suc (length xs) ≡ 0 = grind (arith, nat_tests) in absurd (omega arith)
+
 pub reads_all : (text left : List ℕ) (number : ℕ) (s : Script) → Reads text left number s.lines → left ≡ [] → IsScript text s
 reads_all text left number s r e = record {
   lines = subst (AreLines 1 (lines_of text)) (append-nil s.lines) (r.whole [] (rw (e, none_behind) script.no_lines));
@@ -69,6 +75,10 @@ reads_all text left number s r e = record {
 pub memory_alone : (text : List ℕ) (e : ScriptRefusal) (s : Script) → RefusesTextAs text e → IsScript text s → e ≡ refusal.Memory
 memory_alone text (refusal.At c) s bad is = absurd (script_or_refusal read_once text s c is bad)
 memory_alone text refusal.Memory s bad is = refl
+
+-- a text is one script
+pub only_script : (text : List ℕ) (r s : Script) → IsScript text r → IsScript text s → r ≡ s
+only_script text r s is was = one_script read_once text r s is was
 
 pub no_script : (text : List ℕ) (s : Script) (c : ScriptCause) → RefusesScript text c → IsScript text s → ⊥
 no_script text s c bad is = script_or_refusal read_once text s c is bad
