@@ -1,5 +1,5 @@
 // Reads scripts.
-ghost use Rattle.std.specs.Prelude.{◌≡◌, ◌≤◌, ◌⊎◌, ℕ, List, length, IfOk, IfErr, MatchResult};
+ghost use Rattle.std.specs.Prelude.{◌≡◌, ◌≤◌, ◌↔◌, ◌⊎◌, ℕ, List, length, IfOk, IfErr, MatchResult};
 ghost use Rattle.rdf_values.specs.Scripts.{IsScript, RefusesLine, RefusesScript};
 ghost use Rattle.rdf_values.specs.declared.script.Script.{Script};
 ghost use Rattle.rdf_values.specs.declared.script_cause.ScriptCause.{ScriptCause};
@@ -17,7 +17,8 @@ const MOST_STATEMENTS: usize = 256;
 
 // What the stop of the line with that number is to the text.
 fn refusal_at(number: u32, stop: LineStop) -> ScriptRefusal
-    ensures { (line : List ℕ) (before : ℕ) → RefusedFor (RefusesLine line) stop → RefusesFirstAs number before line result }
+    ensures memory { (result ≡ ScriptRefusal.Memory) ↔ (stop ≡ LineStop.Memory) }
+    ensures refused { (line : List ℕ) (before : ℕ) → RefusedFor (RefusesLine line) stop → RefusesFirstAs number before line result }
 {
     match stop {
         LineStop::Syntax { place } => ScriptRefusal::At(ScriptCause::Syntax {
