@@ -5,3 +5,6 @@ pub mod ManyNames
 pub mod Places
 pub mod Said
 pub mod StringStops
+pub mod FirstLines
+pub mod LineSteps
+pub mod ScriptReading

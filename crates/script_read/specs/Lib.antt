@@ -1,4 +1,5 @@
 pub mod Methods
+pub mod Adding
 pub mod Stops
 pub mod StringPlaces
 pub mod Views

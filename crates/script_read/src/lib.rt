@@ -5,6 +5,7 @@
 mod form;
 mod lexeme;
 mod line;
+mod lines;
 mod read;
 mod refusal;
 mod statement;

@@ -3,7 +3,10 @@ ghost use Rattle.std.specs.Prelude.{◌≡◌, ◌≤◌, length, IfOk, IfErr, M
 ghost use Rattle.rdf_values.specs.Scripts.{IsBlankLine, IsLine, RefusesLine};
 ghost use Rattle.script_read.specs.Stops.{RefusedFor};
 
+use crate::statement::read_statement;
 use crate::stop::LineStop;
+use crate::tokenizer::tokenize;
+use crate::walk::read_form;
 use rdf_values::Statement;
 use std::alloc::Global;
 
@@ -13,5 +16,10 @@ pub(crate) fn read_line(alloc: Global, line: &[u8]) -> Result<Option<Statement>,
     ensures ok { IfOk result (λ o. MatchOption o (IsBlankLine line.now) (λ s. IsLine line.now s)) }
     ensures err { IfErr result (λ e. RefusedFor (RefusesLine line.now) e) }
 {
-    Err(LineStop::Memory)
+    let tokens = tokenize(alloc, line)?;
+    if tokens.is_empty() {
+        return Ok(None);
+    }
+    let form = read_form(alloc, tokens.as_slice(), line.len() as u32)?;
+    Ok(Some(read_statement(alloc, &form)?))
 }

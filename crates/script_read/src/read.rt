@@ -1,13 +1,62 @@
 // Reads scripts.
-ghost use Rattle.std.specs.Prelude.{◌≡◌, ◌≤◌, ◌⊎◌, length, IfOk, IfErr, MatchResult};
-ghost use Rattle.rdf_values.specs.Scripts.{IsScript, RefusesScript};
+ghost use Rattle.std.specs.Prelude.{◌≡◌, ◌≤◌, ◌↔◌, ◌⊎◌, ℕ, List, length, IfOk, IfErr, MatchResult};
+ghost use Rattle.rdf_values.specs.Scripts.{IsScript, RefusesLine, RefusesScript};
 ghost use Rattle.rdf_values.specs.declared.script.Script.{Script};
 ghost use Rattle.rdf_values.specs.declared.script_cause.ScriptCause.{ScriptCause};
-ghost use Rattle.script_read.specs.Stops.{RefusesTextAs};
+ghost use Rattle.script_read.specs.Adding.{AddsLine, RefusesFirstAs};
+ghost use Rattle.script_read.specs.Stops.{RefusedFor, RefusesTextAs};
 
+use crate::line::read_line;
+use crate::lines::first_line;
 use crate::refusal::ScriptRefusal;
-use rdf_values::Script;
+use crate::stop::LineStop;
+use rdf_values::{Line, ListOf, Script, ScriptCause};
 use std::alloc::Global;
+
+const MOST_STATEMENTS: usize = 256;
+
+// What the stop of the line with that number is to the text.
+fn refusal_at(number: u32, stop: LineStop) -> ScriptRefusal
+    ensures memory { (result ≡ ScriptRefusal.Memory) ↔ (stop ≡ LineStop.Memory) }
+    ensures refused { (line : List ℕ) (before : ℕ) → RefusedFor (RefusesLine line) stop → RefusesFirstAs number before line result }
+{
+    match stop {
+        LineStop::Syntax { place } => ScriptRefusal::At(ScriptCause::Syntax {
+            line: number,
+            place,
+        }),
+        LineStop::Expression { place, cause } => ScriptRefusal::At(ScriptCause::Expression {
+            line: number,
+            place,
+            cause,
+        }),
+        LineStop::Memory => ScriptRefusal::Memory,
+    }
+}
+
+// Adds what the line with that number says to the statements before it.
+fn add_line(
+    alloc: Global,
+    number: u32,
+    line: &[u8],
+    lines: &mut ListOf<Line>,
+) -> Result<(), ScriptRefusal>
+    requires short { length line.now ≤ 65536 }
+    requires few { length lines.old ≤ 256 }
+    ensures ok { IfOk result (λ _. AddsLine number line.now lines.old lines.new) }
+    ensures err { IfErr result (λ e. RefusesFirstAs number (length lines.old) line.now e) }
+{
+    let statement = match read_line(alloc, line) {
+        Ok(Some(statement)) => statement,
+        Ok(None) => return Ok(()),
+        Err(stop) => return Err(refusal_at(number, stop)),
+    };
+    if lines.len() == MOST_STATEMENTS {
+        return Err(ScriptRefusal::At(ScriptCause::TooMany { line: number }));
+    }
+    lines.push(Line { number, statement })?;
+    Ok(())
+}
 
 /// Reads a script. The text is refused at its first bad line, with the place there: at a byte that begins no token, a token
 /// that can't stand where it does, the line's end, or a string that isn't what it must be; or at its 257th statement.
@@ -18,5 +67,14 @@ pub fn read_script(alloc: Global, text: &[u8]) -> Result<Script, ScriptRefusal>
     ensures complete { (s : Script) → IsScript text.now s → MatchResult result (λ r. r ≡ s) (λ e. e ≡ ScriptRefusal.Memory) }
     ensures first { (c : ScriptCause) → RefusesScript text.now c → MatchResult result (λ r. ⊥) (λ e. (e ≡ ScriptRefusal.At c) ⊎ (e ≡ ScriptRefusal.Memory)) }
 {
-    Err(ScriptRefusal::Memory)
+    let mut lines = ListOf::new(alloc);
+    let mut left = text;
+    let mut number = 1;
+    while !left.is_empty() {
+        let (line, behind) = first_line(left);
+        add_line(alloc, number, line, &mut lines)?;
+        left = behind;
+        number += 1;
+    }
+    Ok(Script { lines })
 }

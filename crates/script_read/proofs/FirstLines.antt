@@ -1,0 +1,83 @@
+-- The first line of a text, by the place of its LF.
+use Rattle.std.proofs.Common.{◌≡◌, ◌<◌, ◌≤◌, ◌+◌, ◌-◌, ℕ, suc, List, [], ◌∷◌, ◌++◌, length, take, drop, get_or, drop-cons, add-one, subst, Bool, true, false, None, Some, Option, arith, refl, ap, sym, ◌∙◌, not, nat_lt}
+use Rattle.std.specs.Prelude.{◌==◌, ◌&&◌, position, cond, if◌then◌else◌}
+use Rattle.std.specs.List.{list_all, position_or_len}
+use Rattle.std.specs.Io.BufRead.{strip_last}
+use Rattle.std.proofs.lemmas.List.{take_all, take-append-drop, length-drop}
+use Rattle.std.proofs.lemmas.List.Quantifiers.{position-Some}
+use Rattle.std.proofs.lemmas.Bool.Decides.{nat_tests}
+use native.Mathlib.Numerals.{unary_clauses}
+use Rattle.rdf_values.specs.ScriptLines.{lines_of}
+use Rattle.rdf_values.proofs.ScriptSteps.{is_in_line, without_cr, lines_of_line, lines_of_last}
+
+abbrev pub is_lf : ℕ → Bool
+is_lf byte = byte == 10
+
+-- ---- a CR at a line's end
+
+some : (n : ℕ) → nat_lt 0 (suc n) ≡ true
+some n = grind (arith, nat_tests)
+
+strip_more : (c d : ℕ) (cs : List ℕ) → c ∷ strip_last 13 (d ∷ cs) ≡ strip_last 13 (c ∷ d ∷ cs)
+strip_more c d cs = simp (unary_clauses, some) (at (get_or (d ∷ cs) (length cs) 0 == 13))
+  where
+    at : (b : Bool) → (c ∷ (if b then take (length cs) (d ∷ cs) else d ∷ cs)) ≡ (if b then take (suc (length cs)) (c ∷ d ∷ cs) else c ∷ d ∷ cs)
+    at true = refl
+    at false = refl
+
+stripped : (line : List ℕ) → without_cr line ≡ strip_last 13 line
+stripped [] = refl
+stripped (c ∷ []) = refl
+stripped (c ∷ d ∷ cs) = ap (λ l. c ∷ l) (stripped (d ∷ cs)) ∙ strip_more c d cs
+
+-- ---- an LF
+
+both : (a b : Bool) → a ≡ true → b ≡ true → (a && b) ≡ true
+both a b e f = cc
+
+-- no LF stands before the first
+no_lf_before : (xs : List ℕ) → list_all is_in_line (take (position_or_len is_lf xs) xs) ≡ true
+no_lf_before [] = refl
+no_lf_before (x ∷ xs) = at (x == 10) refl (no_lf_before xs)
+  where
+    at : (b : Bool) → (x == 10) ≡ b → list_all is_in_line (take (position_or_len is_lf xs) xs) ≡ true → list_all is_in_line (take (cond (not b) (1 + position_or_len is_lf xs) 0) (x ∷ xs)) ≡ true
+    at true e h = refl
+    at false e h =
+        let one : suc (position_or_len is_lf xs) ≡ 1 + position_or_len is_lf xs = omega arith in
+        subst (λ n. list_all is_in_line (take n (x ∷ xs)) ≡ true) one (both (not (x == 10)) (list_all is_in_line (take (position_or_len is_lf xs) xs)) (ap not e) h)
+
+-- the first line ends at that place, or at the text's end
+abbrev pub EndsAt : List ℕ → Option ℕ → Type 0
+EndsAt text None = 0 < length text → lines_of text ≡ text ∷ []
+EndsAt text (Some i) = lines_of text ≡ strip_last 13 (take i text) ∷ lines_of (drop (i + 1) text)
+
+-- the place of the first LF is known
+at_lf : (text : List ℕ) (i : ℕ) → i ≡ position_or_len is_lf text → i < length text → (get_or text i 0 == 10) ≡ true → EndsAt text (Some i)
+at_lf text i e lt lf =
+    let ten : get_or text i 0 ≡ 10 = grind (arith, nat_tests) in
+    let parts : take i text ++ 10 ∷ drop (i + 1) text ≡ text = rw (add-one, ← ten, ← drop-cons text i 0 lt) (take-append-drop i text) in
+    let front : list_all is_in_line (take i text) ≡ true = rw e (no_lf_before text) in
+    ap lines_of (sym parts) ∙ lines_of_line (take i text) (drop (i + 1) text) front ∙ ap (λ l. l ∷ lines_of (drop (i + 1) text)) (stripped (take i text))
+
+no_lf : (text : List ℕ) → length text ≤ position_or_len is_lf text → 0 < length text → lines_of text ≡ text ∷ []
+no_lf [] none some = absurd (omega arith)
+no_lf (c ∷ cs) none some =
+    let all : take (position_or_len is_lf (c ∷ cs)) (c ∷ cs) ≡ c ∷ cs = take_all _ _ none in
+    lines_of_last cs c (subst (λ l. list_all is_in_line l ≡ true) all (no_lf_before (c ∷ cs)))
+
+pub first_end : (text : List ℕ) → EndsAt text (position is_lf text)
+first_end text = at (nat_lt (position_or_len is_lf text) (length text)) refl
+  where
+    at : (b : Bool) → nat_lt (position_or_len is_lf text) (length text) ≡ b → EndsAt text (cond b (Some (position_or_len is_lf text)) None)
+    at true e =
+        let lt : position_or_len is_lf text < length text = grind (arith, nat_tests) in
+        let found : position is_lf text ≡ Some (position_or_len is_lf text) = rw e refl in
+        at_lf text (position_or_len is_lf text) refl lt (position-Some is_lf text _ 0 found).1
+    at false e = no_lf text (grind (arith, nat_tests))
+
+pub none_behind : lines_of [] ≡ []
+unfolding lines_of
+none_behind = refl
+
+pub all_behind : (i : ℕ) (xs : List ℕ) → take (length xs - i) (drop i xs) ≡ drop i xs
+all_behind i xs = take_all (length xs - i) (drop i xs) (omega (arith, length-drop i xs))
