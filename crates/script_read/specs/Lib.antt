@@ -1,2 +1,4 @@
+pub mod Left
 pub mod Stops
 pub mod Views
+pub mod Walk

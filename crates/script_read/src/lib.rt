@@ -2,8 +2,10 @@
 //! It stands on the types and the grammar of `rdf_values`, and on `expr_read` for expressions and the values of a Vary.
 #![tactic(auto)]
 
+mod fail;
 mod form;
 mod line;
+mod method;
 mod read;
 mod refusal;
 mod statement;
