@@ -1,5 +1,5 @@
 -- What was taken, from what its parts took.
-use Rattle.std.proofs.Common.{◌≡◌, ◌<◌, ◌+◌, ◌∙◌, ℕ, suc, ℤ, length, arith, add-one, List, [], ◌∷◌, ◌++◌, Option, Some, None, map, refl, sym, ap, subst, append_assoc}
+use Rattle.std.proofs.Common.{◌≡◌, ◌∙◌, ℕ, ℤ, List, [], ◌∷◌, ◌++◌, Option, Some, None, map, refl, sym, ap, subst, append_assoc}
 use Rattle.std.specs.Prelude.{option_map}
 use Rattle.std.proofs.lemmas.List.{append-nil}
 use Rattle.rdf_values.specs.LineTokens.{LineToken, QuotedText, PlacedToken, bare_tokens}
@@ -98,12 +98,3 @@ edges_go m2 k l b = l.walks k ∙ walk_over MoreEdges (ANumber ∷ MoreEdges ∷
 pub edges_close : {first : ℤ} {rest : List ℤ} {old m1 : List PlacedToken} (m2 : List PlacedToken) (k : List Want) → TookEdges first rest old m1 → m2 ≡ m1 → BeginsNot t.Comma m1
     → walk_placed old (edges_wants ++ k) ≡ walk_placed m2 (AMark mark.CloseBracket ∷ k)
 edges_close {m1 = m1} m2 k l e isnt = l.walks k ∙ edges_end m1 k isnt ∙ ap (λ (ts : List PlacedToken). walk_placed ts (AMark mark.CloseBracket ∷ k)) (sym e)
-
--- ---- fewer tokens are left
-
--- a comma and an item leave fewer tokens
-pub fewer_left : {u : LineToken} {ws : List Want} {m1 m2 new : List PlacedToken} → Begins t.Comma m1 m2 → Took ws (u ∷ []) m2 new → length new < length m1
-fewer_left {u} {ws} {m1} {m2} {new} b k =
-    let first : length m1 ≡ length m2 + 1 = ap length b.is ∙ sym (add-one (length m2)) in
-    let bare : length m2 ≡ length new + 1 = sym (length-map (λ (p : PlacedToken). p.token) m2) ∙ ap length k.split ∙ ap suc (length-map (λ (p : PlacedToken). p.token) new) ∙ sym (add-one (length new)) in
-    omega arith

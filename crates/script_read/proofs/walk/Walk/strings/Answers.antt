@@ -7,7 +7,7 @@ pub returns-in_err-text-clause-stuck : goal.returns-in_err-text-clause-stuck
 returns-in_err-text-clause-stuck c h k = let so_far = strings_go _ k c.loop-self.invariant c.loop-self-test.ensures in grind (arith, common_steps)
 
 pub loop-self-preserved : goal.loop-self-preserved
-loop-self-preserved c = strings_more _ _ _ _ c.loop-self.invariant c.loop-self-test.ensures c.in_ok-text.ensures.took c.in_ok-push.ensures.ok
+loop-self-preserved c = strings_more c.in_ok-first.first c.in_ok-text.text c.loop-self.rest.items c.push.new.items.items c.loop-self.invariant c.loop-self-test.ensures c.in_ok-text.ensures.took c.in_ok-push.ensures.ok
 
 pub returns-in_err-expect-2-clause-stuck : goal.returns-in_err-expect-2-clause-stuck
 returns-in_err-expect-2-clause-stuck c h k =
