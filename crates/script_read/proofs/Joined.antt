@@ -74,7 +74,7 @@ took_histo2d xs ys x y w a b c d e f g h = record {
 
 -- ---- methods
 
-name_word_is : (n : MethodName) → name_of (name_word n) ≡ Some n
+pub name_word_is : (n : MethodName) → name_of (name_word n) ≡ Some n
 unfolding name_of
 name_word_is name.Define = refl
 name_word_is name.Redefine = refl
@@ -122,11 +122,11 @@ asked_case x r false true c p q w h = ap (λ (y : List ℕ). call y (t.Word r �
 asked_case x r false false true p q w h = ap (λ (y : List ℕ). call y (t.Word r ∷ [])) (sym (w refl))
 asked_case x r false false false p q w h = cc h
 
-asked_tokens : (x r : List ℕ) → is_free x ≡ false → form_tokens (asked_form x r) ≡ call x (t.Word r ∷ [])
+pub asked_tokens : (x r : List ℕ) → is_free x ≡ false → form_tokens (asked_form x r) ≡ call x (t.Word r ∷ [])
 asked_tokens x r h =
     asked_case x r (same x (codes "Print")) (same x (codes "VariationsFor")) (same x (codes "Watch")) (bytes_eq-Decides x (codes "Print")).0 (bytes_eq-Decides x (codes "VariationsFor")).0 (bytes_eq-Decides x (codes "Watch")).0 h
 
-asked_free : (a b : Bool) (r : List ℕ) → has_free_names (if a then form.Print r else (if b then form.VariationsFor r else form.Watch r)) ≡ is_free r
+pub asked_free : (a b : Bool) (r : List ℕ) → has_free_names (if a then form.Print r else (if b then form.VariationsFor r else form.Watch r)) ≡ is_free r
 asked_free true b r = refl
 asked_free false true r = refl
 asked_free false false r = refl

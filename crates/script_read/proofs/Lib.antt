@@ -1,4 +1,7 @@
+pub mod Items
 pub mod Joined
 pub mod Named
 pub mod Parts
+pub mod Passed
+pub mod Stuck
 pub mod Walked

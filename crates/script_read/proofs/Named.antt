@@ -34,6 +34,10 @@ pub named_is : (word : List ℕ) (ns : List MethodName) (n : MethodName) → nam
 named_is word [] n e = cc e
 named_is word (m ∷ ms) n e = named_first word m ms n (same word (name_word m)) refl (named_is word ms n) e
 
+pub name_is : (word : List ℕ) (n : MethodName) → name_of word ≡ Some n → word ≡ name_word n
+unfolding name_of
+name_is word n e = named_is word all_names n e
+
 pub no_method_named : (u : LineToken) (word : List ℕ) → u ≡ t.Word word → name_of word ≡ None → next AMethod u ≡ None
 no_method_named u word e h = rw (e, h) refl
 

@@ -208,6 +208,11 @@ pub record Took (ws : List Want) (ts : List LineToken) (old new : List PlacedTok
 abbrev pub IsStuck : List Want → List PlacedToken → List PlacedToken → Type 0
 IsStuck ws old new = (k : List Want) → walk_placed old (ws ++ k) ≡ StuckAt new
 
+-- where a line is refused that has these left, or ends there
+abbrev pub place_from : List PlacedToken → ℕ → ℕ
+place_from [] end = end
+place_from (p ∷ ps) end = p.place
+
 -- strings of a list were taken, up to a comma or its end
 pub record TookStrings (first : QuotedText) (rest : List QuotedText) (old new : List PlacedToken) : Type 0 where
   pub split : (us : List QuotedText) (ts : List LineToken) → bare_tokens new ≡ more_strings us ++ ts → bare_tokens old ≡ strings_tokens (record { first = first; rest = rest ++ us }) ++ ts

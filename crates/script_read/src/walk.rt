@@ -5,7 +5,7 @@ ghost use Rattle.rdf_values.specs.LineTokens.{line_tokens, bare_tokens, PlacedTo
 ghost use Rattle.rdf_values.specs.Scripts.{RefusesLine};
 ghost use Rattle.script_read.specs.Views.{placed_of, form_of, token_of, quoted_of, strings_of, edges_of, method_of};
 ghost use Rattle.script_read.specs.Stops.{RefusedFor};
-ghost use Rattle.script_read.specs.Walk.{Took, IsStuck, TookArguments, TookForm, Begins, BeginsNot, Ate, mark_of, mark_token, ALine, AWord, AMethod, AString, ANumber, MaybeString, AMark, strings_wants, edges_wants, one_string_wants, two_string_wants, variation_wants, asked_form, asking_wants, arguments_wants, booking_wants, SeesMethod, TookBooking};
+ghost use Rattle.script_read.specs.Walk.{Took, IsStuck, TookArguments, TookForm, Begins, BeginsNot, Ate, mark_of, mark_token, ALine, AWord, AMethod, AString, ANumber, MaybeString, AMark, strings_wants, edges_wants, one_string_wants, two_string_wants, variation_wants, asked_form, asking_wants, arguments_wants, booking_wants, SeesMethod, place_from, TookBooking};
 
 use crate::fail::Fail;
 use crate::form::{Form, Method, OneOrMore};
@@ -435,11 +435,36 @@ impl<'t, 'a> Walk<'t, 'a> {
     }
 }
 
+// The refusal of the next token, or of what is missing where the line ends.
+fn stuck(left: &[Placed], end: u32) -> LineStop
+    ensures { result ≡ LineStop.Syntax (place_from (map placed_of left.now) end) }
+{
+    let place = match left.first() {
+        Some(placed) => placed.place,
+        None => end,
+    };
+    LineStop::Syntax { place }
+}
+
 /// The form that the tokens of a line are; the line has so many bytes.
 pub(crate) fn read_form<'a>(alloc: Global, tokens: &[Placed<'a>], end: u32) -> Result<Form<'a>, LineStop>
     requires { 0 < length tokens.now }
     ensures ok { IfOk result (λ f. IsForm (bare_tokens (map placed_of tokens.now)) (form_of f)) }
     ensures err { IfErr result (λ e. (line : List ℕ) → line_tokens line ≡ Ok (map placed_of tokens.now) → length line ≡ end → RefusedFor (RefusesLine line) e) }
 {
-    Err(LineStop::Memory)
+    let mut walk = Walk {
+        alloc,
+        left: tokens,
+    };
+    match walk.line() {
+        Ok(form) => {
+            if walk.left.is_empty() {
+                Ok(form)
+            } else {
+                Err(stuck(walk.left, end))
+            }
+        }
+        Err(Fail::Unexpected) => Err(stuck(walk.left, end)),
+        Err(Fail::Memory) => Err(LineStop::Memory),
+    }
 }
