@@ -1,6 +1,6 @@
 -- Arguments, methods and lines that were taken, from what their parts took.
-use Rattle.std.proofs.Common.{◌≡◌, ◌∙◌, ℕ, Bool, true, false, List, [], ◌∷◌, ◌++◌, Option, Some, None, Result, Ok, Err, refl, sym, ap, subst, append_assoc}
-use Rattle.std.specs.Prelude.{IfOk, codes, drop, not, ◌&&◌, ◌||◌, if◌then◌else◌}
+use Rattle.std.proofs.Common.{◌≡◌, ◌∙◌, ℕ, Bool, true, false, List, [], ◌∷◌, ◌++◌, Option, Some, Result, Ok, Err, refl, sym, ap, subst, append_assoc}
+use Rattle.std.specs.Prelude.{IfOk, codes, not, ◌||◌, if◌then◌else◌}
 use Rattle.std.proofs.lemmas.Slice.Eq.{bytes_eq-Decides}
 use Rattle.rdf_values.specs.Names.{same}
 use Rattle.rdf_values.specs.LineTokens.{LineToken, QuotedText, PlacedToken, bare_tokens}
@@ -8,7 +8,7 @@ use Rattle.rdf_values.specs.LineTokens as t
 use Rattle.rdf_values.specs.LineForms.{Form, Method, Strings, Edges, method_word, arguments, call, strings_tokens, edges_tokens, maybe_string, form_tokens, has_free_names, is_free}
 use Rattle.rdf_values.specs.LineForms as form
 use Rattle.script_read.specs.Views.{token_of}
-use Rattle.script_read.specs.Walk.{Want, ALine, AWord, AMethod, AString, MaybeString, VaryArguments, AMark, Begins, Took, TookArguments, TookBooking, TookForm, next, walk_placed, asked_form, name_of, name_word, arguments_wants, method_wants, line_wants, booking_wants, asking_wants, one_string_wants, strings_wants, edges_wants, variation_wants}
+use Rattle.script_read.specs.Walk.{Want, ALine, AWord, AMethod, AString, MaybeString, VaryArguments, AMark, Begins, Took, TookArguments, TookBooking, TookForm, next, walk_placed, asked_form, name_of, name_word, arguments_wants, method_wants, booking_wants, asking_wants, one_string_wants, strings_wants, edges_wants, variation_wants}
 use Rattle.script_read.specs.declared.method.MethodName.{MethodName}
 use Rattle.script_read.specs.declared.method.MethodName.TheVariants as name
 use Rattle.script_read.specs.declared.token.Token.{Token}

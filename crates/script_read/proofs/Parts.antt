@@ -1,12 +1,11 @@
 -- What was taken, from what its parts took.
-use Rattle.std.proofs.Common.{◌≡◌, ◌∙◌, ℕ, ℤ, List, [], ◌∷◌, ◌++◌, Option, Some, None, map, refl, sym, ap, subst, append_assoc}
-use Rattle.std.specs.Prelude.{option_map}
+use Rattle.std.proofs.Common.{◌≡◌, ◌∙◌, ℤ, List, [], ◌∷◌, ◌++◌, Some, map, refl, sym, ap, subst, append_assoc}
 use Rattle.std.proofs.lemmas.List.{append-nil}
 use Rattle.rdf_values.specs.LineTokens.{LineToken, QuotedText, PlacedToken, bare_tokens}
 use Rattle.rdf_values.specs.LineTokens as t
-use Rattle.rdf_values.specs.LineForms.{Method, more_strings, strings_tokens, more_edges, edges_tokens, maybe_string}
-use Rattle.script_read.specs.Views.{token_of, quoted_of}
-use Rattle.script_read.specs.Walk.{Want, ALine, AWord, AMethod, AString, ANumber, MoreStrings, MoreEdges, MaybeString, VaryArguments, AMark, Begins, BeginsNot, Took, TookStrings, TookEdges, IsStuck, next, walk_placed, StuckAt, one_string_wants, strings_wants, edges_wants, variation_wants}
+use Rattle.rdf_values.specs.LineForms.{strings_tokens, edges_tokens, maybe_string}
+use Rattle.script_read.specs.Views.{quoted_of}
+use Rattle.script_read.specs.Walk.{Want, AString, ANumber, MoreStrings, MoreEdges, MaybeString, AMark, Begins, BeginsNot, Took, TookStrings, TookEdges, walk_placed, one_string_wants, strings_wants, edges_wants}
 use Rattle.script_read.specs.declared.token.Quoted.{Quoted}
 use Rattle.script_read.specs.declared.walk.Mark.TheVariants as mark
 use Rattle.script_read.proofs.Walked.{walk_over, close_wanted, strings_end, edges_end}

@@ -13,7 +13,7 @@ use Rattle.script_read.specs.Views.{placed_of}
 use Rattle.script_read.specs.declared.token.Placed.{Placed}
 use Rattle.script_read.specs.declared.stop.LineStop.{LineStop}
 use Rattle.script_read.specs.declared.stop.LineStop.TheVariants as stop
-use Rattle.script_read.proofs.Items.{Items, Item, items_tokens, item_tokens, some_items, first_items, last_items, both_items, BeginsItem, Follows, follows}
+use Rattle.script_read.proofs.Items.{Items, items_tokens, some_items, first_items, last_items, both_items, BeginsItem, Follows, follows}
 use Rattle.script_read.proofs.Passed.{line_passes}
 
 -- the walk over bare tokens

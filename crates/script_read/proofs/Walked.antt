@@ -5,7 +5,7 @@ use Rattle.rdf_values.specs.LineTokens.{LineToken, PlacedToken, bare_tokens}
 use Rattle.rdf_values.specs.LineTokens as t
 use Rattle.rdf_values.specs.LineForms.{is_free}
 use Rattle.script_read.specs.Views.{token_of}
-use Rattle.script_read.specs.Walk.{Want, ALine, AWord, AMethod, AString, ANumber, MoreStrings, MoreEdges, MaybeString, VaryArguments, AMark, Begins, BeginsNot, Took, IsStuck, next, walk, walk_on, walk_placed, StuckAt, mark_token, is_mark, variation_wants, one_string_wants, strings_wants}
+use Rattle.script_read.specs.Walk.{Want, ALine, AWord, AMethod, AString, ANumber, MoreStrings, MoreEdges, MaybeString, VaryArguments, AMark, Begins, BeginsNot, Took, IsStuck, next, walk, walk_on, walk_placed, mark_token, is_mark, variation_wants, one_string_wants, strings_wants}
 use Rattle.script_read.specs.declared.token.Token.{Token}
 use Rattle.script_read.specs.declared.token.Token.TheVariants as token
 use Rattle.script_read.specs.declared.token.Word.{Word}
@@ -78,7 +78,6 @@ stuck_mark {old} {new} m e isnt =
 pub took_seen : {s t : LineToken} {old seen new : List PlacedToken} → (w : Want) → s ≡ t → Begins s old seen → new ≡ seen → next w t ≡ Some [] → Took (w ∷ []) (t ∷ []) old new
 took_seen {s} {t} {old} {seen} {new} w e b same n =
     took_one w (record { place = b.place; is = b.is ∙ (λ i. record { token = e i; place = b.place } ∷ sym same i) }) n
-
 
 abbrev first_token : List PlacedToken → Option LineToken
 first_token [] = None

@@ -9,7 +9,7 @@ ghost use Rattle.script_read.specs.Walk.{Took, IsStuck, TookArguments, TookForm,
 
 use crate::fail::Fail;
 use crate::form::{Form, Method, OneOrMore};
-use crate::method::{method_name, MethodName};
+use crate::method::{MethodName, method_name};
 use crate::stop::LineStop;
 use crate::token::{Placed, Quoted, Token, Word};
 use std::alloc::Global;
@@ -447,7 +447,11 @@ fn stuck(left: &[Placed], end: u32) -> LineStop
 }
 
 /// The form that the tokens of a line are; the line has so many bytes.
-pub(crate) fn read_form<'a>(alloc: Global, tokens: &[Placed<'a>], end: u32) -> Result<Form<'a>, LineStop>
+pub(crate) fn read_form<'a>(
+    alloc: Global,
+    tokens: &[Placed<'a>],
+    end: u32,
+) -> Result<Form<'a>, LineStop>
     requires { 0 < length tokens.now }
     ensures ok { IfOk result (λ f. IsForm (bare_tokens (map placed_of tokens.now)) (form_of f)) }
     ensures err { IfErr result (λ e. (line : List ℕ) → line_tokens line ≡ Ok (map placed_of tokens.now) → length line ≡ end → RefusedFor (RefusesLine line) e) }

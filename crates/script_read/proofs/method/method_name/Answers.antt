@@ -1,4 +1,4 @@
-use Rattle.std.proofs.Common.{◌≡◌, ◌∙◌, ◌≤◌, sym, refl, arith}
+use Rattle.std.proofs.Common.{◌∙◌, sym, refl}
 use Rattle.script_read.specs.Walk.{all_names, name_of}
 use Rattle.script_read.proofs.Named.{named_here, named_on, named_none}
 use Rattle.script_read.proofs.method.method_name.Goals as goal

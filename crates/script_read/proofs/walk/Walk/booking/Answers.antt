@@ -1,4 +1,3 @@
-use Rattle.std.proofs.Common.{arith}
 use Rattle.script_read.specs.Views.{method_of}
 use Rattle.script_read.proofs.Joined.{took_booking}
 use Rattle.script_read.proofs.walk.Walk.booking.Goals as goal

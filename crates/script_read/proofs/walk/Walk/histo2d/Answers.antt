@@ -1,4 +1,4 @@
-use Rattle.std.proofs.Common.{◌∷◌, ◌++◌, [], ◌∙◌, refl, arith}
+use Rattle.std.proofs.Common.{◌∷◌, ◌∙◌, arith}
 use Rattle.std.specs.Prelude.{option_map}
 use Rattle.std.proofs.lemmas.Grind.{common_steps}
 use Rattle.script_read.specs.Views.{quoted_of, edges_of}
@@ -9,7 +9,7 @@ use Rattle.script_read.proofs.walk.Walk.histo2d.Goals as goal
 pub returns-in_err-weight-clause-stuck : goal.returns-in_err-weight-clause-stuck
 returns-in_err-weight-clause-stuck c h k =
     let so_far = c.in_ok-x_edges.ensures.took.walks _ ∙ c.in_ok-expect.ensures.took.walks _ ∙ c.in_ok-y_edges.ensures.took.walks _ ∙ c.in_ok-expect-2.ensures.took.walks _ ∙ c.in_ok-x.ensures.took.walks _
-        ∙ c.in_ok-expect-3.ensures.took.walks _ ∙ c.in_ok-y.ensures.took.walks (MaybeString ∷ k) in
+    ∙ c.in_ok-expect-3.ensures.took.walks _ ∙ c.in_ok-y.ensures.took.walks (MaybeString ∷ k) in
     grind (arith, common_steps)
 
 pub returns-clause-took : goal.returns-clause-took

@@ -1,4 +1,4 @@
-use Rattle.std.proofs.Common.{◌∙◌, ap, refl, sym, true, false, arith}
+use Rattle.std.proofs.Common.{◌∙◌, ap, sym, true, false, arith}
 use Rattle.std.proofs.lemmas.Grind.{common_steps}
 use Rattle.script_read.specs.Views.{token_of, form_of}
 use Rattle.script_read.specs.Walk.{ALine}

@@ -1,7 +1,6 @@
 use Rattle.std.proofs.Common.{◌∙◌, arith}
 use Rattle.std.proofs.lemmas.Grind.{common_steps}
 use Rattle.script_read.specs.Views.{method_of}
-use Rattle.script_read.specs.Walk.{arguments_wants}
 use Rattle.script_read.proofs.Joined.{ok_as, method_wanted, took_method}
 use Rattle.script_read.proofs.walk.Walk.method.Goals as goal
 

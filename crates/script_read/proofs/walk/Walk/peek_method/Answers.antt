@@ -1,4 +1,4 @@
-use Rattle.std.proofs.Common.{◌∙◌, ap, refl, sym}
+use Rattle.std.proofs.Common.{◌∙◌, ap, sym}
 use Rattle.script_read.specs.Views.{token_of}
 use Rattle.script_read.specs.Walk.{AMethod}
 use Rattle.script_read.proofs.Walked.{no_method, stuck_empty, stuck_token}

@@ -32,13 +32,13 @@ returns-in_err-values-in_default-clause-stuck c h k =
 pub returns-in_err-expect-in_default-clause-stuck : goal.returns-in_err-expect-in_default-clause-stuck
 returns-in_err-expect-in_default-clause-stuck c h k =
     let so_far = columns_wanted _ k c.in_ok-column.ensures.sees c.in_default.not-Quoted ∙ c.in_ok-columns-in_default.ensures.took.walks (variation_wants ++ AMark mark.Comma ∷ (one_string_wants ++ k))
-        ∙ c.in_ok-values-in_default.ensures.took.walks (AMark mark.Comma ∷ (one_string_wants ++ k)) in
+    ∙ c.in_ok-values-in_default.ensures.took.walks (AMark mark.Comma ∷ (one_string_wants ++ k)) in
     grind (arith, common_steps)
 
 pub returns-in_err-name-in_default-clause-stuck : goal.returns-in_err-name-in_default-clause-stuck
 returns-in_err-name-in_default-clause-stuck c h k =
     let so_far = columns_wanted _ k c.in_ok-column.ensures.sees c.in_default.not-Quoted ∙ c.in_ok-columns-in_default.ensures.took.walks (variation_wants ++ AMark mark.Comma ∷ (one_string_wants ++ k))
-        ∙ c.in_ok-values-in_default.ensures.took.walks (AMark mark.Comma ∷ (one_string_wants ++ k)) ∙ c.in_ok-expect-in_default.ensures.took.walks (one_string_wants ++ k) in
+    ∙ c.in_ok-values-in_default.ensures.took.walks (AMark mark.Comma ∷ (one_string_wants ++ k)) ∙ c.in_ok-expect-in_default.ensures.took.walks (one_string_wants ++ k) in
     grind (arith, common_steps)
 
 pub returns-in_ok-name-in-Quoted-clause-took : goal.returns-in_ok-name-in-Quoted-clause-took
