@@ -9,6 +9,7 @@ use Rattle.rdf_values.specs.LineForms as form
 use Rattle.script_read.specs.Walk.{Want, ALine, AWord, AMethod, AString, ANumber, MoreStrings, MoreEdges, MaybeString, VaryArguments, AMark, next, mark_token, is_mark, asked_form, name_of, name_word, arguments_wants, method_wants, booking_wants, asking_wants}
 use Rattle.script_read.specs.declared.method.MethodName.{MethodName}
 use Rattle.script_read.specs.declared.method.MethodName.TheVariants as name
+use Rattle.script_read.specs.declared.method.ActionName.TheVariants as action
 use Rattle.script_read.specs.declared.walk.Mark.{Mark}
 use Rattle.script_read.specs.declared.walk.Mark.TheVariants as mark
 use Rattle.script_read.proofs.Named.{name_is}
@@ -113,15 +114,15 @@ arguments_item name.Redefine xs = record { method = form.Redefine xs.0 xs.1.1.0;
 arguments_item name.Alias xs = record { method = form.Alias xs.0 xs.1.1.0; word = refl; tokens = refl }
 arguments_item name.Filter xs = record { method = form.Filter xs.0 xs.1.0; word = refl; tokens = ap (λ (us : List LineToken). t.Quoted xs.0 ∷ us) (sym (append-nil (maybe_string xs.1.0 ++ t.Close ∷ []))) }
 arguments_item name.Vary xs = record { method = xs.0.0; word = xs.0.1; tokens = sym (append-nil (arguments xs.0.0 ++ t.Close ∷ [])) }
-arguments_item name.Count xs = record { method = form.Count; word = refl; tokens = refl }
+arguments_item (name.Action action.Count) xs = record { method = form.Count; word = refl; tokens = refl }
 arguments_item name.Report xs = record { method = form.Report; word = refl; tokens = refl }
-arguments_item name.Sum xs = record { method = form.Sum xs.0; word = refl; tokens = refl }
-arguments_item name.Min xs = record { method = form.Min xs.0; word = refl; tokens = refl }
-arguments_item name.Max xs = record { method = form.Max xs.0; word = refl; tokens = refl }
-arguments_item name.Take xs = record { method = form.Take xs.0; word = refl; tokens = refl }
-arguments_item name.Reduce xs = record { method = form.Reduce xs.0 xs.1.1.0; word = refl; tokens = refl }
-arguments_item name.Histo1D xs = record { method = form.Histo1D (record { first = xs.1.0; rest = xs.1.1.0 }) xs.1.1.1.1.0 xs.1.1.1.1.1.0; word = refl; tokens = simp (append_assoc, append-nil) refl }
-arguments_item name.Histo2D xs = record {
+arguments_item (name.Action action.Sum) xs = record { method = form.Sum xs.0; word = refl; tokens = refl }
+arguments_item (name.Action action.Min) xs = record { method = form.Min xs.0; word = refl; tokens = refl }
+arguments_item (name.Action action.Max) xs = record { method = form.Max xs.0; word = refl; tokens = refl }
+arguments_item (name.Action action.Take) xs = record { method = form.Take xs.0; word = refl; tokens = refl }
+arguments_item (name.Action action.Reduce) xs = record { method = form.Reduce xs.0 xs.1.1.0; word = refl; tokens = refl }
+arguments_item (name.Action action.Histo1D) xs = record { method = form.Histo1D (record { first = xs.1.0; rest = xs.1.1.0 }) xs.1.1.1.1.0 xs.1.1.1.1.1.0; word = refl; tokens = simp (append_assoc, append-nil) refl }
+arguments_item (name.Action action.Histo2D) xs = record {
   method = form.Histo2D (record { first = xs.1.0; rest = xs.1.1.0 }) (record { first = xs.1.1.1.1.1.0; rest = xs.1.1.1.1.1.1.0 }) xs.1.1.1.1.1.1.1.1.0 xs.1.1.1.1.1.1.1.1.1.1.0 xs.1.1.1.1.1.1.1.1.1.1.1.0;
   word = refl;
   tokens = simp (append_assoc, append-nil) refl;

@@ -11,6 +11,7 @@ use Rattle.script_read.specs.Views.{token_of}
 use Rattle.script_read.specs.Walk.{Want, ALine, AWord, AMethod, AString, MaybeString, VaryArguments, AMark, Begins, Took, TookArguments, TookBooking, TookForm, next, walk_placed, asked_form, name_of, name_word, arguments_wants, method_wants, booking_wants, asking_wants, one_string_wants, strings_wants, edges_wants, variation_wants}
 use Rattle.script_read.specs.declared.method.MethodName.{MethodName}
 use Rattle.script_read.specs.declared.method.MethodName.TheVariants as name
+use Rattle.script_read.specs.declared.method.ActionName.TheVariants as action
 use Rattle.script_read.specs.declared.token.Token.{Token}
 use Rattle.script_read.specs.declared.token.Token.TheVariants as token
 use Rattle.script_read.specs.declared.token.Quoted.{Quoted}
@@ -66,7 +67,7 @@ took_vary_all {s} {old} {seen} {m1} {m2} {m3} {new} cs v ts n b isnt x y z w =
 pub took_histo2d : {old m1 m2 m3 m4 m5 m6 m7 new : List PlacedToken} (xs ys : Edges) (x y : QuotedText) (w : Option QuotedText)
     → Took edges_wants (edges_tokens xs) old m1 → Took (AMark mark.Comma ∷ []) (t.Comma ∷ []) m1 m2 → Took edges_wants (edges_tokens ys) m2 m3 → Took (AMark mark.Comma ∷ []) (t.Comma ∷ []) m3 m4
     → Took (AString ∷ []) (t.Quoted x ∷ []) m4 m5 → Took (AMark mark.Comma ∷ []) (t.Comma ∷ []) m5 m6 → Took (AString ∷ []) (t.Quoted y ∷ []) m6 m7 → Took (MaybeString ∷ []) (maybe_string w ++ t.Close ∷ []) m7 new
-    → TookArguments name.Histo2D (form.Histo2D xs ys x y w) old new
+    → TookArguments (name.Action action.Histo2D) (form.Histo2D xs ys x y w) old new
 took_histo2d xs ys x y w a b c d e f g h = record {
   word = refl;
   took = took_as (simp append_assoc refl) (took_then a (took_then b (took_then c (took_then d (took_then e (took_then f (took_then g h)))))));
@@ -81,15 +82,15 @@ name_word_is name.Redefine = refl
 name_word_is name.Alias = refl
 name_word_is name.Filter = refl
 name_word_is name.Vary = refl
-name_word_is name.Count = refl
+name_word_is (name.Action action.Count) = refl
 name_word_is name.Report = refl
-name_word_is name.Sum = refl
-name_word_is name.Min = refl
-name_word_is name.Max = refl
-name_word_is name.Take = refl
-name_word_is name.Reduce = refl
-name_word_is name.Histo1D = refl
-name_word_is name.Histo2D = refl
+name_word_is (name.Action action.Sum) = refl
+name_word_is (name.Action action.Min) = refl
+name_word_is (name.Action action.Max) = refl
+name_word_is (name.Action action.Take) = refl
+name_word_is (name.Action action.Reduce) = refl
+name_word_is (name.Action action.Histo1D) = refl
+name_word_is (name.Action action.Histo2D) = refl
 
 pub method_next : (n : MethodName) → next AMethod (t.Word (name_word n)) ≡ Some (method_wants n)
 method_next n = rw (name_word_is n) refl

@@ -9,6 +9,7 @@ use Rattle.std.specs.Prelude.{codes, ◌&&◌}
 use Rattle.script_read.specs.Walk.{Want, ALine, AWord, AMethod, AString, MoreStrings, MoreEdges, MaybeString, AMark, WalkEnd, Done, next, walk, arguments_wants, method_wants, booking_wants, asking_wants, variation_wants, edges_wants, one_string_wants}
 use Rattle.script_read.specs.declared.method.MethodName.{MethodName}
 use Rattle.script_read.specs.declared.method.MethodName.TheVariants as name
+use Rattle.script_read.specs.declared.method.ActionName.TheVariants as action
 use Rattle.script_read.specs.declared.walk.Mark.TheVariants as mark
 use Rattle.script_read.proofs.Walked.{is_name_next}
 use Rattle.script_read.proofs.Joined.{line_next, method_next}
@@ -47,15 +48,15 @@ name_for (form.Alias c u) = name.Alias
 name_for (form.Filter e l) = name.Filter
 name_for (form.VaryOne c v ts n) = name.Vary
 name_for (form.VaryAll cs v ts n) = name.Vary
-name_for form.Count = name.Count
+name_for form.Count = (name.Action action.Count)
 name_for form.Report = name.Report
-name_for (form.Sum c) = name.Sum
-name_for (form.Min c) = name.Min
-name_for (form.Max c) = name.Max
-name_for (form.Take c) = name.Take
-name_for (form.Reduce o c) = name.Reduce
-name_for (form.Histo1D xs x w) = name.Histo1D
-name_for (form.Histo2D xs ys x y w) = name.Histo2D
+name_for (form.Sum c) = (name.Action action.Sum)
+name_for (form.Min c) = (name.Action action.Min)
+name_for (form.Max c) = (name.Action action.Max)
+name_for (form.Take c) = (name.Action action.Take)
+name_for (form.Reduce o c) = (name.Action action.Reduce)
+name_for (form.Histo1D xs x w) = (name.Action action.Histo1D)
+name_for (form.Histo2D xs ys x y w) = (name.Action action.Histo2D)
 
 called : (m : Method) → next AMethod (t.Word (method_word m)) ≡ Some (method_wants (name_for m))
 called (form.Define c e) = method_next name.Define
@@ -64,15 +65,15 @@ called (form.Alias c u) = method_next name.Alias
 called (form.Filter e l) = method_next name.Filter
 called (form.VaryOne c v ts n) = method_next name.Vary
 called (form.VaryAll cs v ts n) = method_next name.Vary
-called form.Count = method_next name.Count
+called form.Count = method_next (name.Action action.Count)
 called form.Report = method_next name.Report
-called (form.Sum c) = method_next name.Sum
-called (form.Min c) = method_next name.Min
-called (form.Max c) = method_next name.Max
-called (form.Take c) = method_next name.Take
-called (form.Reduce o c) = method_next name.Reduce
-called (form.Histo1D xs x w) = method_next name.Histo1D
-called (form.Histo2D xs ys x y w) = method_next name.Histo2D
+called (form.Sum c) = method_next (name.Action action.Sum)
+called (form.Min c) = method_next (name.Action action.Min)
+called (form.Max c) = method_next (name.Action action.Max)
+called (form.Take c) = method_next (name.Action action.Take)
+called (form.Reduce o c) = method_next (name.Action action.Reduce)
+called (form.Histo1D xs x w) = method_next (name.Action action.Histo1D)
+called (form.Histo2D xs ys x y w) = method_next (name.Action action.Histo2D)
 
 passes_arguments : (m : Method) → walked (arguments m ++ t.Close ∷ []) (arguments_wants (name_for m)) ≡ Done
 passes_arguments (form.Define c e) = refl

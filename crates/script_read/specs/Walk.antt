@@ -7,6 +7,7 @@ use Rattle.rdf_values.specs.LineForms.{Method, Form, method_word, arguments, for
 use Rattle.rdf_values.specs.LineForms as form
 use Rattle.script_read.specs.declared.method.MethodName.{MethodName}
 use Rattle.script_read.specs.declared.method.MethodName.TheVariants as name
+use Rattle.script_read.specs.declared.method.ActionName.TheVariants as action
 use Rattle.script_read.specs.declared.walk.Mark.{Mark}
 use Rattle.script_read.specs.declared.walk.Mark.TheVariants as mark
 
@@ -53,19 +54,19 @@ name_word name.Redefine = codes "Redefine"
 name_word name.Alias = codes "Alias"
 name_word name.Filter = codes "Filter"
 name_word name.Vary = codes "Vary"
-name_word name.Count = codes "Count"
+name_word (name.Action action.Count) = codes "Count"
 name_word name.Report = codes "Report"
-name_word name.Sum = codes "Sum"
-name_word name.Min = codes "Min"
-name_word name.Max = codes "Max"
-name_word name.Take = codes "Take"
-name_word name.Reduce = codes "Reduce"
-name_word name.Histo1D = codes "Histo1D"
-name_word name.Histo2D = codes "Histo2D"
+name_word (name.Action action.Sum) = codes "Sum"
+name_word (name.Action action.Min) = codes "Min"
+name_word (name.Action action.Max) = codes "Max"
+name_word (name.Action action.Take) = codes "Take"
+name_word (name.Action action.Reduce) = codes "Reduce"
+name_word (name.Action action.Histo1D) = codes "Histo1D"
+name_word (name.Action action.Histo2D) = codes "Histo2D"
 
 -- all names of methods
 abbrev pub all_names : List MethodName
-all_names = name.Define ∷ name.Redefine ∷ name.Alias ∷ name.Filter ∷ name.Vary ∷ name.Count ∷ name.Report ∷ name.Sum ∷ name.Min ∷ name.Max ∷ name.Take ∷ name.Reduce ∷ name.Histo1D ∷ name.Histo2D ∷ []
+all_names = name.Define ∷ name.Redefine ∷ name.Alias ∷ name.Filter ∷ name.Vary ∷ (name.Action action.Count) ∷ name.Report ∷ (name.Action action.Sum) ∷ (name.Action action.Min) ∷ (name.Action action.Max) ∷ (name.Action action.Take) ∷ (name.Action action.Reduce) ∷ (name.Action action.Histo1D) ∷ (name.Action action.Histo2D) ∷ []
 
 -- the first of the names that is this word
 abbrev pub named : List ℕ → List MethodName → Option MethodName
@@ -122,15 +123,15 @@ arguments_wants name.Redefine = two_string_wants
 arguments_wants name.Alias = two_string_wants
 arguments_wants name.Filter = AString ∷ MaybeString ∷ []
 arguments_wants name.Vary = VaryArguments ∷ []
-arguments_wants name.Count = AMark mark.Close ∷ []
+arguments_wants (name.Action action.Count) = AMark mark.Close ∷ []
 arguments_wants name.Report = AMark mark.Close ∷ []
-arguments_wants name.Sum = one_string_wants
-arguments_wants name.Min = one_string_wants
-arguments_wants name.Max = one_string_wants
-arguments_wants name.Take = one_string_wants
-arguments_wants name.Reduce = two_string_wants
-arguments_wants name.Histo1D = edges_wants ++ AMark mark.Comma ∷ AString ∷ MaybeString ∷ []
-arguments_wants name.Histo2D = edges_wants ++ AMark mark.Comma ∷ (edges_wants ++ AMark mark.Comma ∷ AString ∷ AMark mark.Comma ∷ AString ∷ MaybeString ∷ [])
+arguments_wants (name.Action action.Sum) = one_string_wants
+arguments_wants (name.Action action.Min) = one_string_wants
+arguments_wants (name.Action action.Max) = one_string_wants
+arguments_wants (name.Action action.Take) = one_string_wants
+arguments_wants (name.Action action.Reduce) = two_string_wants
+arguments_wants (name.Action action.Histo1D) = edges_wants ++ AMark mark.Comma ∷ AString ∷ MaybeString ∷ []
+arguments_wants (name.Action action.Histo2D) = edges_wants ++ AMark mark.Comma ∷ (edges_wants ++ AMark mark.Comma ∷ AString ∷ AMark mark.Comma ∷ AString ∷ MaybeString ∷ [])
 
 abbrev pub method_wants : MethodName → List Want
 method_wants n = AMark mark.Open ∷ arguments_wants n

@@ -1,15 +1,14 @@
 // Reads the tokens of a line as a form, from the left with one token in hand.
-ghost use Rattle.std.specs.Prelude.{◌≡◌, ◌<◌, ℕ, List, [], ◌∷◌, ◌++◌, Ok, Err, map, drop, true, false, codes, length, OnOk, IfOk, IfErr, option_map};
-ghost use Rattle.rdf_values.specs.LineForms.{IsForm, is_free as is_free_word, method_word, arguments, call, form_tokens, more_strings, strings_tokens, more_edges, edges_tokens, maybe_string};
-ghost use Rattle.rdf_values.specs.LineTokens.{line_tokens, bare_tokens, PlacedToken, Word as AsWord, Number as AsNumber, Quoted as AsQuoted, Open as AsOpen, Close as AsClose, Comma as AsComma};
+ghost use Rattle.std.specs.Prelude.{◌≡◌, ◌<◌, ℕ, List, [], ◌∷◌, ◌++◌, Ok, Err, map, drop, true, false, length, OnOk, IfOk, IfErr, option_map};
+ghost use Rattle.rdf_values.specs.LineForms.{IsForm, is_free as is_free_word, strings_tokens, edges_tokens, maybe_string};
+ghost use Rattle.rdf_values.specs.LineTokens.{line_tokens, bare_tokens, Word as AsWord, Number as AsNumber, Quoted as AsQuoted, Open as AsOpen, Close as AsClose, Comma as AsComma};
 ghost use Rattle.rdf_values.specs.Scripts.{RefusesLine};
-ghost use Rattle.script_read.specs.Views.{placed_of, form_of, token_of, quoted_of, strings_of, edges_of, method_of};
+ghost use Rattle.script_read.specs.Views.{placed_of, form_of, token_of, quoted_of, strings_of, edges_of};
 ghost use Rattle.script_read.specs.Stops.{RefusedFor};
-ghost use Rattle.script_read.specs.Walk.{Took, IsStuck, TookArguments, TookForm, Begins, BeginsNot, Ate, mark_of, mark_token, ALine, AWord, AMethod, AString, ANumber, MaybeString, AMark, strings_wants, edges_wants, one_string_wants, two_string_wants, variation_wants, asked_form, asking_wants, arguments_wants, booking_wants, SeesMethod, place_from, TookBooking};
+ghost use Rattle.script_read.specs.Walk.{Took, IsStuck, TookForm, Begins, Ate, mark_of, mark_token, ALine, AWord, AString, ANumber, MaybeString, AMark, strings_wants, edges_wants, one_string_wants, two_string_wants, asked_form, asking_wants, booking_wants, place_from, TookBooking};
 
 use crate::fail::Fail;
-use crate::form::{Form, Method, OneOrMore};
-use crate::method::{MethodName, method_name};
+use crate::form::{Form, OneOrMore};
 use crate::stop::LineStop;
 use crate::token::{Placed, Quoted, Token, Word};
 use std::alloc::Global;
@@ -85,7 +84,7 @@ impl<'t, 'a> Walk<'t, 'a> {
     ghost use Rattle.script_read.specs.Left.{left_of};
 
     // The next token.
-    fn peek(&self) -> Result<Token<'a>, Fail>
+    pub(crate) fn peek(&self) -> Result<Token<'a>, Fail>
         ensures sees { IfOk result (λ t. Begins (token_of t) (left_of self.now) (drop 1 (left_of self.now))) }
         ensures ends { IfErr result (λ e. left_of self.now ≡ []) }
     {
@@ -96,7 +95,7 @@ impl<'t, 'a> Walk<'t, 'a> {
     }
 
     // Passes over the next token.
-    fn advance(&mut self)
+    pub(crate) fn advance(&mut self)
         requires { 0 < length self.old.left.now }
         ensures { left_of self.new ≡ drop 1 (left_of self.old) }
     {
@@ -104,7 +103,7 @@ impl<'t, 'a> Walk<'t, 'a> {
     }
 
     // Passes over the mark if it comes next.
-    fn eat(&mut self, mark: Mark) -> bool
+    pub(crate) fn eat(&mut self, mark: Mark) -> bool
         ensures { Ate mark result (left_of self.old) (left_of self.new) }
     {
         match self.peek() {
@@ -116,7 +115,7 @@ impl<'t, 'a> Walk<'t, 'a> {
         }
     }
 
-    fn expect(&mut self, mark: Mark) -> Result<(), Fail>
+    pub(crate) fn expect(&mut self, mark: Mark) -> Result<(), Fail>
         ensures took { OnOk result (Took (AMark mark ∷ []) (mark_token mark ∷ []) (left_of self.old) (left_of self.new)) }
         ensures stuck { result ≡ Err Fail.Unexpected → IsStuck (AMark mark ∷ []) (left_of self.old) (left_of self.new) }
     {
@@ -127,7 +126,7 @@ impl<'t, 'a> Walk<'t, 'a> {
         }
     }
 
-    fn string(&mut self) -> Result<Quoted<'a>, Fail>
+    pub(crate) fn string(&mut self) -> Result<Quoted<'a>, Fail>
         ensures took { IfOk result (λ q. Took (AString ∷ []) (AsQuoted (quoted_of q) ∷ []) (left_of self.old) (left_of self.new)) }
         ensures stuck { result ≡ Err Fail.Unexpected → IsStuck (AString ∷ []) (left_of self.old) (left_of self.new) }
     {
@@ -169,7 +168,7 @@ impl<'t, 'a> Walk<'t, 'a> {
     }
 
     // A string and the `)` of the call.
-    fn last_string(&mut self) -> Result<Quoted<'a>, Fail>
+    pub(crate) fn last_string(&mut self) -> Result<Quoted<'a>, Fail>
         ensures took { IfOk result (λ q. Took one_string_wants (AsQuoted (quoted_of q) ∷ AsClose ∷ []) (left_of self.old) (left_of self.new)) }
         ensures stuck { result ≡ Err Fail.Unexpected → IsStuck one_string_wants (left_of self.old) (left_of self.new) }
     {
@@ -179,7 +178,7 @@ impl<'t, 'a> Walk<'t, 'a> {
     }
 
     // Two strings and the `)` of the call.
-    fn two_strings(&mut self) -> Result<(Quoted<'a>, Quoted<'a>), Fail>
+    pub(crate) fn two_strings(&mut self) -> Result<(Quoted<'a>, Quoted<'a>), Fail>
         ensures took { IfOk result (λ p. Took two_string_wants (AsQuoted (quoted_of p.0) ∷ AsComma ∷ AsQuoted (quoted_of p.1) ∷ AsClose ∷ []) (left_of self.old) (left_of self.new)) }
         ensures stuck { result ≡ Err Fail.Unexpected → IsStuck two_string_wants (left_of self.old) (left_of self.new) }
     {
@@ -190,7 +189,7 @@ impl<'t, 'a> Walk<'t, 'a> {
     }
 
     // A further string or none, and the `)` of the call.
-    fn maybe_string(&mut self) -> Result<Option<Quoted<'a>>, Fail>
+    pub(crate) fn maybe_string(&mut self) -> Result<Option<Quoted<'a>>, Fail>
         ensures took { IfOk result (λ o. Took (MaybeString ∷ []) (maybe_string (option_map quoted_of o) ++ AsClose ∷ []) (left_of self.old) (left_of self.new)) }
         ensures stuck { result ≡ Err Fail.Unexpected → IsStuck (MaybeString ∷ []) (left_of self.old) (left_of self.new) }
     {
@@ -203,7 +202,7 @@ impl<'t, 'a> Walk<'t, 'a> {
     }
 
     // A list of strings.
-    fn strings(&mut self) -> Result<OneOrMore<Quoted<'a>>, Fail>
+    pub(crate) fn strings(&mut self) -> Result<OneOrMore<Quoted<'a>>, Fail>
         ensures took { IfOk result (λ s. Took strings_wants (strings_tokens (strings_of s)) (left_of self.old) (left_of self.new)) }
         ensures stuck { result ≡ Err Fail.Unexpected → IsStuck strings_wants (left_of self.old) (left_of self.new) }
     {
@@ -219,7 +218,7 @@ impl<'t, 'a> Walk<'t, 'a> {
     }
 
     // A list of edges.
-    fn edges(&mut self) -> Result<OneOrMore<i64>, Fail>
+    pub(crate) fn edges(&mut self) -> Result<OneOrMore<i64>, Fail>
         ensures took { IfOk result (λ s. Took edges_wants (edges_tokens (edges_of s)) (left_of self.old) (left_of self.new)) }
         ensures stuck { result ≡ Err Fail.Unexpected → IsStuck edges_wants (left_of self.old) (left_of self.new) }
     {
@@ -232,162 +231,6 @@ impl<'t, 'a> Walk<'t, 'a> {
         }
         self.expect(Mark::CloseBracket)?;
         Ok(OneOrMore { first, rest })
-    }
-
-    // The values and the tags of a variation, behind its columns.
-    fn variation(&mut self) -> Result<(Quoted<'a>, OneOrMore<Quoted<'a>>), Fail>
-        ensures took { IfOk result (λ p. Took variation_wants (AsComma ∷ AsQuoted (quoted_of p.0) ∷ AsComma ∷ strings_tokens (strings_of p.1)) (left_of self.old) (left_of self.new)) }
-        ensures stuck { result ≡ Err Fail.Unexpected → IsStuck variation_wants (left_of self.old) (left_of self.new) }
-    {
-        self.expect(Mark::Comma)?;
-        let values = self.string()?;
-        self.expect(Mark::Comma)?;
-        let tags = self.strings()?;
-        Ok((values, tags))
-    }
-
-    fn vary(&mut self) -> Result<Method<'a>, Fail>
-        ensures took { IfOk result (λ m. TookArguments MethodName.Vary (method_of m) (left_of self.old) (left_of self.new)) }
-        ensures stuck { result ≡ Err Fail.Unexpected → IsStuck (arguments_wants MethodName.Vary) (left_of self.old) (left_of self.new) }
-    {
-        match self.peek()? {
-            Token::Quoted(column) => {
-                self.advance();
-                let (values, tags) = self.variation()?;
-                let name = self.maybe_string()?;
-                Ok(Method::VaryOne {
-                    column,
-                    values,
-                    tags,
-                    name,
-                })
-            }
-            _ => {
-                let columns = self.strings()?;
-                let (values, tags) = self.variation()?;
-                self.expect(Mark::Comma)?;
-                let name = self.last_string()?;
-                Ok(Method::VaryAll {
-                    columns,
-                    values,
-                    tags,
-                    name,
-                })
-            }
-        }
-    }
-
-    fn histo1d(&mut self) -> Result<Method<'a>, Fail>
-        ensures took { IfOk result (λ m. TookArguments MethodName.Histo1D (method_of m) (left_of self.old) (left_of self.new)) }
-        ensures stuck { result ≡ Err Fail.Unexpected → IsStuck (arguments_wants MethodName.Histo1D) (left_of self.old) (left_of self.new) }
-    {
-        let x_edges = self.edges()?;
-        self.expect(Mark::Comma)?;
-        let x = self.string()?;
-        let weight = self.maybe_string()?;
-        Ok(Method::Histo1D { x_edges, x, weight })
-    }
-
-    fn histo2d(&mut self) -> Result<Method<'a>, Fail>
-        ensures took { IfOk result (λ m. TookArguments MethodName.Histo2D (method_of m) (left_of self.old) (left_of self.new)) }
-        ensures stuck { result ≡ Err Fail.Unexpected → IsStuck (arguments_wants MethodName.Histo2D) (left_of self.old) (left_of self.new) }
-    {
-        let x_edges = self.edges()?;
-        self.expect(Mark::Comma)?;
-        let y_edges = self.edges()?;
-        self.expect(Mark::Comma)?;
-        let x = self.string()?;
-        self.expect(Mark::Comma)?;
-        let y = self.string()?;
-        let weight = self.maybe_string()?;
-        Ok(Method::Histo2D {
-            x_edges,
-            y_edges,
-            x,
-            y,
-            weight,
-        })
-    }
-
-    // What stands in the parentheses of a method, and the `)`.
-    fn arguments(&mut self, name: MethodName) -> Result<Method<'a>, Fail>
-        ensures took { IfOk result (λ m. TookArguments name (method_of m) (left_of self.old) (left_of self.new)) }
-        ensures stuck { result ≡ Err Fail.Unexpected → IsStuck (arguments_wants name) (left_of self.old) (left_of self.new) }
-    {
-        match name {
-            MethodName::Define => {
-                let (column, expr) = self.two_strings()?;
-                Ok(Method::Define { column, expr })
-            }
-            MethodName::Redefine => {
-                let (column, expr) = self.two_strings()?;
-                Ok(Method::Redefine { column, expr })
-            }
-            MethodName::Alias => {
-                let (column, target) = self.two_strings()?;
-                Ok(Method::Alias { column, target })
-            }
-            MethodName::Filter => {
-                let expr = self.string()?;
-                let label = self.maybe_string()?;
-                Ok(Method::Filter { expr, label })
-            }
-            MethodName::Vary => self.vary(),
-            MethodName::Count => {
-                self.expect(Mark::Close)?;
-                Ok(Method::Count)
-            }
-            MethodName::Report => {
-                self.expect(Mark::Close)?;
-                Ok(Method::Report)
-            }
-            MethodName::Sum => {
-                let column = self.last_string()?;
-                Ok(Method::Sum { column })
-            }
-            MethodName::Min => {
-                let column = self.last_string()?;
-                Ok(Method::Min { column })
-            }
-            MethodName::Max => {
-                let column = self.last_string()?;
-                Ok(Method::Max { column })
-            }
-            MethodName::Take => {
-                let column = self.last_string()?;
-                Ok(Method::Take { column })
-            }
-            MethodName::Reduce => {
-                let (operation, column) = self.two_strings()?;
-                Ok(Method::Reduce { operation, column })
-            }
-            MethodName::Histo1D => self.histo1d(),
-            MethodName::Histo2D => self.histo2d(),
-        }
-    }
-
-    // The name of the method that comes next.
-    fn peek_method(&self) -> Result<MethodName, Fail>
-        ensures sees { IfOk result (λ n. SeesMethod n (left_of self.now)) }
-        ensures stuck { result ≡ Err Fail.Unexpected → IsStuck (AMethod ∷ []) (left_of self.now) (left_of self.now) }
-    {
-        let Token::Word(word) = self.peek()? else {
-            return Err(Fail::Unexpected);
-        };
-        match method_name(word.bytes) {
-            Some(name) => Ok(name),
-            None => Err(Fail::Unexpected),
-        }
-    }
-
-    fn method(&mut self) -> Result<Method<'a>, Fail>
-        ensures took { IfOk result (λ m. Took (AMethod ∷ []) (call (method_word (method_of m)) (arguments (method_of m))) (left_of self.old) (left_of self.new)) }
-        ensures stuck { result ≡ Err Fail.Unexpected → IsStuck (AMethod ∷ []) (left_of self.old) (left_of self.new) }
-    {
-        let name = self.peek_method()?;
-        self.advance();
-        self.expect(Mark::Open)?;
-        self.arguments(name)
     }
 
     // What books the name, behind it.
