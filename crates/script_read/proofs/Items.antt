@@ -94,16 +94,11 @@ abbrev pub Follows : Want → LineToken → Option (List Want) → Type 0
 Follows w u None = Unit {0}
 Follows w u (Some vs) = (xs : Items vs) → BeginsItem w u (items_tokens vs xs)
 
+-- a method of that name whose arguments are those tokens
 record ArgumentsItem (n : MethodName) (ts : List LineToken) : Type 0 where
   method : Method
   word : method_word method ≡ name_word n
   tokens : arguments method ++ t.Close ∷ [] ≡ ts
-
-strings_item : QuotedText → List QuotedText → Strings
-strings_item q qs = record { first = q; rest = qs }
-
-edges_item : ℤ → List ℤ → Edges
-edges_item z zs = record { first = z; rest = zs }
 
 vary_one_tokens : (ts : List QuotedText) (n : Option QuotedText) → (more_strings ts ++ maybe_string n) ++ t.Close ∷ [] ≡ more_strings ts ++ ((maybe_string n ++ t.Close ∷ []) ++ [])
 vary_one_tokens ts n = append_assoc (more_strings ts) (maybe_string n) (t.Close ∷ []) ∙ ap (λ (us : List LineToken). more_strings ts ++ us) (sym (append-nil (maybe_string n ++ t.Close ∷ [])))

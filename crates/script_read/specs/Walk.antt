@@ -13,6 +13,7 @@ use Rattle.script_read.specs.declared.walk.Mark.TheVariants as mark
 
 -- ---- marks
 
+-- the token that a mark is
 abbrev pub mark_token : Mark → LineToken
 mark_token mark.Equals = t.Equals
 mark_token mark.Dot = t.Dot
@@ -48,6 +49,7 @@ is_mark m t = false
 
 -- ---- methods by their names
 
+-- the word of a name
 abbrev pub name_word : MethodName → List ℕ
 name_word name.Define = codes "Define"
 name_word name.Redefine = codes "Redefine"
@@ -133,6 +135,7 @@ arguments_wants (name.Action action.Reduce) = two_string_wants
 arguments_wants (name.Action action.Histo1D) = edges_wants ++ AMark mark.Comma ∷ AString ∷ MaybeString ∷ []
 arguments_wants (name.Action action.Histo2D) = edges_wants ++ AMark mark.Comma ∷ (edges_wants ++ AMark mark.Comma ∷ AString ∷ AMark mark.Comma ∷ AString ∷ MaybeString ∷ [])
 
+-- what follows the name of a method
 abbrev pub method_wants : MethodName → List Want
 method_wants n = AMark mark.Open ∷ arguments_wants n
 
@@ -177,6 +180,7 @@ walk token [] (w ∷ ws) = StuckAt []
 walk token (x ∷ xs) [] = StuckAt (x ∷ xs)
 walk token (x ∷ xs) (w ∷ ws) = walk_on (x ∷ xs) (next w (token x)) (λ vs. walk token xs (vs ++ ws))
 
+-- the walk over tokens with their places
 unfoldable pub walk_placed : List PlacedToken → List Want → WalkEnd PlacedToken
 walk_placed ts ws = walk (λ (p : PlacedToken). p.token) ts ws
 
