@@ -8,3 +8,10 @@ pub mod StringStops
 pub mod FirstLines
 pub mod LineSteps
 pub mod ScriptReading
+pub mod Items
+pub mod Joined
+pub mod Named
+pub mod Parts
+pub mod Passed
+pub mod Stuck
+pub mod Walked

@@ -1,5 +1,7 @@
 pub mod Methods
 pub mod Adding
+pub mod Left
 pub mod Stops
 pub mod StringPlaces
 pub mod Views
+pub mod Walk

@@ -1,0 +1,181 @@
+-- What stands where something is wanted.
+use Rattle.std.proofs.Common.{◌≡◌, ◌∙◌, ℕ, ℤ, pos, Bool, true, false, List, [], ◌∷◌, ◌++◌, Option, Some, None, refl, sym, ap, append_assoc}
+use Rattle.std.specs.Prelude.{codes, option_map, if◌then◌else◌}
+use Rattle.std.proofs.lemmas.List.{append-nil}
+use Rattle.rdf_values.specs.LineTokens.{LineToken, QuotedText}
+use Rattle.rdf_values.specs.LineTokens as t
+use Rattle.rdf_values.specs.LineForms.{Form, Method, Strings, Edges, method_word, arguments, call, more_strings, strings_tokens, more_edges, edges_tokens, maybe_string, form_tokens, has_free_names, is_free}
+use Rattle.rdf_values.specs.LineForms as form
+use Rattle.script_read.specs.Walk.{Want, ALine, AWord, AMethod, AString, ANumber, MoreStrings, MoreEdges, MaybeString, VaryArguments, AMark, next, mark_token, is_mark, asked_form, name_of, name_word, arguments_wants, method_wants, booking_wants, asking_wants}
+use Rattle.script_read.specs.declared.method.MethodName.{MethodName}
+use Rattle.script_read.specs.declared.method.MethodName.TheVariants as name
+use Rattle.script_read.specs.declared.method.ActionName.TheVariants as action
+use Rattle.script_read.specs.declared.walk.Mark.{Mark}
+use Rattle.script_read.specs.declared.walk.Mark.TheVariants as mark
+use Rattle.script_read.proofs.Named.{name_is}
+use Rattle.script_read.proofs.Joined.{asked_tokens, asked_free}
+
+-- what can stand where that is wanted
+abbrev pub Item : Want → Type 0
+Item ALine = (f : Form) × (has_free_names f ≡ true)
+Item AWord = (x : List ℕ) × (is_free x ≡ true)
+Item AMethod = Method
+Item AString = QuotedText
+Item ANumber = ℤ
+Item MoreStrings = List QuotedText
+Item MoreEdges = List ℤ
+Item MaybeString = Option QuotedText
+Item VaryArguments = (m : Method) × (method_word m ≡ codes "Vary")
+Item (AMark m) = Unit {0}
+
+abbrev pub item_tokens : (w : Want) → Item w → List LineToken
+item_tokens ALine f = form_tokens f.0
+item_tokens AWord x = t.Word x.0 ∷ []
+item_tokens AMethod m = call (method_word m) (arguments m)
+item_tokens AString q = t.Quoted q ∷ []
+item_tokens ANumber z = t.Number z ∷ []
+item_tokens MoreStrings qs = more_strings qs
+item_tokens MoreEdges zs = more_edges zs
+item_tokens MaybeString q = maybe_string q ++ t.Close ∷ []
+item_tokens VaryArguments m = arguments m.0 ++ t.Close ∷ []
+item_tokens (AMark m) x = mark_token m ∷ []
+
+abbrev pub Items : List Want → Type 0
+Items [] = Unit {0}
+Items (w ∷ ws) = Item w × Items ws
+
+abbrev pub items_tokens : (ws : List Want) → Items ws → List LineToken
+items_tokens [] xs = []
+items_tokens (w ∷ ws) xs = item_tokens w xs.0 ++ items_tokens ws xs.1
+
+-- ---- something can stand there
+
+some_text : QuotedText
+some_text = record { place = 0; content = [] }
+
+pub some_item : (w : Want) → Item w
+some_item ALine = (form.Print [], refl)
+some_item AWord = ([], refl)
+some_item AMethod = form.Count
+some_item AString = some_text
+some_item ANumber = pos 0
+some_item MoreStrings = []
+some_item MoreEdges = []
+some_item MaybeString = None
+some_item VaryArguments = (form.VaryOne some_text some_text (record { first = some_text; rest = [] }) None, refl)
+some_item (AMark m) = tt
+
+pub some_items : (ws : List Want) → Items ws
+some_items [] = tt
+some_items (w ∷ ws) = (some_item w, some_items ws)
+
+-- ---- items in two parts
+
+abbrev pub first_items : (vs ws : List Want) → Items (vs ++ ws) → Items vs
+first_items [] ws xs = tt
+first_items (v ∷ vs) ws xs = (xs.0, first_items vs ws xs.1)
+
+abbrev pub last_items : (vs ws : List Want) → Items (vs ++ ws) → Items ws
+last_items [] ws xs = xs
+last_items (v ∷ vs) ws xs = last_items vs ws xs.1
+
+pub both_items : (vs ws : List Want) (xs : Items (vs ++ ws)) → items_tokens (vs ++ ws) xs ≡ items_tokens vs (first_items vs ws xs) ++ items_tokens ws (last_items vs ws xs)
+both_items [] ws xs = refl
+both_items (v ∷ vs) ws xs = ap (λ (ts : List LineToken). item_tokens v xs.0 ++ ts) (both_items vs ws xs.1) ∙ sym (append_assoc (item_tokens v xs.0) (items_tokens vs (first_items vs ws xs.1)) (items_tokens ws (last_items vs ws xs.1)))
+
+-- ---- a token, and what is wanted behind it, are what was wanted
+
+-- an item of that begins with the token and goes on with those
+pub record BeginsItem (w : Want) (u : LineToken) (ts : List LineToken) : Type 0 where
+  pub item : Item w
+  pub tokens : item_tokens w item ≡ u ∷ ts
+
+abbrev pub Follows : Want → LineToken → Option (List Want) → Type 0
+Follows w u None = Unit {0}
+Follows w u (Some vs) = (xs : Items vs) → BeginsItem w u (items_tokens vs xs)
+
+-- a method of that name whose arguments are those tokens
+record ArgumentsItem (n : MethodName) (ts : List LineToken) : Type 0 where
+  method : Method
+  word : method_word method ≡ name_word n
+  tokens : arguments method ++ t.Close ∷ [] ≡ ts
+
+vary_one_tokens : (ts : List QuotedText) (n : Option QuotedText) → (more_strings ts ++ maybe_string n) ++ t.Close ∷ [] ≡ more_strings ts ++ ((maybe_string n ++ t.Close ∷ []) ++ [])
+vary_one_tokens ts n = append_assoc (more_strings ts) (maybe_string n) (t.Close ∷ []) ∙ ap (λ (us : List LineToken). more_strings ts ++ us) (sym (append-nil (maybe_string n ++ t.Close ∷ [])))
+
+arguments_item : (n : MethodName) (xs : Items (arguments_wants n)) → ArgumentsItem n (items_tokens (arguments_wants n) xs)
+arguments_item name.Define xs = record { method = form.Define xs.0 xs.1.1.0; word = refl; tokens = refl }
+arguments_item name.Redefine xs = record { method = form.Redefine xs.0 xs.1.1.0; word = refl; tokens = refl }
+arguments_item name.Alias xs = record { method = form.Alias xs.0 xs.1.1.0; word = refl; tokens = refl }
+arguments_item name.Filter xs = record { method = form.Filter xs.0 xs.1.0; word = refl; tokens = ap (λ (us : List LineToken). t.Quoted xs.0 ∷ us) (sym (append-nil (maybe_string xs.1.0 ++ t.Close ∷ []))) }
+arguments_item name.Vary xs = record { method = xs.0.0; word = xs.0.1; tokens = sym (append-nil (arguments xs.0.0 ++ t.Close ∷ [])) }
+arguments_item (name.Action action.Count) xs = record { method = form.Count; word = refl; tokens = refl }
+arguments_item name.Report xs = record { method = form.Report; word = refl; tokens = refl }
+arguments_item (name.Action action.Sum) xs = record { method = form.Sum xs.0; word = refl; tokens = refl }
+arguments_item (name.Action action.Min) xs = record { method = form.Min xs.0; word = refl; tokens = refl }
+arguments_item (name.Action action.Max) xs = record { method = form.Max xs.0; word = refl; tokens = refl }
+arguments_item (name.Action action.Take) xs = record { method = form.Take xs.0; word = refl; tokens = refl }
+arguments_item (name.Action action.Reduce) xs = record { method = form.Reduce xs.0 xs.1.1.0; word = refl; tokens = refl }
+arguments_item (name.Action action.Histo1D) xs = record { method = form.Histo1D (record { first = xs.1.0; rest = xs.1.1.0 }) xs.1.1.1.1.0 xs.1.1.1.1.1.0; word = refl; tokens = simp (append_assoc, append-nil) refl }
+arguments_item (name.Action action.Histo2D) xs = record {
+  method = form.Histo2D (record { first = xs.1.0; rest = xs.1.1.0 }) (record { first = xs.1.1.1.1.1.0; rest = xs.1.1.1.1.1.1.0 }) xs.1.1.1.1.1.1.1.1.0 xs.1.1.1.1.1.1.1.1.1.1.0 xs.1.1.1.1.1.1.1.1.1.1.1.0;
+  word = refl;
+  tokens = simp (append_assoc, append-nil) refl;
+}
+
+method_follows : (x : List ℕ) (o : Option MethodName) → name_of x ≡ o → Follows AMethod (t.Word x) (option_map method_wants o)
+method_follows x None e = tt
+method_follows x (Some n) e = λ xs.
+    let found = arguments_item n xs.1 in
+    let word : method_word found.method ≡ x = found.word ∙ sym (name_is x n e) in
+    record { item = found.method; tokens = ap (λ (w : List ℕ). t.Word w ∷ t.Open ∷ (arguments found.method ++ t.Close ∷ [])) word ∙ ap (λ (us : List LineToken). t.Word x ∷ t.Open ∷ us) found.tokens }
+
+line_follows : (x : List ℕ) (b : Bool) → is_free x ≡ b → (xs : Items (if b then booking_wants else asking_wants)) → BeginsItem ALine (t.Word x) (items_tokens (if b then booking_wants else asking_wants) xs)
+line_follows x true e xs =
+    let name = xs.1.0 in
+    let m = xs.1.1.1.0 in
+    record { item = (form.Books x name.0 m, rw (e, name.1) refl); tokens = ap (λ (us : List LineToken). t.Word x ∷ t.Equals ∷ t.Word name.0 ∷ t.Dot ∷ us) (sym (append-nil (call (method_word m) (arguments m)))) }
+line_follows x false e xs =
+    let name = xs.1.0 in
+    record { item = (asked_form x name.0, asked_free _ _ name.0 ∙ name.1); tokens = asked_tokens x name.0 e }
+
+word_follows : (x : List ℕ) (b : Bool) → is_free x ≡ b → Follows AWord (t.Word x) (if b then Some [] else None)
+word_follows x true e = λ xs. record { item = (x, e); tokens = refl }
+word_follows x false e = tt
+
+marked : (m : Mark) (u : LineToken) → is_mark m u ≡ true → mark_token m ≡ u
+marked mark.Equals t.Equals e = refl
+marked mark.Dot t.Dot e = refl
+marked mark.Open t.Open e = refl
+marked mark.Close t.Close e = refl
+marked mark.OpenBracket t.OpenBracket e = refl
+marked mark.CloseBracket t.CloseBracket e = refl
+marked mark.Comma t.Comma e = refl
+marked m u e = cc e
+
+mark_follows : (m : Mark) (u : LineToken) (b : Bool) → is_mark m u ≡ b → Follows (AMark m) u (if b then Some [] else None)
+mark_follows m u true e = λ xs. record { item = tt; tokens = ap (λ (v : LineToken). v ∷ []) (marked m u e) }
+mark_follows m u false e = tt
+
+pub follows : (w : Want) (u : LineToken) → Follows w u (next w u)
+follows ALine (t.Word x) = line_follows x (is_free x) refl
+follows AWord (t.Word x) = word_follows x (is_free x) refl
+follows AMethod (t.Word x) = method_follows x (name_of x) refl
+follows AString (t.Quoted q) = λ xs. record { item = q; tokens = refl }
+follows ANumber (t.Number z) = λ xs. record { item = z; tokens = refl }
+follows MoreStrings t.Comma = λ xs. record { item = xs.0 ∷ xs.1.0; tokens = ap (λ (us : List LineToken). t.Comma ∷ t.Quoted xs.0 ∷ us) (sym (append-nil (more_strings xs.1.0))) }
+follows MoreStrings t.CloseBracket = λ xs. record { item = []; tokens = refl }
+follows MoreEdges t.Comma = λ xs. record { item = xs.0 ∷ xs.1.0; tokens = ap (λ (us : List LineToken). t.Comma ∷ t.Number xs.0 ∷ us) (sym (append-nil (more_edges xs.1.0))) }
+follows MoreEdges t.CloseBracket = λ xs. record { item = []; tokens = refl }
+follows MaybeString t.Comma = λ xs. record { item = Some xs.0; tokens = refl }
+follows MaybeString t.Close = λ xs. record { item = None; tokens = refl }
+follows VaryArguments (t.Quoted c) = λ xs. record {
+  item = (form.VaryOne c xs.1.0 (record { first = xs.1.1.1.1.0; rest = xs.1.1.1.1.1.0 }) xs.1.1.1.1.1.1.0, refl);
+  tokens = ap (λ (us : List LineToken). t.Quoted c ∷ t.Comma ∷ t.Quoted xs.1.0 ∷ t.Comma ∷ t.OpenBracket ∷ t.Quoted xs.1.1.1.1.0 ∷ us) (vary_one_tokens xs.1.1.1.1.1.0 xs.1.1.1.1.1.1.0);
+}
+follows VaryArguments t.OpenBracket = λ xs. record {
+  item = (form.VaryAll (record { first = xs.0; rest = xs.1.0 }) xs.1.1.1.0 (record { first = xs.1.1.1.1.1.1.0; rest = xs.1.1.1.1.1.1.1.0 }) xs.1.1.1.1.1.1.1.1.1.0, refl);
+  tokens = simp append_assoc refl;
+}
+follows (AMark m) u = mark_follows m u (is_mark m u) refl
+follows w u = tt

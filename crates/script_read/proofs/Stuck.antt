@@ -1,0 +1,134 @@
+-- Where the walk over a line's tokens is stuck, no line goes on.
+use Rattle.std.proofs.Common.{◌≡◌, ◌∙◌, ◌<◌, ◌+◌, ℕ, suc, add-one, List, [], ◌∷◌, ◌++◌, length, take, map, Option, Some, None, Ok, refl, sym, ap, subst, append_assoc}
+use Rattle.std.specs.Prelude.{slice_get, ◌==◌, false}
+use Rattle.std.proofs.lemmas.List.{append-nil, length-map}
+use Rattle.rdf_values.specs.LineTokens.{LineToken, PlacedToken, bare_tokens, line_tokens}
+use Rattle.rdf_values.specs.LineForms.{Form, IsForm, BeginsLine, StopsAt}
+use Rattle.rdf_values.specs.Scripts.{RefusesLine}
+use Rattle.rdf_values.specs.Scripts as script
+use Rattle.rdf_values.specs.Statements as refused
+use Rattle.script_read.specs.Walk.{Want, ALine, WalkEnd, Done, StuckAt, next, walk, walk_on, walk_placed, place_from}
+use Rattle.script_read.specs.Stops.{RefusedFor}
+use Rattle.script_read.specs.Views.{placed_of}
+use Rattle.script_read.specs.declared.token.Placed.{Placed}
+use Rattle.script_read.specs.declared.stop.LineStop.{LineStop}
+use Rattle.script_read.specs.declared.stop.LineStop.TheVariants as stop
+use Rattle.script_read.proofs.Items.{Items, items_tokens, some_items, first_items, last_items, both_items, BeginsItem, Follows, follows}
+use Rattle.script_read.proofs.Passed.{line_passes}
+
+-- the walk over bare tokens
+abbrev walk_bare : List LineToken → List Want → WalkEnd LineToken
+walk_bare ts ws = walk (λ (u : LineToken). u) ts ws
+
+abbrev walk_on_places : List PlacedToken → List Want → WalkEnd PlacedToken
+walk_on_places ts ws = walk (λ (p : PlacedToken). p.token) ts ws
+
+-- both end, or both begin with this token
+abbrev BeginAlike : List PlacedToken → List LineToken → Type 0
+BeginAlike [] us = us ≡ []
+BeginAlike (p ∷ ps) us = (rest : List LineToken) × (us ≡ p.token ∷ rest)
+
+-- what was taken begins what is wanted, and the walk is stuck behind it whatever comes later
+record Stuck (ws : List Want) (ts left : List PlacedToken) : Type 0 where
+  taken : List PlacedToken
+  split : ts ≡ taken ++ left
+  items : Items ws
+  rest : List LineToken
+  whole : bare_tokens taken ++ rest ≡ items_tokens ws items
+  stays : (us : List LineToken) → BeginAlike left us → walk_bare (bare_tokens taken ++ us) ws ≡ StuckAt us
+
+at_end : (w : Want) (ws : List Want) → Stuck (w ∷ ws) [] []
+at_end w ws = record { taken = []; split = refl; items = some_items (w ∷ ws); rest = items_tokens (w ∷ ws) (some_items (w ∷ ws)); whole = refl; stays = λ us e. rw e refl }
+
+behind : (p : PlacedToken) (ps : List PlacedToken) → Stuck [] (p ∷ ps) (p ∷ ps)
+behind p ps = record { taken = []; split = refl; items = tt; rest = []; whole = refl; stays = λ us e. rw e.1 refl }
+
+at_token : (w : Want) (ws : List Want) (p : PlacedToken) (ps : List PlacedToken) → next w p.token ≡ None → Stuck (w ∷ ws) (p ∷ ps) (p ∷ ps)
+at_token w ws p ps n = record { taken = []; split = refl; items = some_items (w ∷ ws); rest = items_tokens (w ∷ ws) (some_items (w ∷ ws)); whole = refl; stays = λ us e. rw (e.1, n) refl }
+
+later : (w : Want) (ws vs : List Want) (p : PlacedToken) (ps left : List PlacedToken) → next w p.token ≡ Some vs → Stuck (vs ++ ws) ps left → Stuck (w ∷ ws) (p ∷ ps) left
+later w ws vs p ps left n s =
+    let go : Follows w p.token (Some vs) = subst (λ (o : Option (List Want)). Follows w p.token o) n (follows w p.token) in
+    let found : BeginsItem w p.token (items_tokens vs (first_items vs ws s.items)) = go (first_items vs ws s.items) in
+    record {
+      taken = p ∷ s.taken;
+      split = ap (λ (ts : List PlacedToken). p ∷ ts) s.split;
+      items = (found.item, last_items vs ws s.items);
+      rest = s.rest;
+      whole = ap (λ (ts : List LineToken). p.token ∷ ts) (s.whole ∙ both_items vs ws s.items) ∙ ap (λ (ts : List LineToken). ts ++ items_tokens ws (last_items vs ws s.items)) (sym found.tokens);
+      stays = λ us e. rw n (s.stays us e);
+    }
+
+to_left : {ws : List Want} {ts mid : List PlacedToken} (left : List PlacedToken) → mid ≡ left → Stuck ws ts mid → Stuck ws ts left
+to_left {ws} {ts} left e s = subst (λ (x : List PlacedToken). Stuck ws ts x) e s
+
+stuck_step : (w : Want) (ws : List Want) (p : PlacedToken) (ps left : List PlacedToken) (o : Option (List Want)) → next w p.token ≡ o → ((vs : List Want) → walk_on_places ps vs ≡ StuckAt left → Stuck vs ps left)
+    → walk_on (p ∷ ps) o (λ vs. walk_on_places ps (vs ++ ws)) ≡ StuckAt left → Stuck (w ∷ ws) (p ∷ ps) left
+stuck_step w ws p ps left None n go e = to_left left (cc e) (at_token w ws p ps n)
+stuck_step w ws p ps left (Some vs) n go e = later w ws vs p ps left n (go (vs ++ ws) e)
+
+is_stuck : (ts : List PlacedToken) (ws : List Want) (left : List PlacedToken) → walk_on_places ts ws ≡ StuckAt left → Stuck ws ts left
+is_stuck [] [] left e = cc e
+is_stuck [] (w ∷ ws) left e = to_left left (cc e) (at_end w ws)
+is_stuck (p ∷ ps) [] left e = to_left left (cc e) (behind p ps)
+is_stuck (p ∷ ps) (w ∷ ws) left e = stuck_step w ws p ps left (next w p.token) refl (λ vs h. is_stuck ps vs left h) e
+
+-- ---- lines
+
+begins : (ts left : List PlacedToken) (s : Stuck (ALine ∷ []) ts left) → BeginsLine (bare_tokens s.taken)
+begins ts left s = record { rest = s.rest; form = s.items.0.0; whole = record { tokens = s.whole ∙ append-nil _; free = s.items.0.1 } }
+
+no_line : (ts left : List PlacedToken) (s : Stuck (ALine ∷ []) ts left) (us : List LineToken) (f : Form) → BeginAlike left us → IsForm (bare_tokens s.taken ++ us) f → ⊥
+no_line ts left s us f e h =
+    let over : walk_bare (bare_tokens s.taken ++ us) (ALine ∷ []) ≡ Done = ap (λ (vs : List LineToken). walk_bare vs (ALine ∷ [])) h.tokens ∙ line_passes f h.free in
+    let stays = s.stays us e in
+    cc (over, stays)
+
+bare_both : (ts us : List PlacedToken) → bare_tokens (ts ++ us) ≡ bare_tokens ts ++ bare_tokens us
+bare_both [] us = refl
+bare_both (p ∷ ts) us = ap (λ (l : List LineToken). p.token ∷ l) (bare_both ts us)
+
+take_taken : (ts : List PlacedToken) (us : List LineToken) → take (length ts) (bare_tokens ts ++ us) ≡ bare_tokens ts
+take_taken [] us = refl
+take_taken (p ∷ ts) us = ap (λ (l : List LineToken). p.token ∷ l) (take_taken ts us)
+
+take_one_more : (ts : List PlacedToken) (u : LineToken) (us : List LineToken) → take (suc (length ts)) (bare_tokens ts ++ u ∷ us) ≡ bare_tokens ts ++ u ∷ []
+take_one_more [] u us = refl
+take_one_more (p ∷ ts) u us = ap (λ (l : List LineToken). p.token ∷ l) (take_one_more ts u us)
+
+token_there : (ts : List PlacedToken) (p : PlacedToken) (ps : List PlacedToken) → slice_get (ts ++ p ∷ ps) (length ts) ≡ Some p
+token_there [] p ps = refl
+token_there (q ∷ ts) p ps = token_there ts p ps
+
+refused_there : (ts left : List PlacedToken) (end : ℕ) (line : List ℕ) → Stuck (ALine ∷ []) ts left → 0 < length ts → line_tokens line ≡ Ok ts → length line ≡ end → RefusesLine line (refused.Syntax (place_from left end))
+refused_there ts [] end line s some h e =
+    let whole : bare_tokens s.taken ≡ bare_tokens ts = ap bare_tokens (sym (s.split ∙ append-nil s.taken)) in
+    let line_begins : BeginsLine (bare_tokens ts) = subst (λ (us : List LineToken). BeginsLine us) whole (begins ts [] s) in
+    let not_whole : (f : Form) → IsForm (bare_tokens ts) f → ⊥ = λ f is. no_line ts [] s [] f refl (subst (λ (us : List LineToken). IsForm us f) (sym whole ∙ sym (append-nil (bare_tokens s.taken))) is) in
+    subst (λ (n : ℕ). RefusesLine line (refused.Syntax n)) e (script.at_end h some line_begins not_whole)
+refused_there ts (p ∷ ps) end line s some h e =
+    let split : bare_tokens ts ≡ bare_tokens s.taken ++ p.token ∷ bare_tokens ps = ap bare_tokens s.split ∙ bare_both s.taken (p ∷ ps) in
+    let before : take (length s.taken) (bare_tokens ts) ≡ bare_tokens s.taken = ap (λ (us : List LineToken). take (length s.taken) us) split ∙ take_taken s.taken (p.token ∷ bare_tokens ps) in
+    let with_it : take (length s.taken + 1) (bare_tokens ts) ≡ bare_tokens s.taken ++ p.token ∷ [] = ap (λ (us : List LineToken). take (length s.taken + 1) us) split ∙ ap (λ (n : ℕ). take n (bare_tokens s.taken ++ p.token ∷ bare_tokens ps)) (add-one (length s.taken)) ∙ take_one_more s.taken p.token (bare_tokens ps) in
+    let stops : StopsAt (bare_tokens ts) (length s.taken) = record {
+      before = subst (λ (us : List LineToken). BeginsLine us) (sym before) (begins ts (p ∷ ps) s);
+      with_it = λ b. no_line ts (p ∷ ps) s (p.token ∷ b.rest) b.form (b.rest, refl) (subst (λ (us : List LineToken). IsForm us b.form) (ap (λ (us : List LineToken). us ++ b.rest) with_it ∙ append_assoc (bare_tokens s.taken) (p.token ∷ []) b.rest) b.whole);
+    } in
+    script.at_token h stops (ap (λ (us : List PlacedToken). slice_get us (length s.taken)) s.split ∙ token_there s.taken p ps)
+
+-- a line whose walk is stuck is refused there
+pub refuses_line : (ts left : List PlacedToken) (end : ℕ) (line : List ℕ) → walk_placed ts (ALine ∷ []) ≡ StuckAt left → 0 < length ts → line_tokens line ≡ Ok ts → length line ≡ end → RefusesLine line (refused.Syntax (place_from left end))
+unfolding walk_placed
+refuses_line ts left end line e some h n = refused_there ts left end line (is_stuck ts (ALine ∷ []) left e) some h n
+
+pub refused_for : (tokens : List Placed) (left : List PlacedToken) (end : ℕ) (s : LineStop) → s ≡ stop.Syntax (place_from left end) → walk_placed (map placed_of tokens) (ALine ∷ []) ≡ StuckAt left → 0 < length tokens
+    → (line : List ℕ) → line_tokens line ≡ Ok (map placed_of tokens) → length line ≡ end → RefusedFor (RefusesLine line) s
+refused_for tokens left end s is e some line h n =
+    let some_tokens : 0 < length (map placed_of tokens) = subst (λ (k : ℕ). 0 < k) (sym (length-map tokens placed_of)) some in
+    subst (λ (x : LineStop). RefusedFor (RefusesLine line) x) (sym is) (refuses_line (map placed_of tokens) left end line e some_tokens h n)
+
+-- a walk with nothing wanted is stuck before what is left
+pub left_over : (tokens : List Placed) → (length tokens == 0) ≡ false → walk_placed (map placed_of tokens) [] ≡ StuckAt (map placed_of tokens)
+unfolding walk_placed
+left_over [] some = cc some
+left_over (p ∷ ps) some = refl

@@ -1,0 +1,170 @@
+-- Steps of the walk over tokens.
+use Rattle.std.proofs.Common.{◌≡◌, ◌∙◌, ℕ, ℤ, List, [], ◌∷◌, ◌++◌, Option, Some, None, Bool, true, false, refl, sym, ap, subst}
+use Rattle.std.specs.Prelude.{if◌then◌else◌}
+use Rattle.rdf_values.specs.LineTokens.{LineToken, PlacedToken, bare_tokens}
+use Rattle.rdf_values.specs.LineTokens as t
+use Rattle.rdf_values.specs.LineForms.{is_free}
+use Rattle.script_read.specs.Views.{token_of}
+use Rattle.script_read.specs.Walk.{Want, ALine, AWord, AMethod, AString, ANumber, MoreStrings, MoreEdges, MaybeString, VaryArguments, AMark, Begins, BeginsNot, Took, IsStuck, next, walk, walk_on, walk_placed, mark_token, is_mark, variation_wants, one_string_wants, strings_wants}
+use Rattle.script_read.specs.declared.token.Token.{Token}
+use Rattle.script_read.specs.declared.token.Token.TheVariants as token
+use Rattle.script_read.specs.declared.token.Word.{Word}
+use Rattle.script_read.specs.declared.token.Quoted.{Quoted}
+use Rattle.script_read.specs.declared.walk.Mark.{Mark}
+use Rattle.script_read.specs.declared.walk.Mark.TheVariants as mark
+
+-- a token that can stand there is passed over
+pub walk_over : {t : LineToken} {old new : List PlacedToken} → (w : Want) (ws k : List Want) → Begins t old new → next w t ≡ Some ws → walk_placed old (w ∷ k) ≡ walk_placed new (ws ++ k)
+unfolding walk_placed
+walk_over w ws k b e = rw (b.is, e) refl
+
+pub took_one : {t : LineToken} {old new : List PlacedToken} → (w : Want) → Begins t old new → next w t ≡ Some [] → Took (w ∷ []) (t ∷ []) old new
+took_one w b e = record { split = ap bare_tokens b.is; walks = λ k. walk_over w [] k b e }
+
+-- the walk is stuck before what can't stand there
+pub stuck_none : (w : Want) (old : List PlacedToken) → ((t : LineToken) (new : List PlacedToken) → Begins t old new → next w t ≡ None) → IsStuck (w ∷ []) old old
+unfolding walk_placed
+stuck_none w [] h k = refl
+stuck_none w (p ∷ ps) h k = let e = h p.token ps (record { place = p.place; is = refl }) in rw e refl
+
+pub stuck_empty : (w : Want) (old : List PlacedToken) → old ≡ [] → IsStuck (w ∷ []) old old
+unfolding walk_placed
+stuck_empty w old e k = rw e refl
+
+pub stuck_token : {t : LineToken} {new : List PlacedToken} → (w : Want) (old : List PlacedToken) → Begins t old new → next w t ≡ None → IsStuck (w ∷ []) old old
+unfolding walk_placed
+stuck_token w old b e k = rw (b.is, e) refl
+
+-- ---- marks
+
+pub is_its_mark : (m : Mark) → is_mark m (mark_token m) ≡ true
+is_its_mark mark.Equals = refl
+is_its_mark mark.Dot = refl
+is_its_mark mark.Open = refl
+is_its_mark mark.Close = refl
+is_its_mark mark.OpenBracket = refl
+is_its_mark mark.CloseBracket = refl
+is_its_mark mark.Comma = refl
+
+pub is_no_mark : (m : Mark) (t : LineToken) → (t ≡ mark_token m → ⊥) → is_mark m t ≡ false
+is_no_mark mark.Equals t.Equals isnt = absurd (isnt refl)
+is_no_mark mark.Dot t.Dot isnt = absurd (isnt refl)
+is_no_mark mark.Open t.Open isnt = absurd (isnt refl)
+is_no_mark mark.Close t.Close isnt = absurd (isnt refl)
+is_no_mark mark.OpenBracket t.OpenBracket isnt = absurd (isnt refl)
+is_no_mark mark.CloseBracket t.CloseBracket isnt = absurd (isnt refl)
+is_no_mark mark.Comma t.Comma isnt = absurd (isnt refl)
+is_no_mark m t isnt = refl
+
+mark_next : (m : Mark) → next (AMark m) (mark_token m) ≡ Some []
+mark_next m = rw (is_its_mark m) refl
+
+no_mark_next : (m : Mark) (t : LineToken) → (t ≡ mark_token m → ⊥) → next (AMark m) t ≡ None
+no_mark_next m t isnt = rw (is_no_mark m t isnt) refl
+
+-- the first token isn't this one
+pub first_is_not : (t u : LineToken) (old new : List PlacedToken) → BeginsNot t old → Begins u old new → u ≡ t → ⊥
+first_is_not t u old new isnt b e = isnt new (record { place = b.place; is = b.is ∙ ap (λ (k : LineToken). record { token = k; place = b.place } ∷ new) e })
+
+pub took_mark : {old new : List PlacedToken} → (m : Mark) → Begins (mark_token m) old new → Took (AMark m ∷ []) (mark_token m ∷ []) old new
+took_mark m b = took_one (AMark m) b (mark_next m)
+
+pub stuck_mark : {old new : List PlacedToken} → (m : Mark) → new ≡ old → BeginsNot (mark_token m) old → IsStuck (AMark m ∷ []) old new
+stuck_mark {old} {new} m e isnt =
+    subst (λ (x : List PlacedToken). IsStuck (AMark m ∷ []) old x) (sym e)
+    (stuck_none (AMark m) old (λ t rest b. no_mark_next m t (first_is_not (mark_token m) t old rest isnt b)))
+
+-- the token that was seen is passed over
+pub took_seen : {s t : LineToken} {old seen new : List PlacedToken} → (w : Want) → s ≡ t → Begins s old seen → new ≡ seen → next w t ≡ Some [] → Took (w ∷ []) (t ∷ []) old new
+took_seen {s} {t} {old} {seen} {new} w e b same n =
+    took_one w (record { place = b.place; is = b.is ∙ (λ i. record { token = e i; place = b.place } ∷ sym same i) }) n
+
+abbrev first_token : List PlacedToken → Option LineToken
+first_token [] = None
+first_token (p ∷ ps) = Some p.token
+
+-- the first token is one
+pub same_first : {t u : LineToken} {old new seen : List PlacedToken} → Begins t old new → Begins u old seen → t ≡ u
+same_first b c = let e = ap first_token (sym b.is ∙ c.is) in cc e
+
+-- ---- tokens that can't stand there
+
+pub no_string : (t : Token) → ((q : Quoted) → t ≡ token.Quoted q → ⊥) → next AString (token_of t) ≡ None
+no_string (token.Quoted q) isnt = absurd (isnt q refl)
+no_string t isnt = refl
+
+pub no_number : (t : Token) → ((z : ℤ) → t ≡ token.Number z → ⊥) → next ANumber (token_of t) ≡ None
+no_number (token.Number z) isnt = absurd (isnt z refl)
+no_number t isnt = refl
+
+pub no_name : (t : Token) → ((x : Word) → t ≡ token.Word x → ⊥) → next AWord (token_of t) ≡ None
+no_name (token.Word x) isnt = absurd (isnt x refl)
+no_name t isnt = refl
+
+pub no_method : (t : Token) → ((x : Word) → t ≡ token.Word x → ⊥) → next AMethod (token_of t) ≡ None
+no_method (token.Word x) isnt = absurd (isnt x refl)
+no_method t isnt = refl
+
+pub no_line : (t : Token) → ((x : Word) → t ≡ token.Word x → ⊥) → next ALine (token_of t) ≡ None
+no_line (token.Word x) isnt = absurd (isnt x refl)
+no_line t isnt = refl
+
+pub is_name_next : (x : List ℕ) → is_free x ≡ true → next AWord (t.Word x) ≡ Some []
+is_name_next x f = rw f refl
+
+-- a name that is one of the words that begin other lines
+pub not_free : (t : Token) (x : Word) → t ≡ token.Word x → false ≡ is_free x.bytes.now → next AWord (token_of t) ≡ None
+not_free t x e f = rw (e, sym f) refl
+
+-- ---- what is wanted like a mark
+
+instead_on : (b : Bool) (p : PlacedToken) (ps : List PlacedToken) (ws k : List Want)
+    → walk_on (p ∷ ps) (if b then Some ws else None) (λ vs. walk (λ (q : PlacedToken). q.token) ps (vs ++ k)) ≡ walk_on (p ∷ ps) (if b then Some [] else None) (λ vs. walk (λ (q : PlacedToken). q.token) ps (vs ++ (ws ++ k)))
+instead_on true p ps ws k = refl
+instead_on false p ps ws k = refl
+
+instead : (w : Want) (m : Mark) (ws : List Want) (old : List PlacedToken) (k : List Want) → ((t : LineToken) (new : List PlacedToken) → Begins t old new → next w t ≡ (if is_mark m t then Some ws else None))
+    → walk_placed old (w ∷ k) ≡ walk_placed old (AMark m ∷ (ws ++ k))
+unfolding walk_placed
+instead w m ws [] k h = refl
+instead w m ws (p ∷ ps) k h =
+    let e = h p.token ps (record { place = p.place; is = refl }) in
+    rw e (instead_on (is_mark m p.token) p ps ws k)
+
+close_next : (u : LineToken) → (u ≡ t.Comma → ⊥) → next MaybeString u ≡ (if is_mark mark.Close u then Some [] else None)
+close_next t.Comma isnt = absurd (isnt refl)
+close_next t.Close isnt = refl
+close_next t isnt = refl
+
+strings_next : (u : LineToken) → (u ≡ t.Comma → ⊥) → next MoreStrings u ≡ (if is_mark mark.CloseBracket u then Some [] else None)
+strings_next t.Comma isnt = absurd (isnt refl)
+strings_next t.CloseBracket isnt = refl
+strings_next t isnt = refl
+
+edges_next : (u : LineToken) → (u ≡ t.Comma → ⊥) → next MoreEdges u ≡ (if is_mark mark.CloseBracket u then Some [] else None)
+edges_next t.Comma isnt = absurd (isnt refl)
+edges_next t.CloseBracket isnt = refl
+edges_next t isnt = refl
+
+vary_next : (t : Token) → ((q : Quoted) → t ≡ token.Quoted q → ⊥)
+    → next VaryArguments (token_of t) ≡ (if is_mark mark.OpenBracket (token_of t) then Some (AString ∷ MoreStrings ∷ (variation_wants ++ AMark mark.Comma ∷ one_string_wants)) else None)
+vary_next (token.Quoted q) isnt = absurd (isnt q refl)
+vary_next token.OpenBracket isnt = refl
+vary_next t isnt = refl
+
+-- without a comma the call ends
+pub close_wanted : (old : List PlacedToken) (k : List Want) → BeginsNot t.Comma old → walk_placed old (MaybeString ∷ k) ≡ walk_placed old (AMark mark.Close ∷ k)
+close_wanted old k isnt = instead MaybeString mark.Close [] old k (λ u new b. close_next u (first_is_not t.Comma u old new isnt b))
+
+-- without a comma the list ends
+pub strings_end : (old : List PlacedToken) (k : List Want) → BeginsNot t.Comma old → walk_placed old (MoreStrings ∷ k) ≡ walk_placed old (AMark mark.CloseBracket ∷ k)
+strings_end old k isnt = instead MoreStrings mark.CloseBracket [] old k (λ u new b. strings_next u (first_is_not t.Comma u old new isnt b))
+
+pub edges_end : (old : List PlacedToken) (k : List Want) → BeginsNot t.Comma old → walk_placed old (MoreEdges ∷ k) ≡ walk_placed old (AMark mark.CloseBracket ∷ k)
+edges_end old k isnt = instead MoreEdges mark.CloseBracket [] old k (λ u new b. edges_next u (first_is_not t.Comma u old new isnt b))
+
+-- a variation begins with a list of columns unless with a string
+pub columns_wanted : {s : Token} {seen : List PlacedToken} → (old : List PlacedToken) (k : List Want) → Begins (token_of s) old seen → ((q : Quoted) → s ≡ token.Quoted q → ⊥)
+    → walk_placed old (VaryArguments ∷ k) ≡ walk_placed old (strings_wants ++ ((variation_wants ++ AMark mark.Comma ∷ one_string_wants) ++ k))
+columns_wanted {s} {seen} old k b isnt =
+    instead VaryArguments mark.OpenBracket (AString ∷ MoreStrings ∷ (variation_wants ++ AMark mark.Comma ∷ one_string_wants)) old k (λ u new c. let e = same_first b c in rw (sym e) (vary_next s isnt))

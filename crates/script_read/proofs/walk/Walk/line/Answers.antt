@@ -1,0 +1,29 @@
+use Rattle.std.proofs.Common.{◌∙◌, ap, sym, true, false, arith}
+use Rattle.std.proofs.lemmas.Grind.{common_steps}
+use Rattle.script_read.specs.Views.{token_of, form_of}
+use Rattle.script_read.specs.Walk.{ALine}
+use Rattle.script_read.proofs.Walked.{stuck_empty, stuck_token, no_line}
+use Rattle.script_read.proofs.Joined.{ok_as, line_wanted, took_line, took_asking}
+use Rattle.script_read.proofs.walk.Walk.line.Goals as goal
+
+pub returns-in_err-first-clause-stuck : goal.returns-in_err-first-clause-stuck
+returns-in_err-first-clause-stuck c _ = stuck_empty ALine _ c.in_err-first.ensures.ends
+
+pub returns-in_default-clause-stuck : goal.returns-in_default-clause-stuck
+returns-in_default-clause-stuck c _ = stuck_token ALine _ c.in_ok-first.ensures.sees (no_line _ c.in_default.not-Word)
+
+pub returns-in_err-name-clause-stuck : goal.returns-in_err-name-clause-stuck
+returns-in_err-name-clause-stuck c h k =
+    let so_far = line_wanted _ c.in-Word.first.bytes.now false k (ap token_of c.in-Word.is) c.in_ok-first.ensures.sees c.advance.ensures (sym c.is_free.ensures ∙ c.if-is_free.false) in grind (arith, common_steps)
+
+pub returns-then-is_free-clause-took : goal.returns-then-is_free-clause-took
+returns-then-is_free-clause-took c =
+    ok_as c.booking.result (λ f x. took_line c.in-Word.first.bytes.now (form_of f) (ap token_of c.in-Word.is) c.in_ok-first.ensures.sees c.advance.ensures (sym c.is_free.ensures ∙ c.if-is_free.true) x) c.booking.ensures.took
+
+pub returns-then-is_free-clause-stuck : goal.returns-then-is_free-clause-stuck
+returns-then-is_free-clause-stuck c h k =
+    line_wanted _ c.in-Word.first.bytes.now true k (ap token_of c.in-Word.is) c.in_ok-first.ensures.sees c.advance.ensures (sym c.is_free.ensures ∙ c.if-is_free.true) ∙ c.booking.ensures.stuck h k
+
+pub returns-in_ok-name-clause-took : goal.returns-in_ok-name-clause-took
+returns-in_ok-name-clause-took c =
+    took_asking c.in-Word.first.bytes.now c.in_ok-name.name.bytes.now _ (ap token_of c.in-Word.is) c.in_ok-first.ensures.sees c.advance.ensures (sym c.is_free.ensures ∙ c.if-is_free.false) c.in_ok-name.ensures.took.0 c.in_ok-name.ensures.took.1 c.asked.ensures

@@ -1,0 +1,21 @@
+use Rattle.std.proofs.Common.{◌≡◌, ◌∙◌, sym, w64, SFits, to_z, of_z, ap, refl, arith, rules}
+use Rattle.std.proofs.lemmas.Grind.{common_steps}
+use Rattle.std.proofs.lemmas.Int.{to_z-of_z}
+use Rattle.rdf_values.specs.LineTokens.{Number}
+use Rattle.script_read.specs.Views.{token_of}
+use Rattle.script_read.specs.Walk.{ANumber}
+use Rattle.script_read.proofs.Walked.{took_seen, no_number, stuck_empty, stuck_token}
+use Rattle.script_read.proofs.walk.Walk.number.Goals as goal
+
+pub returns-in_err-n-clause-stuck : goal.returns-in_err-n-clause-stuck
+returns-in_err-n-clause-stuck c _ = stuck_empty ANumber _ c.in_err-n.ensures.ends
+
+pub returns-in-Number-clause-took : goal.returns-in-Number-clause-took
+returns-in-Number-clause-took c =
+    let fits : SFits w64 c.in-Number.n = first_of (search rules, grind (arith, common_steps)) in
+    let same : to_z w64 (of_z w64 c.in-Number.n) ≡ c.in-Number.n = to_z-of_z w64 c.in-Number.n fits in
+    let seen = ap token_of c.in-Number.is ∙ ap Number (sym same) in
+    took_seen ANumber seen c.in_ok-n.ensures.sees c.advance.ensures refl
+
+pub returns-in_default-clause-stuck : goal.returns-in_default-clause-stuck
+returns-in_default-clause-stuck c _ = stuck_token ANumber _ c.in_ok-n.ensures.sees (no_number _ c.in_default.not-Number)

@@ -1,0 +1,18 @@
+use Rattle.std.proofs.Common.{◌∙◌, ap, sym}
+use Rattle.script_read.specs.Views.{token_of}
+use Rattle.script_read.specs.Walk.{AMethod}
+use Rattle.script_read.proofs.Walked.{no_method, stuck_empty, stuck_token}
+use Rattle.script_read.proofs.Named.{no_method_named, method_seen}
+use Rattle.script_read.proofs.walk.Walk.peek_method.Goals as goal
+
+pub returns-in_err-word-clause-stuck : goal.returns-in_err-word-clause-stuck
+returns-in_err-word-clause-stuck c _ = stuck_empty AMethod _ c.in_err-word.ensures.ends
+
+pub returns-in_default-clause-stuck : goal.returns-in_default-clause-stuck
+returns-in_default-clause-stuck c _ = stuck_token AMethod _ c.in_ok-word.ensures.sees (no_method _ c.in_default.not-Word)
+
+pub returns-in-Some-clause-sees : goal.returns-in-Some-clause-sees
+returns-in-Some-clause-sees c = method_seen c.in-Word.word.bytes.now _ (ap token_of c.in-Word.is) (sym c.method_name.ensures ∙ c.in-Some.is) c.in_ok-word.ensures.sees
+
+pub returns-in-None-clause-stuck : goal.returns-in-None-clause-stuck
+returns-in-None-clause-stuck c _ = stuck_token AMethod _ c.in_ok-word.ensures.sees (no_method_named _ c.in-Word.word.bytes.now (ap token_of c.in-Word.is) (sym c.method_name.ensures ∙ c.in-None.is))

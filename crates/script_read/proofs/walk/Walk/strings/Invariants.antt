@@ -1,0 +1,11 @@
+use Rattle.std.proofs.Common.{length, map}
+use Rattle.script_read.specs.Left.{left_of}
+use Rattle.script_read.specs.Views.{quoted_of}
+use Rattle.script_read.specs.Walk.{TookStrings}
+use Rattle.script_read.proofs.walk.Walk.strings.Given as goal
+
+abbrev pub invariant-loop-self : goal.invariant-loop-self
+invariant-loop-self l = TookStrings (quoted_of l.first) (map quoted_of l.rest.items) (left_of l.fn.self) (left_of l.self)
+
+abbrev pub decreases-loop-self : goal.decreases-loop-self
+decreases-loop-self l = length (left_of l.self)

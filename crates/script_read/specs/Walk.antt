@@ -1,0 +1,246 @@
+-- A walk over the tokens of a line, which takes each token that can stand where it does.
+use Rattle.std.specs.Prelude.{◌≡◌, ℕ, ℤ, Bool, true, false, List, [], ◌∷◌, ◌++◌, Option, Some, None, option_map, drop, codes, if◌then◌else◌}
+use Rattle.rdf_values.specs.Names.{same}
+use Rattle.rdf_values.specs.LineTokens.{LineToken, QuotedText, PlacedToken, bare_tokens}
+use Rattle.rdf_values.specs.LineTokens as t
+use Rattle.rdf_values.specs.LineForms.{Method, Form, method_word, arguments, form_tokens, more_strings, strings_tokens, more_edges, edges_tokens, has_free_names, is_free}
+use Rattle.rdf_values.specs.LineForms as form
+use Rattle.script_read.specs.declared.method.MethodName.{MethodName}
+use Rattle.script_read.specs.declared.method.MethodName.TheVariants as name
+use Rattle.script_read.specs.declared.method.ActionName.TheVariants as action
+use Rattle.script_read.specs.declared.walk.Mark.{Mark}
+use Rattle.script_read.specs.declared.walk.Mark.TheVariants as mark
+
+-- ---- marks
+
+-- the token that a mark is
+abbrev pub mark_token : Mark → LineToken
+mark_token mark.Equals = t.Equals
+mark_token mark.Dot = t.Dot
+mark_token mark.Open = t.Open
+mark_token mark.Close = t.Close
+mark_token mark.OpenBracket = t.OpenBracket
+mark_token mark.CloseBracket = t.CloseBracket
+mark_token mark.Comma = t.Comma
+
+-- the mark that the token is
+abbrev pub mark_of : LineToken → Option Mark
+mark_of t.Equals = Some mark.Equals
+mark_of t.Dot = Some mark.Dot
+mark_of t.Open = Some mark.Open
+mark_of t.Close = Some mark.Close
+mark_of t.OpenBracket = Some mark.OpenBracket
+mark_of t.CloseBracket = Some mark.CloseBracket
+mark_of t.Comma = Some mark.Comma
+mark_of (t.Word x) = None
+mark_of (t.Number z) = None
+mark_of (t.Quoted q) = None
+
+-- whether the token is the mark
+abbrev pub is_mark : Mark → LineToken → Bool
+is_mark mark.Equals t.Equals = true
+is_mark mark.Dot t.Dot = true
+is_mark mark.Open t.Open = true
+is_mark mark.Close t.Close = true
+is_mark mark.OpenBracket t.OpenBracket = true
+is_mark mark.CloseBracket t.CloseBracket = true
+is_mark mark.Comma t.Comma = true
+is_mark m t = false
+
+-- ---- methods by their names
+
+-- the word of a name
+abbrev pub name_word : MethodName → List ℕ
+name_word name.Define = codes "Define"
+name_word name.Redefine = codes "Redefine"
+name_word name.Alias = codes "Alias"
+name_word name.Filter = codes "Filter"
+name_word name.Vary = codes "Vary"
+name_word (name.Action action.Count) = codes "Count"
+name_word name.Report = codes "Report"
+name_word (name.Action action.Sum) = codes "Sum"
+name_word (name.Action action.Min) = codes "Min"
+name_word (name.Action action.Max) = codes "Max"
+name_word (name.Action action.Take) = codes "Take"
+name_word (name.Action action.Reduce) = codes "Reduce"
+name_word (name.Action action.Histo1D) = codes "Histo1D"
+name_word (name.Action action.Histo2D) = codes "Histo2D"
+
+-- all names of methods
+abbrev pub all_names : List MethodName
+all_names = name.Define ∷ name.Redefine ∷ name.Alias ∷ name.Filter ∷ name.Vary ∷ (name.Action action.Count) ∷ name.Report ∷ (name.Action action.Sum) ∷ (name.Action action.Min) ∷ (name.Action action.Max) ∷ (name.Action action.Take) ∷ (name.Action action.Reduce) ∷ (name.Action action.Histo1D) ∷ (name.Action action.Histo2D) ∷ []
+
+-- the first of the names that is this word
+abbrev pub named : List ℕ → List MethodName → Option MethodName
+named word [] = None
+named word (n ∷ ns) = if same word (name_word n) then Some n else named word ns
+
+-- the method that the word names
+unfoldable pub name_of : List ℕ → Option MethodName
+name_of word = named word all_names
+
+-- ---- what is wanted next
+
+-- what can stand next: a line, a part of one, or the further items and the end of a list; `MaybeString` and `VaryArguments` have their closing parenthesis with them
+pub data Want : Type 0 where
+  ALine AWord AMethod AString ANumber MoreStrings MoreEdges MaybeString VaryArguments : Want
+  AMark : (mark : Mark) → Want
+
+-- a name, and what is called on it
+abbrev pub booking_wants : List Want
+booking_wants = AMark mark.Equals ∷ AWord ∷ AMark mark.Dot ∷ AMethod ∷ []
+
+-- the name of a result
+abbrev pub asking_wants : List Want
+asking_wants = AMark mark.Open ∷ AWord ∷ AMark mark.Close ∷ []
+
+-- what follows the first word of a line
+abbrev pub line_wants : List ℕ → List Want
+line_wants word = if is_free word then booking_wants else asking_wants
+
+-- a list of strings
+abbrev pub strings_wants : List Want
+strings_wants = AMark mark.OpenBracket ∷ AString ∷ MoreStrings ∷ []
+
+-- a list of integers
+abbrev pub edges_wants : List Want
+edges_wants = AMark mark.OpenBracket ∷ ANumber ∷ MoreEdges ∷ []
+
+-- a string that ends a call
+abbrev pub one_string_wants : List Want
+one_string_wants = AString ∷ AMark mark.Close ∷ []
+
+-- two strings that end a call
+abbrev pub two_string_wants : List Want
+two_string_wants = AString ∷ AMark mark.Comma ∷ one_string_wants
+
+-- the values and the tags of a variation, behind its columns
+abbrev pub variation_wants : List Want
+variation_wants = AMark mark.Comma ∷ AString ∷ AMark mark.Comma ∷ strings_wants
+
+-- what stands in a method's parentheses, with the closing one
+abbrev pub arguments_wants : MethodName → List Want
+arguments_wants name.Define = two_string_wants
+arguments_wants name.Redefine = two_string_wants
+arguments_wants name.Alias = two_string_wants
+arguments_wants name.Filter = AString ∷ MaybeString ∷ []
+arguments_wants name.Vary = VaryArguments ∷ []
+arguments_wants (name.Action action.Count) = AMark mark.Close ∷ []
+arguments_wants name.Report = AMark mark.Close ∷ []
+arguments_wants (name.Action action.Sum) = one_string_wants
+arguments_wants (name.Action action.Min) = one_string_wants
+arguments_wants (name.Action action.Max) = one_string_wants
+arguments_wants (name.Action action.Take) = one_string_wants
+arguments_wants (name.Action action.Reduce) = two_string_wants
+arguments_wants (name.Action action.Histo1D) = edges_wants ++ AMark mark.Comma ∷ AString ∷ MaybeString ∷ []
+arguments_wants (name.Action action.Histo2D) = edges_wants ++ AMark mark.Comma ∷ (edges_wants ++ AMark mark.Comma ∷ AString ∷ AMark mark.Comma ∷ AString ∷ MaybeString ∷ [])
+
+-- what follows the name of a method
+abbrev pub method_wants : MethodName → List Want
+method_wants n = AMark mark.Open ∷ arguments_wants n
+
+-- what asks for the result by that word, which is not free
+abbrev pub asked_form : List ℕ → List ℕ → Form
+asked_form word r = if same word (codes "Print") then form.Print r else (if same word (codes "VariationsFor") then form.VariationsFor r else form.Watch r)
+
+-- ---- the walk
+
+-- what is wanted behind the token, where it can stand
+abbrev pub next : Want → LineToken → Option (List Want)
+next ALine (t.Word x) = Some (line_wants x)
+next AWord (t.Word x) = if is_free x then Some [] else None
+next AMethod (t.Word x) = option_map method_wants (name_of x)
+next AString (t.Quoted q) = Some []
+next ANumber (t.Number z) = Some []
+next MoreStrings t.Comma = Some (AString ∷ MoreStrings ∷ [])
+next MoreStrings t.CloseBracket = Some []
+next MoreEdges t.Comma = Some (ANumber ∷ MoreEdges ∷ [])
+next MoreEdges t.CloseBracket = Some []
+next MaybeString t.Comma = Some one_string_wants
+next MaybeString t.Close = Some []
+next VaryArguments (t.Quoted q) = Some (variation_wants ++ MaybeString ∷ [])
+next VaryArguments t.OpenBracket = Some (AString ∷ MoreStrings ∷ (variation_wants ++ AMark mark.Comma ∷ one_string_wants))
+next (AMark m) t = if is_mark m t then Some [] else None
+next w t = None
+
+-- how a walk ends: all is taken, or it is stuck before these
+pub data WalkEnd (A : Type 0) : Type 0 where
+  Done : WalkEnd A
+  StuckAt : (left : List A) → WalkEnd A
+
+-- a walk goes on with what is wanted then, or is stuck
+abbrev pub walk_on : {A : Type 0} → List A → Option (List Want) → (List Want → WalkEnd A) → WalkEnd A
+walk_on left None others = StuckAt left
+walk_on left (Some wants) others = others wants
+
+-- the walk over what has tokens, where these are wanted
+abbrev pub walk : {A : Type 0} → (A → LineToken) → List A → List Want → WalkEnd A
+walk token [] [] = Done
+walk token [] (w ∷ ws) = StuckAt []
+walk token (x ∷ xs) [] = StuckAt (x ∷ xs)
+walk token (x ∷ xs) (w ∷ ws) = walk_on (x ∷ xs) (next w (token x)) (λ vs. walk token xs (vs ++ ws))
+
+-- the walk over tokens with their places
+unfoldable pub walk_placed : List PlacedToken → List Want → WalkEnd PlacedToken
+walk_placed ts ws = walk (λ (p : PlacedToken). p.token) ts ws
+
+-- ---- what the parser does
+
+-- the token comes first, and then the new tokens
+pub record Begins (t : LineToken) (old new : List PlacedToken) : Type 0 where
+  pub place : ℕ
+  pub is : old ≡ record { token = t; place = place } ∷ new
+
+-- the name of the method comes first
+abbrev pub SeesMethod : MethodName → List PlacedToken → Type 0
+SeesMethod n old = Begins (t.Word (name_word n)) old (drop 1 old)
+
+-- another token comes first, or none
+abbrev pub BeginsNot : LineToken → List PlacedToken → Type 0
+BeginsNot t old = (new : List PlacedToken) → Begins t old new → ⊥
+
+-- whether the mark was passed over
+abbrev pub Ate : Mark → Bool → List PlacedToken → List PlacedToken → Type 0
+Ate m true old new = Begins (mark_token m) old new
+Ate m false old new = (new ≡ old) × BeginsNot (mark_token m) old
+
+-- these tokens were taken, and the walk that wants this comes as far
+pub record Took (ws : List Want) (ts : List LineToken) (old new : List PlacedToken) : Type 0 where
+  pub split : bare_tokens old ≡ ts ++ bare_tokens new
+  pub walks : (k : List Want) → walk_placed old (ws ++ k) ≡ walk_placed new k
+
+-- the walk that wants this is stuck there
+abbrev pub IsStuck : List Want → List PlacedToken → List PlacedToken → Type 0
+IsStuck ws old new = (k : List Want) → walk_placed old (ws ++ k) ≡ StuckAt new
+
+-- where a line is refused that has these left, or ends there
+abbrev pub place_from : List PlacedToken → ℕ → ℕ
+place_from [] end = end
+place_from (p ∷ ps) end = p.place
+
+-- strings of a list were taken, up to a comma or its end
+pub record TookStrings (first : QuotedText) (rest : List QuotedText) (old new : List PlacedToken) : Type 0 where
+  pub split : (us : List QuotedText) (ts : List LineToken) → bare_tokens new ≡ more_strings us ++ ts → bare_tokens old ≡ strings_tokens (record { first = first; rest = rest ++ us }) ++ ts
+  pub walks : (k : List Want) → walk_placed old (strings_wants ++ k) ≡ walk_placed new (MoreStrings ∷ k)
+
+-- integers of a list were taken, up to a comma or its end
+pub record TookEdges (first : ℤ) (rest : List ℤ) (old new : List PlacedToken) : Type 0 where
+  pub split : (us : List ℤ) (ts : List LineToken) → bare_tokens new ≡ more_edges us ++ ts → bare_tokens old ≡ edges_tokens (record { first = first; rest = rest ++ us }) ++ ts
+  pub walks : (k : List Want) → walk_placed old (edges_wants ++ k) ≡ walk_placed new (MoreEdges ∷ k)
+
+-- the arguments of a method of that name were taken, and its closing parenthesis
+pub record TookArguments (n : MethodName) (m : Method) (old new : List PlacedToken) : Type 0 where
+  pub word : method_word m ≡ name_word n
+  pub took : Took (arguments_wants n) (arguments m ++ t.Close ∷ []) old new
+
+-- what books the name was taken, behind the name
+pub record TookBooking (word : List ℕ) (f : Form) (old new : List PlacedToken) : Type 0 where
+  pub free : has_free_names f ≡ true
+  pub rest : List LineToken
+  pub whole : form_tokens f ≡ t.Word word ∷ rest
+  pub took : Took booking_wants rest old new
+
+-- a form was taken
+pub record TookForm (f : Form) (old new : List PlacedToken) : Type 0 where
+  pub free : has_free_names f ≡ true
+  pub took : Took (ALine ∷ []) (form_tokens f) old new

@@ -1,0 +1,258 @@
+// The methods that are called on a node: their names, and their arguments.
+ghost use Rattle.std.specs.Prelude.{◌≡◌, [], ◌∷◌, ◌++◌, Err, IfOk};
+ghost use Rattle.rdf_values.specs.LineForms.{method_word, arguments, call, strings_tokens};
+ghost use Rattle.rdf_values.specs.LineTokens.{Quoted as AsQuoted, Comma as AsComma};
+ghost use Rattle.script_read.specs.Views.{quoted_of, strings_of, method_of};
+ghost use Rattle.script_read.specs.Walk.{name_word, name_of, Took, IsStuck, TookArguments, SeesMethod, AMethod, variation_wants, arguments_wants};
+
+use crate::fail::Fail;
+use crate::form::{Method, OneOrMore};
+use crate::token::{Quoted, Token};
+use crate::walk::{Mark, Walk};
+
+/// What an action is called.
+#[derive(Clone, Copy, Debug, PartialEq, Eq)]
+pub(crate) enum ActionName {
+    Count,
+    Sum,
+    Min,
+    Max,
+    Take,
+    Reduce,
+    Histo1D,
+    Histo2D,
+}
+
+/// What a method is called.
+#[derive(Clone, Copy, Debug, PartialEq, Eq)]
+pub(crate) enum MethodName {
+    Define,
+    Redefine,
+    Alias,
+    Filter,
+    Vary,
+    Report,
+    Action(ActionName),
+}
+
+const NAMES: [MethodName; 14] = [
+    MethodName::Define,
+    MethodName::Redefine,
+    MethodName::Alias,
+    MethodName::Filter,
+    MethodName::Vary,
+    MethodName::Action(ActionName::Count),
+    MethodName::Report,
+    MethodName::Action(ActionName::Sum),
+    MethodName::Action(ActionName::Min),
+    MethodName::Action(ActionName::Max),
+    MethodName::Action(ActionName::Take),
+    MethodName::Action(ActionName::Reduce),
+    MethodName::Action(ActionName::Histo1D),
+    MethodName::Action(ActionName::Histo2D),
+];
+
+impl MethodName {
+    fn word(self) -> &'static [u8]
+        ensures { result.now ≡ name_word self }
+    {
+        match self {
+            MethodName::Define => b"Define".as_slice(),
+            MethodName::Redefine => b"Redefine".as_slice(),
+            MethodName::Alias => b"Alias".as_slice(),
+            MethodName::Filter => b"Filter".as_slice(),
+            MethodName::Vary => b"Vary".as_slice(),
+            MethodName::Action(ActionName::Count) => b"Count".as_slice(),
+            MethodName::Report => b"Report".as_slice(),
+            MethodName::Action(ActionName::Sum) => b"Sum".as_slice(),
+            MethodName::Action(ActionName::Min) => b"Min".as_slice(),
+            MethodName::Action(ActionName::Max) => b"Max".as_slice(),
+            MethodName::Action(ActionName::Take) => b"Take".as_slice(),
+            MethodName::Action(ActionName::Reduce) => b"Reduce".as_slice(),
+            MethodName::Action(ActionName::Histo1D) => b"Histo1D".as_slice(),
+            MethodName::Action(ActionName::Histo2D) => b"Histo2D".as_slice(),
+        }
+    }
+}
+
+// The method that the word names.
+fn method_name(word: &[u8]) -> Option<MethodName>
+    ensures { result ≡ name_of word.now }
+{
+    for name in NAMES {
+        if word == name.word() {
+            return Some(name);
+        }
+    }
+    None
+}
+
+impl<'t, 'a> Walk<'t, 'a> {
+    ghost use Rattle.script_read.specs.Left.{left_of};
+
+    // The name of the method that comes next.
+    fn peek_method(&self) -> Result<MethodName, Fail>
+        ensures sees { IfOk result (λ n. SeesMethod n (left_of self.now)) }
+        ensures stuck { result ≡ Err Fail.Unexpected → IsStuck (AMethod ∷ []) (left_of self.now) (left_of self.now) }
+    {
+        let Token::Word(word) = self.peek()? else {
+            return Err(Fail::Unexpected);
+        };
+        match method_name(word.bytes) {
+            Some(name) => Ok(name),
+            None => Err(Fail::Unexpected),
+        }
+    }
+
+    // The values and the tags of a variation, behind its columns.
+    fn variation(&mut self) -> Result<(Quoted<'a>, OneOrMore<Quoted<'a>>), Fail>
+        ensures took { IfOk result (λ p. Took variation_wants (AsComma ∷ AsQuoted (quoted_of p.0) ∷ AsComma ∷ strings_tokens (strings_of p.1)) (left_of self.old) (left_of self.new)) }
+        ensures stuck { result ≡ Err Fail.Unexpected → IsStuck variation_wants (left_of self.old) (left_of self.new) }
+    {
+        self.expect(Mark::Comma)?;
+        let values = self.string()?;
+        self.expect(Mark::Comma)?;
+        let tags = self.strings()?;
+        Ok((values, tags))
+    }
+
+    fn vary(&mut self) -> Result<Method<'a>, Fail>
+        ensures took { IfOk result (λ m. TookArguments MethodName.Vary (method_of m) (left_of self.old) (left_of self.new)) }
+        ensures stuck { result ≡ Err Fail.Unexpected → IsStuck (arguments_wants MethodName.Vary) (left_of self.old) (left_of self.new) }
+    {
+        match self.peek()? {
+            Token::Quoted(column) => {
+                self.advance();
+                let (values, tags) = self.variation()?;
+                let name = self.maybe_string()?;
+                Ok(Method::VaryOne {
+                    column,
+                    values,
+                    tags,
+                    name,
+                })
+            }
+            _ => {
+                let columns = self.strings()?;
+                let (values, tags) = self.variation()?;
+                self.expect(Mark::Comma)?;
+                let name = self.last_string()?;
+                Ok(Method::VaryAll {
+                    columns,
+                    values,
+                    tags,
+                    name,
+                })
+            }
+        }
+    }
+
+    fn histo1d(&mut self) -> Result<Method<'a>, Fail>
+        ensures took { IfOk result (λ m. TookArguments (MethodName.Action ActionName.Histo1D) (method_of m) (left_of self.old) (left_of self.new)) }
+        ensures stuck { result ≡ Err Fail.Unexpected → IsStuck (arguments_wants (MethodName.Action ActionName.Histo1D)) (left_of self.old) (left_of self.new) }
+    {
+        let x_edges = self.edges()?;
+        self.expect(Mark::Comma)?;
+        let x = self.string()?;
+        let weight = self.maybe_string()?;
+        Ok(Method::Histo1D { x_edges, x, weight })
+    }
+
+    fn histo2d(&mut self) -> Result<Method<'a>, Fail>
+        ensures took { IfOk result (λ m. TookArguments (MethodName.Action ActionName.Histo2D) (method_of m) (left_of self.old) (left_of self.new)) }
+        ensures stuck { result ≡ Err Fail.Unexpected → IsStuck (arguments_wants (MethodName.Action ActionName.Histo2D)) (left_of self.old) (left_of self.new) }
+    {
+        let x_edges = self.edges()?;
+        self.expect(Mark::Comma)?;
+        let y_edges = self.edges()?;
+        self.expect(Mark::Comma)?;
+        let x = self.string()?;
+        self.expect(Mark::Comma)?;
+        let y = self.string()?;
+        let weight = self.maybe_string()?;
+        Ok(Method::Histo2D {
+            x_edges,
+            y_edges,
+            x,
+            y,
+            weight,
+        })
+    }
+
+    fn action(&mut self, name: ActionName) -> Result<Method<'a>, Fail>
+        ensures took { IfOk result (λ m. TookArguments (MethodName.Action name) (method_of m) (left_of self.old) (left_of self.new)) }
+        ensures stuck { result ≡ Err Fail.Unexpected → IsStuck (arguments_wants (MethodName.Action name)) (left_of self.old) (left_of self.new) }
+    {
+        match name {
+            ActionName::Count => {
+                self.expect(Mark::Close)?;
+                Ok(Method::Count)
+            }
+            ActionName::Sum => {
+                let column = self.last_string()?;
+                Ok(Method::Sum { column })
+            }
+            ActionName::Min => {
+                let column = self.last_string()?;
+                Ok(Method::Min { column })
+            }
+            ActionName::Max => {
+                let column = self.last_string()?;
+                Ok(Method::Max { column })
+            }
+            ActionName::Take => {
+                let column = self.last_string()?;
+                Ok(Method::Take { column })
+            }
+            ActionName::Reduce => {
+                let (operation, column) = self.two_strings()?;
+                Ok(Method::Reduce { operation, column })
+            }
+            ActionName::Histo1D => self.histo1d(),
+            ActionName::Histo2D => self.histo2d(),
+        }
+    }
+
+    // What stands in the parentheses of a method, and the `)`.
+    fn arguments(&mut self, name: MethodName) -> Result<Method<'a>, Fail>
+        ensures took { IfOk result (λ m. TookArguments name (method_of m) (left_of self.old) (left_of self.new)) }
+        ensures stuck { result ≡ Err Fail.Unexpected → IsStuck (arguments_wants name) (left_of self.old) (left_of self.new) }
+    {
+        match name {
+            MethodName::Define => {
+                let (column, expr) = self.two_strings()?;
+                Ok(Method::Define { column, expr })
+            }
+            MethodName::Redefine => {
+                let (column, expr) = self.two_strings()?;
+                Ok(Method::Redefine { column, expr })
+            }
+            MethodName::Alias => {
+                let (column, target) = self.two_strings()?;
+                Ok(Method::Alias { column, target })
+            }
+            MethodName::Filter => {
+                let expr = self.string()?;
+                let label = self.maybe_string()?;
+                Ok(Method::Filter { expr, label })
+            }
+            MethodName::Vary => self.vary(),
+            MethodName::Report => {
+                self.expect(Mark::Close)?;
+                Ok(Method::Report)
+            }
+            MethodName::Action(action) => self.action(action),
+        }
+    }
+
+    /// A method, from its name to its `)`.
+    pub(crate) fn method(&mut self) -> Result<Method<'a>, Fail>
+        ensures took { IfOk result (λ m. Took (AMethod ∷ []) (call (method_word (method_of m)) (arguments (method_of m))) (left_of self.old) (left_of self.new)) }
+        ensures stuck { result ≡ Err Fail.Unexpected → IsStuck (AMethod ∷ []) (left_of self.old) (left_of self.new) }
+    {
+        let name = self.peek_method()?;
+        self.advance();
+        self.expect(Mark::Open)?;
+        self.arguments(name)
+    }
+}
