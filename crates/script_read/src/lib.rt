@@ -12,9 +12,9 @@ mod read;
 mod refusal;
 mod statement;
 mod stop;
+mod strings;
 #[cfg(test)]
 mod tests;
-mod strings;
 mod token;
 mod tokenizer;
 mod walk;
