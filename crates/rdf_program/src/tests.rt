@@ -6,7 +6,7 @@ use std::alloc::Global;
 use std::test::Fail;
 
 #[derive(Clone, Copy)]
-struct Run {
+struct Case {
     script: &'static str,
     table: Option<&'static str>,
     output: &'static str,
@@ -30,8 +30,8 @@ const NOT_BUILT: &str = "script refused: not built\n";
 
 const BAD_INT: &str = "table refused at entry 0 field 0: B3 BadInt\n";
 
-fn done(script: &'static str, table: &'static str, output: &'static str) -> Run {
-    Run {
+fn done(script: &'static str, table: &'static str, output: &'static str) -> Case {
+    Case {
         script,
         table: Some(table),
         output,
@@ -40,8 +40,8 @@ fn done(script: &'static str, table: &'static str, output: &'static str) -> Run 
 }
 
 // Refused for its text alone; there is no table.
-fn refused_script(script: &'static str, output: &'static str) -> Run {
-    Run {
+fn refused_script(script: &'static str, output: &'static str) -> Case {
+    Case {
         script,
         table: None,
         output,
@@ -50,8 +50,8 @@ fn refused_script(script: &'static str, output: &'static str) -> Run {
 }
 
 // Read, but of more than the program has.
-fn not_built(script: &'static str) -> Run {
-    Run {
+fn not_built(script: &'static str) -> Case {
+    Case {
         script,
         table: Some(WITH_VECTORS),
         output: NOT_BUILT,
@@ -59,8 +59,8 @@ fn not_built(script: &'static str) -> Run {
     }
 }
 
-fn refused_table(script: &'static str, table: &'static str, output: &'static str) -> Run {
-    Run {
+fn refused_table(script: &'static str, table: &'static str, output: &'static str) -> Case {
+    Case {
         script,
         table: Some(table),
         output,
@@ -99,14 +99,17 @@ fn repeated(alloc: Global, text: &str, count: usize) -> Result<Text, Fail> {
     Ok(whole)
 }
 
-fn check_runs(rt: &HostRuntime, runs: &[Run]) -> Result<(), Fail> {
+// The first script whose run isn't as it should be.
+fn first_wrong(alloc: Global, runs: &[Case]) -> Result<Option<&'static str>, Fail> {
     for case in runs {
+        let script = Some(case.script.as_bytes());
         let table = case.table.map(|table| table.as_bytes());
-        let (status, sink) = run(rt.alloc(), TWO_FILES, Some(case.script.as_bytes()), table)?;
-        assert!(rt; status == case.status, "{}", case.script);
-        assert!(rt; sink.bytes() == case.output.as_bytes(), "{}", case.script);
+        let (status, sink) = run(alloc, TWO_FILES, script, table)?;
+        if status != case.status || sink.bytes() != case.output.as_bytes() {
+            return Ok(Some(case.script));
+        }
     }
-    Ok(())
+    Ok(None)
 }
 
 #[test]
@@ -125,7 +128,8 @@ fn results_are_those_of_the_entries(rt: HostRuntime) -> Result<(), Fail> {
         done(COUNT, WITH_VECTORS, "n = 4\n"),
         done("", WITH_VECTORS, ""),
     ];
-    check_runs(&rt, &runs)
+    assert_eq!(rt; first_wrong(rt.alloc(), &runs)?, None);
+    Ok(())
 }
 
 #[test]
@@ -140,7 +144,8 @@ fn comments_blanks_and_both_ends_of_lines_are_taken(rt: HostRuntime) -> Result<(
         ),
         done("# nothing", TWO_COLUMNS, ""),
     ];
-    check_runs(&rt, &runs)
+    assert_eq!(rt; first_wrong(rt.alloc(), &runs)?, None);
+    Ok(())
 }
 
 // A refusal of the text comes before a table that isn't there.
@@ -172,7 +177,8 @@ fn a_text_is_refused_at_its_line_and_place(rt: HostRuntime) -> Result<(), Fail> 
             "script refused at line 3 place 1: S1 Syntax\n",
         ),
     ];
-    check_runs(&rt, &runs)
+    assert_eq!(rt; first_wrong(rt.alloc(), &runs)?, None);
+    Ok(())
 }
 
 #[test]
@@ -180,7 +186,10 @@ fn a_257th_statement_is_refused(rt: HostRuntime) -> Result<(), Fail> {
     let script = repeated(rt.alloc(), "Print(n)\n", 257)?;
     let (status, sink) = run(rt.alloc(), TWO_FILES, Some(script.as_bytes()), None)?;
     assert!(rt; status == Status::ScriptRefused);
-    assert_eq!(rt; sink.bytes(), b"script refused at line 257: S13 TooMany\n");
+    assert_eq!(rt;
+        sink.bytes(),
+        b"script refused at line 257: S13 TooMany\n".as_slice()
+    );
     Ok(())
 }
 
@@ -194,7 +203,7 @@ fn an_expression_of_257_tokens_is_refused(rt: HostRuntime) -> Result<(), Fail> {
     assert!(rt; status == Status::ScriptRefused);
     assert_eq!(rt;
         sink.bytes(),
-        b"script refused at line 1 place 271: E4 TooLong\n"
+        b"script refused at line 1 place 271: E4 TooLong\n".as_slice()
     );
     Ok(())
 }
@@ -204,11 +213,14 @@ fn a_script_has_at_most_65536_bytes(rt: HostRuntime) -> Result<(), Fail> {
     let comment = repeated(rt.alloc(), "#", 65_536)?;
     let (status, sink) = run(rt.alloc(), TWO_FILES, Some(comment.as_bytes()), None)?;
     assert!(rt; status == Status::NoFile);
-    assert_eq!(rt; sink.bytes(), b"no file a.csv\n");
+    assert_eq!(rt; sink.bytes(), b"no file a.csv\n".as_slice());
     let longer = repeated(rt.alloc(), "#", 65_537)?;
     let (status, sink) = run(rt.alloc(), TWO_FILES, Some(longer.as_bytes()), None)?;
     assert!(rt; status == Status::ScriptRefused);
-    assert_eq!(rt; sink.bytes(), b"script refused: longer than 65536 bytes\n");
+    assert_eq!(rt;
+        sink.bytes(),
+        b"script refused: longer than 65536 bytes\n".as_slice()
+    );
     Ok(())
 }
 
@@ -225,7 +237,8 @@ fn what_is_not_built_is_refused_after_the_table(rt: HostRuntime) -> Result<(), F
         not_built("df = df.Count()\n"),
         refused_table("m = df.Min(\"w\")\n", BAD_TABLE, BAD_INT),
     ];
-    check_runs(&rt, &runs)
+    assert_eq!(rt; first_wrong(rt.alloc(), &runs)?, None);
+    Ok(())
 }
 
 #[test]
@@ -253,7 +266,8 @@ fn a_table_is_refused_at_its_first_fault(rt: HostRuntime) -> Result<(), Fail> {
             "table refused at entry 0 field 2: B4 BadVec\n",
         ),
     ];
-    check_runs(&rt, &runs)
+    assert_eq!(rt; first_wrong(rt.alloc(), &runs)?, None);
+    Ok(())
 }
 
 #[test]
@@ -271,9 +285,9 @@ fn there_are_two_words(rt: HostRuntime) -> Result<(), Fail> {
 fn a_file_that_is_not_there_is_named(rt: HostRuntime) -> Result<(), Fail> {
     let (status, sink) = run(rt.alloc(), TWO_FILES, Some(COUNT.as_bytes()), None)?;
     assert!(rt; status == Status::NoFile);
-    assert_eq!(rt; sink.bytes(), b"no file a.csv\n");
+    assert_eq!(rt; sink.bytes(), b"no file a.csv\n".as_slice());
     let (status, sink) = run(rt.alloc(), TWO_FILES, None, Some(TWO_COLUMNS.as_bytes()))?;
     assert!(rt; status == Status::NoFile);
-    assert_eq!(rt; sink.bytes(), b"no file s.txt\n");
+    assert_eq!(rt; sink.bytes(), b"no file s.txt\n".as_slice());
     Ok(())
 }
