@@ -5,7 +5,7 @@ use Rattle.rdf_program.specs.declared.answer.Answer.{Answer}
 use Rattle.rdf_program.specs.declared.status.Status.{Status}
 use Rattle.rdf_program.specs.declared.status.Status.TheVariants.{Done, Memory, Words, ReadFault, WriteFault, NoFile, ScriptRefused, TableRefused, LoopFault}
 use Rattle.rdf_program.specs.Due.{Due, due_of, IsDue, IsDueToBytes, IsDueToFiles, max_script, read_failed_line, usage_line}
-use Rattle.rdf_program.specs.Answers.{AreTaken, HoldsScript, IsAnswer, IsFinal, IsOfFiles, IsScript, MayRead, MayReadOf}
+use Rattle.rdf_program.specs.Answers.{AreTaken, HoldsScript, IsAnswer, IsFinal, IsOfFiles, MayRead, MayReadOf, SpellsScript}
 use Rattle.rdf_program.specs.Fetching.{Tells}
 use Rattle.rdf_program.specs.Top.{WritesPart}
 
@@ -15,7 +15,7 @@ two_words (s ∷ []) script table n a b = absurd (omega arith)
 two_words (s ∷ t ∷ []) script table n a b = rw (a s, b t) refl
 two_words (s ∷ t ∷ u ∷ us) script table n a b = absurd (omega arith)
 
-holds : (files : Option (List ℕ → Option (List ℕ))) (script bytes : List ℕ) → Tells files script (λ f. f ≡ Some bytes) → length bytes ≤ max_script → IsScript bytes → IfSome files (λ f. HoldsScript (f script))
+holds : (files : Option (List ℕ → Option (List ℕ))) (script bytes : List ℕ) → Tells files script (λ f. f ≡ Some bytes) → length bytes ≤ max_script → SpellsScript bytes → IfSome files (λ f. HoldsScript (f script))
 holds None script bytes t n is = tt
 holds (Some f) script bytes t n is = rw t (n, is)
 
@@ -26,7 +26,7 @@ due_from_bytes (Some f) script table bytes d t h = rw t h
 
 -- the answer with the script's bytes is that to both files
 from_bytes : (files : Option (List ℕ → Option (List ℕ))) (script table bytes : List ℕ) (f0 f1 f2 : ℕ) (a : Answer) → Tells files script (λ f. f ≡ Some bytes) → length bytes ≤ max_script → f0 ≤ f1
-    → IsAnswer (IsDueToBytes bytes table) (λ name. (name ≡ table) × IsScript bytes) files f1 f2 a → IsAnswer (IsDueToFiles script table) (MayReadOf script table files) files f0 f2 a
+    → IsAnswer (IsDueToBytes bytes table) (λ name. (name ≡ table) × SpellsScript bytes) files f1 f2 a → IsAnswer (IsDueToFiles script table) (MayReadOf script table files) files f0 f2 a
 from_bytes files script table bytes f0 f1 f2 a t n le is = record {
   of_files = is.of_files;
   rose = λ e. let r = is.rose e in omega arith;
@@ -45,7 +45,7 @@ fault_answer files script table f0 f1 a r e b = record {
 
 module _ {E : Type 0} (files : Option (List ℕ → Option (List ℕ))) (f0 : ℕ) where
   pub from_bytes_ok : (files' : Option (List ℕ → Option (List ℕ))) (f1 f2 : ℕ) (script table bytes s : List ℕ) (r : Result Answer E) → Tells files script (λ f. f ≡ Some bytes) × (length bytes ≤ max_script) → f0 ≤ f1 → files' ≡ files → s ≡ bytes
-      → IfOk r (IsAnswer (IsDueToBytes s table) (λ name. (name ≡ table) × IsScript s) files' f1 f2) → IfOk r (IsAnswer (IsDueToFiles script table) (MayReadOf script table files) files f0 f2)
+      → IfOk r (IsAnswer (IsDueToBytes s table) (λ name. (name ≡ table) × SpellsScript s) files' f1 f2) → IfOk r (IsAnswer (IsDueToFiles script table) (MayReadOf script table files) files f0 f2)
   from_bytes_ok files' f1 f2 script table bytes s (Err e) t le same e' h = tt
   from_bytes_ok files' f1 f2 script table bytes s (Ok a) t le same e' h = from_bytes files script table bytes f0 f1 f2 a t.0 t.1 le (rw (same, e') at h)
 

@@ -32,17 +32,17 @@ push_tally columns [] (u ∷ ts) b t h is = absurd h
 push_tally columns (a ∷ bs) [] b t h is = absurd h
 push_tally columns (a ∷ bs) (u ∷ ts) b t h is = (h.0, push_tally columns bs ts b t h.1 is)
 
--- a name is free among the tallies
-abbrev pub is_free : List ℕ → List Tally → Bool
-is_free name ts = not (same name (codes "df")) && not (list_any (is_tally_of name) ts) && nat_lt (length ts) 64
+-- an action of the dataset has a free name among the tallies
+abbrev pub can_book : List ℕ → List ℕ → List Tally → Bool
+can_book name parent ts = same parent (codes "df") && not (same name (codes "df")) && not (list_any (is_tally_of name) ts) && nat_lt (length ts) 64
 
-pub not_free : (columns : List Column) (name : List ℕ) (action : ActionKind) (ts after : List Tally) → false ≡ is_free name ts
-    → (bs : List Booking) → AreTallies columns bs ts → BooksAction columns bs name action false after
-not_free columns name action ts after e bs h = (rw (same_names columns name bs ts h, same_count columns bs ts h, ← e) refl, λ f. absurd (cc f))
+pub cannot_book : (columns : List Column) (name parent : List ℕ) (action : ActionKind) (ts after : List Tally) → false ≡ can_book name parent ts
+    → (bs : List Booking) → AreTallies columns bs ts → BooksAction columns bs name parent action false after
+cannot_book columns name parent action ts after e bs h = (rw (same_names columns name bs ts h, same_count columns bs ts h, ← e) refl, λ f. absurd (cc f))
 
-pub booked : (columns : List Column) (name : List ℕ) (action : ActionKind) (ts after : List Tally) (t : Tally) → true ≡ is_free name ts → Some t.quantity ≡ quantity columns action
-    → t.name ≡ name → t.sum ≡ pos 0 → after ≡ ts ++ t ∷ [] → (bs : List Booking) → AreTallies columns bs ts → BooksAction columns bs name action true after
-booked columns name action ts after t e q named starts push bs h = (
+pub booked : (columns : List Column) (name parent : List ℕ) (action : ActionKind) (ts after : List Tally) (t : Tally) → true ≡ can_book name parent ts → Some t.quantity ≡ quantity columns action
+    → t.name ≡ name → t.sum ≡ pos 0 → after ≡ ts ++ t ∷ [] → (bs : List Booking) → AreTallies columns bs ts → BooksAction columns bs name parent action true after
+booked columns name parent action ts after t e q named starts push bs h = (
   rw (same_names columns name bs ts h, same_count columns bs ts h, ← e, ← q) refl,
   λ f. rw push (push_tally columns bs ts _ t h (record { named = named; asked = sym q; starts = starts })),
 )

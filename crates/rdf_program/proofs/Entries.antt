@@ -1,15 +1,13 @@
 -- Sums over the rows of a table.
-use Rattle.std.proofs.Common.{◌≡◌, ◌<◌, ◌≤◌, ◌+◌, ◌*◌, ℕ, ℤ, pos, zero, suc, ◌+ℤ◌, List, [], ◌∷◌, ◌++◌, length, map, drop, fold, Some, Option, get_or, refl, ap, ap₂, sym, ◌∙◌, arith, add-one}
+use Rattle.std.proofs.Common.{◌≡◌, ◌<◌, ◌≤◌, ◌+◌, ℕ, ℤ, pos, zero, suc, ◌+ℤ◌, List, [], ◌∷◌, length, map, drop, fold, Some, get_or, refl, ap, sym, ◌∙◌, arith, add-one}
 use Rattle.std.specs.Prelude.{slice_get}
 use Rattle.std.proofs.Math.ListN.{drop_of_length-le}
 use Rattle.std.proofs.lemmas.Simd.{map-map}
 use Rattle.rdf_values.specs.Fold.{integer_sum}
 use Rattle.rdf_values.specs.Tables.{IsIntColumn, TableView}
-use Rattle.rdf_values.specs.declared.value.Value.{Value}
 use Rattle.rdf_values.specs.declared.value.Value.TheVariants as v
-use Rattle.rdf_program.specs.Plan.{AsksInts, Starts, sum_over, tally_over}
+use Rattle.rdf_program.specs.Plan.{sum_over, tally_over}
 use Rattle.rdf_program.specs.Results.{number_at, number_in}
-use Rattle.rdf_program.specs.declared.quantity.Quantity.{Quantity}
 use Rattle.rdf_program.specs.declared.quantity.Quantity.TheVariants as q
 use Rattle.rdf_program.specs.declared.tally.Tally.{Tally}
 

@@ -1,39 +1,15 @@
 -- To the same words and files at most one answer is due.
-use Rattle.std.proofs.Common.{◌≡◌, ℕ, suc, Bool, true, false, List, [], ◌∷◌, ◌++◌, length, Option, None, Some, Result, Ok, Err, MatchResult, nat_lt, inl, inr, refl, ap, sym, subst, ◌∙◌, arith, length-append}
+use Rattle.std.proofs.Common.{◌≡◌, ℕ, Bool, true, false, List, [], ◌∷◌, length, Option, None, Some, Result, Ok, Err, MatchResult, nat_lt, inl, inr, ap, sym, subst, ◌∙◌}
 use Rattle.std.specs.Bool.{MatchBool}
 use Rattle.rdf_values.specs.TableText.{table_of}
 use Rattle.rdf_values.specs.Tables.{TableView}
 use Rattle.rdf_values.specs.declared.table_cause.TableCause.{TableCause}
-use Rattle.rdf_values.specs.declared.script.Line.{Line}
 use Rattle.rdf_values.specs.declared.script.Script.{Script}
-use Rattle.rdf_values.specs.declared.statement.Statement.{Statement}
-use Rattle.script_read.specs.PlainScript.{ArePlainLines, IsPlainScript, none, more}
-use Rattle.script_read.proofs.PlainLines.{line_in_line, one_line}
-use Rattle.script_read.proofs.PlainScripts.{begun}
+use Rattle.rdf_values.proofs.OneScript.{one_cause, one_script, script_or_refusal}
+use Rattle.expr_read.proofs.ReadOnce.{read_once}
 use Rattle.table_csv.specs.Csv.{csv_records}
-use Rattle.rdf_program.specs.Due.{Due, IsDue, IsDueOverTable, IsDueToBytes, IsDueToScript, ReadsScript, WithFile, answered, cause_line, due_of, long_script_line, long_table_line, max_script, max_table}
+use Rattle.rdf_program.specs.Due.{Due, IsDue, IsDueOverTable, IsDueToBytes, IsDueToScript, ReadsScript, WithFile, answered, due_of, long_script_line, long_table_line, max_script, max_table, script_cause_line, table_cause_line}
 use Rattle.rdf_program.specs.declared.status.Status.TheVariants.{ScriptRefused, TableRefused}
-
--- ---- a text is one script at most
-
-some_bytes : (bytes line rest : List ℕ) → bytes ≡ line ++ 10 ∷ rest → bytes ≡ [] → ⊥
-some_bytes bytes line rest e n = let whole = ap length (sym n ∙ e) ∙ length-append line (10 ∷ rest) in absurd (omega arith)
-
-no_lines : (number : ℕ) (lines : List Line) → ArePlainLines number [] lines → lines ≡ []
-no_lines number lines none = refl
-no_lines number lines (more {line = line} {rest = rest} p e h) = absurd (some_bytes [] line rest e refl)
-
-one_lines : (number : ℕ) (bytes : List ℕ) (xs ys : List Line) → ArePlainLines number bytes xs → ArePlainLines number bytes ys → xs ≡ ys
-one_lines number bytes xs ys none h = sym (no_lines number ys h)
-one_lines number bytes xs ys (more {line = line} {rest = rest} {s = s} {lines = lines} p e g) h =
-    let b = begun number bytes line rest ys e (line_in_line line s p) (some_bytes bytes line rest e) h in
-    let says : s ≡ b.statement = one_line line s b.statement p b.line_is in
-    let left : lines ≡ b.left = one_lines (suc number) rest lines b.left g b.left_are in
-    let make : Statement → List Line → List Line = λ t ls. record { number = number; statement = t } ∷ ls in
-    ap (λ t. make t lines) says ∙ ap (make b.statement) left ∙ sym b.lines_are
-
-one_script : (bytes : List ℕ) (s t : Script) → IsPlainScript bytes s → IsPlainScript bytes t → s ≡ t
-one_script bytes s t h g = let make : List Line → Script = λ ls. record { lines = ls } in ap make (one_lines 1 bytes s.lines t.lines h.lines g.lines)
 
 -- ---- each stage gives one answer where the next does
 
@@ -48,16 +24,16 @@ module _ (d e : Due) where
   one_of_two false line P Q one h g = one h g
 
   one_reading : (bytes : List ℕ) (Next : Script → Due → Type 0) → ((s : Script) → Next s d → Next s e → d ≡ e) → ReadsScript bytes Next d → ReadsScript bytes Next e → d ≡ e
-  one_reading bytes Next one (inl h) (inl g) = h.1 ∙ sym g.1
-  one_reading bytes Next one (inl h) (inr g) = absurd (h.0 g.0 g.1)
-  one_reading bytes Next one (inr h) (inl g) = absurd (g.0 h.0 h.1)
+  one_reading bytes Next one (inl h) (inl g) = h.2 ∙ ap (λ c. due_of ScriptRefused (script_cause_line c)) (one_cause read_once bytes h.0 g.0 h.1 g.1) ∙ sym g.2
+  one_reading bytes Next one (inl h) (inr g) = absurd (script_or_refusal read_once bytes g.0 h.0 g.1 h.1)
+  one_reading bytes Next one (inr h) (inl g) = absurd (script_or_refusal read_once bytes h.0 g.0 h.1 g.1)
   one_reading bytes Next one (inr h) (inr g) =
-      let same = one_script bytes h.0 g.0 h.1 g.1 in
+      let same = one_script read_once bytes h.0 g.0 h.1 g.1 in
       let P : Script → Type 0 = λ s. Next s d in
       one g.0 (subst P same h.2) g.2
 
   one_table : (r : Result TableView TableCause) (Next : TableView → Due → Type 0) → ((t : TableView) → Next t d → Next t e → d ≡ e)
-      → MatchResult r (λ t. Next t d) (λ cause. d ≡ due_of TableRefused (cause_line cause)) → MatchResult r (λ t. Next t e) (λ cause. e ≡ due_of TableRefused (cause_line cause)) → d ≡ e
+      → MatchResult r (λ t. Next t d) (λ cause. d ≡ due_of TableRefused (table_cause_line cause)) → MatchResult r (λ t. Next t e) (λ cause. e ≡ due_of TableRefused (table_cause_line cause)) → d ≡ e
   one_table (Ok t) Next one h g = one t h g
   one_table (Err cause) Next one h g = h ∙ sym g
 

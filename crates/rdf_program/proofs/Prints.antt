@@ -1,5 +1,5 @@
 -- The lines of the Prints.
-use Rattle.std.proofs.Common.{◌≡◌, ◌<◌, ◌+◌, ℕ, suc, ℤ, pos, Bool, true, false, not, List, [], ◌∷◌, length, map, find, flat_map, cond, Option, Some, None, refl, ap, sym, subst, ◌∙◌, arith, ◌≤◌, ◌&&◌, ⊎_elim, option_map, take, drop, ◌++◌, append-nil}
+use Rattle.std.proofs.Common.{◌≡◌, ◌<◌, ◌+◌, ℕ, suc, ℤ, pos, Bool, true, false, not, List, [], ◌∷◌, length, map, find, flat_map, cond, Some, None, refl, ap, sym, subst, ◌∙◌, arith, ◌≤◌, ◌&&◌, ⊎_elim, option_map, take, drop, ◌++◌, append-nil}
 use Rattle.std.proofs.Math.ListN.{drop_of_length-le}
 use Rattle.std.proofs.lemmas.List.Elements.{All-cons, All-nil}
 use Rattle.std.proofs.lemmas.Bool.{cases_lt, cond-true, cond-false, lt-ltb, le-ltb}

@@ -1,8 +1,8 @@
 -- What the program answers before anything is written.
 use Rattle.std.specs.Prelude.{◌≡◌, ◌≤◌, ◌⊎◌, ℕ, List, [], ◌∷◌, Option, Some, None, IfSome, length}
 use Rattle.rdf_outside.specs.Outside.{Rose}
+use Rattle.rdf_values.specs.Scripts.{IsScript}
 use Rattle.rdf_values.specs.declared.script.Script.{Script}
-use Rattle.script_read.specs.PlainScript.{IsPlainScript}
 use Rattle.rdf_program.specs.Due.{Due, due_of, max_script, read_failed_line}
 use Rattle.rdf_program.specs.declared.answer.Answer.{Answer}
 use Rattle.rdf_program.specs.declared.status.Status.{Status}
@@ -35,13 +35,14 @@ abbrev pub AreTaken : List (List ℕ) → Type 0
 AreTaken (script ∷ table ∷ []) = Unit {0}
 AreTaken words = ⊥
 
-abbrev pub IsScript : List ℕ → Type 0
-IsScript bytes = (s : Script) × IsPlainScript bytes s
+-- the text is a script
+abbrev pub SpellsScript : List ℕ → Type 0
+SpellsScript bytes = (s : Script) × IsScript bytes s
 
--- a file with a script of the plain form
+-- a file with a script
 abbrev pub HoldsScript : Option (List ℕ) → Type 0
 HoldsScript None = ⊥
-HoldsScript (Some bytes) = (length bytes ≤ max_script) × IsScript bytes
+HoldsScript (Some bytes) = (length bytes ≤ max_script) × SpellsScript bytes
 
 -- the file whose read may fail: the script's, or the table's once a script was read
 abbrev pub MayReadOf : List ℕ → List ℕ → Option (List ℕ → Option (List ℕ)) → List ℕ → Type 0

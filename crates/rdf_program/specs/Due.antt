@@ -1,13 +1,17 @@
 -- What is due to the words and the files: a status and the bytes that are written with it.
 use Rattle.std.specs.Prelude.{◌≡◌, ◌⊎◌, ℕ, List, [], ◌∷◌, ◌++◌, Option, length, codes, decimal, nat_lt, if◌then◌else◌, MatchOption, MatchResult}
 use Rattle.std.specs.Bool.{MatchBool}
+use Rattle.rdf_values.specs.Scripts.{IsScript, RefusesScript}
 use Rattle.rdf_values.specs.TableText.{table_of}
 use Rattle.rdf_values.specs.Tables.{TableView}
+use Rattle.rdf_values.specs.declared.expr_cause.ExprCause.{ExprCause}
+use Rattle.rdf_values.specs.declared.expr_cause.ExprCause.TheVariants.{BadByte, BadNumber, Unexpected, TooLong}
 use Rattle.rdf_values.specs.declared.script.Line.{Line}
 use Rattle.rdf_values.specs.declared.script.Script.{Script}
+use Rattle.rdf_values.specs.declared.script_cause.ScriptCause.{ScriptCause}
+use Rattle.rdf_values.specs.declared.script_cause.ScriptCause.TheVariants as refused
 use Rattle.rdf_values.specs.declared.table_cause.TableCause.{TableCause}
 use Rattle.rdf_values.specs.declared.table_cause.TableCause.TheVariants.{Header, FieldCount, BadInt, BadVec, TooMany}
-use Rattle.script_read.specs.PlainScript.{IsPlainScript}
 use Rattle.table_csv.specs.Csv.{csv_records}
 use Rattle.rdf_program.specs.Results.{names_fit, print_lines}
 use Rattle.rdf_program.specs.declared.status.Status.{Status}
@@ -40,13 +44,26 @@ not_built_line = codes "script refused: not built" ++ 10 ∷ []
 abbrev pub long_table_line : List ℕ
 long_table_line = codes "table refused: longer than 67108864 bytes" ++ 10 ∷ []
 
+-- why a text is no expression
+abbrev pub expr_cause_text : ExprCause → List ℕ
+expr_cause_text BadByte = codes "E1 BadByte"
+expr_cause_text BadNumber = codes "E2 BadNumber"
+expr_cause_text Unexpected = codes "E3 Unexpected"
+expr_cause_text TooLong = codes "E4 TooLong"
+
+-- where a script is refused, and why
+abbrev pub script_cause_line : ScriptCause → List ℕ
+script_cause_line (refused.Syntax line place) = codes "script refused at line " ++ decimal line ++ codes " place " ++ decimal place ++ codes ": S1 Syntax" ++ 10 ∷ []
+script_cause_line (refused.Expression line place cause) = codes "script refused at line " ++ decimal line ++ codes " place " ++ decimal place ++ codes ": " ++ expr_cause_text cause ++ 10 ∷ []
+script_cause_line (refused.TooMany line) = codes "script refused at line " ++ decimal line ++ codes ": S13 TooMany" ++ 10 ∷ []
+
 -- where a table is refused, and why
-abbrev pub cause_line : TableCause → List ℕ
-cause_line (Header field) = codes "table refused at header field " ++ decimal field ++ codes ": B1 Header" ++ 10 ∷ []
-cause_line (FieldCount entry) = codes "table refused at entry " ++ decimal entry ++ codes ": B2 FieldCount" ++ 10 ∷ []
-cause_line (BadInt entry field) = codes "table refused at entry " ++ decimal entry ++ codes " field " ++ decimal field ++ codes ": B3 BadInt" ++ 10 ∷ []
-cause_line (BadVec entry field) = codes "table refused at entry " ++ decimal entry ++ codes " field " ++ decimal field ++ codes ": B4 BadVec" ++ 10 ∷ []
-cause_line (TooMany entry) = codes "table refused at entry " ++ decimal entry ++ codes ": B5 TooMany" ++ 10 ∷ []
+abbrev pub table_cause_line : TableCause → List ℕ
+table_cause_line (Header field) = codes "table refused at header field " ++ decimal field ++ codes ": B1 Header" ++ 10 ∷ []
+table_cause_line (FieldCount entry) = codes "table refused at entry " ++ decimal entry ++ codes ": B2 FieldCount" ++ 10 ∷ []
+table_cause_line (BadInt entry field) = codes "table refused at entry " ++ decimal entry ++ codes " field " ++ decimal field ++ codes ": B3 BadInt" ++ 10 ∷ []
+table_cause_line (BadVec entry field) = codes "table refused at entry " ++ decimal entry ++ codes " field " ++ decimal field ++ codes ": B4 BadVec" ++ 10 ∷ []
+table_cause_line (TooMany entry) = codes "table refused at entry " ++ decimal entry ++ codes ": B5 TooMany" ++ 10 ∷ []
 
 -- ---- stages, each of which goes on to the next with what it found
 
@@ -60,14 +77,11 @@ max_table = 67108864
 abbrev pub WithFile : List ℕ → Option (List ℕ) → (List ℕ → Due → Type 0) → Due → Type 0
 WithFile name file Next due = MatchOption file (due ≡ due_of NoFile (no_file_line name)) (λ bytes. Next bytes due)
 
--- the bytes are no script of the plain form
-abbrev pub IsNoScript : List ℕ → Type 0
-IsNoScript bytes = (s : Script) → IsPlainScript bytes s → ⊥
-
+-- the text is refused for a cause, or is a script
 abbrev pub ReadsScript : List ℕ → (Script → Due → Type 0) → Due → Type 0
-ReadsScript bytes Next due = (IsNoScript bytes × (due ≡ due_of ScriptRefused not_built_line)) ⊎ ((s : Script) × IsPlainScript bytes s × Next s due)
+ReadsScript bytes Next due = ((c : ScriptCause) × RefusesScript bytes c × (due ≡ due_of ScriptRefused (script_cause_line c))) ⊎ ((s : Script) × IsScript bytes s × Next s due)
 
--- a script has at most 65,536 bytes and the plain form
+-- a script has at most 65,536 bytes, which spell one
 abbrev pub WithScript : List ℕ → (Script → Due → Type 0) → Due → Type 0
 WithScript bytes Next due = MatchBool (nat_lt max_script (length bytes)) (due ≡ due_of ScriptRefused long_script_line) (ReadsScript bytes Next due)
 
@@ -75,7 +89,7 @@ WithScript bytes Next due = MatchBool (nat_lt max_script (length bytes)) (due �
 abbrev pub WithTable : List ℕ → (TableView → Due → Type 0) → Due → Type 0
 WithTable bytes Next due =
     MatchBool (nat_lt max_table (length bytes)) (due ≡ due_of TableRefused long_table_line)
-    (MatchResult (table_of (csv_records bytes)) (λ table. Next table due) (λ cause. due ≡ due_of TableRefused (cause_line cause)))
+    (MatchResult (table_of (csv_records bytes)) (λ table. Next table due) (λ cause. due ≡ due_of TableRefused (table_cause_line cause)))
 
 -- the lines of the Prints, where the script's names fit the table
 abbrev pub answered : List Line → TableView → Due

@@ -1,5 +1,5 @@
 -- How the results are kept while the entries are gone over.
-use Rattle.std.specs.Prelude.{◌≡◌, ℕ, ℤ, pos, ◌+ℤ◌, List, [], ◌∷◌, ◌++◌, map, true, fold, find, Option, Some, None, length, decimal, flat_map, Bool}
+use Rattle.std.specs.Prelude.{◌≡◌, ℕ, ℤ, pos, ◌+ℤ◌, List, [], ◌∷◌, ◌++◌, map, true, fold, find, Option, Some, None, decimal, Bool}
 use Rattle.std.specs.Fmt.{signed_decimal}
 use Rattle.std.specs.List.{AllZip}
 use Rattle.rdf_values.specs.Names.{same}
@@ -35,9 +35,9 @@ abbrev pub Starts : List Column → Tally → Type 0
 Starts columns t = AsksInts columns t.quantity × (t.sum ≡ pos 0)
 
 -- an action was booked behind others, if it fits there
-abbrev pub BooksAction : List Column → List Booking → List ℕ → ActionKind → Bool → List Tally → Type 0
-BooksAction columns before name action fits tallies =
-    (fits ≡ fits_behind columns before (says.Action name [] action)) × (fits ≡ true → AreTallies columns (before ++ record { name = name; action = action } ∷ []) tallies)
+abbrev pub BooksAction : List Column → List Booking → List ℕ → List ℕ → ActionKind → Bool → List Tally → Type 0
+BooksAction columns before name parent action fits tallies =
+    (fits ≡ fits_behind columns before (says.Action name parent action)) × (fits ≡ true → AreTallies columns (before ++ record { name = name; action = action } ∷ []) tallies)
 
 -- a line was booked behind others, if it fits there
 abbrev pub BooksLine : List Column → List Booking → Statement → Bool → List Tally → Type 0

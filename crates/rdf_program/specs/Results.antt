@@ -1,4 +1,4 @@
--- The results of a plain script over a table, and the lines of its Prints.
+-- The results of a script over a table, and the lines of its Prints.
 use Rattle.std.specs.Prelude.{ℕ, ℤ, pos, ◌&&◌, Bool, true, false, not, List, [], ◌∷◌, ◌++◌, length, map, find, flat_map, position, Option, Some, None, option_map, is_some, codes, decimal, nat_lt, slice_get}
 use Rattle.std.specs.Fmt.{signed_decimal}
 use Rattle.std.specs.List.{list_any}
@@ -80,10 +80,10 @@ has_name name booking = same booking.name name
 abbrev pub is_booked : List ℕ → List Booking → Bool
 is_booked name results = list_any (has_name name) results
 
--- a line that stands behind those that book these results: an action has a new name other than `df`, is among the first 64 and is built; a Print names one of the results
+-- a line that stands behind those that book these results: an action is one of `df`, has a new name other than `df`, is among the first 64 and is built; a Print names one of the results
 abbrev pub fits_behind : List Column → List Booking → Statement → Bool
 fits_behind columns before (says.Action result parent action) =
-    not (same result (codes "df")) && not (is_booked result before) && nat_lt (length before) 64 && is_some (quantity columns action)
+    same parent (codes "df") && not (same result (codes "df")) && not (is_booked result before) && nat_lt (length before) 64 && is_some (quantity columns action)
 fits_behind columns before (says.Print result) = is_booked result before
 fits_behind columns before statement = false
 

@@ -1,10 +1,10 @@
 // What the program answers, and its lines.
 ghost use Rattle.std.specs.Prelude.{◌≡◌, ◌∷◌, [], ◌++◌, IfOk, OnOk};
 ghost use Rattle.std.specs.String.{string_bytes};
-ghost use Rattle.rdf_program.specs.Due.{cause_line};
+ghost use Rattle.rdf_program.specs.Due.{expr_cause_text, script_cause_line, table_cause_line};
 
 use crate::status::Status;
-use rdf_values::{Memory, TableCause, Text};
+use rdf_values::{ExprCause, Memory, ScriptCause, TableCause, Text};
 use std::alloc::Global;
 
 /// A status and the text that goes with it.
@@ -41,22 +41,62 @@ impl Answer {
         Ok(Answer { status, text })
     }
 
-    /// A table's refusal.
-    pub(crate) fn refused_table(alloc: Global, cause: TableCause) -> Result<Answer, Memory>
-        ensures { IfOk result (λ a. (a.status ≡ Status.TableRefused) × (a.text ≡ cause_line cause)) }
+    // A status with a line, given whole.
+    fn whole(alloc: Global, status: Status, line: &str) -> Result<Answer, Memory>
+        ensures { IfOk result (λ a. (a.status ≡ status) × (a.text ≡ line.now)) }
     {
-        let line = cause_line(alloc, cause)?;
         let mut text = Text::new(alloc);
         text.extend(line.as_bytes())?;
-        Ok(Answer {
-            status: Status::TableRefused,
-            text,
-        })
+        Ok(Answer { status, text })
+    }
+
+    /// A script's refusal.
+    pub(crate) fn refused_script(alloc: Global, cause: ScriptCause) -> Result<Answer, Memory>
+        ensures { IfOk result (λ a. (a.status ≡ Status.ScriptRefused) × (a.text ≡ script_cause_line cause)) }
+    {
+        let line = script_cause_line(alloc, cause)?;
+        Answer::whole(alloc, Status::ScriptRefused, &line)
+    }
+
+    /// A table's refusal.
+    pub(crate) fn refused_table(alloc: Global, cause: TableCause) -> Result<Answer, Memory>
+        ensures { IfOk result (λ a. (a.status ≡ Status.TableRefused) × (a.text ≡ table_cause_line cause)) }
+    {
+        let line = table_cause_line(alloc, cause)?;
+        Answer::whole(alloc, Status::TableRefused, &line)
     }
 }
 
-fn cause_line(alloc: Global, cause: TableCause) -> Result<String, Memory>
-    ensures { IfOk result (λ line. string_bytes line ≡ cause_line cause) }
+fn expr_cause_text(cause: ExprCause) -> &'static str
+    ensures { result.now ≡ expr_cause_text cause }
+{
+    match cause {
+        ExprCause::BadByte => "E1 BadByte",
+        ExprCause::BadNumber => "E2 BadNumber",
+        ExprCause::Unexpected => "E3 Unexpected",
+        ExprCause::TooLong => "E4 TooLong",
+    }
+}
+
+fn script_cause_line(alloc: Global, cause: ScriptCause) -> Result<String, Memory>
+    ensures { IfOk result (λ line. string_bytes line ≡ script_cause_line cause) }
+{
+    match cause {
+        ScriptCause::Syntax { line, place } => Ok(format!(in alloc;
+            "script refused at line {line} place {place}: S1 Syntax\n"
+        )?),
+        ScriptCause::Expression { line, place, cause } => {
+            let text = expr_cause_text(cause);
+            Ok(format!(in alloc; "script refused at line {line} place {place}: {text}\n")?)
+        }
+        ScriptCause::TooMany { line } => Ok(format!(in alloc;
+            "script refused at line {line}: S13 TooMany\n"
+        )?),
+    }
+}
+
+fn table_cause_line(alloc: Global, cause: TableCause) -> Result<String, Memory>
+    ensures { IfOk result (λ line. string_bytes line ≡ table_cause_line cause) }
 {
     match cause {
         TableCause::Header { field } => Ok(format!(in alloc;

@@ -24,11 +24,14 @@ fn is_dataset(name: &Name) -> bool
     name.bytes() == b"df".as_slice()
 }
 
-// The name is a new one, and few results are booked.
-fn is_free(tallies: &[Tally], name: &Name) -> bool
-    ensures { result ≡ (not (same name.now (codes "df")) && not (list_any (is_tally_of name.now) tallies.now) && nat_lt (length tallies.now) 64) }
+// The action is one of the dataset, its name is a new one, and few results are booked.
+fn can_book(tallies: &[Tally], name: &Name, parent: &Name) -> bool
+    ensures { result ≡ (same parent.now (codes "df") && not (same name.now (codes "df")) && not (list_any (is_tally_of name.now) tallies.now) && nat_lt (length tallies.now) 64) }
 {
-    !is_dataset(name) && !has_tally(tallies, name) && tallies.len() < MAX_RESULTS
+    is_dataset(parent)
+        && !is_dataset(name)
+        && !has_tally(tallies, name)
+        && tallies.len() < MAX_RESULTS
 }
 
 // Books an action, if it fits behind those that are booked.
@@ -37,12 +40,13 @@ fn book_action(
     columns: &[Column],
     tallies: &mut Vec<Tally>,
     name: &Name,
+    parent: &Name,
     action: &ActionKind,
 ) -> Result<bool, Memory>
     requires { length columns.now ≤ 64 }
-    ensures { IfOk result (λ fits. (before : List Booking) → AreTallies columns.now before tallies.old.items → BooksAction columns.now before name.now action.now fits tallies.new.items) }
+    ensures { IfOk result (λ fits. (before : List Booking) → AreTallies columns.now before tallies.old.items → BooksAction columns.now before name.now parent.now action.now fits tallies.new.items) }
 {
-    if !is_free(tallies, name) {
+    if !can_book(tallies, name, parent) {
         return Ok(false);
     }
     let Some(quantity) = quantity_of(columns, action) else {
@@ -69,9 +73,11 @@ fn book_line(
     ensures { IfOk result (λ fits. (before : List Booking) → AreTallies columns.now before tallies.old.items → BooksLine columns.now before statement.now fits tallies.new.items) }
 {
     match statement {
-        Statement::Action { result, kind, .. } => {
-            book_action(alloc, columns, tallies, result, kind)
-        }
+        Statement::Action {
+            result,
+            parent,
+            kind,
+        } => book_action(alloc, columns, tallies, result, parent, kind),
         Statement::Print { result } => Ok(has_tally(tallies, result)),
         _ => Ok(false),
     }

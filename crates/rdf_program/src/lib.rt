@@ -6,6 +6,7 @@ mod answer;
 mod booking;
 mod counting;
 mod fetch;
+mod names_fit;
 mod one_due;
 mod over_table;
 mod printing;
@@ -15,6 +16,7 @@ mod tally;
 mod to_words;
 mod top;
 
+pub use crate::names_fit::names_fit_where_demands_are_kept;
 pub use crate::one_due::at_most_one_due;
 pub use crate::status::Status;
 pub use crate::top::rdf_top;

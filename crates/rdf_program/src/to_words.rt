@@ -1,7 +1,7 @@
 // What the program answers to its words and files, before anything is written.
 ghost use Rattle.std.specs.Prelude.{◌≡◌, ◌≤◌, IfOk, List, ℕ, length};
 ghost use Rattle.rdf_program.specs.Due.{due_of, usage_line, IsDue, IsDueToBytes, IsDueToFiles, IsDueToScript};
-ghost use Rattle.rdf_program.specs.Answers.{AreTaken, IsAnswer, IsScript, MayRead, MayReadOf};
+ghost use Rattle.rdf_program.specs.Answers.{AreTaken, IsAnswer, MayRead, MayReadOf, SpellsScript};
 
 use crate::answer::Answer;
 use crate::fetch::{Fetched, fetch};
@@ -49,14 +49,12 @@ fn answer_bytes<S: Shelf>(
     requires { length bytes.now ≤ 65536 }
     ensures same { S.files shelf.new ≡ S.files shelf.old }
     ensures later { S.faults shelf.old ≤ S.faults shelf.new }
-    ensures answer { IfOk result (IsAnswer (IsDueToBytes bytes.now table.now) (λ name. (name ≡ table.now) × IsScript bytes.now) (S.files shelf.old) (S.faults shelf.old) (S.faults shelf.new)) }
+    ensures answer { IfOk result (IsAnswer (IsDueToBytes bytes.now table.now) (λ name. (name ≡ table.now) × SpellsScript bytes.now) (S.files shelf.old) (S.faults shelf.old) (S.faults shelf.new)) }
 {
     match read_script(alloc, bytes) {
         Ok(script) => answer_script(alloc, shelf, &script, table),
         Err(ScriptRefusal::Memory) => Err(Memory),
-        Err(ScriptRefusal::NotBuilt) => {
-            Answer::line(alloc, Status::ScriptRefused, b"script refused: not built")
-        }
+        Err(ScriptRefusal::At(cause)) => Answer::refused_script(alloc, cause),
     }
 }
 

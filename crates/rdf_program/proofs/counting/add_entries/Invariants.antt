@@ -1,4 +1,3 @@
-use Rattle.std.proofs.Common.{[]}
 use Rattle.rdf_program.specs.Plan.{Starts, tally_over}
 use Rattle.rdf_program.specs.declared.tally.Tally.{Tally}
 use Rattle.rdf_program.proofs.Adding.{Partly}

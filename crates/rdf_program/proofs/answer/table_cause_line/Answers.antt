@@ -1,5 +1,5 @@
 use Rattle.std.proofs.Common.{append_assoc}
-use Rattle.rdf_program.proofs.answer.cause_line.Goals as goal
+use Rattle.rdf_program.proofs.answer.table_cause_line.Goals as goal
 
 pub returns-in_ok-format-in-Header : goal.returns-in_ok-format-in-Header
 returns-in_ok-format-in-Header c = rw (c.in-Header.is, c.in_ok-format-in-Header.ensures.ok) (simp append_assoc)
