@@ -31,10 +31,11 @@ module _ {C F : Type 0} (P : C → Type 0) where
     each_column (Not a) h = each_column a h
     each_column (Bin o a b) h = (each_column a (each_left P (columns_in a) (columns_in b) h), each_column b (each_right P (columns_in a) (columns_in b) h))
     each_column (Cond c a b) h =
-        let first = each_left P (columns_in c ++ columns_in a) (columns_in b) h in
-        ( each_column c (each_left P (columns_in c) (columns_in a) first)
-        , each_column a (each_right P (columns_in c) (columns_in a) first)
-        , each_column b (each_right P (columns_in c ++ columns_in a) (columns_in b) h))
+        let first = each_left P (columns_in c ++ columns_in a) (columns_in b) h in (
+          each_column c (each_left P (columns_in c) (columns_in a) first),
+          each_column a (each_right P (columns_in c) (columns_in a) first),
+          each_column b (each_right P (columns_in c ++ columns_in a) (columns_in b) h),
+        )
     each_column (Pick v i) h = (each_column v (each_left P (columns_in v) (columns_in i) h), each_column i (each_right P (columns_in v) (columns_in i) h))
     each_column (Call f args) h = each_argument args h
 
