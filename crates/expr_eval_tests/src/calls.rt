@@ -4,7 +4,8 @@ ghost use Rattle.entry_fns.specs.Shipped.{square_of, hyp2_of, clampto_of};
 
 use crate::answer::{differences, scalar_answer, value_answer};
 use crate::cells::{int, missing, truth, vect};
-use entry_fns::{Clampto, Closure, FnList, Hyp2, Square, Stored};
+use entry_fns::shipped::{Clampto, Hyp2, Square};
+use entry_fns::{Closure, FnList, Stored};
 use rdf_values::{ColType, Memory, Name};
 use std::alloc::Global;
 use std::sync::Arc;

@@ -1,8 +1,7 @@
 // The columns of a test.
-ghost use Rattle.std.specs.Prelude.{◌≡◌, All, IfOk};
-ghost use Rattle.rdf_values.specs.Numbered.{ScopeColumn};
-ghost use Rattle.rdf_model.specs.Laws.{FitsOutcome};
+ghost use Rattle.std.specs.Prelude.{◌≡◌, ◌<◌, ◌+◌, length, IfOk, OnOk};
 ghost use Rattle.expr_eval_tests.specs.Cells.{fits, look_in};
+ghost use Rattle.expr_eval_tests.specs.Scopes.{AreBefore};
 
 use expr_check::Scope;
 use expr_eval::{Input, Inputs};
@@ -95,18 +94,34 @@ impl<'a> Inputs for Cells<'a> {
     }
 }
 
+// Adds the column at the place to those before it.
+#[tactic(auto, using(crate::proofs::Fitting::new_number, crate::proofs::Fitting::one_more))]
+fn add_column(
+    alloc: Global,
+    scope: &mut Scope,
+    cells: &[Cell<'_>],
+    place: usize,
+) -> Result<(), Fail>
+    requires place { place < length cells.now }
+    requires before { AreBefore cells.now place scope.old }
+    ensures { OnOk result (AreBefore cells.now (place + 1) scope.new) }
+{
+    let cell = &cells[place];
+    let name = Name::read(alloc, cell.name.as_bytes())?.ok_or("no name")?;
+    if scope.find(&name).is_some() {
+        return Err(Fail::from("a name twice"));
+    }
+    scope.add(&name, cell.kind, u32::try_from(place)?)?;
+    Ok(())
+}
+
 /// The columns by their names, with their places as numbers.
 pub fn scope_of(alloc: Global, cells: &[Cell<'_>]) -> Result<Scope, Fail>
-    ensures { IfOk result (λ s. All (λ (c : ScopeColumn). FitsOutcome c.kind (look_in cells.now c.number)) s) }
+    ensures { IfOk result (λ s. AreBefore cells.now (length cells.now) s) }
 {
     let mut scope = Scope::new(alloc);
-    for number in 0..cells.len() {
-        let cell = &cells[number];
-        let name = Name::read(alloc, cell.name.as_bytes())?.ok_or("no name")?;
-        if scope.find(&name).is_some() {
-            return Err(Fail::from("a name twice"));
-        }
-        scope.add(&name, cell.kind, number as u32)?;
+    for place in 0..cells.len() {
+        add_column(alloc, &mut scope, cells, place)?;
     }
     Ok(scope)
 }
