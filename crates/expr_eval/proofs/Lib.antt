@@ -1,3 +1,6 @@
+pub mod Callable
 pub mod Deciding
 pub mod Gathering
 pub mod InOrder
+pub mod KnownColumns
+pub mod OfItsKind

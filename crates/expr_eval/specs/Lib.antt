@@ -1,5 +1,5 @@
 pub mod Answers
-pub mod CallsFit
+pub mod CanCall
 pub mod EvalAnswers
 pub mod Inputs
 pub mod Operands

@@ -1,13 +1,16 @@
 // What an evaluation needs of a list of functions.
 ghost use Rattle.std.specs.Prelude.{◌≡◌, ◌<◌, ℕ, ℤ, List, Option, length, HoldsAt, slice_get};
-ghost use Rattle.rdf_values.specs.Functions.{Function};
+ghost use Rattle.rdf_values.specs.Functions.{Function, fn_names};
+ghost use Rattle.rdf_values.specs.NumExprTree.{num_tree};
 ghost use Rattle.rdf_model.specs.Evaluation.{given_call};
 ghost use Rattle.entry_fns.specs.Lists.{functions_in};
+ghost use Rattle.expr_check.specs.NumKinds.{IsTyped, CallsFit};
 ghost use Rattle.expr_eval.specs.Answers.{number_value};
-ghost use Rattle.expr_eval.specs.CallsFit.{CallFits};
+ghost use Rattle.expr_eval.specs.CanCall.{CallFits, CanCall};
 
 use entry_fns::FnList;
-use rdf_values::{Callee, EntryFault};
+use expr_check::Checked;
+use rdf_values::{Callee, EntryFault, NumNode};
 
 /// Functions that can be called by their places.
 pub(crate) trait Calls {
@@ -36,4 +39,16 @@ pub(crate) fn answer<C: Calls>(calls: &C, number: u32, args: &[i64]) -> Result<i
         Some(z) => Ok(z),
         None => Err(EntryFault::Function),
     }
+}
+
+/// The expression's node, of which each call can be made.
+pub(crate) fn callable<'e>(expr: &'e Checked, functions: &FnList) -> &'e NumNode
+    requires { CallsFit (fn_names (functions_in functions.now)) expr.now.tree }
+    ensures node { num_tree result.now ≡ expr.now.tree }
+    ensures typed { IsTyped expr.now }
+    ensures calls { CanCall (functions_in functions.now) expr.now.tree }
+{
+    // Such a list says that none of its functions takes more than 8 arguments.
+    let _count = functions.names().len();
+    &expr.tree().node
 }

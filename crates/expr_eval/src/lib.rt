@@ -1,5 +1,6 @@
 //! Evaluates numbered expressions: with numbers and truth values alone, or with vectors.
-//! It stands on `rdf_model`, whose definition of evaluation its calls meet, and on `entry_fns`, whose functions they call.
+//! It stands on `rdf_model`, whose definition of evaluation its calls meet, on `expr_check`, whose expressions they
+//! evaluate, and on `entry_fns`, whose functions they call.
 #![tactic(auto)]
 
 mod calls;

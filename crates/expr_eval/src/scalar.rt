@@ -1,42 +1,49 @@
 // Evaluation without vectors.
-ghost use Rattle.std.specs.Prelude.{◌≡◌, ◌+◌, ◌<◌, ◌≤◌, ℕ, ℤ, length, OnOk};
+ghost use Rattle.std.specs.Prelude.{◌≡◌, ◌+◌, ◌<◌, ◌≤◌, ℕ, ℤ, true, length, All, OnOk, IfOk};
 ghost use Rattle.rdf_values.specs.Kinds.{args_count};
 ghost use Rattle.rdf_values.specs.NumExprTree.{num_tree, num_trees};
 ghost use Rattle.rdf_values.specs.EachColumn.{EachColumn, EachArgument};
+ghost use Rattle.rdf_values.specs.Functions.{fn_names};
+ghost use Rattle.rdf_values.specs.Tables.{FitsKind};
 ghost use Rattle.rdf_model.specs.Evaluation.{evaluate, evaluate_all, call_outcome, value_operation, negation, inversion, of_numbers, argument, picked};
+ghost use Rattle.rdf_model.specs.Laws.{FitsOutcome};
 ghost use Rattle.entry_fns.specs.Lists.{functions_in};
+ghost use Rattle.expr_check.specs.NumKinds.{is_plain, CallsFit};
 ghost use Rattle.expr_eval.specs.Answers.{scalar_outcome, scalar_value, number_value};
-ghost use Rattle.expr_eval.specs.CallsFit.{CallFits, CallsFit, ArgumentsFit};
+ghost use Rattle.expr_eval.specs.CanCall.{CallFits, CanCall, ArgumentsCanCall};
 ghost use Rattle.expr_eval.specs.Inputs.{input_outcome};
 ghost use Rattle.expr_eval.specs.Scalars.{GivesScalar, Gathers, number_call};
 
-use crate::calls::{Calls, answer};
+use crate::calls::{Calls, answer, callable};
 use crate::inputs::{Input, Inputs};
 use crate::number::{absolute, is_arithmetic, mark, negate, operate};
 use crate::steps::Steps;
 use crate::stop::ScalarStop;
 use arrayvec::ArrayVec;
 use entry_fns::FnList;
-use rdf_values::{BinOp, Callee, EntryFault, NumArgs, NumExpr, NumNode, Scalar};
+use expr_check::Checked;
+use rdf_values::{BinOp, Callee, EntryFault, NumArgs, NumNode, Scalar};
 use std::sync::ledger::Ledger;
 
 const MAX_ARGUMENTS: usize = 8;
 
-/// The value of an expression of which no column is a vector, in one step. It takes no memory.
+/// The value of an expression of which no part is a vector, in one step. It takes no memory.
 pub fn eval_int<I: Inputs, L: Ledger>(
-    expr: &NumExpr,
+    expr: &Checked,
     inputs: &I,
     functions: &FnList,
     steps: &mut Steps<L>,
 ) -> Result<Scalar, ScalarStop>
-    requires can { EachColumn (I.can inputs.now) expr.now }
-    requires scalars { EachColumn (λ c. GivesScalar (I.look inputs.now c)) expr.now }
-    requires calls { CallsFit (functions_in functions.now) expr.now }
-    ensures value { scalar_outcome result ≡ evaluate (I.look inputs.now) (call_outcome (functions_in functions.now)) expr.now }
+    requires plain { is_plain expr.now.kinds expr.now.tree ≡ true }
+    requires can { All (λ c. I.can inputs.now c.0) expr.now.kinds }
+    requires fit { All (λ c. FitsOutcome c.1 (I.look inputs.now c.0)) expr.now.kinds }
+    requires calls { CallsFit (fn_names (functions_in functions.now)) expr.now.tree }
+    ensures value { scalar_outcome result ≡ evaluate (I.look inputs.now) (call_outcome (functions_in functions.now)) expr.now.tree }
+    ensures kind { IfOk result (λ s. FitsKind expr.now.kind (scalar_value s)) }
     ensures step { steps.new ≡ steps.old + 1 }
 {
     steps.tick();
-    eval_node(&expr.node, inputs, functions)
+    eval_node(callable(expr, functions), inputs, functions)
 }
 
 #[cycle(scalar)]
@@ -47,7 +54,7 @@ fn eval_node<I: Inputs, C: Calls>(
 ) -> Result<Scalar, ScalarStop>
     requires can { EachColumn (I.can inputs.now) (num_tree node.now) }
     requires scalars { EachColumn (λ c. GivesScalar (I.look inputs.now c)) (num_tree node.now) }
-    requires calls { CallsFit (C.functions calls.now) (num_tree node.now) }
+    requires calls { CanCall (C.functions calls.now) (num_tree node.now) }
     ensures { scalar_outcome result ≡ evaluate (I.look inputs.now) (call_outcome (C.functions calls.now)) (num_tree node.now) }
 {
     match node {
@@ -92,7 +99,7 @@ fn gather<I: Inputs, C: Calls>(
 ) -> Result<(), ScalarStop>
     requires can { EachArgument (I.can inputs.now) (num_trees args.now) }
     requires scalars { EachArgument (λ c. GivesScalar (I.look inputs.now c)) (num_trees args.now) }
-    requires calls { ArgumentsFit (C.functions calls.now) (num_trees args.now) }
+    requires calls { ArgumentsCanCall (C.functions calls.now) (num_trees args.now) }
     requires room { length numbers.old.items + args_count (num_trees args.now) ≤ 8 }
     ensures values { Gathers result numbers.old.items numbers.new.items (evaluate_all (I.look inputs.now) (call_outcome (C.functions calls.now)) (num_trees args.now)) }
     ensures count { OnOk result (length numbers.new.items ≡ length numbers.old.items + args_count (num_trees args.now)) }

@@ -1,17 +1,21 @@
 // Evaluation with vectors.
-ghost use Rattle.std.specs.Prelude.{◌≡◌, ◌+◌, ◌≤◌, ℕ, List, [], ◌∷◌, length, map, OnOk};
+ghost use Rattle.std.specs.Prelude.{◌≡◌, ◌+◌, ◌≤◌, ℕ, List, [], ◌∷◌, length, map, All, OnOk, IfOk};
 ghost use Rattle.rdf_values.specs.Kinds.{args_count};
 ghost use Rattle.rdf_values.specs.NumExprTree.{num_tree, num_trees};
 ghost use Rattle.rdf_values.specs.EachColumn.{EachColumn, EachArgument};
+ghost use Rattle.rdf_values.specs.Functions.{fn_names};
+ghost use Rattle.rdf_values.specs.Tables.{FitsKind};
 ghost use Rattle.rdf_model.specs.Evaluation.{argument, for_all, evaluate, evaluate_all, call_outcome, value_operation, negation, inversion, of_numbers, picked, vector_operation};
+ghost use Rattle.rdf_model.specs.Laws.{FitsOutcome};
 ghost use Rattle.entry_fns.specs.Lists.{functions_in};
-ghost use Rattle.expr_eval.specs.CallsFit.{IsBuiltIn, CallFits, CallsFit, ArgumentsFit};
+ghost use Rattle.expr_check.specs.NumKinds.{CallsFit};
+ghost use Rattle.expr_eval.specs.CanCall.{IsBuiltIn, CallFits, CanCall, ArgumentsCanCall};
 ghost use Rattle.expr_eval.specs.Answers.{number_value};
 ghost use Rattle.expr_eval.specs.EvalAnswers.{AnswersAs, AppendsAs, vector_outcome};
 ghost use Rattle.expr_eval.specs.Inputs.{input_outcome};
 ghost use Rattle.expr_eval.specs.Operands.{operand_value, view_value, decision as decided};
 
-use crate::calls::{Calls, answer};
+use crate::calls::{Calls, answer, callable};
 use crate::elements::{
     Elementwise, LeftNumber, Minus, RightNumber, all, any, each, each_pair, element, greatest,
     inverted, least, marked, sum,
@@ -23,7 +27,8 @@ use crate::steps::Steps;
 use crate::stop::EvalStop;
 use arrayvec::ArrayVec;
 use entry_fns::FnList;
-use rdf_values::{BinOp, Callee, EntryFault, NumArgs, NumExpr, NumNode, Value};
+use expr_check::Checked;
+use rdf_values::{BinOp, Callee, EntryFault, NumArgs, NumNode, Value};
 use std::alloc::Global;
 use std::sync::ledger::Ledger;
 
@@ -32,18 +37,21 @@ const MAX_ARGUMENTS: usize = 8;
 /// The value of an expression, in one step.
 pub fn eval<I: Inputs, L: Ledger>(
     alloc: Global,
-    expr: &NumExpr,
+    expr: &Checked,
     inputs: &I,
     functions: &FnList,
     steps: &mut Steps<L>,
 ) -> Result<Value, EvalStop>
-    requires can { EachColumn (I.can inputs.now) expr.now }
-    requires calls { CallsFit (functions_in functions.now) expr.now }
-    ensures value { AnswersAs (λ v. v) (evaluate (I.look inputs.now) (call_outcome (functions_in functions.now)) expr.now) result }
+    requires can { All (λ c. I.can inputs.now c.0) expr.now.kinds }
+    requires fit { All (λ c. FitsOutcome c.1 (I.look inputs.now c.0)) expr.now.kinds }
+    requires calls { CallsFit (fn_names (functions_in functions.now)) expr.now.tree }
+    ensures value { AnswersAs (λ v. v) (evaluate (I.look inputs.now) (call_outcome (functions_in functions.now)) expr.now.tree) result }
+    ensures kind { IfOk result (λ v. FitsKind expr.now.kind v) }
     ensures step { steps.new ≡ steps.old + 1 }
 {
     steps.tick();
-    eval_node(alloc, &expr.node, inputs, functions)?.into_value(alloc)
+    let node = callable(expr, functions);
+    eval_node(alloc, node, inputs, functions)?.into_value(alloc)
 }
 
 #[cycle(node)]
@@ -54,7 +62,7 @@ fn eval_node<'a, I: Inputs, C: Calls>(
     calls: &C,
 ) -> Result<Operand<'a>, EvalStop>
     requires can { EachColumn (I.can inputs.now) (num_tree node.now) }
-    requires calls { CallsFit (C.functions calls.now) (num_tree node.now) }
+    requires calls { CanCall (C.functions calls.now) (num_tree node.now) }
     ensures { AnswersAs operand_value (evaluate (I.look inputs.now) (call_outcome (C.functions calls.now)) (num_tree node.now)) result }
 {
     match node {
@@ -105,7 +113,7 @@ fn gather<'a, I: Inputs, C: Calls>(
     values: &mut ArrayVec<Operand<'a>, MAX_ARGUMENTS>,
 ) -> Result<(), EvalStop>
     requires can { EachArgument (I.can inputs.now) (num_trees args.now) }
-    requires calls { ArgumentsFit (C.functions calls.now) (num_trees args.now) }
+    requires calls { ArgumentsCanCall (C.functions calls.now) (num_trees args.now) }
     requires room { length values.old.items + args_count (num_trees args.now) ≤ 8 }
     ensures values { AppendsAs (evaluate_all (I.look inputs.now) (call_outcome (C.functions calls.now)) (num_trees args.now)) (map operand_value values.old.items) (map operand_value values.new.items) result }
     ensures count { OnOk result (length values.new.items ≡ length values.old.items + args_count (num_trees args.now)) }

@@ -1,1 +1,1 @@
-pub mod ScalarRows
+pub mod Fitting

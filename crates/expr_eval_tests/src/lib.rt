@@ -1,9 +1,14 @@
-//! Tests of the evaluation of expressions: one for each rule, over rows of given columns.
+//! Tests of evaluation: expressions are read from their texts, checked and evaluated over given columns, by both evaluators
+//! where no part is a vector. It stands on every crate that an expression goes through.
 #![tactic(auto)]
 
-pub mod formulas;
-pub mod rows;
+pub mod answer;
+pub mod cells;
+pub mod words;
+
 #[cfg(test)]
-mod scalar_tests;
+mod calls;
 #[cfg(test)]
-mod vector_tests;
+mod numbers;
+#[cfg(test)]
+mod vectors;

@@ -1,4 +1,4 @@
--- Calls that fit a list of functions.
+-- Calls that a list of functions can answer.
 use Rattle.std.specs.Prelude.{◌≡◌, ◌<◌, ◌≤◌, ℕ, List, length, HoldsAt}
 use Rattle.rdf_values.specs.Functions.{Function}
 use Rattle.rdf_values.specs.Kinds.{args_count}
@@ -18,19 +18,19 @@ CallFits functions callee count = Unit {0}
 
 module _ (functions : List Function) where
   abbrev mutual
-    -- each call of the expression fits the functions, and has at most 8 arguments
-    pub CallsFit : NumTree → Type 0
-    CallsFit (Lit z) = Unit {0}
-    CallsFit (Truth b) = Unit {0}
-    CallsFit (Col c) = Unit {0}
-    CallsFit (Neg a) = CallsFit a
-    CallsFit (Not a) = CallsFit a
-    CallsFit (Bin op a b) = CallsFit a × CallsFit b
-    CallsFit (Cond c a b) = CallsFit c × CallsFit a × CallsFit b
-    CallsFit (Pick v i) = CallsFit v × CallsFit i
-    CallsFit (Call f args) = CallFits functions f (args_count args) × (args_count args ≤ 8) × ArgumentsFit args
+    -- each call is of a function that is there, with as many arguments as it takes and at most 8
+    pub CanCall : NumTree → Type 0
+    CanCall (Lit z) = Unit {0}
+    CanCall (Truth b) = Unit {0}
+    CanCall (Col c) = Unit {0}
+    CanCall (Neg a) = CanCall a
+    CanCall (Not a) = CanCall a
+    CanCall (Bin op a b) = CanCall a × CanCall b
+    CanCall (Cond c a b) = CanCall c × CanCall a × CanCall b
+    CanCall (Pick v i) = CanCall v × CanCall i
+    CanCall (Call f args) = CallFits functions f (args_count args) × (args_count args ≤ 8) × ArgumentsCanCall args
 
-    -- each call in the arguments does
-    pub ArgumentsFit : Trees ℕ Callee → Type 0
-    ArgumentsFit End = Unit {0}
-    ArgumentsFit (More a rest) = CallsFit a × ArgumentsFit rest
+    -- each call in the arguments is
+    pub ArgumentsCanCall : Trees ℕ Callee → Type 0
+    ArgumentsCanCall End = Unit {0}
+    ArgumentsCanCall (More a rest) = CanCall a × ArgumentsCanCall rest

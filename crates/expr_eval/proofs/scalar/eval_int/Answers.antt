@@ -1,0 +1,16 @@
+use Rattle.expr_eval.proofs.KnownColumns.{known_columns, plain_columns}
+use Rattle.expr_eval.proofs.OfItsKind.{scalar_fits}
+use Rattle.expr_eval.proofs.scalar.eval_int.Goals as goal
+
+pub eval_node-requires-clause-can : goal.eval_node-requires-clause-can
+eval_node-requires-clause-can g c =
+    rw c.callable.ensures.node (known_columns c.args.expr.now c.callable.ensures.typed (g.I.Inputs.can c.args.inputs.now) c.requires.can)
+
+pub eval_node-requires-clause-scalars : goal.eval_node-requires-clause-scalars
+eval_node-requires-clause-scalars g c =
+    rw c.callable.ensures.node (plain_columns (g.I.Inputs.look c.args.inputs.now) c.args.expr.now c.callable.ensures.typed c.requires.fit c.requires.plain)
+
+pub returns-clause-kind : goal.returns-clause-kind
+returns-clause-kind g c =
+    let value = rw c.callable.ensures.node at c.eval_node.ensures in
+    scalar_fits _ (g.I.Inputs.look c.args.inputs.now) c.args.expr.now c.callable.ensures.typed c.requires.fit c.eval_node.result value

@@ -1,0 +1,70 @@
+// Answers in words.
+use crate::cells::Cell;
+use expr_check::CheckRefusal;
+use expr_eval::{EvalStop, ScalarStop};
+use expr_read::ExprRefusal;
+use rdf_values::{EntryFault, ExprCause, Scalar, Value};
+use std::alloc::{AllocError, Global};
+
+fn fault_words(fault: EntryFault) -> &'static str {
+    match fault {
+        EntryFault::Overflow => "F1 Overflow",
+        EntryFault::ZeroDivisor => "F2 ZeroDivisor",
+        EntryFault::Index => "F3 Index",
+        EntryFault::EmptyVector => "F4 EmptyVector",
+        EntryFault::Lengths => "F5 Lengths",
+        EntryFault::VaryCount => "F6 VaryCount",
+        EntryFault::Weight => "F7 Weight",
+        EntryFault::Function => "F8 Function",
+    }
+}
+
+// The need of a column, by its name.
+fn need_words(alloc: Global, number: u32, cells: &[Cell<'_>]) -> Result<String, AllocError> {
+    match cells.get(number as usize) {
+        Some(cell) => format!(in alloc; "need {}", cell.name),
+        None => format!(in alloc; "need column {number}"),
+    }
+}
+
+fn vector_words(alloc: Global, elements: &[i64]) -> Result<String, AllocError> {
+    let mut words = String::from_str(alloc, "[")?;
+    for (place, element) in elements.iter().enumerate() {
+        if place > 0 {
+            words.push(' ')?;
+        }
+        words.push_str(format!(in alloc; "{element}")?.as_str())?;
+    }
+    words.push(']')?;
+    Ok(words)
+}
+
+/// The value, the fault or the need of an evaluation.
+pub fn value_words(
+    alloc: Global,
+    answer: Result<Value, EvalStop>,
+    cells: &[Cell<'_>],
+) -> Result<String, AllocError> {
+    match answer {
+        Ok(Value::Int(number)) => format!(in alloc; "{number}"),
+        Ok(Value::Bool(truth)) => format!(in alloc; "{truth}"),
+        Ok(Value::Vect(elements)) => vector_words(alloc, elements.as_slice()),
+        Err(EvalStop::Fault(fault)) => String::from_str(alloc, fault_words(fault)),
+        Err(EvalStop::Need(number)) => need_words(alloc, number, cells),
+        Err(EvalStop::Memory) => String::from_str(alloc, "memory"),
+    }
+}
+
+/// The same of an evaluation without vectors.
+pub fn scalar_words(
+    alloc: Global,
+    answer: Result<Scalar, ScalarStop>,
+    cells: &[Cell<'_>],
+) -> Result<String, AllocError> {
+    match answer {
+        Ok(Scalar::Int(number)) => format!(in alloc; "{number}"),
+        Ok(Scalar::Bool(truth)) => format!(in alloc; "{truth}"),
+        Err(ScalarStop::Fault(fault)) => String::from_str(alloc, fault_words(fault)),
+        Err(ScalarStop::Need(number)) => need_words(alloc, number, cells),
+    }
+}
