@@ -7,6 +7,7 @@ use histograms::{Edges, Hist1};
 use std::alloc::Global;
 
 /// The sums of three cells.
+#[derive(Clone, Copy)]
 pub(crate) struct Cells {
     pub(crate) first: i128,
     pub(crate) last: i128,
