@@ -1,5 +1,5 @@
 -- An expression over numbers reads numbers alone.
-use Rattle.std.proofs.Common.{◌≡◌, ℕ, ℤ, Bool, true, false, List, [], ◌∷◌, Result, Ok, Err, All, refl, sym, ◌∙◌, cond, nat_eq, zero, suc}
+use Rattle.std.proofs.Common.{◌≡◌, ℕ, ℤ, Bool, true, false, List, [], ◌∷◌, Result, Ok, All, sym, ◌∙◌, cond, nat_eq, zero, suc}
 use Rattle.std.specs.List.{AllByRecursion}
 use Rattle.std.proofs.lemmas.List.Elements.{recursion_from_All, All-from_recursion}
 use Rattle.rdf_values.specs.Numbered.{ScopeColumn}
@@ -30,7 +30,7 @@ all_ints columns kinds ints known =
     let each = recursion_from_All (λ (c : ScopeColumn). c.kind ≡ Int) columns ints in
     All-from_recursion (λ (k : ℕ × ColType). k.1 ≡ Int) kinds
     (weaker (λ (k : ℕ × ColType). number_kind (numbers_in columns) k.0 ≡ Ok k.1) (λ (k : ℕ × ColType). k.1 ≡ Int) (λ k is. int_number columns k.0 k.1 each is) kinds
-      (recursion_from_All (λ (k : ℕ × ColType). number_kind (numbers_in columns) k.0 ≡ Ok k.1) kinds known))
+    (recursion_from_All (λ (k : ℕ × ColType). number_kind (numbers_in columns) k.0 ≡ Ok k.1) kinds known))
 
 fits_int : (pt eta w : ℤ) (n : ℕ) → FitsOutcome Int (entry_outcome pt eta w n)
 fits_int pt eta w zero = tt

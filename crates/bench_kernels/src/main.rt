@@ -30,7 +30,10 @@ fn main(rt: HostRuntime) -> Result<(), Failure> {
         }
         "histogram" => {
             let cells = histogram::filled(rt.alloc(), entries)?;
-            println!(rt; "first bin {}, last bin {}, overflow {}", cells.first, cells.last, cells.over)?;
+            println!(rt;
+                "first bin {}, last bin {}, overflow {}",
+                cells.first, cells.last, cells.over
+            )?;
         }
         _ => return Err(Failure::Words),
     }

@@ -1,5 +1,5 @@
 -- Columns of a test that are of the kinds that a scope says.
-use Rattle.std.proofs.Common.{◌≡◌, ◌<◌, ◌≤◌, ◌+◌, ℕ, Bool, true, false, List, [], ◌∷◌, ◌++◌, map, Option, Some, None, Result, Ok, Err, All, refl, ap, sym, subst, cond, nat_eq, nat_le, length, arith}
+use Rattle.std.proofs.Common.{◌≡◌, ◌≤◌, ◌+◌, ℕ, Bool, true, false, List, [], ◌∷◌, ◌++◌, Some, Result, Ok, All, refl, subst, cond, nat_eq, nat_le, length, arith}
 use Rattle.std.specs.List.{AllByRecursion}
 use Rattle.std.specs.Prelude.{slice_get}
 use Rattle.std.proofs.lemmas.Bool.Decides.{Decides-eqb}
@@ -95,4 +95,4 @@ all_fit cells place columns kinds before known =
     let each = weaker (IsBefore cells place) (λ (c : ScopeColumn). FitsOutcome c.kind (look_in cells c.number)) (λ c b. b.1) columns (recursion_from_All (IsBefore cells place) columns before) in
     All-from_recursion (λ (k : ℕ × ColType). FitsOutcome k.1 (look_in cells k.0)) kinds
     (weaker (λ (k : ℕ × ColType). number_kind (numbers_in columns) k.0 ≡ Ok k.1) (λ (k : ℕ × ColType). FitsOutcome k.1 (look_in cells k.0)) (λ k is. kind_fits (look_in cells) columns k.0 k.1 each is) kinds
-      (recursion_from_All (λ (k : ℕ × ColType). number_kind (numbers_in columns) k.0 ≡ Ok k.1) kinds known))
+    (recursion_from_All (λ (k : ℕ × ColType). number_kind (numbers_in columns) k.0 ≡ Ok k.1) kinds known))

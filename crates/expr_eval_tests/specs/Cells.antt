@@ -1,5 +1,5 @@
 -- The columns of a test.
-use Rattle.std.specs.Prelude.{◌≡◌, ℕ, Bool, true, false, List, length, Option, Some, None, slice_get, nat_le, if◌then◌else◌, All}
+use Rattle.std.specs.Prelude.{ℕ, Bool, true, false, List, length, Option, Some, None, slice_get, nat_le, if◌then◌else◌, All}
 use Rattle.rdf_values.specs.declared.value.ColType.{ColType}
 use Rattle.rdf_values.specs.declared.value.ColType.TheVariants as kind
 use Rattle.rdf_values.specs.declared.value.Value.{Value}

@@ -3,12 +3,11 @@
 #![tactic(auto)]
 
 pub mod answer;
-pub mod cells;
-pub mod words;
-
 #[cfg(test)]
 mod calls;
+pub mod cells;
 #[cfg(test)]
 mod numbers;
 #[cfg(test)]
 mod vectors;
+pub mod words;

@@ -6,12 +6,13 @@ use Rattle.rdf_values.specs.LineTokens.{LineToken, QuotedText}
 use Rattle.rdf_values.specs.LineTokens as t
 use Rattle.rdf_values.specs.LineForms.{Form, Method, Strings, Edges, method_word, arguments, call, more_strings, strings_tokens, more_edges, edges_tokens, maybe_string, form_tokens, has_free_names, is_free}
 use Rattle.rdf_values.specs.LineForms as form
-use Rattle.script_read.specs.Walk.{Want, ALine, AWord, AMethod, AString, ANumber, MoreStrings, MoreEdges, MaybeString, VaryArguments, AMark, next, mark_token, is_mark, asked_form, name_of, name_word, arguments_wants, method_wants, booking_wants, asking_wants}
+use Rattle.script_read.specs.Views.{mark_token}
+use Rattle.script_read.specs.Walk.{Want, ALine, AWord, AMethod, AString, ANumber, MoreStrings, MoreEdges, MaybeString, VaryArguments, AMark, next, is_mark, asked_form, name_of, name_word, arguments_wants, method_wants, booking_wants, asking_wants}
 use Rattle.script_read.specs.declared.method.MethodName.{MethodName}
 use Rattle.script_read.specs.declared.method.MethodName.TheVariants as name
 use Rattle.script_read.specs.declared.method.ActionName.TheVariants as action
-use Rattle.script_read.specs.declared.walk.Mark.{Mark}
-use Rattle.script_read.specs.declared.walk.Mark.TheVariants as mark
+use Rattle.script_read.specs.declared.token.Mark.{Mark}
+use Rattle.script_read.specs.declared.token.Mark.TheVariants as mark
 use Rattle.script_read.proofs.Named.{name_is}
 use Rattle.script_read.proofs.Joined.{asked_tokens, asked_free}
 

@@ -15,7 +15,7 @@ use Rattle.script_read.specs.declared.method.ActionName.TheVariants as action
 use Rattle.script_read.specs.declared.token.Token.{Token}
 use Rattle.script_read.specs.declared.token.Token.TheVariants as token
 use Rattle.script_read.specs.declared.token.Quoted.{Quoted}
-use Rattle.script_read.specs.declared.walk.Mark.TheVariants as mark
+use Rattle.script_read.specs.declared.token.Mark.TheVariants as mark
 use Rattle.script_read.proofs.Walked.{walk_over, columns_wanted}
 
 pub ok_as : {A E : Type 0} {P Q : A → Type 0} → (r : Result A E) → ((x : A) → P x → Q x) → IfOk r P → IfOk r Q

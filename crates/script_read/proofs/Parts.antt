@@ -7,7 +7,7 @@ use Rattle.rdf_values.specs.LineForms.{strings_tokens, edges_tokens, maybe_strin
 use Rattle.script_read.specs.Views.{quoted_of}
 use Rattle.script_read.specs.Walk.{Want, AString, ANumber, MoreStrings, MoreEdges, MaybeString, AMark, Begins, BeginsNot, Took, TookStrings, TookEdges, walk_placed, one_string_wants, strings_wants, edges_wants}
 use Rattle.script_read.specs.declared.token.Quoted.{Quoted}
-use Rattle.script_read.specs.declared.walk.Mark.TheVariants as mark
+use Rattle.script_read.specs.declared.token.Mark.TheVariants as mark
 use Rattle.script_read.proofs.Walked.{walk_over, close_wanted, strings_end, edges_end}
 
 -- ---- a further string, or none

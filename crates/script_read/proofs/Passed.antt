@@ -10,7 +10,7 @@ use Rattle.script_read.specs.Walk.{Want, ALine, AWord, AMethod, AString, MoreStr
 use Rattle.script_read.specs.declared.method.MethodName.{MethodName}
 use Rattle.script_read.specs.declared.method.MethodName.TheVariants as name
 use Rattle.script_read.specs.declared.method.ActionName.TheVariants as action
-use Rattle.script_read.specs.declared.walk.Mark.TheVariants as mark
+use Rattle.script_read.specs.declared.token.Mark.TheVariants as mark
 use Rattle.script_read.proofs.Walked.{is_name_next}
 use Rattle.script_read.proofs.Joined.{line_next, method_next}
 

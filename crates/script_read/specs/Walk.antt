@@ -5,36 +5,14 @@ use Rattle.rdf_values.specs.LineTokens.{LineToken, QuotedText, PlacedToken, bare
 use Rattle.rdf_values.specs.LineTokens as t
 use Rattle.rdf_values.specs.LineForms.{Method, Form, method_word, arguments, form_tokens, more_strings, strings_tokens, more_edges, edges_tokens, has_free_names, is_free}
 use Rattle.rdf_values.specs.LineForms as form
+use Rattle.script_read.specs.Views.{mark_token}
 use Rattle.script_read.specs.declared.method.MethodName.{MethodName}
 use Rattle.script_read.specs.declared.method.MethodName.TheVariants as name
 use Rattle.script_read.specs.declared.method.ActionName.TheVariants as action
-use Rattle.script_read.specs.declared.walk.Mark.{Mark}
-use Rattle.script_read.specs.declared.walk.Mark.TheVariants as mark
+use Rattle.script_read.specs.declared.token.Mark.{Mark}
+use Rattle.script_read.specs.declared.token.Mark.TheVariants as mark
 
 -- ---- marks
-
--- the token that a mark is
-abbrev pub mark_token : Mark → LineToken
-mark_token mark.Equals = t.Equals
-mark_token mark.Dot = t.Dot
-mark_token mark.Open = t.Open
-mark_token mark.Close = t.Close
-mark_token mark.OpenBracket = t.OpenBracket
-mark_token mark.CloseBracket = t.CloseBracket
-mark_token mark.Comma = t.Comma
-
--- the mark that the token is
-abbrev pub mark_of : LineToken → Option Mark
-mark_of t.Equals = Some mark.Equals
-mark_of t.Dot = Some mark.Dot
-mark_of t.Open = Some mark.Open
-mark_of t.Close = Some mark.Close
-mark_of t.OpenBracket = Some mark.OpenBracket
-mark_of t.CloseBracket = Some mark.CloseBracket
-mark_of t.Comma = Some mark.Comma
-mark_of (t.Word x) = None
-mark_of (t.Number z) = None
-mark_of (t.Quoted q) = None
 
 -- whether the token is the mark
 abbrev pub is_mark : Mark → LineToken → Bool

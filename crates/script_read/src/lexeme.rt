@@ -6,7 +6,7 @@ ghost use Rattle.rdf_values.specs.Integers.{integer_of};
 ghost use Rattle.rdf_values.specs.LineTokens.{lexeme, word_lexeme, integer_lexeme, string_lexeme, mark_lexeme};
 ghost use Rattle.script_read.specs.Views.{lexeme_of};
 
-use crate::token::{Quoted, Token, Word};
+use crate::token::{Mark, Quoted, Token, Word};
 use rdf_values::name::{is_word_byte, is_word_start};
 use rdf_values::read_integer;
 
@@ -117,17 +117,20 @@ fn string(place: u32, text: &[u8]) -> Lexeme<'_>
 fn mark(byte: u8) -> Lexeme<'static>
     ensures { lexeme_of result ≡ mark_lexeme byte }
 {
-    let token = match byte {
-        b'=' => Token::Equals,
-        b'.' => Token::Dot,
-        b'(' => Token::Open,
-        b')' => Token::Close,
-        b'[' => Token::OpenBracket,
-        b']' => Token::CloseBracket,
-        b',' => Token::Comma,
+    let mark = match byte {
+        b'=' => Mark::Equals,
+        b'.' => Mark::Dot,
+        b'(' => Mark::Open,
+        b')' => Mark::Close,
+        b'[' => Mark::OpenBracket,
+        b']' => Mark::CloseBracket,
+        b',' => Mark::Comma,
         _ => return Lexeme::Bad,
     };
-    Lexeme::Found { token, more: 0 }
+    Lexeme::Found {
+        token: Token::Mark(mark),
+        more: 0,
+    }
 }
 
 /// What the line has at the place.

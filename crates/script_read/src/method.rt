@@ -7,8 +7,8 @@ ghost use Rattle.script_read.specs.Walk.{name_word, name_of, Took, IsStuck, Took
 
 use crate::fail::Fail;
 use crate::form::{Method, OneOrMore};
-use crate::token::{Quoted, Token};
-use crate::walk::{Mark, Walk};
+use crate::token::{Mark, Quoted, Token};
+use crate::walk::Walk;
 
 /// What an action is called.
 #[derive(Clone, Copy, Debug, PartialEq, Eq)]

@@ -17,12 +17,9 @@ pub(crate) struct Quoted<'a> {
     pub ghost within: { place + length content.now < 65536 },
 }
 
-/// A word, a canonical integer, a string, or a mark.
-#[derive(Clone, Copy)]
-pub(crate) enum Token<'a> {
-    Word(Word<'a>),
-    Number(i64),
-    Quoted(Quoted<'a>),
+/// A token that is the same wherever it stands.
+#[derive(Clone, Copy, Debug, PartialEq, Eq)]
+pub(crate) enum Mark {
     Equals,
     Dot,
     Open,
@@ -30,6 +27,15 @@ pub(crate) enum Token<'a> {
     OpenBracket,
     CloseBracket,
     Comma,
+}
+
+/// A word, a canonical integer, a string, or a mark.
+#[derive(Clone, Copy)]
+pub(crate) enum Token<'a> {
+    Word(Word<'a>),
+    Number(i64),
+    Quoted(Quoted<'a>),
+    Mark(Mark),
 }
 
 /// A token and its place in the line.

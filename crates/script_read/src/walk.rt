@@ -3,42 +3,15 @@ ghost use Rattle.std.specs.Prelude.{◌≡◌, ◌<◌, ℕ, List, [], ◌∷◌
 ghost use Rattle.rdf_values.specs.LineForms.{IsForm, is_free as is_free_word, strings_tokens, edges_tokens, maybe_string};
 ghost use Rattle.rdf_values.specs.LineTokens.{line_tokens, bare_tokens, Word as AsWord, Number as AsNumber, Quoted as AsQuoted, Open as AsOpen, Close as AsClose, Comma as AsComma};
 ghost use Rattle.rdf_values.specs.Scripts.{RefusesLine};
-ghost use Rattle.script_read.specs.Views.{placed_of, form_of, token_of, quoted_of, strings_of, edges_of};
+ghost use Rattle.script_read.specs.Views.{placed_of, form_of, mark_token, token_of, quoted_of, strings_of, edges_of};
 ghost use Rattle.script_read.specs.Stops.{RefusedFor};
-ghost use Rattle.script_read.specs.Walk.{Took, IsStuck, TookForm, Begins, Ate, mark_of, mark_token, ALine, AWord, AString, ANumber, MaybeString, AMark, strings_wants, edges_wants, one_string_wants, two_string_wants, asked_form, asking_wants, booking_wants, place_from, TookBooking};
+ghost use Rattle.script_read.specs.Walk.{Took, IsStuck, TookForm, Begins, Ate, ALine, AWord, AString, ANumber, MaybeString, AMark, strings_wants, edges_wants, one_string_wants, two_string_wants, asked_form, asking_wants, booking_wants, place_from, TookBooking};
 
 use crate::fail::Fail;
 use crate::form::{Form, OneOrMore};
 use crate::stop::LineStop;
-use crate::token::{Placed, Quoted, Token, Word};
+use crate::token::{Mark, Placed, Quoted, Token, Word};
 use std::alloc::Global;
-
-/// A token that is the same wherever it stands.
-#[derive(Clone, Copy, Debug, PartialEq, Eq)]
-pub(crate) enum Mark {
-    Equals,
-    Dot,
-    Open,
-    Close,
-    OpenBracket,
-    CloseBracket,
-    Comma,
-}
-
-fn mark_of(token: Token) -> Option<Mark>
-    ensures { result ≡ mark_of (token_of token.entry) }
-{
-    match token {
-        Token::Word(_) | Token::Number(_) | Token::Quoted(_) => None,
-        Token::Equals => Some(Mark::Equals),
-        Token::Dot => Some(Mark::Dot),
-        Token::Open => Some(Mark::Open),
-        Token::Close => Some(Mark::Close),
-        Token::OpenBracket => Some(Mark::OpenBracket),
-        Token::CloseBracket => Some(Mark::CloseBracket),
-        Token::Comma => Some(Mark::Comma),
-    }
-}
 
 // Whether a name in a line may be this word.
 fn is_free(word: &[u8]) -> bool
@@ -107,7 +80,7 @@ impl<'t, 'a> Walk<'t, 'a> {
         ensures { Ate mark result (left_of self.old) (left_of self.new) }
     {
         match self.peek() {
-            Ok(token) if mark_of(token) == Some(mark) => {
+            Ok(Token::Mark(next)) if next == mark => {
                 self.advance();
                 true
             }

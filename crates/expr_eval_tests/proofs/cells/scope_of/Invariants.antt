@@ -1,4 +1,3 @@
-use Rattle.std.proofs.Common.{◌≡◌, IfOk, ℕ, ◌+◌, ◌-◌, ◌*◌, ◌<◌, ◌≤◌, length}
 use Rattle.expr_eval_tests.specs.Scopes.{AreBefore}
 use Rattle.expr_eval_tests.proofs.cells.scope_of.Given as goal
 

@@ -3,7 +3,7 @@ use Rattle.std.specs.Prelude.{option_map}
 use Rattle.std.proofs.lemmas.Grind.{common_steps}
 use Rattle.script_read.specs.Views.{token_of, quoted_of, strings_of}
 use Rattle.script_read.specs.Walk.{AMark, MaybeString, VaryArguments, one_string_wants, variation_wants}
-use Rattle.script_read.specs.declared.walk.Mark.TheVariants as mark
+use Rattle.script_read.specs.declared.token.Mark.TheVariants as mark
 use Rattle.script_read.proofs.Walked.{stuck_empty, columns_wanted}
 use Rattle.script_read.proofs.Joined.{walk_seen, took_vary_one, took_vary_all}
 use Rattle.script_read.proofs.walk.Walk.vary.Goals as goal
