@@ -10,7 +10,7 @@ use Rattle.rdf_values.specs.Statements as st
 use Rattle.rdf_values.specs.declared.action.ActionKind.TheVariants as kind
 use Rattle.rdf_values.specs.declared.statement.Statement.TheVariants as says
 use Rattle.rdf_values.specs.declared.vary_values.VaryValues.{VaryValues}
-use Rattle.script_read.specs.Methods.{IsNamed}
+use Rattle.script_read.specs.VaryNames.{IsNamed}
 
 vary_named_so : (n p : List ℕ) (c v : QuotedText) (ts : Strings) (m : Option QuotedText) (x : List ℕ) (vs : VaryValues) (tags : List (List ℕ)) (y : List ℕ)
     → IsName c x → ReadsValuesText v.content vs → AreNames (all_strings ts) tags → IsNamed x m y → Says (form.Books n p (form.VaryOne c v ts m)) (says.Vary n p (x ∷ []) vs tags y)

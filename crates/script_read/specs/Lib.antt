@@ -1,7 +1,7 @@
 pub mod Adding
 pub mod Left
-pub mod Methods
 pub mod Stops
 pub mod StringPlaces
+pub mod VaryNames
 pub mod Views
 pub mod Walk

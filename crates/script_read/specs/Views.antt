@@ -13,6 +13,8 @@ use Rattle.script_read.specs.declared.token.Placed.{Placed}
 use Rattle.script_read.specs.declared.lexeme.Lexeme.{Lexeme}
 use Rattle.script_read.specs.declared.lexeme.Lexeme.TheVariants as lexeme
 use Rattle.script_read.specs.declared.form.OneOrMore.{OneOrMore}
+use Rattle.script_read.specs.declared.form.Action.{Action}
+use Rattle.script_read.specs.declared.form.Action.TheVariants as action
 use Rattle.script_read.specs.declared.form.Method.{Method}
 use Rattle.script_read.specs.declared.form.Method.TheVariants as method
 use Rattle.script_read.specs.declared.form.Form.{Form}
@@ -62,6 +64,17 @@ strings_of s = record { first = quoted_of s.first; rest = map quoted_of s.rest.i
 abbrev pub edges_of : OneOrMore ℤ → Edges
 edges_of s = record { first = s.first; rest = s.rest.items }
 
+-- an action
+abbrev pub action_of : Action → f.Method
+action_of action.Count = f.Count
+action_of (action.Sum c) = f.Sum (quoted_of c)
+action_of (action.Min c) = f.Min (quoted_of c)
+action_of (action.Max c) = f.Max (quoted_of c)
+action_of (action.Take c) = f.Take (quoted_of c)
+action_of (action.Reduce o c) = f.Reduce (quoted_of o) (quoted_of c)
+action_of (action.Histo1D es x w) = f.Histo1D (edges_of es) (quoted_of x) (option_map quoted_of w)
+action_of (action.Histo2D es gs x y w) = f.Histo2D (edges_of es) (edges_of gs) (quoted_of x) (quoted_of y) (option_map quoted_of w)
+
 -- a method
 abbrev pub method_of : Method → f.Method
 method_of (method.Define c e) = f.Define (quoted_of c) (quoted_of e)
@@ -70,15 +83,8 @@ method_of (method.Alias c t) = f.Alias (quoted_of c) (quoted_of t)
 method_of (method.Filter e l) = f.Filter (quoted_of e) (option_map quoted_of l)
 method_of (method.VaryOne c v ts n) = f.VaryOne (quoted_of c) (quoted_of v) (strings_of ts) (option_map quoted_of n)
 method_of (method.VaryAll cs v ts n) = f.VaryAll (strings_of cs) (quoted_of v) (strings_of ts) (quoted_of n)
-method_of method.Count = f.Count
 method_of method.Report = f.Report
-method_of (method.Sum c) = f.Sum (quoted_of c)
-method_of (method.Min c) = f.Min (quoted_of c)
-method_of (method.Max c) = f.Max (quoted_of c)
-method_of (method.Take c) = f.Take (quoted_of c)
-method_of (method.Reduce o c) = f.Reduce (quoted_of o) (quoted_of c)
-method_of (method.Histo1D es x w) = f.Histo1D (edges_of es) (quoted_of x) (option_map quoted_of w)
-method_of (method.Histo2D es gs x y w) = f.Histo2D (edges_of es) (edges_of gs) (quoted_of x) (quoted_of y) (option_map quoted_of w)
+method_of (method.Action a) = action_of a
 
 -- a form
 abbrev pub form_of : Form → f.Form

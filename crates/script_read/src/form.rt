@@ -8,6 +8,40 @@ pub(crate) struct OneOrMore<T> {
     pub(crate) rest: Vec<T>,
 }
 
+/// What is computed over the entries of a node.
+#[derive(Drop)]
+pub(crate) enum Action<'a> {
+    Count,
+    Sum {
+        column: Quoted<'a>,
+    },
+    Min {
+        column: Quoted<'a>,
+    },
+    Max {
+        column: Quoted<'a>,
+    },
+    Take {
+        column: Quoted<'a>,
+    },
+    Reduce {
+        operation: Quoted<'a>,
+        column: Quoted<'a>,
+    },
+    Histo1D {
+        x_edges: OneOrMore<i64>,
+        x: Quoted<'a>,
+        weight: Option<Quoted<'a>>,
+    },
+    Histo2D {
+        x_edges: OneOrMore<i64>,
+        y_edges: OneOrMore<i64>,
+        x: Quoted<'a>,
+        y: Quoted<'a>,
+        weight: Option<Quoted<'a>>,
+    },
+}
+
 /// What is called on a node.
 #[derive(Drop)]
 pub(crate) enum Method<'a> {
@@ -39,36 +73,8 @@ pub(crate) enum Method<'a> {
         tags: OneOrMore<Quoted<'a>>,
         name: Quoted<'a>,
     },
-    Count,
     Report,
-    Sum {
-        column: Quoted<'a>,
-    },
-    Min {
-        column: Quoted<'a>,
-    },
-    Max {
-        column: Quoted<'a>,
-    },
-    Take {
-        column: Quoted<'a>,
-    },
-    Reduce {
-        operation: Quoted<'a>,
-        column: Quoted<'a>,
-    },
-    Histo1D {
-        x_edges: OneOrMore<i64>,
-        x: Quoted<'a>,
-        weight: Option<Quoted<'a>>,
-    },
-    Histo2D {
-        x_edges: OneOrMore<i64>,
-        y_edges: OneOrMore<i64>,
-        x: Quoted<'a>,
-        y: Quoted<'a>,
-        weight: Option<Quoted<'a>>,
-    },
+    Action(Action<'a>),
 }
 
 /// A line that has tokens.

@@ -2,11 +2,11 @@
 ghost use Rattle.std.specs.Prelude.{◌≡◌, [], ◌∷◌, ◌++◌, Err, IfOk};
 ghost use Rattle.rdf_values.specs.LineForms.{method_word, arguments, call, strings_tokens};
 ghost use Rattle.rdf_values.specs.LineTokens.{Quoted as AsQuoted, Comma as AsComma};
-ghost use Rattle.script_read.specs.Views.{quoted_of, strings_of, method_of};
+ghost use Rattle.script_read.specs.Views.{quoted_of, strings_of, action_of, method_of};
 ghost use Rattle.script_read.specs.Walk.{name_word, name_of, Took, IsStuck, TookArguments, SeesMethod, AMethod, variation_wants, arguments_wants};
 
 use crate::fail::Fail;
-use crate::form::{Method, OneOrMore};
+use crate::form::{Action, Method, OneOrMore};
 use crate::token::{Mark, Quoted, Token};
 use crate::walk::Walk;
 
@@ -147,19 +147,19 @@ impl<'t, 'a> Walk<'t, 'a> {
         }
     }
 
-    fn histo1d(&mut self) -> Result<Method<'a>, Fail>
-        ensures took { IfOk result (λ m. TookArguments (MethodName.Action ActionName.Histo1D) (method_of m) (left_of self.old) (left_of self.new)) }
+    fn histo1d(&mut self) -> Result<Action<'a>, Fail>
+        ensures took { IfOk result (λ a. TookArguments (MethodName.Action ActionName.Histo1D) (action_of a) (left_of self.old) (left_of self.new)) }
         ensures stuck { result ≡ Err Fail.Unexpected → IsStuck (arguments_wants (MethodName.Action ActionName.Histo1D)) (left_of self.old) (left_of self.new) }
     {
         let x_edges = self.edges()?;
         self.expect(Mark::Comma)?;
         let x = self.string()?;
         let weight = self.maybe_string()?;
-        Ok(Method::Histo1D { x_edges, x, weight })
+        Ok(Action::Histo1D { x_edges, x, weight })
     }
 
-    fn histo2d(&mut self) -> Result<Method<'a>, Fail>
-        ensures took { IfOk result (λ m. TookArguments (MethodName.Action ActionName.Histo2D) (method_of m) (left_of self.old) (left_of self.new)) }
+    fn histo2d(&mut self) -> Result<Action<'a>, Fail>
+        ensures took { IfOk result (λ a. TookArguments (MethodName.Action ActionName.Histo2D) (action_of a) (left_of self.old) (left_of self.new)) }
         ensures stuck { result ≡ Err Fail.Unexpected → IsStuck (arguments_wants (MethodName.Action ActionName.Histo2D)) (left_of self.old) (left_of self.new) }
     {
         let x_edges = self.edges()?;
@@ -170,7 +170,7 @@ impl<'t, 'a> Walk<'t, 'a> {
         self.expect(Mark::Comma)?;
         let y = self.string()?;
         let weight = self.maybe_string()?;
-        Ok(Method::Histo2D {
+        Ok(Action::Histo2D {
             x_edges,
             y_edges,
             x,
@@ -179,34 +179,34 @@ impl<'t, 'a> Walk<'t, 'a> {
         })
     }
 
-    fn action(&mut self, name: ActionName) -> Result<Method<'a>, Fail>
-        ensures took { IfOk result (λ m. TookArguments (MethodName.Action name) (method_of m) (left_of self.old) (left_of self.new)) }
+    fn action_arguments(&mut self, name: ActionName) -> Result<Action<'a>, Fail>
+        ensures took { IfOk result (λ a. TookArguments (MethodName.Action name) (action_of a) (left_of self.old) (left_of self.new)) }
         ensures stuck { result ≡ Err Fail.Unexpected → IsStuck (arguments_wants (MethodName.Action name)) (left_of self.old) (left_of self.new) }
     {
         match name {
             ActionName::Count => {
                 self.expect(Mark::Close)?;
-                Ok(Method::Count)
+                Ok(Action::Count)
             }
             ActionName::Sum => {
                 let column = self.last_string()?;
-                Ok(Method::Sum { column })
+                Ok(Action::Sum { column })
             }
             ActionName::Min => {
                 let column = self.last_string()?;
-                Ok(Method::Min { column })
+                Ok(Action::Min { column })
             }
             ActionName::Max => {
                 let column = self.last_string()?;
-                Ok(Method::Max { column })
+                Ok(Action::Max { column })
             }
             ActionName::Take => {
                 let column = self.last_string()?;
-                Ok(Method::Take { column })
+                Ok(Action::Take { column })
             }
             ActionName::Reduce => {
                 let (operation, column) = self.two_strings()?;
-                Ok(Method::Reduce { operation, column })
+                Ok(Action::Reduce { operation, column })
             }
             ActionName::Histo1D => self.histo1d(),
             ActionName::Histo2D => self.histo2d(),
@@ -241,7 +241,7 @@ impl<'t, 'a> Walk<'t, 'a> {
                 self.expect(Mark::Close)?;
                 Ok(Method::Report)
             }
-            MethodName::Action(action) => self.action(action),
+            MethodName::Action(action) => Ok(Method::Action(self.action_arguments(action)?)),
         }
     }
 

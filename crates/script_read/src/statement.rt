@@ -3,11 +3,11 @@ ghost use Rattle.std.specs.Prelude.{◌≡◌, [], ◌∷◌, option_map, IfOk, 
 ghost use Rattle.rdf_values.specs.LineForms as line;
 ghost use Rattle.rdf_values.specs.Scans.{ReadsText};
 ghost use Rattle.rdf_values.specs.Statements.{Says, IsName, IsAction, AName, AnExpression, FirstBad, all_edges, maybe_wanted, form_strings, method_strings};
-ghost use Rattle.script_read.specs.Views.{quoted_of, strings_of, edges_of, method_of, form_of};
+ghost use Rattle.script_read.specs.Views.{quoted_of, strings_of, edges_of, action_of, method_of, form_of};
 ghost use Rattle.script_read.specs.Stops.{RefusedFor};
-ghost use Rattle.script_read.specs.Methods.{IsActionMethod, IsNamed};
+ghost use Rattle.script_read.specs.VaryNames.{IsNamed};
 
-use crate::form::{Form, Method, OneOrMore};
+use crate::form::{Action, Form, Method, OneOrMore};
 use crate::stop::LineStop;
 use crate::strings;
 use crate::token::{Quoted, Word};
@@ -257,42 +257,39 @@ fn histo2d(
     })
 }
 
-// What an action computes; `booking` reads the other methods.
-fn action_kind(alloc: Global, method: &Method<'_>) -> Result<ActionKind, LineStop>
-    requires { IsActionMethod (method_of method.now) }
-    ensures ok { IfOk result (λ k. IsAction (method_of method.now) k) }
-    ensures err { IfErr result (λ e. RefusedFor (FirstBad (method_strings (method_of method.now))) e) }
+// What an action computes.
+fn action_kind(alloc: Global, action: &Action<'_>) -> Result<ActionKind, LineStop>
+    ensures ok { IfOk result (λ k. IsAction (action_of action.now) k) }
+    ensures err { IfErr result (λ e. RefusedFor (FirstBad (method_strings (action_of action.now))) e) }
 {
-    match method {
-        Method::Count => Ok(ActionKind::Count),
-        Method::Sum { column } => Ok(ActionKind::Sum(strings::name(alloc, column)?)),
-        Method::Min { column } => Ok(ActionKind::Min(strings::name(alloc, column)?)),
-        Method::Max { column } => Ok(ActionKind::Max(strings::name(alloc, column)?)),
-        Method::Take { column } => Ok(ActionKind::Take(strings::name(alloc, column)?)),
-        Method::Reduce { operation, column } => reduce(alloc, operation, column),
-        Method::Histo1D { x_edges, x, weight } => histo1d(alloc, x_edges, x, weight),
-        Method::Histo2D {
+    match action {
+        Action::Count => Ok(ActionKind::Count),
+        Action::Sum { column } => Ok(ActionKind::Sum(strings::name(alloc, column)?)),
+        Action::Min { column } => Ok(ActionKind::Min(strings::name(alloc, column)?)),
+        Action::Max { column } => Ok(ActionKind::Max(strings::name(alloc, column)?)),
+        Action::Take { column } => Ok(ActionKind::Take(strings::name(alloc, column)?)),
+        Action::Reduce { operation, column } => reduce(alloc, operation, column),
+        Action::Histo1D { x_edges, x, weight } => histo1d(alloc, x_edges, x, weight),
+        Action::Histo2D {
             x_edges,
             y_edges,
             x,
             y,
             weight,
         } => histo2d(alloc, x_edges, y_edges, x, y, weight),
-        _ => unreachable!(),
     }
 }
 
-fn action(
+fn booked_action(
     alloc: Global,
     node: Name,
     parent: Name,
-    method: &Method<'_>,
+    action: &Action<'_>,
 ) -> Result<Statement, LineStop>
-    requires { IsActionMethod (method_of method.now) }
-    ensures ok { IfOk result (λ s. Says (line.Books node parent (method_of method.now)) s) }
-    ensures err { IfErr result (λ e. RefusedFor (FirstBad (method_strings (method_of method.now))) e) }
+    ensures ok { IfOk result (λ s. Says (line.Books node parent (action_of action.now)) s) }
+    ensures err { IfErr result (λ e. RefusedFor (FirstBad (method_strings (action_of action.now))) e) }
 {
-    let kind = action_kind(alloc, method)?;
+    let kind = action_kind(alloc, action)?;
     Ok(Statement::Action {
         result: node,
         parent,
@@ -331,7 +328,7 @@ fn booking(
             result: node,
             parent,
         }),
-        _ => action(alloc, node, parent, method),
+        Method::Action(action) => booked_action(alloc, node, parent, action),
     }
 }
 

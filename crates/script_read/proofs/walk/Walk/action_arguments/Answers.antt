@@ -3,7 +3,7 @@ use Rattle.script_read.specs.Left.{left_of}
 use Rattle.script_read.specs.Walk.{IsStuck, arguments_wants}
 use Rattle.script_read.specs.declared.method.ActionName.{ActionName}
 use Rattle.script_read.specs.declared.method.MethodName.TheVariants as name
-use Rattle.script_read.proofs.walk.Walk.action.Goals as goal
+use Rattle.script_read.proofs.walk.Walk.action_arguments.Goals as goal
 
 pub returns-in-Histo2D-clause-stuck : goal.returns-in-Histo2D-clause-stuck
 returns-in-Histo2D-clause-stuck c h =
