@@ -2,6 +2,7 @@
 use Rattle.std.proofs.Common.{◌≡◌, ℕ, ℤ, Bool, true, false, List, [], ◌∷◌, Result, Ok, All, sym, ◌∙◌, cond, nat_eq, zero, suc}
 use Rattle.std.specs.List.{AllByRecursion}
 use Rattle.std.proofs.lemmas.List.Elements.{recursion_from_All, All-from_recursion}
+use Rattle.expr_check.proofs.ScopeKinds.{each_weaker}
 use Rattle.rdf_values.specs.Numbered.{ScopeColumn}
 use Rattle.rdf_values.specs.declared.value.ColType.{ColType}
 use Rattle.rdf_values.specs.declared.value.ColType.TheVariants.{Int}
@@ -10,10 +11,6 @@ use Rattle.rdf_model.specs.Laws.{FitsOutcome}
 use Rattle.expr_check.specs.NumKinds.{number_kind}
 use Rattle.expr_check.specs.Scopes.{numbers_in}
 use Rattle.bench_kernels.specs.Entries.{AreInts, entry_outcome}
-
-weaker : {X : Type 0} (P Q : X → Type 0) → ((x : X) → P x → Q x) → (xs : List X) → AllByRecursion P xs → AllByRecursion Q xs
-weaker P Q f [] h = tt
-weaker P Q f (x ∷ xs) h = (f x h.0, weaker P Q f xs h.1)
 
 int_number : (columns : List ScopeColumn) (n : ℕ) (k : ColType) → AllByRecursion (λ (c : ScopeColumn). c.kind ≡ Int) columns → number_kind (numbers_in columns) n ≡ Ok k → k ≡ Int
 int_number [] n k each is = cc is
@@ -29,7 +26,7 @@ pub all_ints : (columns : List ScopeColumn) (kinds : List (ℕ × ColType)) → 
 all_ints columns kinds ints known =
     let each = recursion_from_All (λ (c : ScopeColumn). c.kind ≡ Int) columns ints in
     All-from_recursion (λ (k : ℕ × ColType). k.1 ≡ Int) kinds
-    (weaker (λ (k : ℕ × ColType). number_kind (numbers_in columns) k.0 ≡ Ok k.1) (λ (k : ℕ × ColType). k.1 ≡ Int) (λ k is. int_number columns k.0 k.1 each is) kinds
+    (each_weaker (λ (k : ℕ × ColType). number_kind (numbers_in columns) k.0 ≡ Ok k.1) (λ (k : ℕ × ColType). k.1 ≡ Int) (λ k is. int_number columns k.0 k.1 each is) kinds
     (recursion_from_All (λ (k : ℕ × ColType). number_kind (numbers_in columns) k.0 ≡ Ok k.1) kinds known))
 
 fits_int : (pt eta w : ℤ) (n : ℕ) → FitsOutcome Int (entry_outcome pt eta w n)
@@ -45,4 +42,4 @@ fits_kind pt eta w k e = rw e (fits_int pt eta w k.0)
 pub entry_fits : (pt eta w : ℤ) (kinds : List (ℕ × ColType)) → AreInts kinds → All (λ (k : ℕ × ColType). FitsOutcome k.1 (entry_outcome pt eta w k.0)) kinds
 entry_fits pt eta w kinds ints =
     All-from_recursion (λ (k : ℕ × ColType). FitsOutcome k.1 (entry_outcome pt eta w k.0)) kinds
-    (weaker (λ (k : ℕ × ColType). k.1 ≡ Int) (λ (k : ℕ × ColType). FitsOutcome k.1 (entry_outcome pt eta w k.0)) (fits_kind pt eta w) kinds (recursion_from_All (λ (k : ℕ × ColType). k.1 ≡ Int) kinds ints))
+    (each_weaker (λ (k : ℕ × ColType). k.1 ≡ Int) (λ (k : ℕ × ColType). FitsOutcome k.1 (entry_outcome pt eta w k.0)) (fits_kind pt eta w) kinds (recursion_from_All (λ (k : ℕ × ColType). k.1 ≡ Int) kinds ints))

@@ -4,6 +4,7 @@ use Rattle.std.specs.List.{AllByRecursion}
 use Rattle.std.specs.Prelude.{slice_get}
 use Rattle.std.proofs.lemmas.Bool.Decides.{Decides-eqb}
 use Rattle.std.proofs.lemmas.List.Elements.{recursion_from_All, All-from_recursion}
+use Rattle.expr_check.proofs.ScopeKinds.{each_weaker}
 use Rattle.rdf_values.specs.Numbered.{ScopeColumn}
 use Rattle.rdf_values.specs.declared.value.ColType.{ColType}
 use Rattle.rdf_values.specs.declared.value.ColType.TheVariants as kind
@@ -55,15 +56,11 @@ column_fits cells place cell at = rw at (cell_fits place cell)
 
 -- ---- scopes
 
-weaker : {X : Type 0} (P Q : X → Type 0) → ((x : X) → P x → Q x) → (xs : List X) → AllByRecursion P xs → AllByRecursion Q xs
-weaker P Q f [] h = tt
-weaker P Q f (x ∷ xs) h = (f x h.0, weaker P Q f xs h.1)
-
 -- no column before a place has its number
 pub new_number : (cells : List Cell) (place : ℕ) (k : ColType) (columns : List ScopeColumn) → AreBefore cells place columns → NumberHasKind place k columns
 new_number cells place k columns before =
     All-from_recursion (λ (c : ScopeColumn). c.number ≡ place → c.kind ≡ k) columns
-    (weaker (IsBefore cells place) (λ (c : ScopeColumn). c.number ≡ place → c.kind ≡ k) (λ c b e. let l = b.0 in absurd (omega arith)) columns (recursion_from_All (IsBefore cells place) columns before))
+    (each_weaker (IsBefore cells place) (λ (c : ScopeColumn). c.number ≡ place → c.kind ≡ k) (λ c b e. let l = b.0 in absurd (omega arith)) columns (recursion_from_All (IsBefore cells place) columns before))
 
 with_last : (P Q : ScopeColumn → Type 0) → ((c : ScopeColumn) → P c → Q c) → (last : ScopeColumn) → Q last → (columns : List ScopeColumn) → AllByRecursion P columns → AllByRecursion Q (columns ++ last ∷ [])
 with_last P Q f last l [] h = (l, tt)
@@ -92,7 +89,7 @@ kind_fits look (c ∷ cs) n k each is = by_test (nat_eq c.number n) c.kind (numb
 pub all_fit : (cells : List Cell) (place : ℕ) (columns : List ScopeColumn) (kinds : List (ℕ × ColType)) → AreBefore cells place columns
     → All (λ (k : ℕ × ColType). number_kind (numbers_in columns) k.0 ≡ Ok k.1) kinds → AllFit cells kinds
 all_fit cells place columns kinds before known =
-    let each = weaker (IsBefore cells place) (λ (c : ScopeColumn). FitsOutcome c.kind (look_in cells c.number)) (λ c b. b.1) columns (recursion_from_All (IsBefore cells place) columns before) in
+    let each = each_weaker (IsBefore cells place) (λ (c : ScopeColumn). FitsOutcome c.kind (look_in cells c.number)) (λ c b. b.1) columns (recursion_from_All (IsBefore cells place) columns before) in
     All-from_recursion (λ (k : ℕ × ColType). FitsOutcome k.1 (look_in cells k.0)) kinds
-    (weaker (λ (k : ℕ × ColType). number_kind (numbers_in columns) k.0 ≡ Ok k.1) (λ (k : ℕ × ColType). FitsOutcome k.1 (look_in cells k.0)) (λ k is. kind_fits (look_in cells) columns k.0 k.1 each is) kinds
+    (each_weaker (λ (k : ℕ × ColType). number_kind (numbers_in columns) k.0 ≡ Ok k.1) (λ (k : ℕ × ColType). FitsOutcome k.1 (look_in cells k.0)) (λ k is. kind_fits (look_in cells) columns k.0 k.1 each is) kinds
     (recursion_from_All (λ (k : ℕ × ColType). number_kind (numbers_in columns) k.0 ≡ Ok k.1) kinds known))
