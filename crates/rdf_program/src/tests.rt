@@ -224,6 +224,41 @@ fn a_script_has_at_most_65536_bytes(rt: HostRuntime) -> Result<(), Fail> {
     Ok(())
 }
 
+// A table of no entries with so many bytes: empty lines are passed over.
+fn table_of_size(alloc: Global, size: usize) -> Result<Text, Fail> {
+    let mut table = Text::new(alloc);
+    table.extend(b"pt:int".as_slice())?;
+    for _ in 6..size {
+        table.push(b'\n')?;
+    }
+    Ok(table)
+}
+
+fn table_answer(alloc: Global, table: &Text) -> Result<(Status, MemorySink), Fail> {
+    run(
+        alloc,
+        TWO_FILES,
+        Some(COUNT.as_bytes()),
+        Some(table.as_bytes()),
+    )
+}
+
+#[test]
+fn a_table_has_at_most_67108864_bytes(rt: HostRuntime) -> Result<(), Fail> {
+    let largest = table_of_size(rt.alloc(), 67_108_864)?;
+    let (status, sink) = table_answer(rt.alloc(), &largest)?;
+    assert!(rt; status == Status::Done);
+    assert_eq!(rt; sink.bytes(), b"n = 0\n".as_slice());
+    let longer = table_of_size(rt.alloc(), 67_108_865)?;
+    let (status, sink) = table_answer(rt.alloc(), &longer)?;
+    assert!(rt; status == Status::TableRefused);
+    assert_eq!(rt;
+        sink.bytes(),
+        b"table refused: longer than 67108864 bytes\n".as_slice()
+    );
+    Ok(())
+}
+
 #[test]
 fn what_is_not_built_is_refused_after_the_table(rt: HostRuntime) -> Result<(), Fail> {
     let runs = [
