@@ -5,3 +5,4 @@ pub mod Entries
 pub mod Fitting
 pub mod OneDue
 pub mod Prints
+pub mod SomeDue

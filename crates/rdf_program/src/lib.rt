@@ -17,7 +17,7 @@ mod to_words;
 mod top;
 
 pub use crate::names_fit::names_fit_where_demands_are_kept;
-pub use crate::one_due::at_most_one_due;
+pub use crate::one_due::exactly_one_due;
 pub use crate::status::Status;
 pub use crate::top::rdf_top;
 

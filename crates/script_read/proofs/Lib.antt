@@ -1,3 +1,5 @@
+pub mod Answered
+pub mod AnsweredStrings
 pub mod FirstBads
 pub mod FirstLines
 pub mod Items

@@ -4,6 +4,7 @@
 
 mod fail;
 mod form;
+mod laws;
 mod lexeme;
 mod line;
 mod lines;
@@ -19,5 +20,6 @@ mod token;
 mod tokenizer;
 mod walk;
 
+pub use crate::laws::one_answer;
 pub use crate::read::read_script;
 pub use crate::refusal::ScriptRefusal;

@@ -1,0 +1,212 @@
+-- A form says something, or one of its strings is the first that is bad.
+use Rattle.std.proofs.Common.{◌≡◌, ℕ, Bool, true, false, List, [], ◌∷◌, ◌++◌, Option, Some, None, refl, inl, inr}
+use Rattle.std.specs.Prelude.{◌⊎◌, codes}
+use Rattle.std.proofs.lemmas.Slice.Eq.{bytes_eq-Decides}
+use Rattle.rdf_values.specs.Names.{is_name, is_label, same}
+use Rattle.rdf_values.specs.Tree.{NamedTree}
+use Rattle.rdf_values.specs.Grammar.{Reads, ReadsValues}
+use Rattle.rdf_values.specs.Scans.{ReadsText, ReadsValuesText, begin_expr, begin_values}
+use Rattle.rdf_values.specs.LineTokens.{QuotedText}
+use Rattle.rdf_values.specs.LineForms.{Form, Method}
+use Rattle.rdf_values.specs.LineForms as form
+use Rattle.rdf_values.specs.Statements.{Says, IsAction, IsName, IsMaybeName, no_name, a_name, AreNames, no_names, more_names, IsMaybeLabel, no_label, a_label, Wanted, AName, ALabel, AnOperation, AnExpression, SomeValues, IsBad, FirstBad, LineRefusal, here, later, wanted_names, maybe_wanted, operation_text, method_strings, form_strings, all_strings, all_edges}
+use Rattle.rdf_values.specs.Statements as st
+use Rattle.rdf_values.specs.declared.action.ActionKind.{ActionKind}
+use Rattle.rdf_values.specs.declared.action.ActionKind.TheVariants as kind
+use Rattle.rdf_values.specs.declared.action.ReduceOp.{ReduceOp}
+use Rattle.rdf_values.specs.declared.action.ReduceOp.TheVariants as op
+use Rattle.rdf_values.specs.declared.statement.Statement.{Statement}
+use Rattle.rdf_values.specs.declared.statement.Statement.TheVariants as says
+use Rattle.rdf_values.specs.declared.vary_values.VaryValues.{VaryValues}
+use Rattle.expr_read.proofs.Decided.{answered}
+use Rattle.expr_read.proofs.Whole.{whole, whole_values}
+use Rattle.expr_read.proofs.WholeReads.{reads_expr, reads_values}
+use Rattle.script_read.proofs.FirstBads.{IsGood, AreGood, no_strings, more_strings, good_name, good_operation, good_expression, good_values, good_names}
+
+-- ---- one string
+
+-- what was wanted, or the refusal of the string
+abbrev OrBad : Type 0 → QuotedText × Wanted → Type 0
+OrBad A w = A ⊎ ((r : LineRefusal) × IsBad w r)
+
+-- what was wanted, or the refusal of the first bad string
+abbrev OrFirstBad : Type 0 → List (QuotedText × Wanted) → Type 0
+OrFirstBad A ws = A ⊎ ((r : LineRefusal) × FirstBad ws r)
+
+name_or_bad : (q : QuotedText) → OrBad ((x : List ℕ) × IsName q x) (q, AName)
+name_or_bad q = by_test (is_name q.content) refl
+  where
+    by_test : (b : Bool) → is_name q.content ≡ b → OrBad ((x : List ℕ) × IsName q x) (q, AName)
+    by_test true e = inl (q.content, record { content = refl; name = e })
+    by_test false e = inr (st.Syntax q.place, st.no_name e)
+
+-- the string is that label
+abbrev IsLabel : QuotedText → List ℕ → Type 0
+IsLabel q x = (q.content ≡ x) × (is_label x ≡ true)
+
+label_or_bad : (q : QuotedText) → OrBad ((x : List ℕ) × IsLabel q x) (q, ALabel)
+label_or_bad q = by_test (is_label q.content) refl
+  where
+    by_test : (b : Bool) → is_label q.content ≡ b → OrBad ((x : List ℕ) × IsLabel q x) (q, ALabel)
+    by_test true e = inl (q.content, (refl, e))
+    by_test false e = inr (st.Syntax q.place, st.no_label e)
+
+good_label : (q : QuotedText) (x : List ℕ) → IsLabel q x → IsGood (q, ALabel)
+good_label q x h r (st.no_label e) = let there = h.0 in let is = h.1 in cc (there, is, e)
+
+expression_or_bad : (q : QuotedText) → OrBad ((a : NamedTree) × ReadsText q.content a) (q, AnExpression)
+expression_or_bad q = elim (answered (Reads 0) begin_expr whole reads_expr q.content) [ inl a ↦ inl a | inr r ↦ inr (_, st.no_expression r.1) ]
+
+values_or_bad : (q : QuotedText) → OrBad ((v : VaryValues) × ReadsValuesText q.content v) (q, SomeValues)
+values_or_bad q = elim (answered ReadsValues begin_values whole_values reads_values q.content) [ inl v ↦ inl v | inr r ↦ inr (_, st.no_values r.1) ]
+
+-- the words of the operations are those that are compared
+operation_or_bad : (q : QuotedText) → OrBad ((o : ReduceOp) × (q.content ≡ operation_text o)) (q, AnOperation)
+operation_or_bad q = try_min (same q.content (codes "min")) refl
+  where
+    none : (q.content ≡ codes "min" → ⊥) → (q.content ≡ codes "max" → ⊥) → (q.content ≡ codes "and" → ⊥) → (q.content ≡ codes "or" → ⊥) → (q.content ≡ codes "xor" → ⊥) → (q.content ≡ codes "wrapadd" → ⊥)
+        → (o : ReduceOp) → q.content ≡ operation_text o → ⊥
+    none a b c d e f op.Min h = a h
+    none a b c d e f op.Max h = b h
+    none a b c d e f op.And h = c h
+    none a b c d e f op.Or h = d h
+    none a b c d e f op.Xor h = e h
+    none a b c d e f op.WrapAdd h = f h
+
+    isnt : (w : List ℕ) → same q.content w ≡ false → q.content ≡ w → ⊥
+    isnt w e h = let is = (bytes_eq-Decides q.content w).1 h in cc (is, e)
+
+    try_wrapadd : (b : Bool) → same q.content (codes "wrapadd") ≡ b → (q.content ≡ codes "min" → ⊥) → (q.content ≡ codes "max" → ⊥) → (q.content ≡ codes "and" → ⊥) → (q.content ≡ codes "or" → ⊥) → (q.content ≡ codes "xor" → ⊥)
+        → OrBad ((o : ReduceOp) × (q.content ≡ operation_text o)) (q, AnOperation)
+    try_wrapadd true e i j k l m = inl (op.WrapAdd, (bytes_eq-Decides q.content (codes "wrapadd")).0 e)
+    try_wrapadd false e i j k l m = inr (st.Syntax q.place, st.no_operation (none i j k l m (isnt (codes "wrapadd") e)))
+
+    try_xor : (b : Bool) → same q.content (codes "xor") ≡ b → (q.content ≡ codes "min" → ⊥) → (q.content ≡ codes "max" → ⊥) → (q.content ≡ codes "and" → ⊥) → (q.content ≡ codes "or" → ⊥)
+        → OrBad ((o : ReduceOp) × (q.content ≡ operation_text o)) (q, AnOperation)
+    try_xor true e i j k l = inl (op.Xor, (bytes_eq-Decides q.content (codes "xor")).0 e)
+    try_xor false e i j k l = try_wrapadd (same q.content (codes "wrapadd")) refl i j k l (isnt (codes "xor") e)
+
+    try_or : (b : Bool) → same q.content (codes "or") ≡ b → (q.content ≡ codes "min" → ⊥) → (q.content ≡ codes "max" → ⊥) → (q.content ≡ codes "and" → ⊥)
+        → OrBad ((o : ReduceOp) × (q.content ≡ operation_text o)) (q, AnOperation)
+    try_or true e i j k = inl (op.Or, (bytes_eq-Decides q.content (codes "or")).0 e)
+    try_or false e i j k = try_xor (same q.content (codes "xor")) refl i j k (isnt (codes "or") e)
+
+    try_and : (b : Bool) → same q.content (codes "and") ≡ b → (q.content ≡ codes "min" → ⊥) → (q.content ≡ codes "max" → ⊥) → OrBad ((o : ReduceOp) × (q.content ≡ operation_text o)) (q, AnOperation)
+    try_and true e i j = inl (op.And, (bytes_eq-Decides q.content (codes "and")).0 e)
+    try_and false e i j = try_or (same q.content (codes "or")) refl i j (isnt (codes "and") e)
+
+    try_max : (b : Bool) → same q.content (codes "max") ≡ b → (q.content ≡ codes "min" → ⊥) → OrBad ((o : ReduceOp) × (q.content ≡ operation_text o)) (q, AnOperation)
+    try_max true e i = inl (op.Max, (bytes_eq-Decides q.content (codes "max")).0 e)
+    try_max false e i = try_and (same q.content (codes "and")) refl i (isnt (codes "max") e)
+
+    try_min : (b : Bool) → same q.content (codes "min") ≡ b → OrBad ((o : ReduceOp) × (q.content ≡ operation_text o)) (q, AnOperation)
+    try_min true e = inl (op.Min, (bytes_eq-Decides q.content (codes "min")).0 e)
+    try_min false e = try_max (same q.content (codes "max")) refl (isnt (codes "min") e)
+
+-- ---- several strings
+
+-- a string and those behind it
+then_more : {A B : Type 0} (w : QuotedText × Wanted) (ws : List (QuotedText × Wanted)) → OrBad A w → (A → IsGood w) → OrFirstBad B ws → OrFirstBad (A × B) (w ∷ ws)
+then_more w ws (inr b) good rest = inr (b.0, here b.1)
+then_more w ws (inl a) good (inl b) = inl (a, b)
+then_more w ws (inl a) good (inr b) = inr (b.0, later (good a) b.1)
+
+-- the last string
+last : {A : Type 0} (w : QuotedText × Wanted) → OrBad A w → OrFirstBad A (w ∷ [])
+last w (inr b) = inr (b.0, here b.1)
+last w (inl a) = inl a
+
+bad_after : (vs ws : List (QuotedText × Wanted)) (r : LineRefusal) → AreGood vs → FirstBad ws r → FirstBad (vs ++ ws) r
+bad_after vs ws r no_strings b = b
+bad_after vs ws r (more_strings {w = w} {ws = us} g a) b = later g (bad_after us ws r a b)
+
+bad_first : (vs ws : List (QuotedText × Wanted)) (r : LineRefusal) → FirstBad vs r → FirstBad (vs ++ ws) r
+bad_first vs ws r (here b) = here b
+bad_first vs ws r (later {ss = us} g b) = later g (bad_first us ws r b)
+
+-- strings and those behind them
+then_all : {A B : Type 0} (vs ws : List (QuotedText × Wanted)) → OrFirstBad A vs → (A → AreGood vs) → OrFirstBad B ws → OrFirstBad (A × B) (vs ++ ws)
+then_all vs ws (inr b) good rest = inr (b.0, bad_first vs ws b.0 b.1)
+then_all vs ws (inl a) good (inl b) = inl (a, b)
+then_all vs ws (inl a) good (inr b) = inr (b.0, bad_after vs ws b.0 (good a) b.1)
+
+turned : {A B : Type 0} (ws : List (QuotedText × Wanted)) → (A → B) → OrFirstBad A ws → OrFirstBad B ws
+turned ws f (inl a) = inl (f a)
+turned ws f (inr b) = inr b
+
+name_good : (q : QuotedText) → (x : List ℕ) × IsName q x → IsGood (q, AName)
+name_good q x = good_name q x.0 x.1
+
+names_or_bad : (qs : List QuotedText) → OrFirstBad ((xs : List (List ℕ)) × AreNames qs xs) (wanted_names qs)
+names_or_bad [] = inl ([], no_names)
+names_or_bad (q ∷ qs) = turned (wanted_names (q ∷ qs)) (λ p. (p.0.0 ∷ p.1.0, more_names p.0.1 p.1.1)) (then_more (q, AName) (wanted_names qs) (name_or_bad q) (name_good q) (names_or_bad qs))
+
+names_good : (qs : List QuotedText) → (xs : List (List ℕ)) × AreNames qs xs → AreGood (wanted_names qs)
+names_good qs xs = good_names qs xs.0 xs.1
+
+maybe_name_or_bad : (q : Option QuotedText) → OrFirstBad ((x : Option (List ℕ)) × IsMaybeName q x) (maybe_wanted q AName)
+maybe_name_or_bad None = inl (None, no_name)
+maybe_name_or_bad (Some q) = turned ((q, AName) ∷ []) (λ x. (Some x.0, a_name x.1)) (last (q, AName) (name_or_bad q))
+
+maybe_label_or_bad : (q : Option QuotedText) → OrFirstBad ((x : Option (List ℕ)) × IsMaybeLabel q x) (maybe_wanted q ALabel)
+maybe_label_or_bad None = inl (None, no_label)
+maybe_label_or_bad (Some q) = turned ((q, ALabel) ∷ []) (λ x. (Some x.0, a_label x.1.0 x.1.1)) (last (q, ALabel) (label_or_bad q))
+
+-- ---- forms
+
+-- two strings that are names
+two_names : (c d : QuotedText) → OrFirstBad (((x : List ℕ) × IsName c x) × ((y : List ℕ) × IsName d y)) ((c, AName) ∷ (d, AName) ∷ [])
+two_names c d = then_more (c, AName) ((d, AName) ∷ []) (name_or_bad c) (name_good c) (last (d, AName) (name_or_bad d))
+
+column_and_expression : (c e : QuotedText) → OrFirstBad (((x : List ℕ) × IsName c x) × ((a : NamedTree) × ReadsText e.content a)) ((c, AName) ∷ (e, AnExpression) ∷ [])
+column_and_expression c e = then_more (c, AName) ((e, AnExpression) ∷ []) (name_or_bad c) (name_good c) (last (e, AnExpression) (expression_or_bad e))
+
+one_action : (n p : List ℕ) (c : QuotedText) (m : Method) → ((x : List ℕ) → IsName c x → (k : ActionKind) × IsAction m k) → OrFirstBad ((s : Statement) × Says (form.Books n p m) s) ((c, AName) ∷ [])
+one_action n p c m act = turned ((c, AName) ∷ []) (λ x. let k = act x.0 x.1 in (says.Action n p k.0, st.action k.1)) (last (c, AName) (name_or_bad c))
+
+-- the values and the tags of a Vary, and the strings behind them
+values_and_tags : {B : Type 0} (v : QuotedText) (ts : List QuotedText) (ws : List (QuotedText × Wanted)) → OrFirstBad B ws
+    → OrFirstBad (((vs : VaryValues) × ReadsValuesText v.content vs) × (((tags : List (List ℕ)) × AreNames ts tags) × B)) ((v, SomeValues) ∷ (wanted_names ts ++ ws))
+values_and_tags v ts ws rest =
+    then_more (v, SomeValues) (wanted_names ts ++ ws) (values_or_bad v) (λ a. good_values v a.0 a.1) (then_all (wanted_names ts) ws (names_or_bad ts) (names_good ts) rest)
+
+says_vary_one : (n p : List ℕ) (c v : QuotedText) (ts : form.Strings) (m : Option QuotedText) (x : List ℕ) (vs : VaryValues) (tags : List (List ℕ)) (y : Option (List ℕ))
+    → IsName c x → ReadsValuesText v.content vs → AreNames (all_strings ts) tags → IsMaybeName m y → (s : Statement) × Says (form.Books n p (form.VaryOne c v ts m)) s
+says_vary_one n p c v ts m x vs tags y a b d no_name = (says.Vary n p (x ∷ []) vs tags x, st.vary a b d)
+says_vary_one n p c v ts m x vs tags y a b d (a_name {x = z} e) = (says.Vary n p (x ∷ []) vs tags z, st.vary_named a b d e)
+
+method_says : (n p : List ℕ) (m : Method) → OrFirstBad ((s : Statement) × Says (form.Books n p m) s) (method_strings m)
+method_says n p (form.Define c e) = turned _ (λ a. (says.Define n p a.0.0 a.1.0, st.define a.0.1 a.1.1)) (column_and_expression c e)
+method_says n p (form.Redefine c e) = turned _ (λ a. (says.Redefine n p a.0.0 a.1.0, st.redefine a.0.1 a.1.1)) (column_and_expression c e)
+method_says n p (form.Alias c t) = turned _ (λ a. (says.Alias n p a.0.0 a.1.0, st.alias a.0.1 a.1.1)) (two_names c t)
+method_says n p (form.Filter e l) =
+    turned _ (λ a. (says.Filter n p a.0.0 a.1.0, st.filter a.0.1 a.1.1))
+    (then_more (e, AnExpression) (maybe_wanted l ALabel) (expression_or_bad e) (λ a. good_expression e a.0 a.1) (maybe_label_or_bad l))
+method_says n p (form.VaryOne c v ts m) =
+    turned _ (λ a. says_vary_one n p c v ts m a.0.0 a.1.0.0 a.1.1.0.0 a.1.1.1.0 a.0.1 a.1.0.1 a.1.1.0.1 a.1.1.1.1)
+    (then_more (c, AName) ((v, SomeValues) ∷ (wanted_names (all_strings ts) ++ maybe_wanted m AName)) (name_or_bad c) (name_good c) (values_and_tags v (all_strings ts) (maybe_wanted m AName) (maybe_name_or_bad m)))
+method_says n p (form.VaryAll cs v ts m) =
+    turned _ (λ a. (says.Vary n p a.0.0 a.1.0.0 a.1.1.0.0 a.1.1.1.0, st.vary_all a.0.1 a.1.0.1 a.1.1.0.1 a.1.1.1.1))
+    (then_all (wanted_names (all_strings cs)) ((v, SomeValues) ∷ (wanted_names (all_strings ts) ++ (m, AName) ∷ [])) (names_or_bad (all_strings cs)) (names_good (all_strings cs)) (values_and_tags v (all_strings ts) ((m, AName) ∷ []) (last (m, AName) (name_or_bad m))))
+method_says n p form.Count = inl (says.Action n p kind.Count, st.action st.count)
+method_says n p form.Report = inl (says.Report n p, st.report)
+method_says n p (form.Sum c) = one_action n p c (form.Sum c) (λ x a. (kind.Sum x, st.sum a))
+method_says n p (form.Min c) = one_action n p c (form.Min c) (λ x a. (kind.Min x, st.min a))
+method_says n p (form.Max c) = one_action n p c (form.Max c) (λ x a. (kind.Max x, st.max a))
+method_says n p (form.Take c) = one_action n p c (form.Take c) (λ x a. (kind.Take x, st.take a))
+method_says n p (form.Reduce o c) =
+    turned _ (λ a. (says.Action n p (kind.Reduce a.0.0 a.1.0), st.action (st.reduce a.0.1 a.1.1)))
+    (then_more (o, AnOperation) ((c, AName) ∷ []) (operation_or_bad o) (λ a. good_operation o a.0 a.1) (last (c, AName) (name_or_bad c)))
+method_says n p (form.Histo1D es x w) =
+    turned _ (λ a. (says.Action n p (kind.Histo1D (all_edges es) a.0.0 a.1.0), st.action (st.histo1d a.0.1 a.1.1)))
+    (then_more (x, AName) (maybe_wanted w AName) (name_or_bad x) (name_good x) (maybe_name_or_bad w))
+method_says n p (form.Histo2D es fs x y w) =
+    turned _ (λ a. (says.Action n p (kind.Histo2D (all_edges es) (all_edges fs) a.0.0 a.1.0.0 a.1.1.0), st.action (st.histo2d a.0.1 a.1.0.1 a.1.1.1)))
+    (then_more (x, AName) ((y, AName) ∷ maybe_wanted w AName) (name_or_bad x) (name_good x) (then_more (y, AName) (maybe_wanted w AName) (name_or_bad y) (name_good y) (maybe_name_or_bad w)))
+
+-- a form says something, or its first bad string refuses it
+pub form_says : (f : Form) → ((s : Statement) × Says f s) ⊎ ((r : LineRefusal) × FirstBad (form_strings f) r)
+form_says (form.Books n p m) = method_says n p m
+form_says (form.Print r) = inl (says.Print r, st.print)
+form_says (form.VariationsFor r) = inl (says.VariationsFor r, st.variations_for)
+form_says (form.Watch r) = inl (says.Watch r, st.watch)
