@@ -1,7 +1,7 @@
 -- The lines of refusals, and the generator's table, computed.
-use Rattle.std.specs.Prelude.{◌≡◌, ◌%◌, ℕ, [], ◌∷◌, take, length, codes, refl}
+use Rattle.std.specs.Prelude.{◌≡◌, [], codes, refl}
 use Rattle.std.specs.Fmt.{digits}
-use Rattle.rdf_values.specs.Generator.{entry_line, generated_script, generated_table, residues}
+use Rattle.rdf_values.specs.Generator.{entry_line, generated_table, residues}
 use Rattle.rdf_values.specs.RefusalLines.{read_failed_line, no_file_line, script_cause_line, graph_cause_line, table_cause_line}
 use Rattle.rdf_values.specs.declared.expr_cause.ExprCause.TheVariants.{BadNumber}
 use Rattle.rdf_values.specs.declared.script_cause.ScriptCause.TheVariants as text
