@@ -18,7 +18,7 @@ use Rattle.actions.specs.Values.{fed_value}
 use Rattle.actions.proofs.Folds.{extreme_fold}
 use Rattle.actions.proofs.Operations.{extreme_from, max_comm, max_swap, min_comm, min_swap, option_swaps}
 use Rattle.actions.proofs.Reductions.{reduce_both}
-use Rattle.actions.proofs.States.{numbers_fit-append, the_count, the_extreme, the_flat, the_square, the_sum}
+use Rattle.actions.proofs.States.{the_count, the_extreme, the_flat, the_square, the_sum}
 use Rattle.actions.proofs.Unordered.{both_same, flat_joined, items_of, length-in_file_order, square_joined, sum_both}
 
 plain_values : (vs : List TakenValue) → map (λ (v : TakenValue). v.value) vs ≡ flat_map scalar_of (items_of (map fed_value vs))
@@ -30,14 +30,12 @@ module _ (a b : List Fed) where
   merge_count n m h k = record {
     made = ap Count (ap (λ x. x + m) (ap the_count h.made ∙ length-in_file_order a) ∙ ap (λ y. length a + y) (ap the_count k.made ∙ length-in_file_order b) ∙ sym (length-in_file_order (a ++ b) ∙ length-append a b));
     kept = refl;
-    fit = tt;
   }
 
   pub merge_sum : (c d : List ℕ) (x y z : ℤ) → z ≡ x +ℤ y → Holds (state.Sum c x) a → Holds (state.Sum d y) b → Holds (state.Sum c z) (a ++ b)
   merge_sum c d x y z e h k = record {
     made = ap Sum (e ∙ ap (λ s. s +ℤ y) (ap (λ f. the_sum f x) h.made) ∙ ap (λ s. integer_sum (numbers_of (in_file_order a)) +ℤ s) (ap (λ f. the_sum f y) k.made) ∙ sym (sum_both number_of a b));
     kept = refl;
-    fit = tt;
   }
 
   extreme_both : (better : ℤ → ℤ → ℤ) → ((s x y : ℤ) → better (better s x) y ≡ better (better s y) x) → ((x y : ℤ) → better x y ≡ better y x)
@@ -52,14 +50,12 @@ module _ (a b : List Fed) where
   merge_min c d x y z e h k = record {
     made = ap Extreme (e ∙ ap (λ o. better_of_two int_min o y) (ap the_extreme h.made) ∙ ap (better_of_two int_min (extreme int_min (numbers_of (in_file_order a)))) (ap the_extreme k.made) ∙ sym (extreme_both int_min min_swap min_comm));
     kept = refl;
-    fit = tt;
   }
 
   pub merge_max : (c d : List ℕ) (x y z : Option ℤ) → z ≡ better_of_two int_max x y → Holds (state.Max c x) a → Holds (state.Max d y) b → Holds (state.Max c z) (a ++ b)
   merge_max c d x y z e h k = record {
     made = ap Extreme (e ∙ ap (λ o. better_of_two int_max o y) (ap the_extreme h.made) ∙ ap (better_of_two int_max (extreme int_max (numbers_of (in_file_order a)))) (ap the_extreme k.made) ∙ sym (extreme_both int_max max_swap max_comm));
     kept = refl;
-    fit = tt;
   }
 
   pub merge_reduce : (c d : List ℕ) (o p : ReduceOp) (x y z : ℤ) → p ≡ o → z ≡ reduce_step o x y → Holds (state.Reduce c (record { op = o; value = x })) a → Holds (state.Reduce d (record { op = p; value = y })) b
@@ -67,22 +63,20 @@ module _ (a b : List Fed) where
   merge_reduce c d o p x y z same e h k =
       let second : y ≡ fold (reduce_step o) (reduce_start o) (numbers_of (in_file_order b)) = ap (λ f. the_sum f y) k.made ∙ ap (λ q. fold (reduce_step q) (reduce_start q) (numbers_of (in_file_order b))) same in
       record {
-        made = ap Reduced (e ∙ ap (λ s. reduce_step o s y) (ap (λ f. the_sum f x) h.made) ∙ ap (reduce_step o (fold (reduce_step o) (reduce_start o) (numbers_of (in_file_order a)))) second ∙ sym (reduce_both o a b h.fit k.fit));
+        made = ap Reduced (e ∙ ap (λ s. reduce_step o s y) (ap (λ f. the_sum f x) h.made) ∙ ap (reduce_step o (fold (reduce_step o) (reduce_start o) (numbers_of (in_file_order a)))) second ∙ sym (reduce_both o a b));
         kept = refl;
-        fit = numbers_fit-append a b h.fit k.fit;
       }
 
   pub merge_take : (c d : List ℕ) (vs ws all : List TakenValue) → (map fed_value vs ≡ by_cluster a → map fed_value ws ≡ by_cluster b → map fed_value all ≡ by_cluster (a ++ b)) → Holds (state.Take c vs) a → Holds (state.Take d ws) b → Holds (state.Take c all) (a ++ b)
   merge_take c d vs ws all order h k =
       let kept = order h.kept k.kept in
-      record { made = ap Taken (plain_values all ∙ ap (λ l. flat_map scalar_of (items_of l)) kept); kept = kept; fit = tt }
+      record { made = ap Taken (plain_values all ∙ ap (λ l. flat_map scalar_of (items_of l)) kept); kept = kept }
 
   pub merge_flat : (g k g' : one.Flat) (x y : List ℕ) (o p : Option (List ℕ)) → ((points more : List Item) → HasFilled g points → HasFilled k more → HasFilled g' (points ++ more))
       → Holds (state.Histo1D g x o) a → Holds (state.Histo1D k y p) b → Holds (state.Histo1D g' x o) (a ++ b)
   merge_flat g k g' x y o p fill h l = record {
     made = ap Flat ((fill (in_file_order a) (in_file_order b) (record { cells = ap the_flat h.made }) (record { cells = ap the_flat l.made })).cells ∙ flat_joined g'.edges a b);
     kept = refl;
-    fit = tt;
   }
 
   pub merge_square : (g k g' : two.Square) (x y z w : List ℕ) (o p : Option (List ℕ)) → ((points more : List Item) → HasFilled2 g points → HasFilled2 k more → HasFilled2 g' (points ++ more))
@@ -90,5 +84,4 @@ module _ (a b : List Fed) where
   merge_square g k g' x y z w o p fill h l = record {
     made = ap Square ((fill (in_file_order a) (in_file_order b) (record { cells = ap the_square h.made }) (record { cells = ap the_square l.made })).cells ∙ square_joined g'.x_edges g'.y_edges a b);
     kept = refl;
-    fit = tt;
   }

@@ -23,7 +23,7 @@ use Rattle.actions.specs.declared.items.Items.{Items}
 use Rattle.actions.specs.declared.items.Items.TheVariants.{Entry, One, Weighted, Pair, WeightedPair}
 use Rattle.actions.specs.Extremes.{better_of}
 use Rattle.actions.specs.Feeding.{Fed, by_cluster, from_cluster, in_file_order}
-use Rattle.actions.specs.Holding.{Holds, NumbersFit}
+use Rattle.actions.specs.Holding.{Holds}
 use Rattle.actions.specs.Values.{fed_value}
 use Rattle.actions.specs.Parts.{Suits, first_numbers, first_scalar, part_values, second_part, values_of, weight_part}
 use Rattle.actions.proofs.Folds.{extreme_numbers, fold_numbers, taken_singles}
@@ -88,14 +88,6 @@ values_plain : (xs : List Scalar) (cluster : ℕ) → map (λ (v : TakenValue). 
 values_plain [] cluster = refl
 values_plain (x ∷ xs) cluster = ap (λ l. x ∷ l) (values_plain xs cluster)
 
-pub numbers_fit-append : (a b : List Fed) → NumbersFit a → NumbersFit b → NumbersFit (a ++ b)
-numbers_fit-append [] b h k = k
-numbers_fit-append (f ∷ fs) b h k = (h.0, numbers_fit-append fs b h.1 k)
-
-fits_numbers : (zs : List ℤ) (cluster : ℕ) → All (λ z. FitsSigned w64 z) zs → NumbersFit (from_cluster cluster (map Number zs))
-fits_numbers [] cluster h = tt
-fits_numbers (z ∷ zs) cluster h = (All-head (λ y. FitsSigned w64 y) z zs h, fits_numbers zs cluster (All-tail (λ y. FitsSigned w64 y) z zs h))
-
 module _ (fed : List Fed) (cluster : ℕ) (below : All (λ f. f.cluster ≤ cluster) fed) where
   after : (is js : List Item) → is ≡ js → in_file_order (fed ++ from_cluster cluster is) ≡ in_file_order fed ++ js
   after is js e = ap (λ l. in_file_order (fed ++ from_cluster cluster l)) e ∙ in_file_order-feed fed cluster js below
@@ -104,7 +96,6 @@ module _ (fed : List Fed) (cluster : ℕ) (below : All (λ f. f.cluster ≤ clus
   holds_count n h = record {
     made = ap Count (ap (λ k. k + 1) (ap the_count h.made) ∙ sym (ap length (in_file_order-feed fed cluster (Unit ∷ []) below) ∙ length-append (in_file_order fed) (Unit ∷ [])));
     kept = refl;
-    fit = tt;
   }
 
   pub holds_sum : (c : List ℕ) (z z' : ℤ) (vs : List Value) → z' ≡ fold ◌+ℤ◌ z (first_numbers vs) → Holds (state.Sum c z) fed → Holds (state.Sum c z') (fed ++ from_cluster cluster (spread (kind.Sum c) vs))
@@ -112,7 +103,6 @@ module _ (fed : List Fed) (cluster : ℕ) (below : All (λ f. f.cluster ≤ clus
     made = ap Sum (e ∙ ap (λ a. fold ◌+ℤ◌ a (first_numbers vs)) (ap (λ f. the_sum f z) h.made)
         ∙ sym (ap (λ l. fold ◌+ℤ◌ (pos 0) (numbers_of l)) (after (spread (kind.Sum c) vs) (map Number (first_numbers vs)) (spread_sum c vs)) ∙ fold_numbers ◌+ℤ◌ (pos 0) (in_file_order fed) (first_numbers vs)));
     kept = refl;
-    fit = tt;
   }
 
   pub holds_min : (c : List ℕ) (o o' : Option ℤ) (vs : List Value) → o' ≡ fold (better_of int_min) o (first_numbers vs) → Holds (state.Min c o) fed → Holds (state.Min c o') (fed ++ from_cluster cluster (spread (kind.Min c) vs))
@@ -120,7 +110,6 @@ module _ (fed : List Fed) (cluster : ℕ) (below : All (λ f. f.cluster ≤ clus
     made = ap Extreme (e ∙ ap (λ a. fold (better_of int_min) a (first_numbers vs)) (ap the_extreme h.made)
         ∙ sym (ap (λ l. extreme int_min (numbers_of l)) (after (spread (kind.Min c) vs) (map Number (first_numbers vs)) (spread_min c vs)) ∙ extreme_numbers int_min (in_file_order fed) (first_numbers vs)));
     kept = refl;
-    fit = tt;
   }
 
   pub holds_max : (c : List ℕ) (o o' : Option ℤ) (vs : List Value) → o' ≡ fold (better_of int_max) o (first_numbers vs) → Holds (state.Max c o) fed → Holds (state.Max c o') (fed ++ from_cluster cluster (spread (kind.Max c) vs))
@@ -128,16 +117,14 @@ module _ (fed : List Fed) (cluster : ℕ) (below : All (λ f. f.cluster ≤ clus
     made = ap Extreme (e ∙ ap (λ a. fold (better_of int_max) a (first_numbers vs)) (ap the_extreme h.made)
         ∙ sym (ap (λ l. extreme int_max (numbers_of l)) (after (spread (kind.Max c) vs) (map Number (first_numbers vs)) (spread_max c vs)) ∙ extreme_numbers int_max (in_file_order fed) (first_numbers vs)));
     kept = refl;
-    fit = tt;
   }
 
-  pub holds_reduce : (c : List ℕ) (o : ReduceOp) (z z' : ℤ) (vs : List Value) → z' ≡ fold (reduce_step o) z (first_numbers vs) → All (λ z. FitsSigned w64 z) (first_numbers vs) → Holds (state.Reduce c (record { op = o; value = z })) fed
+  pub holds_reduce : (c : List ℕ) (o : ReduceOp) (z z' : ℤ) (vs : List Value) → z' ≡ fold (reduce_step o) z (first_numbers vs) → Holds (state.Reduce c (record { op = o; value = z })) fed
       → Holds (state.Reduce c (record { op = o; value = z' })) (fed ++ from_cluster cluster (spread (kind.Reduce o c) vs))
-  holds_reduce c o z z' vs e fits h = record {
+  holds_reduce c o z z' vs e h = record {
     made = ap Reduced (e ∙ ap (λ a. fold (reduce_step o) a (first_numbers vs)) (ap (λ f. the_sum f z) h.made)
         ∙ sym (ap (λ l. fold (reduce_step o) (reduce_start o) (numbers_of l)) (after (spread (kind.Reduce o c) vs) (map Number (first_numbers vs)) (spread_reduce o c vs)) ∙ fold_numbers (reduce_step o) (reduce_start o) (in_file_order fed) (first_numbers vs)));
     kept = refl;
-    fit = numbers_fit-append fed (from_cluster cluster (spread (kind.Reduce o c) vs)) h.fit (subst (λ l. NumbersFit (from_cluster cluster l)) (sym (spread_reduce o c vs)) (fits_numbers (first_numbers vs) cluster fits));
   }
 
   pub holds_take : (c : List ℕ) (ts ts' : List TakenValue) (xs : List Scalar) (vs : List Value) → ts' ≡ ts ++ values_from cluster xs → xs ≡ first_scalar vs → Holds (state.Take c ts) fed → Holds (state.Take c ts') (fed ++ from_cluster cluster (spread (kind.Take c) vs))
@@ -148,7 +135,6 @@ module _ (fed : List Fed) (cluster : ℕ) (below : All (λ f. f.cluster ≤ clus
             ∙ sym (ap (flat_map scalar_of) (after (spread (kind.Take c) vs) (map Single xs) is) ∙ taken_singles (in_file_order fed) xs));
         kept = ap (map fed_value) e ∙ map-append fed_value ts (values_from cluster xs) ∙ ap (λ l. map fed_value ts ++ l) (values_fed xs cluster) ∙ ap (λ l. l ++ from_cluster cluster (map Single xs)) h.kept
             ∙ sym (ap (λ l. by_cluster (fed ++ from_cluster cluster l)) is ∙ by_cluster-feed fed cluster (map Single xs) below);
-        fit = tt;
       }
 
   pub holds_flat : (g g' : one.Flat) (x : List ℕ) (o : Option (List ℕ)) (is js : List Item) → is ≡ js → ((before : List Item) → HasFilled g before → HasFilled g' (before ++ js))
@@ -156,7 +142,6 @@ module _ (fed : List Fed) (cluster : ℕ) (below : All (λ f. f.cluster ≤ clus
   holds_flat g g' x o is js e fill h = record {
     made = ap Flat ((fill (in_file_order fed) (record { cells = ap the_flat h.made })).cells ∙ sym (ap (flat_cells g'.edges) (after is js e)));
     kept = refl;
-    fit = tt;
   }
 
   pub holds_square : (g g' : two.Square) (x y : List ℕ) (o : Option (List ℕ)) (is js : List Item) → is ≡ js → ((before : List Item) → HasFilled2 g before → HasFilled2 g' (before ++ js))
@@ -164,7 +149,6 @@ module _ (fed : List Fed) (cluster : ℕ) (below : All (λ f. f.cluster ≤ clus
   holds_square g g' x y o is js e fill h = record {
     made = ap Square ((fill (in_file_order fed) (record { cells = ap the_square h.made })).cells ∙ sym (ap (square_cells g'.x_edges g'.y_edges) (after is js e)));
     kept = refl;
-    fit = tt;
   }
 
 -- one column gives at most 4,096 numbers

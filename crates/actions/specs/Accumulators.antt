@@ -4,7 +4,7 @@ use Rattle.rdf_values.specs.declared.action.ActionKind.{ActionKind}
 use Rattle.rdf_values.specs.Fold.{Filled, fold_items}
 use Rattle.actions.specs.declared.state.State.{State}
 use Rattle.actions.specs.Feeding.{Fed, in_file_order}
-use Rattle.actions.specs.Holding.{FitsOf, IsWithin, kept_of}
+use Rattle.actions.specs.Holding.{IsWithin, kept_of}
 
 -- what a contract sees: the action, how many entries were fed, the highest cluster that fed,
 -- what was made of the items, and the values of a Take with their clusters
@@ -19,7 +19,6 @@ pub record Accumulator : Type 0 where
 pub record HasFed (acc : Accumulator) (fed : List Fed) : Type 0 where
   pub filled : acc.filled ≡ fold_items acc.kind (in_file_order fed)
   pub kept : acc.kept ≡ kept_of acc.kind fed
-  pub fit : FitsOf acc.kind fed
   pub below : All (λ f. f.cluster ≤ acc.last) fed
 
 -- what is held comes from at most so many entries, and those are at most 1,000,000

@@ -1,10 +1,7 @@
 -- What an accumulator holds.
-use Rattle.std.specs.Prelude.{ℕ, ◌≡◌, ◌≤◌, ◌*◌, ⊤, List, [], ◌∷◌, FitsSigned, length, map, nat_abs}
-use Rattle.std.specs.Int.{w64}
+use Rattle.std.specs.Prelude.{ℕ, ◌≡◌, ◌≤◌, ◌*◌, ⊤, List, [], ◌∷◌, length, map, nat_abs}
 use Rattle.rdf_values.specs.declared.action.ActionKind.{ActionKind}
 use Rattle.rdf_values.specs.declared.action.ActionKind.TheVariants as kind
-use Rattle.rdf_values.specs.declared.item.Item.{Item}
-use Rattle.rdf_values.specs.declared.item.Item.TheVariants.{Number}
 use Rattle.rdf_values.specs.Fold.{Filled, fold_items, Count, Sum, Extreme, Taken, Reduced, Flat, Square}
 use Rattle.histograms.specs.Axis.{IsAxis}
 use Rattle.actions.specs.declared.state.State.{State}
@@ -44,25 +41,10 @@ abbrev pub kept_of : ActionKind → List Fed → List Fed
 kept_of (kind.Take c) fed = by_cluster fed
 kept_of k fed = []
 
--- the numbers have 64 bits
-abbrev pub NumberFits : Item → Type 0
-NumberFits (Number z) = FitsSigned w64 z
-NumberFits i = ⊤
-
-abbrev pub NumbersFit : List Fed → Type 0
-NumbersFit [] = ⊤
-NumbersFit (f ∷ fs) = NumberFits f.item × NumbersFit fs
-
--- what a Reduce knows of its numbers, whose bits it works on
-abbrev pub FitsOf : ActionKind → List Fed → Type 0
-FitsOf (kind.Reduce o c) fed = NumbersFit fed
-FitsOf k fed = ⊤
-
 -- these items were fed, and no others
 pub record Holds (s : State) (fed : List Fed) : Type 0 where
   pub made : made s ≡ fold_items (kind_of s) (in_file_order fed)
   pub kept : kept s ≡ kept_of (kind_of s) fed
-  pub fit : FitsOf (kind_of s) fed
 
 abbrev pub IsTake : ActionKind → Type 0
 IsTake (kind.Take c) = ⊤

@@ -116,8 +116,7 @@ pub fn reduce(op: ReduceOp, a: i64, b: i64) -> i64
 
 /// The operation over more numbers, from left to right.
 pub fn reduce_with(op: ReduceOp, value: i64, numbers: &[i64]) -> i64
-    ensures value { result ≡ fold (reduce_step op) value numbers.now }
-    ensures fit { All (λ z. FitsSigned w64 z) numbers.now }
+    ensures { result ≡ fold (reduce_step op) value numbers.now }
 {
     let mut value = value;
     for number in numbers {

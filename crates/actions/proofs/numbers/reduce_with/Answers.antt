@@ -16,8 +16,4 @@ loop-number-preserved c =
     record {
       reduced = to_z-of_z w64 c.reduce-value.result fits_result ∙ c.reduce-value.ensures ∙ ap (reduce_step c.args.op _) (to_z-of_z w64 number fits_number) ∙ ap (λ v. reduce_step c.args.op v number) c.loop-number.invariant.reduced
           ∙ sym (fold_more (reduce_step c.args.op) _ xs c.loop-number.number-index (pos 0) below);
-      fit = λ k d l. ⊎_elim
-          (λ (e : k ≡ c.loop-number.number-index). subst (λ i. FitsSigned w64 (get_or xs i d)) (sym e) (subst (λ z. FitsSigned w64 z) (get_or_default xs c.loop-number.number-index (pos 0) d below) fits_number))
-          (λ (ne : k ≡ c.loop-number.number-index → ⊥). c.loop-number.invariant.fit k d (omega arith))
-          (cases_eq k c.loop-number.number-index);
     }

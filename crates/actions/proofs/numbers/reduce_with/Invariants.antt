@@ -6,5 +6,4 @@ use Rattle.actions.proofs.numbers.reduce_with.Given as goal
 abbrev pub invariant-loop-number : goal.invariant-loop-number
 invariant-loop-number l = record {
   reduced : l.value ≡ fold (reduce_step l.op) l.initial.value (take l.number-index l.numbers);
-  fit : (k : ℕ) (d : ℤ) → k < l.number-index → FitsSigned w64 (get_or l.numbers k d);
 }

@@ -43,8 +43,8 @@ returns-in-Reduce-clause-fed c = λ fed below held.
     let fits : FitsSigned w64 c.reduce_with-reduction.result = search rules in
     let fits_value : FitsSigned w64 c.in-Reduce.reduction.value = search rules in
     rw c.in-Reduce.is (holds_reduce fed c.args.cluster below c.in-Reduce.column c.in-Reduce.reduction.op c.in-Reduce.reduction.value _ _
-    (to_z-of_z w64 c.reduce_with-reduction.result fits ∙ c.reduce_with-reduction.ensures.value ∙ ap (λ z. fold (reduce_step c.in-Reduce.reduction.op) z c.first-in-Reduce.result.now) (to_z-of_z w64 c.in-Reduce.reduction.value fits_value)
-    ∙ ap (fold (reduce_step c.in-Reduce.reduction.op) c.in-Reduce.reduction.value) c.first-in-Reduce.ensures) (rw c.first-in-Reduce.ensures at c.reduce_with-reduction.ensures.fit) (rw c.in-Reduce.is at held))
+    (to_z-of_z w64 c.reduce_with-reduction.result fits ∙ c.reduce_with-reduction.ensures ∙ ap (λ z. fold (reduce_step c.in-Reduce.reduction.op) z c.first-in-Reduce.result.now) (to_z-of_z w64 c.in-Reduce.reduction.value fits_value)
+    ∙ ap (fold (reduce_step c.in-Reduce.reduction.op) c.in-Reduce.reduction.value) c.first-in-Reduce.ensures) (rw c.in-Reduce.is at held))
 
 pub returns-in-Histo1D-clause-fed : goal.returns-in-Histo1D-clause-fed
 returns-in-Histo1D-clause-fed c = λ fed below held.
