@@ -12,3 +12,6 @@ pub use crate::claims::Claims;
 pub use crate::drawn::Drawn;
 pub use crate::seat::ClaimSeat;
 pub use crate::seat_list::SeatList;
+
+#[cfg(test)]
+mod tests;

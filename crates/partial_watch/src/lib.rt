@@ -17,3 +17,6 @@ pub use crate::orders::Orders;
 pub use crate::partials::{PartialPiece, partial};
 pub use crate::share::Share;
 pub use crate::share_list::ShareList;
+
+#[cfg(test)]
+mod tests;
