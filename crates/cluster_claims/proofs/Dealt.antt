@@ -1,0 +1,18 @@
+-- Seats by what they did.
+use Rattle.std.proofs.Common.{◌≡◌, List, [], ◌∷◌, map, refl, ap}
+use Rattle.std.specs.List.{All}
+use Rattle.std.proofs.lemmas.List.Elements.{All-nil, All-cons, All-head, All-tail}
+use Rattle.cluster_claims.specs.declared.hand.Hand.{Hand}
+use Rattle.cluster_claims.specs.Seats.{SeatSeen, hand_seen}
+
+pub drawn_of : (seats : List SeatSeen) → map (λ h. h.drawn) (map hand_seen seats) ≡ map (λ s. s.drawn) seats
+drawn_of [] = refl
+drawn_of (s ∷ ss) = ap (λ r. s.drawn ∷ r) (drawn_of ss)
+
+pub all_seen : (P : Hand → Type 0) (seats : List SeatSeen) → All P (map hand_seen seats) → All (λ s. P (hand_seen s)) seats
+all_seen P [] a = All-nil (λ s. P (hand_seen s))
+all_seen P (s ∷ ss) a = All-cons (λ t. P (hand_seen t)) s ss (All-head P (hand_seen s) (map hand_seen ss) a) (all_seen P ss (All-tail P (hand_seen s) (map hand_seen ss) a))
+
+pub lowered_of : (seats : List SeatSeen) → map (λ h. h.lowered) (map hand_seen seats) ≡ map (λ s. s.lowered) seats
+lowered_of [] = refl
+lowered_of (s ∷ ss) = ap (λ r. s.lowered ∷ r) (lowered_of ss)

@@ -1,0 +1,4 @@
+pub mod Bars
+pub mod Dealt
+pub mod Draws
+pub mod Steps

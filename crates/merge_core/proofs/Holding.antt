@@ -1,0 +1,327 @@
+-- What holds of every machine that honest events lead to.
+use Rattle.std.proofs.Common.{◌≡◌, ◌⊎◌, ℕ, zero, suc, ◌+◌, ◌<◌, ◌≤◌, min, List, [], ◌∷◌, ◌++◌, length, set, true, false, cond, Option, None, Some, refl, sym, ap, ◌∙◌, subst, inl, inr, ⊎_elim, arith}
+use Rattle.std.specs.Prelude.{⊤, ◌==◌, slice_get, flat_map}
+use Rattle.std.specs.List.{All, sum_by}
+use Rattle.std.specs.List.Sorted.{IsStrictlyIncreasing}
+use Rattle.std.proofs.lemmas.Bool.{cases_lt, cases_Bool, eqb-true, cond-false}
+use Rattle.std.proofs.lemmas.Option.{slice_get_within, get_or_from_slice_get}
+use Rattle.std.proofs.lemmas.List.{length-set}
+use Rattle.std.proofs.lemmas.List.Elements.{All-pop, All-push, All-set, All-weaker}
+use Rattle.std.proofs.lemmas.List.Sums.{sum_by-set}
+use Rattle.rdf_values.specs.Machine.{Phase, Running, Ended, Faulted, Slot, Machine, slot_of, IsHonestEvent, IsHonest, finished, fault_of, slot_faults}
+use Rattle.rdf_values.specs.declared.event.Event.{Event}
+use Rattle.rdf_values.specs.declared.event.Event.TheVariants.{Claim, Finish, Fault, Skip, End}
+use Rattle.rdf_values.specs.declared.fault.Fault.{Fault as LoopFault}
+use Rattle.rdf_values.specs.Times.{times, once_below}
+use Rattle.rdf_values.proofs.DrawCounts.{one_if, times_push, times_append, once_next, rises_push}
+use Rattle.merge_core.proofs.Faults.{Among, among_left, among_right, among_either}
+use Rattle.merge_core.proofs.Stepped.{IsStepped, slot_with, left, changed}
+
+-- ---- slots
+
+-- all but the last
+abbrev pub but_last : List ℕ → List ℕ
+but_last [] = []
+but_last (x ∷ []) = []
+but_last (x ∷ y ∷ ys) = x ∷ but_last (y ∷ ys)
+
+pub but_last_push : (xs : List ℕ) (x : ℕ) → but_last (xs ++ x ∷ []) ≡ xs
+but_last_push [] x = refl
+but_last_push (y ∷ []) x = refl
+but_last_push (y ∷ z ∷ zs) x = ap (λ l. y ∷ l) (but_last_push (z ∷ zs) x)
+
+-- the clusters that a slot finished or passed over: all that it drew, but for the one that it holds or faulted in
+abbrev pub done_in : List ℕ → Option ℕ → Phase → List ℕ
+done_in drawn (Some c) phase = but_last drawn
+done_in drawn None Running = drawn
+done_in drawn None Ended = drawn
+done_in drawn None (Faulted f) = but_last drawn
+
+abbrev pub done_of : Slot → List ℕ
+done_of s = done_in s.drawn s.held s.phase
+
+-- the cluster that a slot holds is the last that it drew
+abbrev pub EndsIn : List ℕ → Option ℕ → Phase → Type 0
+EndsIn drawn (Some c) Running = drawn ≡ but_last drawn ++ c ∷ []
+EndsIn drawn (Some c) Ended = ⊥
+EndsIn drawn (Some c) (Faulted f) = ⊥
+EndsIn drawn None p = ⊤
+
+-- each of the clusters below the bar has no fault
+abbrev pub AreSound : List (Option LoopFault) → ℕ → List ℕ → Type 0
+AreSound faults bar clusters = (c : ℕ) → 0 < times c clusters → c < bar → slice_get faults c ≡ Some None
+
+-- the fault of a slot is that of the last cluster that it drew
+abbrev pub FaultsIn : List (Option LoopFault) → List ℕ → Phase → Type 0
+FaultsIn faults drawn (Faulted f) = (c : ℕ) × (drawn ≡ but_last drawn ++ c ∷ []) × (slice_get faults c ≡ Some (Some f))
+FaultsIn faults drawn p = ⊤
+
+pub record IsSound (faults : List (Option LoopFault)) (bar : ℕ) (s : Slot) : Type 0 where
+  pub done : AreSound faults bar (done_of s)
+  pub fault : FaultsIn faults s.drawn s.phase
+
+-- the bar is the number of clusters, or at a cluster that a slot faulted in
+abbrev pub IsReached : ℕ → List (Option LoopFault) → ℕ → List LoopFault → Type 0
+IsReached clusters faults bar mine = (bar ≡ clusters) ⊎ ((g : LoopFault) × Among g mine × (slice_get faults bar ≡ Some (Some g)))
+
+pub record Holds (clusters slots : ℕ) (past : List Event) (m : Machine) : Type 0 where
+  pub rise : All (λ (s : Slot). IsStrictlyIncreasing s.drawn) m.slots
+  pub under : All (λ (s : Slot). All (λ y. y < m.next) s.drawn) m.slots
+  pub once : (x : ℕ) → sum_by (λ (s : Slot). times x s.drawn) m.slots ≡ once_below x m.next
+  pub few : m.next ≤ clusters
+  pub low : m.bar ≤ clusters
+  pub many : length m.slots ≡ slots
+  pub closing : All (λ (s : Slot). s.phase ≡ Ended → m.bar ≤ m.next) m.slots
+  pub shape : All (λ (s : Slot). EndsIn s.drawn s.held s.phase) m.slots
+  pub most : (x : ℕ) → times x (finished past) ≤ sum_by (λ (s : Slot). times x (done_of s)) m.slots
+  pub done : (x : ℕ) → x < m.bar → times x (finished past) ≡ sum_by (λ (s : Slot). times x (done_of s)) m.slots
+  pub sound : (faults : List (Option LoopFault)) → IsHonest faults past → All (IsSound faults m.bar) m.slots
+  pub reach : (faults : List (Option LoopFault)) → IsHonest faults past → IsReached clusters faults m.bar (slot_faults m)
+
+finished_push : (past : List Event) (e : Event) → finished (past ++ e ∷ []) ≡ finished past ++ finished (e ∷ [])
+finished_push [] e = refl
+finished_push (Claim i c ∷ es) e = finished_push es e
+finished_push (Finish i c ∷ es) e = ap (λ l. c ∷ l) (finished_push es e)
+finished_push (Fault i c f ∷ es) e = finished_push es e
+finished_push (Skip i c ∷ es) e = finished_push es e
+finished_push (End i ∷ es) e = finished_push es e
+
+honest_push : (faults : List (Option LoopFault)) (past : List Event) (e : Event) → IsHonest faults (past ++ e ∷ []) → IsHonest faults past × IsHonestEvent faults e
+honest_push faults [] e h = (tt, h.0)
+honest_push faults (p ∷ ps) e h = let r = honest_push faults ps e h.1 in ((h.0, r.0), r.1)
+
+-- one slot has changed
+module _ (slots : List Slot) (i : ℕ) (s now : Slot) (at : slice_get slots i ≡ Some s) where
+  its : (P : Slot → Type 0) → All P slots → P s
+  its P all = subst P (get_or_from_slice_get slots i s s at) (all i s (slice_get_within slots i s at))
+
+  all_changed : (P Q : Slot → Type 0) → ((t : Slot) → P t → Q t) → Q now → All P slots → All Q (set slots i now)
+  all_changed P Q weaker here all = All-set Q slots i now here (All-weaker P Q weaker slots all)
+
+  sum_changed : (f : Slot → ℕ) → sum_by f (set slots i now) + f s ≡ sum_by f slots + f now
+  sum_changed f = omega (arith, sum_by-set f slots i now s (slice_get_within slots i s at), ap f (get_or_from_slice_get slots i s s at))
+
+abbrev fault_in : Slot → List LoopFault
+fault_in s = fault_of s.phase
+
+-- what a slot without a fault becomes takes no fault away
+among_kept : (g : LoopFault) (slots : List Slot) (i : ℕ) (s now : Slot) → slice_get slots i ≡ Some s → s.phase ≡ Running → Among g (flat_map fault_in slots) → Among g (flat_map fault_in (set slots i now))
+among_kept g [] i s now at runs h = elim h [ ]
+among_kept g (t ∷ ts) zero s now at runs h =
+    let same : t ≡ s = cc in
+    let none : fault_in t ≡ [] = ap fault_in same ∙ ap fault_of runs in
+    among_right g (fault_in now) (flat_map fault_in ts) (subst (λ l. Among g (l ++ flat_map fault_in ts)) none h)
+among_kept g (t ∷ ts) (suc i) s now at runs h = ⊎_elim
+    (λ (a : Among g (fault_in t)). among_left g (fault_in t) (flat_map fault_in (set ts i now)) a)
+    (λ (b : Among g (flat_map fault_in ts)). among_right g (fault_in t) (flat_map fault_in (set ts i now)) (among_kept g ts i s now at runs b))
+    (among_either g (fault_in t) (flat_map fault_in ts) h)
+
+-- the fault of a slot is among all
+among_new : (g : LoopFault) (slots : List Slot) (i : ℕ) (s now : Slot) → slice_get slots i ≡ Some s → Among g (fault_in now) → Among g (flat_map fault_in (set slots i now))
+among_new g [] i s now at a = absurd (cc)
+among_new g (t ∷ ts) zero s now at a = among_left g (fault_in now) (flat_map fault_in ts) a
+among_new g (t ∷ ts) (suc i) s now at a = among_right g (fault_in t) (flat_map fault_in (set ts i now)) (among_new g ts i s now at a)
+
+module _ (clusters slots : ℕ) (past : List Event) (m : Machine) (e : Event) (h : Holds clusters slots past m) (s now : Slot) (n b : ℕ) (at : slice_get m.slots (slot_of e) ≡ Some s) where
+  -- what has to be known of the slot, of the next cluster and of the bar afterwards
+  record Keeps : Type 0 where
+    rises : IsStrictlyIncreasing now.drawn
+    under : All (λ y. y < n) now.drawn
+    more : m.next ≤ n
+    lower : b ≤ m.bar
+    once : (x : ℕ) → once_below x m.next + times x now.drawn ≡ once_below x n + times x s.drawn
+    few : n ≤ clusters
+    closing : now.phase ≡ Ended → b ≤ n
+    shape : EndsIn now.drawn now.held now.phase
+    most : (x : ℕ) → times x (finished (e ∷ [])) + times x (done_of s) ≤ times x (done_of now)
+    done : (x : ℕ) → x < b → times x (finished (e ∷ [])) + times x (done_of s) ≡ times x (done_of now)
+    sound : (faults : List (Option LoopFault)) → IsHonestEvent faults e → IsSound faults m.bar s → IsSound faults b now
+    reach : (faults : List (Option LoopFault)) → IsHonestEvent faults e → IsReached clusters faults m.bar (slot_faults m) → IsReached clusters faults b (flat_map fault_in (set m.slots (slot_of e) now))
+
+  all_finished : (x : ℕ) → times x (finished (past ++ e ∷ [])) ≡ times x (finished past) + times x (finished (e ∷ []))
+  all_finished x = ap (times x) (finished_push past e) ∙ times_append x (finished past) (finished (e ∷ []))
+
+  done_changed : (x : ℕ) → sum_by (λ (t : Slot). times x (done_of t)) (set m.slots (slot_of e) now) + times x (done_of s) ≡ sum_by (λ (t : Slot). times x (done_of t)) m.slots + times x (done_of now)
+  done_changed x = sum_changed m.slots (slot_of e) s now at (λ (t : Slot). times x (done_of t))
+
+  sound_below : (faults : List (Option LoopFault)) → b ≤ m.bar → (t : Slot) → IsSound faults m.bar t → IsSound faults b t
+  sound_below faults le t known = record { done = λ c some lt. known.done c some (omega arith); fault = known.fault }
+
+  after_step : Keeps → Holds clusters slots (past ++ e ∷ []) (changed m (slot_of e) (left n b now))
+  after_step k =
+      let i = slot_of e in
+      let below_n : m.next ≤ n = k.more in
+      let below_bar : b ≤ m.bar = k.lower in
+      record {
+        rise = All-set (λ (t : Slot). IsStrictlyIncreasing t.drawn) m.slots i now k.rises h.rise;
+        under = all_changed m.slots i s now at (λ (t : Slot). All (λ y. y < m.next) t.drawn) (λ (t : Slot). All (λ y. y < n) t.drawn) (λ t a. All-weaker (λ y. y < m.next) (λ y. y < n) (λ y lt. omega arith) t.drawn a) k.under h.under;
+        once = λ x. (let c = sum_changed m.slots i s now at (λ (t : Slot). times x t.drawn) in omega (arith, c, h.once x, k.once x));
+        few = k.few;
+        low = (let l = h.low in omega arith);
+        many = length-set m.slots i now ∙ h.many;
+        closing = all_changed m.slots i s now at (λ (t : Slot). t.phase ≡ Ended → m.bar ≤ m.next) (λ (t : Slot). t.phase ≡ Ended → b ≤ n) (λ t f is. (let r = f is in omega arith)) k.closing h.closing;
+        shape = All-set (λ (t : Slot). EndsIn t.drawn t.held t.phase) m.slots i now k.shape h.shape;
+        most = λ x. omega (arith, all_finished x, done_changed x, h.most x, k.most x);
+        done = λ x lt. (let was = h.done x (omega arith) in let is = k.done x lt in omega (arith, all_finished x, done_changed x));
+        sound = λ faults honest. (let r = honest_push faults past e honest in let all = h.sound faults r.0 in
+            all_changed m.slots i s now at (IsSound faults m.bar) (IsSound faults b) (sound_below faults below_bar) (k.sound faults r.1 (its m.slots i s now at (IsSound faults m.bar) all)) all);
+        reach = λ faults honest. (let r = honest_push faults past e honest in k.reach faults r.1 (h.reach faults r.0));
+      }
+
+-- ---- each kind of step keeps it
+
+same_done : (s : Slot) → s.held ≡ None → s.phase ≡ Running → done_of s ≡ s.drawn
+same_done s free runs = ap (λ (o : Option ℕ). done_in s.drawn o s.phase) free ∙ ap (done_in s.drawn None) runs
+
+held_done : (s : Slot) (c : ℕ) → s.held ≡ Some c → done_of s ≡ but_last s.drawn
+held_done s c held = ap (λ (o : Option ℕ). done_in s.drawn o s.phase) held
+
+held_last : (s : Slot) (c : ℕ) → s.held ≡ Some c → s.phase ≡ Running → EndsIn s.drawn s.held s.phase → s.drawn ≡ but_last s.drawn ++ c ∷ []
+held_last s c held runs shape = subst (EndsIn s.drawn (Some c)) runs (subst (λ (o : Option ℕ). EndsIn s.drawn o s.phase) held shape)
+
+-- 1 where c is k alone
+pub only : (k c : ℕ) → 0 < cond (c == k) 1 0 → c ≡ k
+only k c more = ⊎_elim
+    (λ (t : (c == k) ≡ true). eqb-true c k t)
+    (λ (f : (c == k) ≡ false). let none : one_if k c ≡ 0 = cond-false {A = ℕ} (c == k) 1 0 f in absurd (omega (arith, none)))
+    (cases_Bool (c == k))
+
+-- a number below the bar isn't one at or above it
+apart : (c bar x : ℕ) → bar ≤ c → x < bar → one_if x c ≡ 0
+apart c bar x high low = ⊎_elim
+    (λ (more : 0 < one_if x c). let same : c ≡ x = only x c more in absurd (omega arith))
+    (λ (none : one_if x c ≤ 0). let e : one_if x c ≡ 0 = omega arith in e)
+    (cases_lt 0 (one_if x c))
+
+-- the last of numbers below n is below n
+last_under : (xs ys : List ℕ) (c n : ℕ) → xs ≡ ys ++ c ∷ [] → All (λ y. y < n) xs → c < n
+last_under xs ys c n is all = (All-pop (λ y. y < n) xs ys (Some c) is all).1
+
+module _ (clusters slots : ℕ) (past : List Event) (m : Machine) (h : Holds clusters slots past m) where
+  -- where the bar stays, and the slot had no fault
+  reach_kept : (e : Event) (s now : Slot) → slice_get m.slots (slot_of e) ≡ Some s → s.phase ≡ Running → (faults : List (Option LoopFault)) → IsReached clusters faults m.bar (slot_faults m) → IsReached clusters faults m.bar (flat_map fault_in (set m.slots (slot_of e) now))
+  reach_kept e s now at runs faults r = ⊎_elim
+      (λ (is : m.bar ≡ clusters). inl is)
+      (λ (g : (g : LoopFault) × Among g (slot_faults m) × (slice_get faults m.bar ≡ Some (Some g))). inr (g.0, among_kept g.0 m.slots (slot_of e) s now at runs g.1, g.2))
+      r
+
+  pub keeps_event : (e : Event) (after : Machine) → IsStepped clusters m e after → Holds clusters slots (past ++ e ∷ []) after
+  keeps_event (Claim i c) after t =
+      let s = t.slot in
+      let up = its m.slots i s t.leaves.slot t.at (λ (x : Slot). IsStrictlyIncreasing x.drawn) h.rise in
+      let under = its m.slots i s t.leaves.slot t.at (λ (x : Slot). All (λ y. y < m.next) x.drawn) h.under in
+      let now = slot_with (s.drawn ++ m.next ∷ []) (Some m.next) Running in
+      let last = but_last_push s.drawn m.next in
+      let all_done : (x : ℕ) → times x (finished (Claim i c ∷ [])) + times x (done_of s) ≡ times x (done_of now) = λ x. omega (arith, ap (times x) (same_done s t.how.0 t.runs), ap (times x) last) in
+      subst (Holds clusters slots (past ++ Claim i c ∷ [])) (ap (changed m i) (sym t.how.2) ∙ sym t.is)
+      (after_step clusters slots past m (Claim i c) h s now (m.next + 1) m.bar t.at record {
+        rises = rises_push s.drawn m.next up under;
+        under = All-push (λ y. y < m.next + 1) s.drawn m.next (All-weaker (λ y. y < m.next) (λ y. y < m.next + 1) (λ y lt. omega arith) s.drawn under) (omega arith);
+        more = omega arith;
+        lower = omega arith;
+        once = λ x. omega (arith, times_push x s.drawn m.next, once_next x m.next);
+        few = (let lt = t.how.1 in omega arith);
+        closing = λ is. absurd (cc);
+        shape = ap (λ l. l ++ m.next ∷ []) (sym last);
+        most = λ x. omega (arith, all_done x);
+        done = λ x lt. all_done x;
+        sound = λ faults honest known. record { done = λ k some. known.done k (subst (λ l. 0 < times k l) (last ∙ sym (same_done s t.how.0 t.runs)) some); fault = tt };
+        reach = λ faults honest r. reach_kept (Claim i c) s now t.at t.runs faults r;
+      })
+  keeps_event (Finish i c) after t =
+      let s = t.slot in
+      let shape = its m.slots i s t.leaves.slot t.at (λ (x : Slot). EndsIn x.drawn x.held x.phase) h.shape in
+      let last = held_last s c t.how.0 t.runs shape in
+      let now = slot_with s.drawn None Running in
+      let all_done : (x : ℕ) → times x (finished (Finish i c ∷ [])) + times x (done_of s) ≡ times x (done_of now) = λ x. omega (arith, ap (times x) (held_done s c t.how.0), ap (times x) last, times_push x (but_last s.drawn) c, times_push x [] c) in
+      subst (Holds clusters slots (past ++ Finish i c ∷ [])) (ap (changed m i) (sym t.how.1) ∙ sym t.is)
+      (after_step clusters slots past m (Finish i c) h s now m.next m.bar t.at record {
+        rises = its m.slots i s t.leaves.slot t.at (λ (x : Slot). IsStrictlyIncreasing x.drawn) h.rise;
+        under = its m.slots i s t.leaves.slot t.at (λ (x : Slot). All (λ y. y < m.next) x.drawn) h.under;
+        more = omega arith;
+        lower = omega arith;
+        once = λ x. omega arith;
+        few = h.few;
+        closing = λ is. absurd (cc);
+        shape = tt;
+        most = λ x. omega (arith, all_done x);
+        done = λ x lt. all_done x;
+        sound = λ faults honest known. record {
+          done = λ k some lt. ⊎_elim
+              (λ (here : 0 < times k (but_last s.drawn)). known.done k (subst (λ l. 0 < times k l) (sym (held_done s c t.how.0)) here) lt)
+              (λ (rest : times k (but_last s.drawn) ≤ 0). subst (λ j. slice_get faults j ≡ Some None) (only k c (omega (arith, some, ap (times k) last, times_push k (but_last s.drawn) c))) honest)
+              (cases_lt 0 (times k (but_last s.drawn)));
+          fault = tt;
+        };
+        reach = λ faults honest r. reach_kept (Finish i c) s now t.at t.runs faults r;
+      })
+  keeps_event (Fault i c f) after t =
+      let s = t.slot in
+      let shape = its m.slots i s t.leaves.slot t.at (λ (x : Slot). EndsIn x.drawn x.held x.phase) h.shape in
+      let last = held_last s c t.how.0 t.runs shape in
+      let now = slot_with s.drawn None (Faulted f) in
+      let all_done : (x : ℕ) → times x (finished (Fault i c f ∷ [])) + times x (done_of s) ≡ times x (done_of now) = λ x. omega (arith, ap (times x) (held_done s c t.how.0)) in
+      subst (Holds clusters slots (past ++ Fault i c f ∷ [])) (ap (changed m i) (sym t.how.1) ∙ sym t.is)
+      (after_step clusters slots past m (Fault i c f) h s now m.next (min m.bar c) t.at record {
+        rises = its m.slots i s t.leaves.slot t.at (λ (x : Slot). IsStrictlyIncreasing x.drawn) h.rise;
+        under = its m.slots i s t.leaves.slot t.at (λ (x : Slot). All (λ y. y < m.next) x.drawn) h.under;
+        more = omega arith;
+        lower = omega arith;
+        once = λ x. omega arith;
+        few = h.few;
+        closing = λ is. absurd (cc);
+        shape = tt;
+        most = λ x. omega (arith, all_done x);
+        done = λ x lt. all_done x;
+        sound = λ faults honest known. record {
+          done = λ k some lt. known.done k (subst (λ l. 0 < times k l) (sym (held_done s c t.how.0)) some) (omega arith);
+          fault = (c, last, honest);
+        };
+        reach = λ faults honest r. ⊎_elim
+            (λ (lt : c < m.bar). let is : c ≡ min m.bar c = omega arith in inr (f, among_new f m.slots i s now t.at (inl refl), subst (λ j. slice_get faults j ≡ Some (Some f)) is honest))
+            (λ (le : m.bar ≤ c). let is : m.bar ≡ min m.bar c = omega arith in subst (λ j. IsReached clusters faults j (flat_map fault_in (set m.slots i now))) is (reach_kept (Fault i c f) s now t.at t.runs faults r))
+            (cases_lt c m.bar);
+      })
+  keeps_event (Skip i c) after t =
+      let s = t.slot in
+      let shape = its m.slots i s t.leaves.slot t.at (λ (x : Slot). EndsIn x.drawn x.held x.phase) h.shape in
+      let last = held_last s c t.how.0 t.runs shape in
+      let now = slot_with s.drawn None Ended in
+      let one_more : (x : ℕ) → times x s.drawn ≡ times x (done_of s) + one_if x c = λ x. omega (arith, ap (times x) (held_done s c t.how.0), ap (times x) last, times_push x (but_last s.drawn) c) in
+      subst (Holds clusters slots (past ++ Skip i c ∷ [])) (ap (changed m i) (sym t.how.2) ∙ sym t.is)
+      (after_step clusters slots past m (Skip i c) h s now m.next m.bar t.at record {
+        rises = its m.slots i s t.leaves.slot t.at (λ (x : Slot). IsStrictlyIncreasing x.drawn) h.rise;
+        under = its m.slots i s t.leaves.slot t.at (λ (x : Slot). All (λ y. y < m.next) x.drawn) h.under;
+        more = omega arith;
+        lower = omega arith;
+        once = λ x. omega arith;
+        few = h.few;
+        closing = λ is. (let high = t.how.1 in let lower = last_under s.drawn (but_last s.drawn) c m.next last (its m.slots i s t.leaves.slot t.at (λ (x : Slot). All (λ y. y < m.next) x.drawn) h.under) in omega arith);
+        shape = tt;
+        most = λ x. omega (arith, one_more x);
+        done = λ x lt. omega (arith, one_more x, apart c m.bar x t.how.1 lt);
+        sound = λ faults honest known. record {
+          done = λ k some lt. known.done k (omega (arith, some, one_more k, apart c m.bar k t.how.1 lt)) lt;
+          fault = tt;
+        };
+        reach = λ faults honest r. reach_kept (Skip i c) s now t.at t.runs faults r;
+      })
+  keeps_event (End i) after t =
+      let s = t.slot in
+      let now = slot_with s.drawn None Ended in
+      let all_done : (x : ℕ) → times x (finished (End i ∷ [])) + times x (done_of s) ≡ times x (done_of now) = λ x. omega (arith, ap (times x) (same_done s t.how.0 t.runs)) in
+      subst (Holds clusters slots (past ++ End i ∷ [])) (ap (changed m i) (sym t.how.2) ∙ sym t.is)
+      (after_step clusters slots past m (End i) h s now m.next m.bar t.at record {
+        rises = its m.slots i s t.leaves.slot t.at (λ (x : Slot). IsStrictlyIncreasing x.drawn) h.rise;
+        under = its m.slots i s t.leaves.slot t.at (λ (x : Slot). All (λ y. y < m.next) x.drawn) h.under;
+        more = omega arith;
+        lower = omega arith;
+        once = λ x. omega arith;
+        few = h.few;
+        closing = λ is. (let over = t.how.1 in let low = h.low in omega arith);
+        shape = tt;
+        most = λ x. omega (arith, all_done x);
+        done = λ x lt. all_done x;
+        sound = λ faults honest known. record { done = λ k some. known.done k (subst (λ l. 0 < times k l) (sym (same_done s t.how.0 t.runs)) some); fault = tt };
+        reach = λ faults honest r. reach_kept (End i) s now t.at t.runs faults r;
+      })

@@ -1,0 +1,121 @@
+-- What a step of the machine did, case by case.
+use Rattle.std.proofs.Common.{◌≡◌, ℕ, ◌+◌, ◌<◌, ◌≤◌, List, [], ◌∷◌, ◌++◌, Bool, true, false, min, Option, None, Some, refl, sym, ap, subst, append-nil, append_assoc}
+use Rattle.std.specs.Prelude.{◌&&◌, nat_eq, nat_lt, if◌then◌else◌, Result, Ok, Err, slice_get, slice_set}
+use Rattle.std.proofs.lemmas.Bool.{eqb-true, ltb-true, ltb-false}
+use Rattle.rdf_values.specs.Machine.{Phase, Running, Ended, Faulted, Slot, Left, Machine, slot_of, claim_next, give_up, pass_over, end_slot, running_step, if_running, with_slot, step_of, claim_step, replay_from}
+use Rattle.rdf_values.specs.declared.event.Event.{Event}
+use Rattle.rdf_values.specs.declared.event.Event.TheVariants.{Claim, Finish, Fault, Skip, End}
+use Rattle.rdf_values.specs.declared.step_cause.StepCause.{StepCause}
+use Rattle.rdf_values.specs.declared.step_cause.StepCause.TheVariants.{NotHeld, NotBarred}
+
+abbrev pub slot_with : List ℕ → Option ℕ → Phase → Slot
+slot_with drawn held phase = record { drawn = drawn; held = held; phase = phase }
+
+abbrev pub left : ℕ → ℕ → Slot → Left
+left next bar slot = record { next = next; bar = bar; slot = slot }
+
+-- what an event asks of a slot that runs, and what it leaves
+abbrev pub How : ℕ → ℕ → ℕ → Slot → Event → Left → Type 0
+How clusters next bar s (Claim i c) l = (s.held ≡ None) × (next < clusters) × (l ≡ left (next + 1) bar (slot_with (s.drawn ++ next ∷ []) (Some next) Running))
+How clusters next bar s (Finish i c) l = (s.held ≡ Some c) × (l ≡ left next bar (slot_with s.drawn None Running))
+How clusters next bar s (Fault i c f) l = (s.held ≡ Some c) × (l ≡ left next (min bar c) (slot_with s.drawn None (Faulted f)))
+How clusters next bar s (Skip i c) l = (s.held ≡ Some c) × (bar ≤ c) × (l ≡ left next bar (slot_with s.drawn None Ended))
+How clusters next bar s (End i) l = (s.held ≡ None) × (clusters ≤ next) × (l ≡ left next bar (slot_with s.drawn None Ended))
+
+-- the machine with one slot changed
+abbrev pub changed : Machine → ℕ → Left → Machine
+changed m i l = record { next = l.next; bar = l.bar; slots = slice_set m.slots i l.slot }
+
+pub record IsStepped (clusters : ℕ) (m : Machine) (e : Event) (after : Machine) : Type 0 where
+  pub slot : Slot
+  pub at : slice_get m.slots (slot_of e) ≡ Some slot
+  pub runs : slot.phase ≡ Running
+  pub leaves : Left
+  pub is : after ≡ changed m (slot_of e) leaves
+  pub how : How clusters m.next m.bar slot e leaves
+
+if_ok : {A E : Type 0} (b : Bool) (x y : A) (e : E) → (if b then Ok x else Err e) ≡ Ok y → (b ≡ true) × (x ≡ y)
+if_ok true x y e h = (refl, cc)
+if_ok false x y e h = absurd (cc)
+
+if_err : {A E : Type 0} (b : Bool) (x y : A) (e : E) → (if b then Err e else Ok x) ≡ Ok y → (b ≡ false) × (x ≡ y)
+if_err true x y e h = absurd (cc)
+if_err false x y e h = (refl, cc)
+
+both_true : (a b : Bool) → (a && b) ≡ true → (a ≡ true) × (b ≡ true)
+both_true true true h = (refl, refl)
+both_true true false h = absurd (cc)
+both_true false b h = absurd (cc)
+
+claimed : (clusters next bar c : ℕ) (s : Slot) (held : Option ℕ) (l : Left) → claim_next clusters next bar c s held ≡ Ok l → (held ≡ None) × (next < clusters) × (left (next + 1) bar (slot_with (s.drawn ++ next ∷ []) (Some next) Running) ≡ l)
+claimed clusters next bar c s (Some k) l h = absurd (cc)
+claimed clusters next bar c s None l h =
+    let t = if_ok (nat_eq c next && nat_lt next clusters) (left (next + 1) bar (slot_with (s.drawn ++ next ∷ []) (Some next) Running)) l _ h in
+    let both = both_true (nat_eq c next) (nat_lt next clusters) t.0 in
+    (refl, ltb-true next clusters both.1, t.1)
+
+given_up : (next bar c : ℕ) (s : Slot) (held : Option ℕ) (phase : Phase) (l : Left) → give_up next bar c s held phase ≡ Ok l → (held ≡ Some c) × (left next bar (slot_with s.drawn None phase) ≡ l)
+given_up next bar c s None phase l h = absurd (cc)
+given_up next bar c s (Some k) phase l h =
+    let t = if_ok (nat_eq k c) (left next bar (slot_with s.drawn None phase)) l _ h in
+    (ap Some (eqb-true k c t.0), t.1)
+
+passed_over : (next bar c : ℕ) (s : Slot) (held : Option ℕ) (l : Left) → pass_over next bar c s held ≡ Ok l → (held ≡ Some c) × (bar ≤ c) × (left next bar (slot_with s.drawn None Ended) ≡ l)
+passed_over next bar c s None l h = absurd (cc)
+passed_over next bar c s (Some k) l h = inner (nat_eq k c) (nat_lt k bar) refl refl h
+  where
+    inner : (same lower : Bool) → nat_eq k c ≡ same → nat_lt k bar ≡ lower
+        → ◌≡◌ {A = Result Left StepCause} (if same then (if lower then Err (NotBarred bar) else Ok (left next bar (slot_with s.drawn None Ended))) else Err (NotHeld (Some k))) (Ok l)
+        → (Some k ≡ Some c) × (bar ≤ c) × (left next bar (slot_with s.drawn None Ended) ≡ l)
+    inner false lower same less h = absurd (cc)
+    inner true true same less h = absurd (cc)
+    inner true false same less h = let e = eqb-true k c same in (ap Some e, subst (λ n. bar ≤ n) e (ltb-false k bar less), cc)
+
+ended : (clusters next bar : ℕ) (s : Slot) (held : Option ℕ) (l : Left) → end_slot clusters next bar s held ≡ Ok l → (held ≡ None) × (clusters ≤ next) × (left next bar (slot_with s.drawn None Ended) ≡ l)
+ended clusters next bar s (Some k) l h = absurd (cc)
+ended clusters next bar s None l h =
+    let t = if_err (nat_lt next clusters) (left next bar (slot_with s.drawn None Ended)) l _ h in
+    (refl, ltb-false next clusters t.0, t.1)
+
+how : (clusters next bar : ℕ) (s : Slot) (e : Event) (l : Left) → running_step clusters next bar s e ≡ Ok l → How clusters next bar s e l
+how clusters next bar s (Claim i c) l h = let t = claimed clusters next bar c s s.held l h in (t.0, t.1, sym t.2)
+how clusters next bar s (Finish i c) l h = let t = given_up next bar c s s.held Running l h in (t.0, sym t.1)
+how clusters next bar s (Fault i c f) l h = let t = given_up next (min bar c) c s s.held (Faulted f) l h in (t.0, sym t.1)
+how clusters next bar s (Skip i c) l h = let t = passed_over next bar c s s.held l h in (t.0, t.1, sym t.2)
+how clusters next bar s (End i) l h = let t = ended clusters next bar s s.held l h in (t.0, t.1, sym t.2)
+
+running : (i : ℕ) (p : Phase) (r : Result Left StepCause) (l : Left) → if_running i p r ≡ Ok l → (p ≡ Running) × (r ≡ Ok l)
+running i Running r l h = (refl, h)
+running i Ended r l h = absurd (cc)
+running i (Faulted f) r l h = absurd (cc)
+
+slotted : (m : Machine) (i : ℕ) (r : Result Left StepCause) (after : Machine) → with_slot m i r ≡ Ok after → (l : Left) × (r ≡ Ok l) × (after ≡ changed m i l)
+slotted m i (Err c) after h = absurd (cc)
+slotted m i (Ok l) after h = (l, refl, cc)
+
+stepped_at : (clusters : ℕ) (m : Machine) (e : Event) (after : Machine) (o : Option Slot) → slice_get m.slots (slot_of e) ≡ o → step_of clusters m e o ≡ Ok after → IsStepped clusters m e after
+stepped_at clusters m e after None at h = absurd (cc)
+stepped_at clusters m e after (Some s) at h =
+    let t = slotted m (slot_of e) (if_running (slot_of e) s.phase (running_step clusters m.next m.bar s e)) after h in
+    let r = running (slot_of e) s.phase (running_step clusters m.next m.bar s e) t.0 t.1 in
+    record { slot = s; at = at; runs = r.0; leaves = t.0; is = t.2; how = how clusters m.next m.bar s e t.0 r.1 }
+
+pub stepped : (clusters : ℕ) (m : Machine) (e : Event) (after : Machine) → claim_step clusters m e ≡ Ok after → IsStepped clusters m e after
+stepped clusters m e after h = stepped_at clusters m e after (slice_get m.slots (slot_of e)) refl h
+
+-- ---- what steps keep is kept by all events
+
+same_ok : {E : Type 0} (m after : Machine) → ◌≡◌ {A = Result Machine E} (Ok m) (Ok after) → m ≡ after
+same_ok m after e = cc
+
+pub replays : (clusters : ℕ) (P : List Event → Machine → Type 0)
+    → ((past : List Event) (m : Machine) (e : Event) (after : Machine) → P past m → IsStepped clusters m e after → P (past ++ e ∷ []) after)
+    → (n : ℕ) (past es : List Event) (m after : Machine) → P past m → replay_from clusters n m es ≡ Ok after → P (past ++ es) after
+replays clusters P keeps n past [] m after p h = subst (λ l. P l after) (sym (append-nil past)) (subst (P past) (same_ok m after h) p)
+replays clusters P keeps n past (e ∷ es) m after p h =
+    go (λ next is k. replays clusters P keeps (n + 1) (past ++ e ∷ []) es next after (keeps past m e next p (stepped clusters m e next is)) k) (claim_step clusters m e) refl h
+  where
+    go : ((next : Machine) → claim_step clusters m e ≡ Ok next → replay_from clusters (n + 1) next es ≡ Ok after → P ((past ++ e ∷ []) ++ es) after)
+        → (r : Result Machine StepCause) → claim_step clusters m e ≡ r → ◌≡◌ {A = Result Machine (ℕ × StepCause)} (elim r [ Err cause ↦ Err (n, cause) | Ok next ↦ replay_from clusters (n + 1) next es ]) (Ok after) → P (past ++ e ∷ es) after
+    go rest (Err cause) is k = absurd (cc)
+    go rest (Ok next) is k = subst (λ l. P l after) (append_assoc past (e ∷ []) es) (rest next is k)

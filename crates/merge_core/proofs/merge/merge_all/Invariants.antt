@@ -1,0 +1,13 @@
+use Rattle.std.proofs.Common.{ℕ, List, vec_len}
+use Rattle.rdf_values.specs.Draws.{IsUnion}
+use Rattle.merge_core.specs.Pieces.{Stand}
+use Rattle.merge_core.proofs.Merging.{IsMerged}
+use Rattle.merge_core.proofs.merge.merge_all.Given as goal
+
+abbrev pub invariant-loop-piece : goal.invariant-loop-piece
+invariant-loop-piece g l =
+    let stands = g.P.Piece.stands in
+    (job : g.row.P-Job.Denot) (sets : List (List ℕ)) (all : List ℕ) → Stand (stands job) sets l.fn.pieces → IsUnion sets all → IsMerged (stands job) l.merged l.left.items all
+
+abbrev pub decreases-loop-piece : goal.decreases-loop-piece
+decreases-loop-piece g l = vec_len l.left

@@ -1,0 +1,45 @@
+-- The slots of the machine as the definitions see them, and what a step answers.
+use Rattle.std.specs.Prelude.{◌≡◌, List, [], None, Result, Ok, Err, map, MatchResult}
+use Rattle.rdf_values.specs.Machine.{Phase, Running, Ended, Faulted, Slot, Left, Machine}
+use Rattle.rdf_values.specs.declared.step_cause.StepCause.{StepCause}
+use Rattle.merge_core.specs.declared.front.Front.{Front}
+use Rattle.merge_core.specs.declared.phase.Phase.{Phase as CorePhase}
+use Rattle.merge_core.specs.declared.phase.Phase.TheVariants as core
+use Rattle.merge_core.specs.declared.slot.Slot.{Slot as CoreSlot}
+use Rattle.merge_core.specs.declared.refusal.StepRefusal.{StepRefusal}
+use Rattle.merge_core.specs.declared.refusal.StepRefusal.TheVariants.{Cause, Memory}
+
+abbrev pub seen_phase : CorePhase → Phase
+seen_phase core.Running = Running
+seen_phase core.Ended = Ended
+seen_phase (core.Faulted fault) = Faulted fault
+
+abbrev pub seen_slot : CoreSlot → Slot
+seen_slot s = record { drawn = s.drawn; held = s.held; phase = seen_phase s.phase }
+
+abbrev pub seen_slots : List CoreSlot → List Slot
+seen_slots slots = map seen_slot slots
+
+-- the machine of these slots
+abbrev pub seen_machine : Front → List CoreSlot → Machine
+seen_machine front slots = record { next = front.next; bar = front.bar; slots = seen_slots slots }
+
+abbrev pub fresh_slot : Slot
+fresh_slot = record { drawn = []; held = None; phase = Running }
+
+-- what an event leaves
+abbrev pub left_with : Front → CoreSlot → Left
+left_with front slot = record { next = front.next; bar = front.bar; slot = seen_slot slot }
+
+-- the error is the wanted cause, or want of memory
+abbrev pub Refused : {A : Type 0} → Result A StepCause → StepRefusal → Type 0
+Refused wanted (Cause cause) = wanted ≡ Err cause
+Refused wanted Memory = Unit {0}
+
+-- the step of a slot is the wanted one; after a refusal the slot is as before
+abbrev pub Steps : Result Left StepCause → CoreSlot → CoreSlot → Result Front StepRefusal → Type 0
+Steps wanted old new answer = MatchResult answer (λ front. wanted ≡ Ok (left_with front new)) (λ refusal. (new ≡ old) × Refused wanted refusal)
+
+-- the step of the machine likewise
+abbrev pub StepsAmong : Result Machine StepCause → List CoreSlot → List CoreSlot → Result Front StepRefusal → Type 0
+StepsAmong wanted old new answer = MatchResult answer (λ front. wanted ≡ Ok (seen_machine front new)) (λ refusal. (new ≡ old) × Refused wanted refusal)

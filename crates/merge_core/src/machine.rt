@@ -1,0 +1,67 @@
+// The machine of events.
+ghost use Rattle.std.specs.Prelude.{◌≡◌, ◌<◌, ◌≤◌, IfOk, length};
+ghost use Rattle.rdf_values.specs.Machine.{claim_step, opening};
+ghost use Rattle.merge_core.specs.Cores.{IsStep};
+
+use crate::front::Front;
+use crate::refusal::StepRefusal;
+use crate::slot::{Slot, step_among};
+use rdf_values::{Event, Memory};
+use std::alloc::Global;
+use std::marker::Model;
+
+/// Slots that claim clusters, finish them, fault, pass them over or end. No loop runs it: it is what a loop's run comes to.
+#[derive(Drop)]
+pub struct Core {
+    clusters: u32,
+    front: Front,
+    slots: Vec<Slot>,
+}
+
+impl Model for Core {
+    ghost use Rattle.std.specs.Prelude.{◌≤◌, ◌<◌, ◌^◌, length};
+    ghost use Rattle.merge_core.specs.Cores.{CoreView};
+    ghost use Rattle.merge_core.specs.Slots.{seen_machine};
+
+    ghost Value = { CoreView };
+
+    ghost view = { λ c. record { clusters = c.clusters; machine = seen_machine c.front c.slots.items } };
+
+    ghost invariant = { λ c. (c.front.next ≤ c.clusters) × (length c.slots.items < 2 ^ 32) };
+}
+
+impl Core {
+    /// The opening: no cluster is drawn, and each slot runs and holds nothing.
+    pub fn new(alloc: Global, clusters: u32, slots: u32) -> Result<Core, Memory>
+        requires { 0 < slots }
+        ensures { IfOk result (λ core. (core.clusters ≡ clusters) × (core.machine ≡ opening clusters slots)) }
+    {
+        let mut all = Vec::new(alloc);
+        for _ in 0..slots {
+            all.push(Slot::new(alloc))?;
+        }
+        Ok(Core {
+            clusters,
+            front: Front {
+                next: 0,
+                bar: clusters,
+            },
+            slots: all,
+        })
+    }
+
+    /// One event. After a refusal nothing has changed.
+    pub fn step(&mut self, event: Event) -> Result<(), StepRefusal>
+        ensures { IsStep (claim_step self.old.clusters self.old.machine event) self.old self.new result }
+    {
+        let clusters = self.clusters;
+        let front = self.front;
+        match step_among(self.slots.as_mut_slice(), clusters, front, event) {
+            Ok(after) => {
+                self.front = after;
+                Ok(())
+            }
+            Err(refusal) => Err(refusal),
+        }
+    }
+}

@@ -1,0 +1,187 @@
+// One slot of the machine.
+ghost use Rattle.std.specs.Prelude.{◌≡◌, ◌≤◌, ◌<◌, ◌^◌, length, min};
+ghost use Rattle.rdf_values.specs.Machine.{claim_next, claim_step, end_slot, give_up, if_running, pass_over, running_step, slot_of};
+ghost use Rattle.merge_core.specs.Slots.{Steps, StepsAmong, fresh_slot, seen_machine, seen_phase, seen_slot};
+
+use crate::front::Front;
+use crate::phase::Phase;
+use crate::refusal::StepRefusal;
+use rdf_values::{Event, ListOf, Memory, StepCause};
+use std::alloc::Global;
+
+/// The clusters that a slot drew, the one that it holds, and whether it goes on.
+#[derive(Drop)]
+pub struct Slot {
+    pub drawn: ListOf<u32>,
+    pub held: Option<u32>,
+    pub phase: Phase,
+}
+
+impl Slot {
+    /// It runs and holds nothing.
+    pub fn new(alloc: Global) -> Slot
+        ensures { seen_slot result ≡ fresh_slot }
+    {
+        Slot {
+            drawn: ListOf::new(alloc),
+            held: None,
+            phase: Phase::Running,
+        }
+    }
+
+    // Claims the next cluster.
+    fn claim(&mut self, clusters: u32, front: Front, cluster: u32) -> Result<Front, StepRefusal>
+        requires { front.next ≤ clusters }
+        ensures { Steps (claim_next clusters front.next front.bar cluster (seen_slot self.old) self.old.held) self.old self.new result }
+    {
+        if let Some(held) = self.held {
+            return Err(StepRefusal::Cause(StepCause::Busy { cluster: held }));
+        }
+        let Front { next, bar } = front;
+        if cluster != next || next >= clusters {
+            return Err(StepRefusal::Cause(StepCause::NotNext { next }));
+        }
+        match self.drawn.push(next) {
+            Ok(()) => {
+                self.held = Some(next);
+                self.phase = Phase::Running;
+                Ok(Front {
+                    next: next + 1,
+                    bar,
+                })
+            }
+            Err(Memory) => Err(StepRefusal::Memory),
+        }
+    }
+
+    // Gives up the cluster that it holds.
+    fn give_up(&mut self, after: Front, cluster: u32, phase: Phase) -> Result<Front, StepRefusal>
+        ensures { Steps (give_up after.next after.bar cluster (seen_slot self.old) self.old.held (seen_phase phase)) self.old self.new result }
+    {
+        let Some(held) = self.held else {
+            return Err(StepRefusal::Cause(StepCause::NotHeld { held: None }));
+        };
+        if held != cluster {
+            return Err(StepRefusal::Cause(StepCause::NotHeld { held: Some(held) }));
+        }
+        self.held = None;
+        self.phase = phase;
+        Ok(after)
+    }
+
+    // Passes over the cluster that it holds, where it isn't below the bar, and ends.
+    fn pass_over(&mut self, front: Front, cluster: u32) -> Result<Front, StepRefusal>
+        ensures { Steps (pass_over front.next front.bar cluster (seen_slot self.old) self.old.held) self.old self.new result }
+    {
+        let Some(held) = self.held else {
+            return Err(StepRefusal::Cause(StepCause::NotHeld { held: None }));
+        };
+        if held != cluster {
+            return Err(StepRefusal::Cause(StepCause::NotHeld { held: Some(held) }));
+        }
+        if held < front.bar {
+            return Err(StepRefusal::Cause(StepCause::NotBarred { bar: front.bar }));
+        }
+        self.held = None;
+        self.phase = Phase::Ended;
+        Ok(front)
+    }
+
+    // Ends, once every cluster is claimed.
+    fn end(&mut self, clusters: u32, front: Front) -> Result<Front, StepRefusal>
+        ensures { Steps (end_slot clusters front.next front.bar (seen_slot self.old) self.old.held) self.old self.new result }
+    {
+        if let Some(held) = self.held {
+            return Err(StepRefusal::Cause(StepCause::Busy { cluster: held }));
+        }
+        if front.next < clusters {
+            return Err(StepRefusal::Cause(StepCause::NotOver { next: front.next }));
+        }
+        self.phase = Phase::Ended;
+        Ok(front)
+    }
+
+    // An event of a slot that runs.
+    fn running_step(
+        &mut self,
+        clusters: u32,
+        front: Front,
+        event: Event,
+    ) -> Result<Front, StepRefusal>
+        requires { front.next ≤ clusters }
+        ensures { Steps (running_step clusters front.next front.bar (seen_slot self.old) event) self.old self.new result }
+    {
+        match event {
+            Event::Claim { slot: _, cluster } => self.claim(clusters, front, cluster),
+            Event::Finish { slot: _, cluster } => self.give_up(front, cluster, Phase::Running),
+            Event::Fault {
+                slot: _,
+                cluster,
+                fault,
+            } => {
+                let lowered = Front {
+                    next: front.next,
+                    bar: front.bar.min(cluster),
+                };
+                self.give_up(lowered, cluster, Phase::Faulted(fault))
+            }
+            Event::Skip { slot: _, cluster } => self.pass_over(front, cluster),
+            Event::End { slot: _ } => self.end(clusters, front),
+        }
+    }
+
+    /// An event of this slot, which has that number: how far the slots have come then.
+    pub fn step(
+        &mut self,
+        number: u32,
+        clusters: u32,
+        front: Front,
+        event: Event,
+    ) -> Result<Front, StepRefusal>
+        requires { front.next ≤ clusters }
+        ensures { Steps (if_running number (seen_slot self.old).phase (running_step clusters front.next front.bar (seen_slot self.old) event)) self.old self.new result }
+    {
+        match self.phase {
+            Phase::Running => self.running_step(clusters, front, event),
+            Phase::Ended => Err(StepRefusal::Cause(StepCause::Stopped { slot: number })),
+            Phase::Faulted(_) => Err(StepRefusal::Cause(StepCause::Stopped { slot: number })),
+        }
+    }
+}
+
+// The slot of an event.
+fn slot_of(event: Event) -> u32
+    ensures { result ≡ slot_of event }
+{
+    match event {
+        Event::Claim { slot, cluster: _ } => slot,
+        Event::Finish { slot, cluster: _ } => slot,
+        Event::Fault {
+            slot,
+            cluster: _,
+            fault: _,
+        } => slot,
+        Event::Skip { slot, cluster: _ } => slot,
+        Event::End { slot } => slot,
+    }
+}
+
+/// An event of the slots: how far they have come then.
+pub fn step_among(
+    slots: &mut [Slot],
+    clusters: u32,
+    front: Front,
+    event: Event,
+) -> Result<Front, StepRefusal>
+    requires few { length slots.old < 2 ^ 32 }
+    requires next { front.next ≤ clusters }
+    ensures { StepsAmong (claim_step clusters (seen_machine front slots.old) event) slots.old slots.new result }
+{
+    let number = slot_of(event);
+    if number as usize >= slots.len() {
+        return Err(StepRefusal::Cause(StepCause::NoSlot {
+            slots: slots.len() as u32,
+        }));
+    }
+    slots[number as usize].step(number, clusters, front, event)
+}

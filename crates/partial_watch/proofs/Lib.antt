@@ -1,0 +1,5 @@
+pub mod Alone
+pub mod Dealt
+pub mod Noted
+pub mod Notes
+pub mod Turns

@@ -1,0 +1,4 @@
+pub mod Chosen
+pub mod NotingLaws
+pub mod Noting
+pub mod Shares

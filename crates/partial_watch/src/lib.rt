@@ -1,0 +1,22 @@
+//! Slots note the clusters that they finish in one order, each noting by one atomic step; and results over the first ones noted.
+#![tactic(auto)]
+
+pub mod book;
+pub mod hand;
+pub mod interval;
+pub mod laws;
+pub mod orders;
+pub mod partials;
+mod rule;
+pub mod share;
+pub mod share_list;
+
+pub use crate::book::Book;
+pub use crate::interval::stride;
+pub use crate::orders::Orders;
+pub use crate::partials::{PartialPiece, partial};
+pub use crate::share::Share;
+pub use crate::share_list::ShareList;
+
+#[cfg(test)]
+mod tests;
