@@ -13,7 +13,7 @@ use Rattle.clusters.specs.Ranges.{Lead}
 use Rattle.clusters.proofs.Leading.{Lead-push}
 
 pub length-cut : (n size : ℕ) → length (even_cut n size) ≡ div_ceil n size
-length-even_cut n size = length-map (below (div_ceil n size)) _ ∙ length-below (div_ceil n size)
+length-cut n size = length-map (below (div_ceil n size)) _ ∙ length-below (div_ceil n size)
 
 pub starts_below : (n size cluster : ℕ) → 1 ≤ size → cluster < div_ceil n size → cluster * size < n
 starts_below n size cluster s h =

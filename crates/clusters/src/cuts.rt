@@ -1,6 +1,6 @@
 // How entries are cut into clusters.
 ghost use Rattle.std.specs.Prelude.{◌≡◌, ◌≤◌, ◌<◌, length, slice_get};
-ghost use Rattle.rdf_values.specs.Cuts.{cut};
+ghost use Rattle.rdf_values.specs.Cuts.{even_cut};
 ghost use Rattle.clusters.specs.CutsView.{AreCuts};
 ghost use Rattle.clusters.specs.Ranges.{IsInOne, Lead};
 
@@ -38,8 +38,8 @@ pub fn cut(entries: u32, size: u32) -> Cuts
 /// A law: the clusters' ranges lead from 0 to the number of entries, so that each entry is in one of them and no other.
 pub fn lead_to_the_end(entries: u32, size: u32)
     requires { 1 ≤ size }
-    ensures leads { Lead 0 (cut entries size) entries }
-    ensures once { IsInOne (cut entries size) 0 entries }
+    ensures leads { Lead 0 (even_cut entries size) entries }
+    ensures once { IsInOne (even_cut entries size) 0 entries }
 {}
 
 impl Cuts {
@@ -53,7 +53,7 @@ impl Cuts {
 
     /// How many clusters there are.
     pub fn count(&self) -> u32
-        ensures value { result ≡ length (cut self.now.entries self.now.size) }
+        ensures value { result ≡ length (even_cut self.now.entries self.now.size) }
         ensures valid { AreCuts self.now }
     {
         self.entries.div_ceil(self.size)
@@ -61,8 +61,8 @@ impl Cuts {
 
     /// The entries of a cluster.
     pub fn range(&self, cluster: u32) -> Span
-        requires { cluster < length (cut self.now.entries self.now.size) }
-        ensures { slice_get (cut self.now.entries self.now.size) cluster ≡ Some result }
+        requires { cluster < length (even_cut self.now.entries self.now.size) }
+        ensures { slice_get (even_cut self.now.entries self.now.size) cluster ≡ Some result }
     {
         let lo = cluster * self.size;
         let hi = lo + self.size.min(self.entries - lo);
