@@ -1,11 +1,11 @@
 // The token that a text begins with.
-ghost use Rattle.std.specs.Prelude.{◌≡◌, ◌<◌, ◌∷◌, List, ℕ, length, take_while, option_map};
-ghost use Rattle.rdf_values.specs.Names.{is_digit, is_word_byte};
+ghost use Rattle.std.specs.Prelude.{◌≡◌, ◌<◌, ◌∷◌, List, ℕ, length, option_map};
 ghost use Rattle.rdf_values.specs.Tokens.{word_first, number_first, long_mark, short_mark, mark_first, first_token};
 ghost use Rattle.expr_read.specs.Views.{first_of, token_of};
 
 use crate::token::Token;
-use rdf_values::name::{is_word_byte, is_word_start};
+use rdf_values::name::is_word_start;
+use rdf_values::word::{digits_size, is_digit, word_size};
 use rdf_values::{BinOp, ExprCause, Mark, read_magnitude};
 
 const LONGEST_WORD: usize = 64;
@@ -22,24 +22,6 @@ pub(crate) struct Lexeme<'a> {
 pub(crate) struct Misread {
     pub(crate) cause: ExprCause,
     pub(crate) offset: usize,
-}
-
-fn is_digit(byte: u8) -> bool
-    ensures { result ≡ is_digit byte }
-{
-    byte.is_ascii_digit()
-}
-
-fn word_size(text: &[u8]) -> usize
-    ensures { result ≡ length (take_while is_word_byte text.now) }
-{
-    text.iter().take_while(|byte| is_word_byte(**byte)).count()
-}
-
-fn digits_size(text: &[u8]) -> usize
-    ensures { result ≡ length (take_while is_digit text.now) }
-{
-    text.iter().take_while(|byte| is_digit(**byte)).count()
 }
 
 // The token that a word is.

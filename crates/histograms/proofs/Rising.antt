@@ -5,7 +5,7 @@ use Rattle.std.proofs.lemmas.List.Sums.{sum_by-cons}
 use Rattle.std.specs.Prelude.{int_lt, int_le, count_by, nat_le}
 use Rattle.std.specs.List.{IsAllAdjacentAnswer}
 use Rattle.std.specs.List.Sorted.{IsPartitionPoint, IsPartitionedBy}
-use Rattle.rdf_values.specs.Verdict.{are_edges, rises}
+use Rattle.rdf_values.specs.Edges.{are_edges, rises}
 
 rises_all : (xs : List ℤ) → ((k : ℕ) (d : ℤ) → suc k < length xs → true ≡ int_lt (get_or xs k d) (get_or xs (suc k) d)) → rises xs ≡ true
 rises_all [] h = refl

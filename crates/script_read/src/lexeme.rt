@@ -1,14 +1,15 @@
 // What a line begins with at a place.
-ghost use Rattle.std.specs.Prelude.{◌≡◌, ◌==◌, ◌+◌, ◌-◌, ◌<◌, ◌≤◌, ◌∷◌, ◌||◌, ℕ, List, true, length, drop, position, take_while};
+ghost use Rattle.std.specs.Prelude.{◌≡◌, ◌==◌, ◌+◌, ◌-◌, ◌<◌, ◌≤◌, ◌∷◌, ◌||◌, ℕ, List, true, length, drop, position};
 ghost use Rattle.std.specs.List.{list_all};
-ghost use Rattle.rdf_values.specs.Names.{between, is_digit, is_name, is_word, is_word_byte};
+ghost use Rattle.rdf_values.specs.Names.{between, is_digit, is_name, is_word};
 ghost use Rattle.rdf_values.specs.Integers.{integer_of};
 ghost use Rattle.rdf_values.specs.LineTokens.{lexeme, word_lexeme, integer_lexeme, string_lexeme, mark_lexeme};
 ghost use Rattle.script_read.specs.Views.{lexeme_of};
 
 use crate::token::{Mark, Quoted, Token, Word};
-use rdf_values::name::{is_word_byte, is_word_start};
+use rdf_values::name::is_word_start;
 use rdf_values::read_integer;
+use rdf_values::word::{digits_size, is_digit, word_size};
 
 const LONGEST_NAME: usize = 64;
 
@@ -19,12 +20,6 @@ pub(crate) enum Lexeme<'a> {
     Comment,
     Bad,
     Found { token: Token<'a>, more: usize },
-}
-
-fn is_digit(byte: u8) -> bool
-    ensures { result ≡ is_digit byte }
-{
-    byte.is_ascii_digit()
 }
 
 fn begins_integer(byte: u8) -> bool
@@ -46,18 +41,6 @@ fn is_name(word: &[u8]) -> bool
     ensures { result ≡ is_name word.now }
 {
     word.len() <= LONGEST_NAME && word != b"true".as_slice() && word != b"false".as_slice()
-}
-
-fn word_size(text: &[u8]) -> usize
-    ensures { result ≡ length (take_while is_word_byte text.now) }
-{
-    text.iter().take_while(|byte| is_word_byte(**byte)).count()
-}
-
-fn digits_size(text: &[u8]) -> usize
-    ensures { result ≡ length (take_while is_digit text.now) }
-{
-    text.iter().take_while(|byte| is_digit(**byte)).count()
 }
 
 fn quote_place(text: &[u8]) -> Option<usize>

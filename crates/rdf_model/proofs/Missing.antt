@@ -1,0 +1,226 @@
+-- Evaluation is the same whatever stands for what is missing.
+use Rattle.std.proofs.Common.{◌≡◌, ℕ, ℤ, Bool, true, false, List, [], ◌∷◌, Option, Some, None, refl, if◌then◌else◌, length}
+use Rattle.std.specs.Prelude.{nat_eq, map, slice_get, ◌+ℤ◌, ◌-ℤ◌, ◌*ℤ◌, neg_ℤ, int_div, nat_abs, pos, negsuc}
+use Rattle.std.specs.Int.{int_min, int_max}
+use Rattle.rdf_values.specs.Names.{same, place}
+use Rattle.rdf_values.specs.Path.{Path, Under, target_of}
+use Rattle.rdf_values.specs.EachColumn.{EachColumn, EachArgument}
+use Rattle.rdf_values.specs.Functions.{Function, fn_names}
+use Rattle.rdf_values.specs.Numbered.{callee}
+use Rattle.rdf_values.specs.Tree.{Tree, Trees, NamedTree, Lit, Truth, Col, Neg, Not, Bin, Cond, Pick, Call, End, More}
+use Rattle.rdf_values.specs.declared.column.Column.{Column}
+use Rattle.rdf_values.specs.declared.expr.BinOp.{BinOp}
+use Rattle.rdf_values.specs.declared.expr.BinOp.TheVariants as op
+use Rattle.rdf_values.specs.declared.num_expr.Callee.{Callee}
+use Rattle.rdf_values.specs.declared.num_expr.Callee.TheVariants as fn
+use Rattle.rdf_values.specs.declared.value.Value.{Value}
+use Rattle.rdf_values.specs.declared.value.Value.TheVariants as val
+use Rattle.rdf_values.specs.declared.vary_values.VaryValues.{VaryValues}
+use Rattle.rdf_values.specs.declared.vary_values.VaryValues.TheVariants.{Lists, Vector}
+use Rattle.rdf_values.specs.declared.statement.Statement.TheVariants.{Define, Redefine, Vary}
+use Rattle.rdf_model.specs.Evaluation.{Outcome, Gives, ◌>>=◌, for_all, fits, checked, divided, is_zero, mark, pairs, number_operation, value_operation, vector_operation, in_order, operation, chosen_side, negation, inversion, element_outcome, element, picked, sum_from, extreme_element, answer_outcome, given_call, call_outcome, named_call, evaluate, evaluate_all, argument}
+use Rattle.rdf_model.specs.ColumnValues.{cell, own_place, tag_element, expression_at, value_if, tag_value, varied, expression_value, named_value, column_value}
+use Rattle.rdf_model.specs.Demanded.{with_needs}
+use Rattle.rdf_model.specs.Alike.{Alike, gives, faults, needs}
+
+module _ (M N : Type 0) where
+  pub bind_alike : {A B : Type 0} {o : Outcome M A} {p : Outcome N A} (f : A → Outcome M B) (g : A → Outcome N B) → Alike o p → ((a : A) → Alike (f a) (g a)) → Alike (o >>= f) (p >>= g)
+  bind_alike f g (gives {a = a}) h = h a
+  bind_alike f g faults h = faults
+  bind_alike f g needs h = needs
+
+  if_alike : {A : Type 0} (b : Bool) {o o' : Outcome M A} {p p' : Outcome N A} → Alike o p → Alike o' p' → Alike (if b then o else o') (if b then p else p')
+  if_alike true h k = h
+  if_alike false h k = k
+
+  checked_alike : (z : ℤ) → Alike (checked {M = M} z) (checked {M = N} z)
+  checked_alike z = if_alike (fits z) gives faults
+
+  divided_alike : (y : ℤ) {o : Outcome M ℤ} {p : Outcome N ℤ} → Alike o p → Alike (divided y o) (divided y p)
+  divided_alike y h = if_alike (is_zero y) faults h
+
+  number_alike : (o : BinOp) (x y : ℤ) → Alike (number_operation {M = M} o x y) (number_operation {M = N} o x y)
+  number_alike op.Add x y = checked_alike (x +ℤ y)
+  number_alike op.Sub x y = checked_alike (x -ℤ y)
+  number_alike op.Mul x y = checked_alike (x *ℤ y)
+  number_alike op.Div x y = divided_alike y (checked_alike (int_div x y))
+  number_alike op.Rem x y = divided_alike y gives
+  number_alike o x y = gives
+
+  pub for_all_alike : {A B : Type 0} (f : A → Outcome M B) (g : A → Outcome N B) → ((a : A) → Alike (f a) (g a)) → (xs : List A) → Alike (for_all f xs) (for_all g xs)
+  for_all_alike f g h [] = gives
+  for_all_alike f g h (x ∷ xs) = bind_alike _ _ (h x) (λ y. bind_alike _ _ (for_all_alike f g h xs) (λ ys. gives))
+
+  vector_alike : (o : BinOp) (xs ys : List ℤ) → Alike (vector_operation {M = M} o xs ys) (vector_operation {M = N} o xs ys)
+  vector_alike o xs ys =
+      if_alike (nat_eq (length xs) (length ys)) (bind_alike _ _ (for_all_alike (λ (p : ℤ × ℤ). number_operation o p.0 p.1) (λ (p : ℤ × ℤ). number_operation o p.0 p.1) (λ p. number_alike o p.0 p.1) (pairs xs ys)) (λ z. gives)) faults
+
+  value_alike : (o : BinOp) (v w : Value) → Alike (value_operation {M = M} o v w) (value_operation {M = N} o v w)
+  value_alike o (val.Int x) (val.Int y) = bind_alike _ _ (number_alike o x y) (λ z. gives)
+  value_alike o (val.Int x) (val.Vect ys) = bind_alike _ _ (for_all_alike (number_operation o x) (number_operation o x) (number_alike o x) ys) (λ z. gives)
+  value_alike o (val.Vect xs) (val.Int y) = bind_alike _ _ (for_all_alike (λ x. number_operation o x y) (λ x. number_operation o x y) (λ x. number_alike o x y) xs) (λ z. gives)
+  value_alike o (val.Vect xs) (val.Vect ys) = vector_alike o xs ys
+  value_alike o (val.Bool a) (val.Bool b) = bind_alike _ _ (number_alike o (mark a) (mark b)) (λ z. gives)
+  value_alike o v w = gives
+
+  in_order_alike : {o p : Outcome M Value} {o' p' : Outcome N Value} (f : Value → Value → Outcome M Value) (g : Value → Value → Outcome N Value) → ((v w : Value) → Alike (f v w) (g v w)) → Alike o o' → Alike p p'
+      → Alike (in_order f o p) (in_order g o' p')
+  in_order_alike f g h k l = bind_alike _ _ k (λ v. bind_alike _ _ l (λ w. h v w))
+
+  operation_alike : (o : BinOp) {l r : Outcome M Value} {l' r' : Outcome N Value} → Alike l l' → Alike r r' → Alike (operation o l r) (operation o l' r')
+  operation_alike op.And (gives {a = val.Bool false}) k = gives
+  operation_alike op.And (gives {a = v}) k = in_order_alike {o = Gives v} {o' = Gives v} (value_operation op.And) (value_operation op.And) (value_alike op.And) gives k
+  operation_alike op.And faults k = faults
+  operation_alike op.And needs k = needs
+  operation_alike op.Or (gives {a = val.Bool true}) k = gives
+  operation_alike op.Or (gives {a = v}) k = in_order_alike {o = Gives v} {o' = Gives v} (value_operation op.Or) (value_operation op.Or) (value_alike op.Or) gives k
+  operation_alike op.Or faults k = faults
+  operation_alike op.Or needs k = needs
+  operation_alike o h k = in_order_alike (value_operation o) (value_operation o) (value_alike o) h k
+
+  negation_alike : (v : Value) → Alike (negation {M = M} v) (negation {M = N} v)
+  negation_alike (val.Int x) = bind_alike _ _ (checked_alike (neg_ℤ x)) (λ z. gives)
+  negation_alike (val.Vect xs) = bind_alike _ _ (for_all_alike (λ x. checked (neg_ℤ x)) (λ x. checked (neg_ℤ x)) (λ x. checked_alike (neg_ℤ x)) xs) (λ z. gives)
+  negation_alike (val.Bool b) = gives
+
+  inversion_alike : (v : Value) → Alike (inversion {M = M} v) (inversion {M = N} v)
+  inversion_alike (val.Int x) = gives
+  inversion_alike (val.Vect xs) = gives
+  inversion_alike (val.Bool b) = gives
+
+  chosen_alike : (v : Value) {a b : Outcome M Value} {a' b' : Outcome N Value} → Alike a a' → Alike b b' → Alike (chosen_side v a b) (chosen_side v a' b')
+  chosen_alike (val.Bool true) h k = h
+  chosen_alike (val.Bool false) h k = k
+  chosen_alike (val.Int z) h k = gives
+  chosen_alike (val.Vect zs) h k = gives
+
+  element_of_alike : (o : Option ℤ) → Alike (element_outcome {M = M} o) (element_outcome {M = N} o)
+  element_of_alike (Some z) = gives
+  element_of_alike None = faults
+
+  element_alike : (xs : List ℤ) (i : ℤ) → Alike (element {M = M} xs i) (element {M = N} xs i)
+  element_alike xs (pos i) = element_of_alike (slice_get xs i)
+  element_alike xs (negsuc i) = faults
+
+  picked_alike : (v w : Value) → Alike (picked {M = M} v w) (picked {M = N} v w)
+  picked_alike (val.Vect xs) (val.Int i) = element_alike xs i
+  picked_alike (val.Vect xs) (val.Vect ms) = if_alike (nat_eq (length xs) (length ms)) gives faults
+  picked_alike v w = gives
+
+  sum_alike : (z : ℤ) (xs : List ℤ) → Alike (sum_from {M = M} z xs) (sum_from {M = N} z xs)
+  sum_alike z [] = gives
+  sum_alike z (x ∷ xs) = bind_alike _ _ (checked_alike (z +ℤ x)) (λ s. sum_alike s xs)
+
+  extreme_alike : (better : ℤ → ℤ → ℤ) (xs : List ℤ) → Alike (extreme_element {M = M} better xs) (extreme_element {M = N} better xs)
+  extreme_alike better [] = faults
+  extreme_alike better (x ∷ xs) = gives
+
+  answer_alike : (a : Option ℤ) → Alike (answer_outcome {M = M} a) (answer_outcome {M = N} a)
+  answer_alike (Some z) = gives
+  answer_alike None = faults
+
+  given_alike : (f : Option Function) (zs : List ℤ) → Alike (given_call {M = M} f zs) (given_call {M = N} f zs)
+  given_alike None zs = gives
+  given_alike (Some f) zs = answer_alike (f.answer zs)
+
+  pub call_alike : (fns : List Function) (f : Callee) (vs : List Value) → Alike (call_outcome {M = M} fns f vs) (call_outcome {M = N} fns f vs)
+  call_alike fns fn.Sum (val.Vect xs ∷ []) = bind_alike _ _ (sum_alike (pos 0) xs) (λ z. gives)
+  call_alike fns fn.Min (val.Vect xs ∷ []) = extreme_alike int_min xs
+  call_alike fns fn.Max (val.Vect xs ∷ []) = extreme_alike int_max xs
+  call_alike fns fn.Size (val.Vect xs ∷ []) = gives
+  call_alike fns fn.Any (val.Vect xs ∷ []) = gives
+  call_alike fns fn.All (val.Vect xs ∷ []) = gives
+  call_alike fns fn.At (val.Vect xs ∷ val.Int i ∷ []) = element_alike xs i
+  call_alike fns fn.Abs (val.Int z ∷ []) = bind_alike _ _ (checked_alike (pos (nat_abs z))) (λ z. gives)
+  call_alike fns (fn.Given i) vs = given_alike (slice_get fns i) (map argument vs)
+  call_alike fns f vs = gives
+
+  -- ---- expressions
+
+  module _ {C F : Type 0} (look : C → Outcome M Value) (look' : C → Outcome N Value) (call : F → List Value → Outcome M Value) (call' : F → List Value → Outcome N Value)
+      (calls : (f : F) (vs : List Value) → Alike (call f vs) (call' f vs)) where
+    mutual
+      pub evaluate_alike : (e : Tree C F) → EachColumn (λ c. Alike (look c) (look' c)) e → Alike (evaluate look call e) (evaluate look' call' e)
+      evaluate_alike (Lit z) h = gives
+      evaluate_alike (Truth b) h = gives
+      evaluate_alike (Col c) h = h
+      evaluate_alike (Neg a) h = bind_alike _ _ (evaluate_alike a h) negation_alike
+      evaluate_alike (Not a) h = bind_alike _ _ (evaluate_alike a h) inversion_alike
+      evaluate_alike (Bin o a b) h = operation_alike o (evaluate_alike a h.0) (evaluate_alike b h.1)
+      evaluate_alike (Cond c a b) h = bind_alike _ _ (evaluate_alike c h.0) (λ v. chosen_alike v (evaluate_alike a h.1) (evaluate_alike b h.2))
+      evaluate_alike (Pick v i) h = in_order_alike picked picked picked_alike (evaluate_alike v h.0) (evaluate_alike i h.1)
+      evaluate_alike (Call f args) h = bind_alike _ _ (evaluate_all_alike args h) (calls f)
+
+      pub evaluate_all_alike : (es : Trees C F) → EachArgument (λ c. Alike (look c) (look' c)) es → Alike (evaluate_all look call es) (evaluate_all look' call' es)
+      evaluate_all_alike End h = gives
+      evaluate_all_alike (More a rest) h = bind_alike _ _ (evaluate_alike a h.0) (λ v. bind_alike _ _ (evaluate_all_alike rest h.1) (λ vs. gives))
+
+  -- what holds of each column at all holds of each in an expression
+  module _ {C F : Type 0} (P : C → Type 0) (h : (c : C) → P c) where
+    mutual
+      pub everywhere : (e : Tree C F) → EachColumn P e
+      everywhere (Lit z) = tt
+      everywhere (Truth b) = tt
+      everywhere (Col c) = h c
+      everywhere (Neg a) = everywhere a
+      everywhere (Not a) = everywhere a
+      everywhere (Bin o a b) = (everywhere a, everywhere b)
+      everywhere (Cond c a b) = (everywhere c, everywhere a, everywhere b)
+      everywhere (Pick v i) = (everywhere v, everywhere i)
+      everywhere (Call f args) = everywhere_in args
+
+      pub everywhere_in : (es : Trees C F) → EachArgument P es
+      everywhere_in End = tt
+      everywhere_in (More a rest) = (everywhere a, everywhere_in rest)
+
+  -- ---- columns
+
+  module _ (fns : List Function) (columns : List Column) (row : List Value) where
+    expression_alike : (look : List ℕ → Outcome M Value) (look' : List ℕ → Outcome N Value) → ((c : List ℕ) → Alike (look c) (look' c)) → (e : NamedTree) → Alike (expression_value fns look e) (expression_value fns look' e)
+    expression_alike look look' h e =
+        evaluate_alike look look' (named_call fns) (named_call fns) (λ f vs. call_alike fns (callee (fn_names fns) f) vs) e (everywhere (λ c. Alike (look c) (look' c)) h e)
+
+    cell_alike : (cs : List Column) (vs : List Value) (name : List ℕ) → Alike (cell {M = M} cs vs name) (cell {M = N} cs vs name)
+    cell_alike [] vs name = gives
+    cell_alike (c ∷ cs) [] name = gives
+    cell_alike (c ∷ cs) (v ∷ vs) name = if_alike (same c.name name) gives (cell_alike cs vs name)
+
+    pub tag_alike : (tags k : ℕ) (v : Value) → Alike (tag_element {M = M} tags k v) (tag_element {M = N} tags k v)
+    tag_alike tags k (val.Vect xs) = if_alike (nat_eq (length xs) tags) (element_alike xs (pos k)) faults
+    tag_alike tags k (val.Int z) = gives
+    tag_alike tags k (val.Bool b) = gives
+
+    value_if_alike : (o : Option NamedTree) (f : NamedTree → Outcome M Value) (g : NamedTree → Outcome N Value) → ((e : NamedTree) → Alike (f e) (g e)) → Alike (value_if f o) (value_if g o)
+    value_if_alike None f g h = gives
+    value_if_alike (Some e) f g h = h e
+
+    tag_value_alike : (values : VaryValues) (tags i k : ℕ) (f : NamedTree → Outcome M Value) (g : NamedTree → Outcome N Value) → ((e : NamedTree) → Alike (f e) (g e)) → Alike (tag_value values tags i k f) (tag_value values tags i k g)
+    tag_value_alike (Lists lists) tags i k f g h = value_if_alike (expression_at lists i k) f g h
+    tag_value_alike (Vector e) tags i k f g h = bind_alike _ _ (h e) (tag_alike tags k)
+
+    varied_alike : (k i : Option ℕ) (own : ℕ → ℕ → Outcome M Value) (own' : ℕ → ℕ → Outcome N Value) {above : Outcome M Value} {above' : Outcome N Value} → ((i k : ℕ) → Alike (own i k) (own' i k)) → Alike above above'
+        → Alike (varied k i own above) (varied k i own' above')
+    varied_alike None i own own' h a = a
+    varied_alike (Some k) None own own' h a = a
+    varied_alike (Some k) (Some i) own own' h a = h i k
+
+    pub named_alike : (at : Path) (u : Under) (name : List ℕ) → Alike (named_value fns columns row {M = M} at u name) (named_value fns columns row {M = N} at u name)
+    named_alike [] u name = cell_alike columns row name
+    named_alike (Define node parent column expr ∷ up) u name =
+        if_alike (same column name) (expression_alike _ _ (λ c. named_alike up u (target_of up c)) expr) (named_alike up u name)
+    named_alike (Redefine node parent column expr ∷ up) u name =
+        if_alike (same column name) (expression_alike _ _ (λ c. named_alike up u (target_of up c)) expr) (named_alike up u name)
+    named_alike (Vary node parent names values tags vary ∷ up) u name =
+        varied_alike (own_place u vary tags) (place (same name) names) _ _
+        (λ i k. tag_value_alike values (length tags) i k _ _ (λ e. expression_alike _ _ (λ c. named_alike up u (target_of up c)) e)) (named_alike up u name)
+    named_alike (s ∷ up) u name = named_alike up u name
+
+    -- what an expression comes to at the end of a path
+    pub site_alike : (at : Path) (u : Under) (e : NamedTree) → Alike (expression_value fns (column_value fns columns row {M = M} at u) e) (expression_value fns (column_value fns columns row {M = N} at u) e)
+    site_alike at u e = expression_alike _ _ (λ c. named_alike at u (target_of at c)) e
+
+-- where nothing can be missing, nothing is
+pub alike_is : {M A : Type 0} (o : Outcome ⊥ A) (p : Outcome M A) → Alike o p → p ≡ with_needs o
+alike_is o p gives = refl
+alike_is o p faults = refl
+alike_is o p (needs {m = m}) = absurd m

@@ -1,0 +1,101 @@
+-- Several threads may read one script at once, and so what it is read against and its numbered expressions.
+use denote.RattleType.{RattleType}
+use denote.Param.Send.{IsSync, sendable}
+use denote.Param.SendFields.{variants_sync, declared_sync}
+use denote.Hole.{as_row}
+use denote.Struct.Field.{row_field, u32-field}
+use Rattle.std.proofs.Crossing.{crosses, Vec-sync}
+use Rattle.std.specs.contracts.vec.Vec as B
+use Rattle.std.specs.contracts.alloc.Global as H
+use Rattle.std.below.std_heap.specs.contracts.GlobalAllocator.TheImpl.{ghosts}
+use Rattle.std.specs.contracts.option.Option.{the_row as option_row}
+use Rattle.rdf_values.specs.contracts.name.Name.{the_row as name_row}
+use Rattle.rdf_values.specs.contracts.expr.Expr.{the_row as expr_row}
+use Rattle.rdf_values.specs.contracts.label.Label.{the_row as label_row}
+use Rattle.rdf_values.specs.contracts.int_list.IntList.{the_row as ints_row}
+use Rattle.rdf_values.specs.contracts.action.ActionKind.{the_row as kind_row}
+use Rattle.rdf_values.specs.contracts.list.ListOf.{the_row as list_row}
+use Rattle.rdf_values.specs.contracts.vary_values.VaryValues.{the_row as values_row}
+use Rattle.rdf_values.specs.contracts.vary_values.VaryValues as V
+use Rattle.rdf_values.specs.contracts.statement.Statement.{the_row as statement_row}
+use Rattle.rdf_values.specs.contracts.statement.Statement as S
+use Rattle.rdf_values.specs.contracts.script.Line.{the_row as line_row}
+use Rattle.rdf_values.specs.contracts.script.Line as L
+use Rattle.rdf_values.specs.contracts.script.Script.{the_row as script_row}
+use Rattle.rdf_values.specs.contracts.script.Script as C
+use Rattle.rdf_values.specs.contracts.column.Column.{the_row as column_row}
+use Rattle.rdf_values.specs.contracts.fn_names.FnNames.{the_row as fn_names_row}
+use Rattle.rdf_values.specs.contracts.num_expr.NumExpr.{the_row as num_expr_row}
+use Rattle.rdf_values.proofs.SharedExpr.{name_sync, expr_sync}
+use Rattle.rdf_values.proofs.SharedNum.{num_expr_sync}
+
+pub label_sync : IsSync label_row
+label_sync = search (sendable, crosses) depth 40 fits 4000
+
+pub ints_sync : IsSync ints_row
+ints_sync = search (sendable, crosses) depth 40 fits 4000
+
+pub list_sync : (T : RattleType) → IsSync T → IsSync (list_row T)
+list_sync T s = search (sendable, crosses) depth 40 fits 4000
+
+pub kind_sync : IsSync kind_row
+kind_sync = search (sendable, crosses, name_sync, ints_sync) depth 40 fits 4000
+
+exprs_sync : IsSync (list_row expr_row)
+exprs_sync = list_sync expr_row expr_sync
+
+values_sync : IsSync values_row
+values_sync = variants_sync V.enum ((record { shared = (list_sync (list_row expr_row) exprs_sync).shared }, tt), ((record { shared = expr_sync.shared }, tt), tt))
+
+pub names_sync : IsSync (list_row name_row)
+names_sync = list_sync name_row name_sync
+
+label_given : IsSync (as_row (row_field (option_row label_row)))
+label_given = search (sendable, crosses, label_sync) depth 40 fits 4000
+
+pub statement_sync : IsSync statement_row
+statement_sync = variants_sync S.enum
+    ((n, (n, (n, (e, tt)))), ((n, (n, (n, (e, tt)))), ((n, (n, (n, (n, tt)))), ((n, (n, (e, (record { shared = label_given.shared }, tt)))), ((n, (n, (l, (record { shared = values_sync.shared }, (l, (n, tt)))))), ((n, (n, (record { shared = kind_sync.shared }, tt))), ((n, (n, tt)), ((n, tt), ((n, tt), ((n, tt), tt))))))))))
+  where
+    n : IsSync (as_row (row_field name_row))
+    n = record { shared = name_sync.shared }
+
+    e : IsSync (as_row (row_field expr_row))
+    e = record { shared = expr_sync.shared }
+
+    l : IsSync (as_row (row_field (list_row name_row)))
+    l = record { shared = names_sync.shared }
+
+pub line_sync : IsSync line_row
+line_sync = declared_sync L.the_type (record { shared = number_sync.shared }, (record { shared = statement_sync.shared }, tt))
+  where
+    number_sync : IsSync (as_row u32-field)
+    number_sync = search (sendable, crosses) depth 40 fits 4000
+
+pub lines_sync : IsSync (list_row line_row)
+lines_sync = list_sync line_row line_sync
+
+pub script_sync : IsSync script_row
+script_sync = declared_sync C.the_type (record { shared = lines_sync.shared }, tt)
+
+-- ---- what a script is read against: a header, and the names of functions
+
+pub column_sync : IsSync column_row
+column_sync = search (sendable, crosses) depth 40 fits 4000
+
+pub columns_sync : IsSync (list_row column_row)
+columns_sync = list_sync column_row column_sync
+
+pub column_vec_sync : IsSync (B.the_row column_row H.the_row ghosts)
+column_vec_sync = Vec-sync column_row column_sync
+
+pub fn_names_sync : IsSync fn_names_row
+fn_names_sync = search (sendable, crosses, name_sync) depth 40 fits 4000
+
+-- ---- and its expressions with their columns numbered
+
+pub num_expr_list_sync : IsSync (list_row num_expr_row)
+num_expr_list_sync = list_sync num_expr_row num_expr_sync
+
+pub num_expr_vec_sync : IsSync (B.the_row num_expr_row H.the_row ghosts)
+num_expr_vec_sync = Vec-sync num_expr_row num_expr_sync

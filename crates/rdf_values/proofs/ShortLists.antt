@@ -1,0 +1,195 @@
+-- The script that a text of at most 65,536 bytes is can be booked.
+use Rattle.std.proofs.Common.{◌≡◌, ℕ, zero, suc, ◌+◌, ◌<◌, ◌≤◌, Bool, true, false, List, [], ◌∷◌, ◌++◌, length, drop, Some, None, Ok, Err, Result, refl, ap, arith, length-append, if◌then◌else◌}
+use Rattle.std.specs.Prelude.{ℤ, ◌&&◌, ◌==◌}
+use Rattle.std.specs.List.{AllByRecursion}
+use Rattle.std.proofs.lemmas.List.{length-map}
+use Rattle.std.proofs.lemmas.List.Elements.{All-from_recursion}
+use Rattle.rdf_values.specs.Grammar.{ReadsList, ReadsLists, ReadsValues, last_item, more_items, last_list, more_lists, one_list, several_lists, vector, bare}
+use Rattle.rdf_values.specs.LineForms.{Form, Method, maybe_string, more_strings, strings_tokens, more_edges, edges_tokens, arguments, form_tokens}
+use Rattle.rdf_values.specs.LineForms as form
+use Rattle.rdf_values.specs.LineTokens.{Close, Comma, Quoted, QuotedText, PlacedToken, Lexeme, Blank, Comment, Bad, Found, lexeme, with_token, with_lexeme, tokens_from, bare_tokens}
+use Rattle.rdf_values.specs.Scans.{ReadsValuesText}
+use Rattle.rdf_values.specs.ScriptLines.{lines_of, begins_with, with_byte}
+use Rattle.rdf_values.specs.Scripts.{IsLine, AreLines, no_lines, blank_line, statement_line, IsScript}
+use Rattle.rdf_values.specs.Statements.{AreNames, no_names, more_names, IsAction, Says, all_strings}
+use Rattle.rdf_values.specs.Statements as says
+use Rattle.rdf_values.specs.Tokens.{Token, Punct, Placed, Refusal, First, first_token, before, and_then, behind, blanks, tokens_at, tokens}
+use Rattle.rdf_values.specs.declared.script.Line.{Line}
+use Rattle.rdf_values.specs.declared.script.Script.{Script}
+use Rattle.rdf_values.specs.declared.statement.Statement.{Statement}
+use Rattle.rdf_values.specs.declared.statement.Statement.TheVariants.{Action}
+use Rattle.rdf_values.specs.declared.action.ActionKind.{ActionKind}
+use Rattle.rdf_values.specs.declared.expr.Mark.TheVariants as mark
+use Rattle.rdf_values.specs.Tree.{NamedTree}
+use Rattle.rdf_values.specs.declared.vary_values.VaryValues.{VaryValues}
+use Rattle.rdf_values.specs.Bookable.{expression_count, AreShortValues, IsShort, AreRising, IsBookable}
+
+-- ---- an expression has at most 256 tokens
+
+before_few : (most : ℕ) (t : Placed) (r : Result (List Placed) Refusal) (ts : List Placed) → ((us : List Placed) → r ≡ Ok us → length us ≤ most) → before (t ∷ []) r ≡ Ok ts → length ts ≤ suc most
+before_few most t (Err e) ts h k = cc k
+before_few most t (Ok us) ts h k =
+    let these : t ∷ us ≡ ts = cc k in let n = ap length these in let m = h us refl in omega (arith, n, m)
+
+then_few : (most place : ℕ) (f : First) (others : ℕ → Result (List Placed) Refusal) (ts : List Placed) → ((size : ℕ) (us : List Placed) → others size ≡ Ok us → length us ≤ most) → and_then place f others ≡ Ok ts → length ts ≤ suc most
+then_few most place (Err e) others ts go k = cc k
+then_few most place (Ok t) others ts go k = before_few most (record { token = t.0; place = place }) (others t.1) ts (go t.1) k
+
+few_at : (most place : ℕ) (text : List ℕ) (ts : List Placed) → tokens_at most place text ≡ Ok ts → length ts ≤ most
+unfolding tokens_at
+few_at most place [] ts e = let none : [] ≡ ts = cc e in let n = ap length none in omega (arith, n)
+few_at zero place (c ∷ text) ts e = cc e
+few_at (suc most) place (c ∷ text) ts e =
+    then_few most place (first_token c text) (λ size. tokens_at most (place + size + blanks (drop size (c ∷ text))) (behind size (c ∷ text))) ts
+    (λ size us q. few_at most (place + size + blanks (drop size (c ∷ text))) (behind size (c ∷ text)) us q) e
+
+few_tokens : (text : List ℕ) (ts : List Placed) → tokens text ≡ Ok ts → length ts ≤ 256
+few_tokens text ts e = few_at 256 (0 + blanks text) (behind 0 text) ts e
+
+-- ---- so the lists of a Vary are short
+
+list_few : (ts : List Token) (es : List NamedTree) → ReadsList ts es → length es ≤ suc (length ts)
+list_few ts es (last_item h) = omega arith
+list_few vs es (more_items {ts = ts} {us = us} {es = rest} h k e) =
+    let n = ap length e in let m = length-append ts (Punct mark.Comma ∷ us) in let q = list_few us rest k in omega (arith, n, m, q)
+
+lists_few : (ts : List Token) (ls : List (List NamedTree)) → ReadsLists ts ls → (length ls ≤ length ts) × (expression_count ls ≤ length ts)
+lists_few us ls (last_list {ts = ts} {es = es} h e) =
+    let n = ap length e in let m = length-append ts (Punct mark.CloseBrace ∷ []) in let q = list_few ts es h in (omega (arith, n, m), omega (arith, n, m, q))
+lists_few vs ls (more_lists {ts = ts} {us = us} {es = es} {ls = rest} h k e) =
+    let n = ap length e in let m = length-append ts (Punct mark.CloseBrace ∷ Punct mark.Comma ∷ us) in let q = list_few ts es h in let r = lists_few us rest k in
+    let small = r.0 in let few = r.1 in (omega (arith, n, m, small), omega (arith, n, m, q, few))
+
+short_values : (ts : List Token) (vs : VaryValues) → length ts ≤ 256 → ReadsValues ts vs → AreShortValues vs
+short_values us vs le (one_list {ts = ts} {es = es} h e) =
+    let n = ap length e in let m = length-append ts (Punct mark.CloseBrace ∷ []) in let q = list_few ts es h in (omega arith, omega (arith, n, m, q, le))
+short_values us vs le (several_lists {ts = ts} {ls = ls} h e) =
+    let n = ap length e in let m = length-append ts (Punct mark.CloseBrace ∷ []) in let q = lists_few ts ls h in let small = q.0 in let few = q.1 in
+    (omega (arith, n, m, small, le), omega (arith, n, m, few, le))
+short_values ts vs le (vector h) = tt
+
+values_short : (text : List ℕ) (vs : VaryValues) → ReadsValuesText text vs → AreShortValues vs
+values_short text vs h =
+    let n = few_tokens text h.found h.tokens_are in let m : length (bare h.found) ≡ length h.found = length-map h.found (λ (t : Placed). t.token) in
+    short_values (bare h.found) vs (omega (arith, n, m)) h.reads_as
+
+-- ---- a line has no more tokens than bytes
+
+with_few : (most place : ℕ) (x : Lexeme) (rest : ℕ → Result (List PlacedToken) ℕ) (ts : List PlacedToken) → ((more : ℕ) (us : List PlacedToken) → rest more ≡ Ok us → length us ≤ most) → with_lexeme place x rest ≡ Ok ts → length ts ≤ suc most
+with_few most place Blank rest ts h k = let n = h 0 ts k in omega (arith, n)
+with_few most place Comment rest ts h k = let none : [] ≡ ts = cc k in let n = ap length none in omega (arith, n)
+with_few most place Bad rest ts h k = cc k
+with_few most place (Found token more) rest ts h k = go (rest more) refl k
+  where
+    go : (r : Result (List PlacedToken) ℕ) → rest more ≡ r → with_token token place r ≡ Ok ts → length ts ≤ suc most
+    go (Ok us) q k =
+        let these : record { token = token; place = place } ∷ us ≡ ts = cc k in let n = ap length these in let m = h more us q in omega (arith, n, m)
+    go (Err e) q k = cc k
+
+line_few : (line : List ℕ) (passed place : ℕ) (ts : List PlacedToken) → tokens_from line passed place ≡ Ok ts → length ts ≤ length line
+unfolding tokens_from
+line_few [] passed place ts e = let none : [] ≡ ts = cc e in let n = ap length none in omega (arith, n)
+line_few (c ∷ cs) (suc passed) place ts e = let n = line_few cs passed (place + 1) ts e in omega (arith, n)
+line_few (c ∷ cs) zero place ts e = with_few (length cs) place (lexeme place c cs) (λ more. tokens_from cs more (place + 1)) ts (λ more us q. line_few cs more (place + 1) us q) e
+
+-- ---- so its lists are short
+
+strings_few : (ts : List QuotedText) → length ts ≤ length (more_strings ts)
+strings_few [] = omega arith
+strings_few (t ∷ ts) = let n = strings_few ts in omega (arith, n)
+
+edges_few : (zs : List ℤ) → length zs ≤ length (more_edges zs)
+edges_few [] = omega arith
+edges_few (z ∷ zs) = let n = edges_few zs in omega (arith, n)
+
+inside_few : (n p : List ℕ) (m : Method) → length (arguments m) ≤ length (form_tokens (form.Books n p m))
+inside_few n p m = let e = length-append (arguments m) (Close ∷ []) in omega (arith, e)
+
+names_are : (ts : List QuotedText) (xs : List (List ℕ)) → AreNames ts xs → length ts ≡ length xs
+names_are ts xs no_names = refl
+names_are ts xs (more_names {ts = us} {xs = ys} h k) = ap suc (names_are us ys k)
+
+action_short : (n p : List ℕ) (m : Method) (k : ActionKind) → length (arguments m) ≤ 65536 → IsAction m k → IsShort (Action n p k)
+action_short n p m k le says.count = tt
+action_short n p m k le (says.sum h) = tt
+action_short n p m k le (says.min h) = tt
+action_short n p m k le (says.max h) = tt
+action_short n p m k le (says.take h) = tt
+action_short n p m k le (says.reduce h l) = tt
+action_short n p m k le (says.histo1d {es = es} {c = c} {w = w} h l) =
+    let e = length-append (edges_tokens es) (Comma ∷ Quoted c ∷ maybe_string w) in let q = edges_few es.rest in omega (arith, e, q, le)
+action_short n p m k le (says.histo2d {es = es} {fs = fs} {c = c} {d = d} {w = w} h l v) =
+    let e = length-append (edges_tokens es) (Comma ∷ (edges_tokens fs ++ Comma ∷ Quoted c ∷ Comma ∷ Quoted d ∷ maybe_string w)) in
+    let f = length-append (edges_tokens fs) (Comma ∷ Quoted c ∷ Comma ∷ Quoted d ∷ maybe_string w) in
+    let q = edges_few es.rest in let r = edges_few fs.rest in (omega (arith, e, f, q, r, le), omega (arith, e, f, q, r, le))
+
+says_short : (f : Form) (s : Statement) → length (form_tokens f) ≤ 65536 → Says f s → IsShort s
+says_short f s le (says.define h k) = tt
+says_short f s le (says.redefine h k) = tt
+says_short f s le (says.alias h k) = tt
+says_short f s le (says.filter h k) = tt
+says_short f s le (says.vary {n = n} {p = p} {c = c} {v = v} {ts = ts} {tags = tags} h k l) =
+    let i = inside_few n p (form.VaryOne c v ts None) in let e = length-append (strings_tokens ts) [] in let q = strings_few ts.rest in let m = names_are (all_strings ts) tags l in
+    (omega arith, omega arith, omega (arith, m), omega (arith, i, e, q, m, le), values_short v.content _ k)
+says_short f s le (says.vary_named {n = n} {p = p} {c = c} {v = v} {m = name} {ts = ts} {tags = tags} h k l o) =
+    let i = inside_few n p (form.VaryOne c v ts (Some name)) in let e = length-append (strings_tokens ts) (Comma ∷ Quoted name ∷ []) in let q = strings_few ts.rest in let m = names_are (all_strings ts) tags l in
+    (omega arith, omega arith, omega (arith, m), omega (arith, i, e, q, m, le), values_short v.content _ k)
+says_short f s le (says.vary_all {n = n} {p = p} {v = v} {m = name} {cs = cs} {ts = ts} {xs = xs} {tags = tags} h k l o) =
+    let i = inside_few n p (form.VaryAll cs v ts name) in
+    let e = length-append (strings_tokens cs) (Comma ∷ Quoted v ∷ Comma ∷ (strings_tokens ts ++ Comma ∷ Quoted name ∷ [])) in let g = length-append (strings_tokens ts) (Comma ∷ Quoted name ∷ []) in
+    let q = strings_few ts.rest in let r = strings_few cs.rest in let m = names_are (all_strings ts) tags l in let w = names_are (all_strings cs) xs h in
+    (omega (arith, w), omega (arith, i, e, g, q, r, w, le), omega (arith, m), omega (arith, i, e, g, q, r, m, le), values_short v.content _ k)
+says_short f s le (says.action {n = n} {p = p} {m = m} {k = k} h) = let i = inside_few n p m in let z : length (arguments m) ≤ 65536 = omega (arith, i, le) in action_short n p m k z h
+says_short f s le says.report = tt
+says_short f s le says.print = tt
+says_short f s le says.variations_for = tt
+says_short f s le says.watch = tt
+
+line_short : (line : List ℕ) (s : Statement) → length line ≤ 65536 → IsLine line s → IsShort s
+line_short line s le h =
+    let n = line_few line 0 0 h.found h.tokens in let m : length (bare_tokens h.found) ≡ length h.found = length-map h.found (λ (t : PlacedToken). t.token) in
+    let e = ap length h.is_form.tokens in
+    says_short h.form s (omega (arith, n, m, e, le)) h.says
+
+-- ---- and no line is longer than the text
+
+abbrev AreWithin : ℕ → List (List ℕ) → Type 0
+AreWithin most ls = AllByRecursion (λ (l : List ℕ). length l ≤ most) ls
+
+longer : (m : ℕ) (ls : List (List ℕ)) → AreWithin m ls → AreWithin (suc m) ls
+longer m [] h = tt
+longer m (l ∷ ls) h = (let q = h.0 in omega (arith, q), longer m ls h.1)
+
+one_more : (m c : ℕ) (ls : List (List ℕ)) → AreWithin m ls → AreWithin (suc m) (with_byte c ls)
+one_more m c [] h = (omega arith, tt)
+one_more m c (l ∷ ls) h = (let q = h.0 in omega (arith, q), longer m ls h.1)
+
+lines_within : (text : List ℕ) → AreWithin (length text) (lines_of text)
+unfolding lines_of
+lines_within [] = tt
+lines_within (c ∷ cs) = go (c == 10) (c == 13 && begins_with 10 cs) (lines_within cs)
+  where
+    go : (a b : Bool) → AreWithin (length cs) (lines_of cs) → AreWithin (suc (length cs)) (if a then [] ∷ lines_of cs else (if b then lines_of cs else with_byte c (lines_of cs)))
+    go true b h = (omega arith, longer (length cs) (lines_of cs) h)
+    go false true h = longer (length cs) (lines_of cs) h
+    go false false h = one_more (length cs) c (lines_of cs) h
+
+-- ---- a script
+
+rising : (m number : ℕ) (lines : List (List ℕ)) (ls : List Line) → m < number → AreLines number lines ls → AreRising m ls
+rising m number lines ls lt no_lines = tt
+rising m number lines ls lt (blank_line {lines = rest} h k) = rising m (suc number) rest ls (omega (arith, lt)) k
+rising m number lines ls lt (statement_line {lines = rest} {ls = more} h k) = (lt, rising number (suc number) rest more (omega arith) k)
+
+all_short : (most number : ℕ) (lines : List (List ℕ)) (ls : List Line) → most ≤ 65536 → AreWithin most lines → AreLines number lines ls → AllByRecursion (λ (l : Line). IsShort l.statement) ls
+all_short most number lines ls le w no_lines = tt
+all_short most number lines ls le w (blank_line {lines = rest} h k) = all_short most (suc number) rest ls le w.1 k
+all_short most number lines ls le w (statement_line {line = line} {lines = rest} {s = s} {ls = more} h k) =
+    (let q = w.0 in let z : length line ≤ 65536 = omega (arith, q, le) in line_short line s z h, all_short most (suc number) rest more le w.1 k)
+
+pub scripts_are_bookable : (text : List ℕ) (script : Script) → length text ≤ 65536 → IsScript text script → IsBookable script
+scripts_are_bookable text script le h = record {
+  few = h.few;
+  rising = rising 0 1 (lines_of text) script.lines (omega arith) h.lines;
+  short = All-from_recursion (λ (l : Line). IsShort l.statement) script.lines (all_short (length text) 1 (lines_of text) script.lines le (lines_within text) h.lines);
+}
