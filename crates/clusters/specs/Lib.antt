@@ -1,2 +1,3 @@
 pub mod CutsView
 pub mod Ranges
+pub mod Walk

@@ -1,11 +1,6 @@
--- Ranges that follow one another.
-use Rattle.std.specs.Prelude.{◌≡◌, ◌≤◌, ◌<◌, ℕ, List, [], ◌∷◌, slice_get, Some}
+-- Which range holds a number.
+use Rattle.std.specs.Prelude.{◌≡◌, ◌≤◌, ◌<◌, ℕ, List, slice_get, Some}
 use Rattle.rdf_values.specs.declared.span.Span.{Span}
-
--- each range begins where the one before it ends, from one number to another, and none is empty
-abbrev pub Lead : ℕ → List Span → ℕ → Type 0
-Lead from [] to = from ≡ to
-Lead from (r ∷ rs) to = (from ≡ r.lo) × (r.lo < r.hi) × Lead r.hi rs to
 
 -- the range at this place holds the number
 pub record Holds (ranges : List Span) (number place : ℕ) : Type 0 where

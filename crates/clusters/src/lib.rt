@@ -2,6 +2,9 @@
 #![tactic(auto)]
 
 pub mod cuts;
+mod marked;
+mod places;
+mod ranges;
 
 pub use crate::cuts::{Cuts, cut, lead_to_the_end};
 

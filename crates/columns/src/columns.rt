@@ -26,12 +26,12 @@ impl Model for Columns {
 }
 
 impl Columns {
-    /// The columns of a table, which is moved here; no memory is taken.
-    pub fn build(table: Table, cuts: &Cuts) -> Columns
-        requires { cuts.now.entries ≡ length table.rows }
-        ensures { result ≡ record { table = table; cuts = cuts.now } }
+    /// The columns of a table, which is moved here with its cuts; no memory is taken.
+    pub fn build(table: Table, cuts: Cuts) -> Columns
+        requires { cuts.entries ≡ length table.rows }
+        ensures { result ≡ record { table = table; cuts = cuts } }
     {
-        Columns { table, cuts: *cuts }
+        Columns { table, cuts }
     }
 
     /// How the entries are cut.

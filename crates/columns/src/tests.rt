@@ -3,7 +3,7 @@ ghost use Rattle.rdf_values.specs.Tables.{kind_at};
 
 use crate::Columns;
 use clusters::cut;
-use rdf_values::{ColType, Column, IntList, ListOf, Memory, Name, Table, Value};
+use rdf_values::{ColType, Column, IntList, ListOf, Marks, Memory, Name, Table, Value};
 use std::alloc::Global;
 use std::test::Fail;
 
@@ -50,7 +50,8 @@ fn gives_the_numbers_of_a_table(rt: HostRuntime) -> Result<(), Fail> {
     let Some(table) = ints(rt.alloc())? else {
         panic!(rt; "no name");
     };
-    let columns = Columns::build(table, &cut(2, 1));
+    let cuts = cut(rt.alloc(), 2, 1, &Marks::new(rt.alloc()))?;
+    let columns = Columns::build(table, cuts);
     assert_eq!(rt; columns.ints(0), [10, -3].as_slice());
     assert_eq!(rt; columns.int_at(1, 0), -3);
     Ok(())
@@ -61,7 +62,8 @@ fn gives_the_vectors_of_a_table(rt: HostRuntime) -> Result<(), Fail> {
     let Some(table) = vects(rt.alloc())? else {
         panic!(rt; "no name");
     };
-    let columns = Columns::build(table, &cut(2, 1));
+    let cuts = cut(rt.alloc(), 2, 1, &Marks::new(rt.alloc()))?;
+    let columns = Columns::build(table, cuts);
     assert_eq!(rt; columns.vec_at(0, 0), [3, 4].as_slice());
     assert!(rt; columns.vec_at(1, 0).is_empty());
     Ok(())

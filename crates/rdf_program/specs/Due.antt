@@ -11,7 +11,7 @@ use Rattle.rdf_values.specs.declared.script.Script.{Script}
 use Rattle.rdf_values.specs.declared.script_cause.ScriptCause.{ScriptCause}
 use Rattle.rdf_values.specs.declared.script_cause.ScriptCause.TheVariants as refused
 use Rattle.rdf_values.specs.declared.table_cause.TableCause.{TableCause}
-use Rattle.rdf_values.specs.declared.table_cause.TableCause.TheVariants.{Header, FieldCount, BadInt, BadVec, TooMany}
+use Rattle.rdf_values.specs.declared.table_cause.TableCause.TheVariants.{Header, FieldCount, BadInt, BadVec, TooMany, BadCut}
 use Rattle.table_csv.specs.Csv.{csv_records}
 use Rattle.rdf_program.specs.Results.{names_fit, print_lines}
 use Rattle.rdf_program.specs.declared.status.Status.{Status}
@@ -64,6 +64,7 @@ table_cause_line (FieldCount entry) = codes "table refused at entry " ++ decimal
 table_cause_line (BadInt entry field) = codes "table refused at entry " ++ decimal entry ++ codes " field " ++ decimal field ++ codes ": B3 BadInt" ++ 10 ∷ []
 table_cause_line (BadVec entry field) = codes "table refused at entry " ++ decimal entry ++ codes " field " ++ decimal field ++ codes ": B4 BadVec" ++ 10 ∷ []
 table_cause_line (TooMany entry) = codes "table refused at entry " ++ decimal entry ++ codes ": B5 TooMany" ++ 10 ∷ []
+table_cause_line (BadCut entry field) = codes "table refused at entry " ++ decimal entry ++ codes " field " ++ decimal field ++ codes ": B6 BadCut" ++ 10 ∷ []
 
 -- ---- stages, each of which goes on to the next with what it found
 
@@ -89,7 +90,7 @@ WithScript bytes Next due = MatchBool (nat_lt max_script (length bytes)) (due �
 abbrev pub WithTable : List ℕ → (TableView → Due → Type 0) → Due → Type 0
 WithTable bytes Next due =
     MatchBool (nat_lt max_table (length bytes)) (due ≡ due_of TableRefused long_table_line)
-    (MatchResult (table_of (csv_records bytes)) (λ table. Next table due) (λ cause. due ≡ due_of TableRefused (table_cause_line cause)))
+    (MatchResult (table_of (csv_records bytes)) (λ marked. Next marked.table due) (λ cause. due ≡ due_of TableRefused (table_cause_line cause)))
 
 -- the lines of the Prints, where the script's names fit the table
 abbrev pub answered : List Line → TableView → Due

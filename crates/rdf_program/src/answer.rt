@@ -114,5 +114,8 @@ fn table_cause_line(alloc: Global, cause: TableCause) -> Result<String, Memory>
         TableCause::TooMany { entry } => Ok(format!(in alloc;
             "table refused at entry {entry}: B5 TooMany\n"
         )?),
+        TableCause::BadCut { entry, field } => Ok(format!(in alloc;
+            "table refused at entry {entry} field {field}: B6 BadCut\n"
+        )?),
     }
 }

@@ -1,5 +1,5 @@
 // What is due to a script over a table.
-ghost use Rattle.std.specs.Prelude.{◌≡◌, ◌≤◌, IfOk, MatchResult, length};
+ghost use Rattle.std.specs.Prelude.{◌≡◌, ◌≤◌, ◌<◌, All, IfOk, MatchResult, length};
 ghost use Rattle.rdf_program.specs.Due.{answered, due_of, IsDueOverTable};
 
 use crate::answer::Answer;
@@ -9,18 +9,19 @@ use crate::printing::print_all;
 use crate::status::Status;
 use clusters::cut;
 use columns::Columns;
-use rdf_values::{Line, Memory, Script, Table};
+use rdf_values::{Line, Memory, Script};
 use std::alloc::Global;
-use table_csv::{TableRefusal, read_table};
+use table_csv::{Marked, TableRefusal, read_table};
 
 const CLUSTER_SIZE: u32 = 10_000;
 
 // The columns of a table over its clusters.
-fn columns_of(table: Table) -> Columns
-    ensures { result.table ≡ table }
+fn columns_of(alloc: Global, marked: Marked) -> Result<Columns, Memory>
+    requires { All (λ e. e < length marked.table.rows) marked.marks }
+    ensures { IfOk result (λ columns. columns.table ≡ marked.table) }
 {
-    let cuts = cut(table.entries(), CLUSTER_SIZE);
-    Columns::build(table, &cuts)
+    let cuts = cut(alloc, marked.table.entries(), CLUSTER_SIZE, &marked.marks)?;
+    Ok(Columns::build(marked.table, cuts))
 }
 
 // The answer to lines over a table.
@@ -44,7 +45,10 @@ pub(crate) fn answer_over(alloc: Global, script: &Script, bytes: &[u8]) -> Resul
     ensures { IfOk result (λ a. IsDueOverTable script.now bytes.now (due_of a.status a.text)) }
 {
     match read_table(alloc, bytes) {
-        Ok(table) => answer_lines(alloc, script.lines.as_slice(), &columns_of(table)),
+        Ok(marked) => {
+            let columns = columns_of(alloc, marked)?;
+            answer_lines(alloc, script.lines.as_slice(), &columns)
+        }
         Err(TableRefusal::Memory) => Err(Memory),
         Err(TableRefusal::At(cause)) => Answer::refused_table(alloc, cause),
     }

@@ -1,31 +1,65 @@
 -- One more field of a header, and that columns of a header are those of a table.
-use Rattle.std.proofs.Common.{◌≡◌, ◌<◌, ◌≤◌, ◌+◌, ℕ, suc, List, [], ◌∷◌, ◌++◌, length, get_or, drop, Bool, true, false, None, Some, Option, Result, Ok, Err, arith, refl, ap, ◌∙◌, length-append, codes, not, ◌&&◌}
-use Rattle.std.specs.Prelude.{if◌then◌else◌, nat_lt, option_and_then, option_map, ok_or}
+use Rattle.std.proofs.Common.{◌≡◌, ◌<◌, ◌≤◌, ◌+◌, ℕ, suc, List, [], ◌∷◌, ◌++◌, length, get_or, drop, Bool, true, false, None, Some, Option, Result, Ok, Err, arith, refl, ap, sym, ◌∙◌, append_assoc, length-append, codes, not, ◌&&◌}
+use Rattle.std.specs.Prelude.{if◌then◌else◌, nat_eq, nat_lt, option_and_then, option_map, ok_or}
 use Rattle.std.specs.List.{after_first, before_first}
-use Rattle.std.proofs.lemmas.List.{append-nil, at_drop_more, drop_all}
+use Rattle.std.proofs.lemmas.List.{append-nil, at_drop_more, drop_all, length-drop}
 use Rattle.std.proofs.lemmas.Bool.Decides.{nat_tests}
 use Rattle.rdf_values.specs.Names.{is_name, same}
 use Rattle.rdf_values.specs.Tables.{AreColumns, IsHeader, IsStored, has_name}
-use Rattle.rdf_values.specs.TableText.{column_of, columns_from, if_new, is_colon, next_column, on_ok, result_cons}
+use Rattle.rdf_values.specs.TableText.{Header, column_of, ends_in_cut, header_from, if_new, is_colon, is_cut, next_column, on_ok, with_column}
 use Rattle.rdf_values.specs.declared.column.Column.{Column}
 use Rattle.rdf_values.specs.declared.table_cause.TableCause.{TableCause}
 use Rattle.rdf_values.specs.declared.table_cause.TableCause.TheVariants as cause
 use Rattle.rdf_values.specs.declared.value.ColType.TheVariants as k
-use Rattle.table_csv.proofs.Onto.{result_onto, result_onto-cons}
 
-pub header_stop : (columns : List Column) (fields : List (List ℕ)) (i : ℕ) → i < length fields → next_column columns (get_or fields i []) ≡ None
-    → result_onto columns (columns_from i columns (drop i fields)) ≡ Err (cause.Header i)
-unfolding columns_from
-header_stop columns fields i h none = at_drop_more (λ left. result_onto columns (columns_from i columns left)) fields i [] h ∙ rw none refl
+-- what is read, with the header of what is left behind it
+abbrev pub header_onto : List Column → Result Header TableCause → Result Header TableCause
+header_onto read (Err e) = Err e
+header_onto read (Ok h) = Ok (record { columns = read ++ h.columns; marked = h.marked })
 
-pub header_more : (columns : List Column) (fields : List (List ℕ)) (i : ℕ) (c : Column) → i < length fields → next_column columns (get_or fields i []) ≡ Some c
-    → result_onto columns (columns_from i columns (drop i fields)) ≡ result_onto (columns ++ c ∷ []) (columns_from (i + 1) (columns ++ c ∷ []) (drop (i + 1) fields))
-unfolding columns_from
-header_more columns fields i c h some =
-    at_drop_more (λ left. result_onto columns (columns_from i columns left)) fields i [] h ∙ rw some (result_onto-cons columns c _)
+pub header_onto-none : (left : Result Header TableCause) → header_onto [] left ≡ left
+header_onto-none (Err e) = refl
+header_onto-none (Ok h) = refl
 
-pub header_end : (columns : List Column) (fields : List (List ℕ)) (i : ℕ) → length fields ≤ i → result_onto columns (columns_from i columns (drop i fields)) ≡ Ok columns
-unfolding columns_from
+header_onto-with : (read : List Column) (c : Column) (left : Result Header TableCause) → header_onto read (with_column c left) ≡ header_onto (read ++ c ∷ []) left
+header_onto-with read c (Err e) = refl
+header_onto-with read c (Ok h) = ap (λ l. Ok (record { columns = l; marked = h.marked })) (sym (append_assoc read (c ∷ []) h.columns))
+
+no_end : (before : List Column) (field : List ℕ) (rest : List (List ℕ)) → (length rest ≡ 0 → is_cut before field ≡ false) → ends_in_cut before (field ∷ rest) ≡ false
+no_end before field [] h = h refl
+no_end before field (x ∷ xs) h = refl
+
+an_end : (before : List Column) (field : List ℕ) (rest : List (List ℕ)) → length rest ≡ 0 → is_cut before field ≡ true → ends_in_cut before (field ∷ rest) ≡ true
+an_end before field [] l h = h
+an_end before field (x ∷ xs) l h = absurd (omega (arith, l))
+
+-- the field isn't the last, or isn't one of marks
+abbrev pub NoCut : List Column → List (List ℕ) → ℕ → Type 0
+NoCut columns fields i = i + 1 ≡ length fields → is_cut columns (get_or fields i []) ≡ false
+
+not_last : (columns : List Column) (fields : List (List ℕ)) (i : ℕ) → i < length fields → NoCut columns fields i → ends_in_cut columns (get_or fields i [] ∷ drop (i + 1) fields) ≡ false
+not_last columns fields i h n = no_end columns (get_or fields i []) (drop (i + 1) fields) (λ l. n (omega (arith, h, l, length-drop (i + 1) fields)))
+
+pub header_cut : (columns : List Column) (fields : List (List ℕ)) (i : ℕ) → i + 1 ≡ length fields → is_cut columns (get_or fields i []) ≡ true
+    → header_onto columns (header_from i columns (drop i fields)) ≡ Ok (record { columns = columns; marked = true })
+unfolding header_from
+header_cut columns fields i h cut =
+    let last = an_end columns (get_or fields i []) (drop (i + 1) fields) (omega (arith, h, length-drop (i + 1) fields)) cut in
+    at_drop_more (λ left. header_onto columns (header_from i columns left)) fields i [] (omega (arith, h)) ∙ rw (last, append-nil columns) refl
+
+pub header_stop : (columns : List Column) (fields : List (List ℕ)) (i : ℕ) → i < length fields → NoCut columns fields i → next_column columns (get_or fields i []) ≡ None
+    → header_onto columns (header_from i columns (drop i fields)) ≡ Err (cause.Header i)
+unfolding header_from
+header_stop columns fields i h n none = at_drop_more (λ left. header_onto columns (header_from i columns left)) fields i [] h ∙ rw (not_last columns fields i h n, none) refl
+
+pub header_more : (columns : List Column) (fields : List (List ℕ)) (i : ℕ) (c : Column) → i < length fields → NoCut columns fields i → next_column columns (get_or fields i []) ≡ Some c
+    → header_onto columns (header_from i columns (drop i fields)) ≡ header_onto (columns ++ c ∷ []) (header_from (i + 1) (columns ++ c ∷ []) (drop (i + 1) fields))
+unfolding header_from
+header_more columns fields i c h n some =
+    at_drop_more (λ left. header_onto columns (header_from i columns left)) fields i [] h ∙ rw (not_last columns fields i h n, some) (header_onto-with columns c _)
+
+pub header_end : (columns : List Column) (fields : List (List ℕ)) (i : ℕ) → length fields ≤ i → header_onto columns (header_from i columns (drop i fields)) ≡ Ok (record { columns = columns; marked = false })
+unfolding header_from
 header_end columns fields i h = rw (drop_all i fields h, append-nil columns) refl
 
 -- what a column of a header is
@@ -58,32 +92,56 @@ next_new : (before : List Column) (field : List ℕ) (c : Column) → next_colum
 unfolding next_column
 next_new before field c e = let p = new_by before (column_of field) c e in (p.0, p.1, column_stored field c p.2)
 
--- the columns of a header's fields behind those before them
-abbrev AreNext : ℕ → List Column → ℕ → Result (List Column) TableCause → Type 0
+-- the columns of a header's fields behind those before them; a field of marks has one before it
+abbrev AreNext : ℕ → List Column → ℕ → Result Header TableCause → Type 0
 AreNext i before size (Err e) = Unit {0}
-AreNext i before size (Ok columns) = AreColumns before columns × (i + length columns ≤ 64) × (length columns ≡ size)
+AreNext i before size (Ok h) = AreColumns before h.columns × (i + length h.columns ≤ 64) × (0 < i + size → 0 < i + length h.columns)
 
-next_cons : (i size : ℕ) (before : List Column) (c : Column) (rest : Result (List Column) TableCause) → has_name before c.name ≡ false → IsStored c.kind
-    → AreNext (i + 1) (before ++ c ∷ []) size rest → AreNext i before (suc size) (result_cons (Ok c) rest)
+next_cons : (i size : ℕ) (before : List Column) (c : Column) (rest : Result Header TableCause) → has_name before c.name ≡ false → IsStored c.kind
+    → AreNext (i + 1) (before ++ c ∷ []) size rest → AreNext i before (suc size) (with_column c rest)
 next_cons i size before c (Err e) new stored a = tt
-next_cons i size before c (Ok columns) new stored a = ((new, stored, a.0), omega arith, ap suc a.2)
+next_cons i size before c (Ok h) new stored a = (let few = a.1 in ((new, stored, a.0), omega (arith, few), λ _. omega arith))
 
-next_by : (i size : ℕ) (before : List Column) (field : List ℕ) (o : Option Column) (go : Column → Result (List Column) TableCause) → length before ≡ i
+next_by : (i size : ℕ) (before : List Column) (field : List ℕ) (o : Option Column) (go : Column → Result Header TableCause) → length before ≡ i
     → next_column before field ≡ o → ((c : Column) → length before < 64 → AreNext (i + 1) (before ++ c ∷ []) size (go c))
-    → AreNext i before (suc size) (on_ok (ok_or o (cause.Header i)) (λ c. result_cons (Ok c) (go c)))
+    → AreNext i before (suc size) (on_ok (ok_or o (cause.Header i)) (λ c. with_column c (go c)))
 next_by i size before field None go l e more = tt
 next_by i size before field (Some c) go l e more =
     let new = next_new before field c e in
     next_cons i size before c (go c) new.1 new.2 (more c new.0)
 
-are_next : (fields : List (List ℕ)) (i : ℕ) (before : List Column) → length before ≡ i → i ≤ 64 → AreNext i before (length fields) (columns_from i before fields)
-unfolding columns_from
-are_next [] i before l few = (tt, omega arith, refl)
-are_next (field ∷ fields) i before l few =
-    next_by i (length fields) before field (next_column before field) (λ c. columns_from (i + 1) (before ++ c ∷ []) fields) l refl
-    (λ c room. are_next fields (i + 1) (before ++ c ∷ []) (omega (arith, length-append before (c ∷ []))) (omega arith))
+-- a field of marks isn't the first
+first_no : (b c : Bool) → (not b && c) ≡ true → b ≡ false
+first_no true c h = cc h
+first_no false c h = refl
 
-pub header_is : (fields : List (List ℕ)) (columns : List Column) → 0 < length fields → columns_from 0 [] fields ≡ Ok columns → IsHeader columns
-header_is fields columns h e =
+cut_behind : (before : List Column) (field : List ℕ) (rest : List (List ℕ)) → ends_in_cut before (field ∷ rest) ≡ true → 0 < length before
+unfolding is_cut
+cut_behind before field [] h = some (nat_eq (length before) 0) (and_first _ _ (and_first _ _ (and_first _ _ h))) refl
+  where
+    and_first : (a b : Bool) → (a && b) ≡ true → a ≡ true
+    and_first true b h = refl
+    and_first false b h = cc h
+
+    some : (b : Bool) → not b ≡ true → nat_eq (length before) 0 ≡ b → 0 < length before
+    some true h e = cc h
+    some false h e = grind (arith, nat_tests)
+cut_behind before field (x ∷ xs) h = cc h
+
+are_next_by : (b : Bool) (i size : ℕ) (before : List Column) (other : Result Header TableCause) → length before ≡ i → i ≤ 64 → (b ≡ true → 0 < length before) → AreNext i before size other
+    → AreNext i before size (if b then Ok (record { columns = []; marked = true }) else other)
+are_next_by true i size before other l few some a = let h = some refl in (tt, omega (arith, few), λ _. omega (arith, l, h))
+are_next_by false i size before other l few some a = a
+
+are_next : (fields : List (List ℕ)) (i : ℕ) (before : List Column) → length before ≡ i → i ≤ 64 → AreNext i before (length fields) (header_from i before fields)
+unfolding header_from
+are_next [] i before l few = (tt, omega arith, λ h. h)
+are_next (field ∷ fields) i before l few =
+    are_next_by (ends_in_cut before (field ∷ fields)) i (suc (length fields)) before _ l few (cut_behind before field fields)
+    (next_by i (length fields) before field (next_column before field) (λ c. header_from (i + 1) (before ++ c ∷ []) fields) l refl
+    (λ c room. are_next fields (i + 1) (before ++ c ∷ []) (omega (arith, length-append before (c ∷ []))) (omega arith)))
+
+pub header_is : (fields : List (List ℕ)) (h : Header) → 0 < length fields → header_from 0 [] fields ≡ Ok h → IsHeader h.columns
+header_is fields h l e =
     let a = rw e at (are_next fields 0 [] refl (omega arith)) in
-    record { some = omega (arith, a.2); few = omega (arith, a.1); distinct = a.0 }
+    let some = a.2 (omega (arith, l)) in let few = a.1 in record { some = omega (arith, some); few = omega (arith, few); distinct = a.0 }

@@ -2,6 +2,7 @@ pub mod CellSteps
 pub mod Examples
 pub mod Fields
 pub mod HeaderSteps
+pub mod MarkAnswers
 pub mod Onto
 pub mod Parts
 pub mod Steps

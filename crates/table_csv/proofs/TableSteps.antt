@@ -1,8 +1,9 @@
 -- One more entry of a table.
-use Rattle.std.proofs.Common.{◌≡◌, ◌+◌, ℕ, List, [], ◌∷◌, ◌++◌, length, Result, Ok, Err, arith, refl, ap, length-append}
-use Rattle.std.proofs.lemmas.List.{append-nil}
+use Rattle.std.proofs.Common.{◌≡◌, ◌≤◌, ◌<◌, ◌+◌, ℕ, Bool, true, false, List, [], ◌∷◌, ◌++◌, length, map, All, Result, Ok, Err, arith, refl, ap, ap₂, sym, subst, ◌∙◌, length-append, if◌then◌else◌}
+use Rattle.std.proofs.lemmas.List.{append-nil, length-map, map-append}
+use Rattle.std.proofs.lemmas.List.Elements.{All-cons}
 use Rattle.rdf_values.specs.Tables.{TableView}
-use Rattle.rdf_values.specs.TableText.{columns_from, on_ok, row_of, rows_from, table_of, table_with}
+use Rattle.rdf_values.specs.TableText.{Header, MarkedRow, MarkedTable, header_from, marks_from, on_ok, row_of, rows_from, table_of, table_with}
 use Rattle.rdf_values.specs.declared.column.Column.{Column}
 use Rattle.rdf_values.specs.declared.table_cause.TableCause.{TableCause}
 use Rattle.rdf_values.specs.declared.table_cause.TableCause.TheVariants as cause
@@ -10,36 +11,103 @@ use Rattle.rdf_values.specs.declared.value.Value.{Value}
 use Rattle.table_csv.proofs.Onto.{result_onto, result_onto-cons, result_onto-none}
 
 -- the table, where these rows are read and these entries are left
-pub table_from : List Column → List (List Value) → List (List (List ℕ)) → Result TableView TableCause
-table_from columns rows left = on_ok (result_onto rows (rows_from (length rows) columns left)) (table_with columns)
+pub table_from : Header → List MarkedRow → List (List (List ℕ)) → Result MarkedTable TableCause
+table_from h rows left = on_ok (result_onto rows (rows_from (length rows) h left)) (table_with h.columns)
 
 pub table_none : (records : List (List (List ℕ))) → records ≡ [] → table_of records ≡ Err (cause.Header 0)
 unfolding table_of
 table_none records e = rw e refl
 
 pub table_bad : (records : List (List (List ℕ))) (header : List (List ℕ)) (left : List (List (List ℕ))) (bad : TableCause) → records ≡ header ∷ left
-    → columns_from 0 [] header ≡ Err bad → table_of records ≡ Err bad
+    → header_from 0 [] header ≡ Err bad → table_of records ≡ Err bad
 unfolding table_of
 table_bad records header left bad h b = rw (h, b) refl
 
-pub table_start : (records : List (List (List ℕ))) (header : List (List ℕ)) (left : List (List (List ℕ))) (columns : List Column) → records ≡ header ∷ left
-    → columns_from 0 [] header ≡ Ok columns → table_of records ≡ table_from columns [] left
+start : (records : List (List (List ℕ))) (header : List (List ℕ)) (left : List (List (List ℕ))) (h : Header) → records ≡ header ∷ left
+    → header_from 0 [] header ≡ Ok h → table_of records ≡ table_from h [] left
 unfolding table_of table_from
-table_start records header left columns h b = rw (h, b, result_onto-none (rows_from 0 columns left)) refl
+start records header left h r b = rw (r, b, result_onto-none (rows_from 0 h left)) refl
 
-pub table_end : (columns : List Column) (rows : List (List Value)) → table_from columns rows [] ≡ Ok (record { columns = columns; rows = rows })
+end : (h : Header) (rows : List MarkedRow) → table_from h rows [] ≡ Ok (record { table = record { columns = h.columns; rows = map (λ (r : MarkedRow). r.row) rows }; marks = marks_from 0 rows })
 unfolding table_from rows_from
-table_end columns rows = rw (append-nil rows) refl
+end h rows = rw (append-nil rows) refl
 
--- one more entry, for an answer that is that of the entries that are left
-pub table_stop : (answer : Result TableView TableCause) (columns : List Column) (rows : List (List Value)) (left : List (List (List ℕ))) (fields : List (List ℕ)) (rest : List (List (List ℕ))) (n : ℕ) (bad : TableCause)
-    → answer ≡ table_from columns rows left → left ≡ fields ∷ rest → length rows ≡ n → row_of n columns fields ≡ Err bad → answer ≡ Err bad
+stop : (answer : Result MarkedTable TableCause) (h : Header) (rows : List MarkedRow) (left : List (List (List ℕ))) (fields : List (List ℕ)) (rest : List (List (List ℕ))) (n : ℕ) (bad : TableCause)
+    → answer ≡ table_from h rows left → left ≡ fields ∷ rest → length rows ≡ n → row_of n h fields ≡ Err bad → answer ≡ Err bad
 unfolding table_from rows_from
-table_stop answer columns rows left fields rest n bad a l e b = rw (a, l, e, b) refl
+stop answer h rows left fields rest n bad a l e b = rw (a, l, e, b) refl
 
-pub table_more : (answer : Result TableView TableCause) (columns : List Column) (rows : List (List Value)) (left : List (List (List ℕ))) (fields : List (List ℕ)) (rest : List (List (List ℕ))) (n : ℕ) (row : List Value)
-    → answer ≡ table_from columns rows left → left ≡ fields ∷ rest → length rows ≡ n → row_of n columns fields ≡ Ok row → answer ≡ table_from columns (rows ++ row ∷ []) rest
+more : (answer : Result MarkedTable TableCause) (h : Header) (rows : List MarkedRow) (left : List (List (List ℕ))) (fields : List (List ℕ)) (rest : List (List (List ℕ))) (n : ℕ) (row : MarkedRow)
+    → answer ≡ table_from h rows left → left ≡ fields ∷ rest → length rows ≡ n → row_of n h fields ≡ Ok row → answer ≡ table_from h (rows ++ row ∷ []) rest
 unfolding table_from rows_from
-table_more answer columns rows left fields rest n row a l e b =
+more answer h rows left fields rest n row a l e b =
     let longer : length (rows ++ row ∷ []) ≡ n + 1 = omega (arith, length-append rows (row ∷ [])) in
-    rw (a, l, e, b, longer) (ap (λ all. on_ok all (table_with columns)) (result_onto-cons rows row (rows_from (n + 1) columns rest)))
+    rw (a, l, e, b, longer) (ap (λ all. on_ok all (table_with h.columns)) (result_onto-cons rows row (rows_from (n + 1) h rest)))
+
+-- ---- marks
+
+-- the mark of an entry, if it has one
+abbrev pub mark_if : Bool → ℕ → List ℕ
+mark_if b e = if b then e ∷ [] else []
+
+marks_more : (rows : List MarkedRow) (e n : ℕ) (row : MarkedRow) → length rows + e ≡ n → marks_from e (rows ++ row ∷ []) ≡ marks_from e rows ++ mark_if row.marked n
+marks_more [] e n row l = let same : e ≡ n = omega (arith, l) in ap (mark_if row.marked) same
+marks_more (r ∷ rs) e n row l = go r.marked (marks_more rs (e + 1) n row (omega (arith, l)))
+  where
+    go : (b : Bool) → marks_from (e + 1) (rs ++ row ∷ []) ≡ marks_from (e + 1) rs ++ mark_if row.marked n
+        → (if b then e ∷ marks_from (e + 1) (rs ++ row ∷ []) else marks_from (e + 1) (rs ++ row ∷ [])) ≡ (if b then e ∷ marks_from (e + 1) rs else marks_from (e + 1) rs) ++ mark_if row.marked n
+    go true h = ap (λ l. e ∷ l) h
+    go false h = h
+
+marks_below : (rows : List MarkedRow) (e n : ℕ) → length rows + e ≤ n → All (λ m. m < n) (marks_from e rows)
+marks_below [] e n l = λ k d h. absurd (omega (arith, h))
+marks_below (r ∷ rs) e n l = go r.marked (marks_below rs (e + 1) n (omega (arith, l)))
+  where
+    go : (b : Bool) → All (λ m. m < n) (marks_from (e + 1) rs) → All (λ m. m < n) (if b then e ∷ marks_from (e + 1) rs else marks_from (e + 1) rs)
+    go true h = All-cons (λ m. m < n) e (marks_from (e + 1) rs) (omega (arith, l)) h
+    go false h = h
+
+-- ---- a table that is read
+
+-- so many entries are read: the table's rows and marks are theirs, and the answer is that for what is left
+pub record Reading (records : List (List (List ℕ))) (marked : Bool) (table : TableView) (marks : List ℕ) (entry : ℕ) (left : List (List (List ℕ))) : Type 0 where
+  pub read : List MarkedRow
+  pub so_far : table_of records ≡ table_from (record { columns = table.columns; marked = marked }) read left
+  pub rows : map (λ (r : MarkedRow). r.row) read ≡ table.rows
+  pub marks_read : marks_from 0 read ≡ marks
+  pub count : length read ≡ entry
+
+pub reading_start : (records : List (List (List ℕ))) (header : List (List ℕ)) (left : List (List (List ℕ))) (columns : List Column) (marked : Bool) → records ≡ header ∷ left
+    → header_from 0 [] header ≡ Ok (record { columns = columns; marked = marked }) → Reading records marked (record { columns = columns; rows = [] }) [] 0 left
+reading_start records header left columns marked r h =
+    record { read = []; so_far = start records header left (record { columns = columns; marked = marked }) r h; rows = refl; marks_read = refl; count = refl }
+
+pub reading_rows : (records : List (List (List ℕ))) (marked : Bool) (table : TableView) (marks : List ℕ) (entry : ℕ) (left : List (List (List ℕ))) → Reading records marked table marks entry left → length table.rows ≡ entry
+reading_rows records marked table marks entry left r = sym (ap length r.rows) ∙ length-map r.read (λ (m : MarkedRow). m.row) ∙ r.count
+
+pub reading_marks : (records : List (List (List ℕ))) (marked : Bool) (table : TableView) (marks : List ℕ) (entry : ℕ) (left : List (List (List ℕ))) → Reading records marked table marks entry left → All (λ m. m < entry) marks
+reading_marks records marked table marks entry left r = let n = r.count in subst (λ (l : List ℕ). All (λ m. m < entry) l) r.marks_read (marks_below r.read 0 entry (omega (arith, n)))
+
+pub reading_stop : (records : List (List (List ℕ))) (marked : Bool) (table : TableView) (marks : List ℕ) (entry : ℕ) (left : List (List (List ℕ))) (fields : List (List ℕ)) (rest : List (List (List ℕ))) (bad : TableCause)
+    → Reading records marked table marks entry left → left ≡ fields ∷ rest → row_of entry (record { columns = table.columns; marked = marked }) fields ≡ Err bad → table_of records ≡ Err bad
+reading_stop records marked table marks entry left fields rest bad r l b =
+    stop (table_of records) (record { columns = table.columns; marked = marked }) r.read left fields rest entry bad r.so_far l r.count b
+
+pub reading_more : (records : List (List (List ℕ))) (marked : Bool) (table new : TableView) (marks : List ℕ) (entry : ℕ) (left : List (List (List ℕ))) (fields : List (List ℕ)) (rest : List (List (List ℕ))) (row : List Value) (begins : Bool)
+    → Reading records marked table marks entry left → left ≡ fields ∷ rest → row_of entry (record { columns = table.columns; marked = marked }) fields ≡ Ok (record { row = row; marked = begins })
+    → new ≡ record { columns = table.columns; rows = table.rows ++ row ∷ [] } → Reading records marked new (marks ++ mark_if begins entry) (entry + 1) rest
+reading_more records marked table new marks entry left fields rest row begins r l b q = rw q (
+    let n = r.count in
+    record {
+      read = r.read ++ record { row = row; marked = begins } ∷ [];
+      so_far = more (table_of records) (record { columns = table.columns; marked = marked }) r.read left fields rest entry (record { row = row; marked = begins }) r.so_far l r.count b;
+      rows = map-append (λ (m : MarkedRow). m.row) r.read (record { row = row; marked = begins } ∷ []) ∙ ap (λ l. l ++ row ∷ []) r.rows;
+      marks_read = marks_more r.read 0 entry (record { row = row; marked = begins }) (omega (arith, n)) ∙ ap (λ l. l ++ mark_if begins entry) r.marks_read;
+      count = (let k = length-append r.read (record { row = row; marked = begins } ∷ []) in omega (arith, n, k));
+    })
+
+pub reading_end : (records : List (List (List ℕ))) (marked : Bool) (table : TableView) (marks : List ℕ) (entry : ℕ) (left : List (List (List ℕ))) → Reading records marked table marks entry left → left ≡ []
+    → table_of records ≡ Ok (record { table = table; marks = marks })
+reading_end records marked table marks entry left r l =
+    r.so_far ∙ ap (table_from (record { columns = table.columns; marked = marked }) r.read) l ∙ end (record { columns = table.columns; marked = marked }) r.read
+    ∙ ap₂ (λ rows ms. Ok (record { table = record { columns = table.columns; rows = rows }; marks = ms })) r.rows r.marks_read

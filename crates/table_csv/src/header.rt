@@ -1,7 +1,7 @@
 // Columns from a header.
-ghost use Rattle.std.specs.Prelude.{◌≡◌, ◌≤◌, ◌<◌, [], List, ℕ, IfOk, OnSome, length, position};
-ghost use Rattle.rdf_values.specs.Answers.{Answers};
-ghost use Rattle.rdf_values.specs.TableText.{column_of, columns_from, is_colon, next_column, type_of};
+ghost use Rattle.std.specs.Prelude.{◌≡◌, ◌≤◌, ◌<◌, [], List, ℕ, Ok, IfOk, OnSome, MatchResult, length, position};
+ghost use Rattle.rdf_values.specs.Answers.{Refuses};
+ghost use Rattle.rdf_values.specs.TableText.{column_of, header_from, is_colon, is_cut, next_column, type_of};
 ghost use Rattle.rdf_values.specs.Tables.{has_name};
 ghost use Rattle.csv.specs.Records.{fields_of};
 
@@ -77,20 +77,52 @@ fn next_column(alloc: Global, before: &[Column], field: &[u8]) -> Result<Option<
     Ok(Some(column))
 }
 
-/// The columns that the fields of a header name, or the first field that is none.
-pub(crate) fn read_header(
-    alloc: Global,
-    header: &ByteRecord,
-) -> Result<ListOf<Column>, TableRefusal>
-    ensures value { Answers TableRefusal.At TableRefusal.Memory (columns_from 0 [] (fields_of header.now)) result }
-    ensures few { IfOk result (λ columns. length columns ≤ 64) }
+// Whether the field, the last of a header, says that its cells are marks.
+#[tactic(auto, unfolding(rdf_values::specs::TableText::is_cut))]
+fn is_cut(alloc: Global, before: &[Column], field: &[u8]) -> Result<bool, Memory>
+    ensures { IfOk result (λ cut. cut ≡ is_cut before.now field.now) }
+{
+    let Some(colon) = find_colon(field) else {
+        return Ok(false);
+    };
+    if before.is_empty() || &field[colon + 1..] != b"cut".as_slice() {
+        return Ok(false);
+    }
+    match Name::read(alloc, &field[..colon])? {
+        Some(name) => Ok(!has_name(before, name.bytes())),
+        None => Ok(false),
+    }
+}
+
+/// The columns that a header names, and whether a field of marks stands behind them.
+#[derive(Drop)]
+pub(crate) struct Heading {
+    pub(crate) columns: ListOf<Column>,
+    pub(crate) marked: bool,
+}
+
+/// What the fields of a header say, or the first field that can't stand there.
+pub(crate) fn read_header(alloc: Global, header: &ByteRecord) -> Result<Heading, TableRefusal>
+    ensures value { MatchResult result (λ h. header_from 0 [] (fields_of header.now) ≡ Ok (record { columns = h.columns; marked = h.marked }))
+        (Refuses TableRefusal.At TableRefusal.Memory (header_from 0 [] (fields_of header.now))) }
+    ensures few { IfOk result (λ h. length h.columns ≤ 64) }
 {
     let mut columns = ListOf::new(alloc);
     for i in 0..header.len() {
-        let Some(column) = next_column(alloc, columns.as_slice(), field(header, i))? else {
+        let text = field(header, i);
+        if i + 1 == header.len() && is_cut(alloc, columns.as_slice(), text)? {
+            return Ok(Heading {
+                columns,
+                marked: true,
+            });
+        }
+        let Some(column) = next_column(alloc, columns.as_slice(), text)? else {
             return Err(TableRefusal::At(TableCause::Header { field: i as u32 }));
         };
         columns.push(column)?;
     }
-    Ok(columns)
+    Ok(Heading {
+        columns,
+        marked: false,
+    })
 }

@@ -3,11 +3,13 @@
 
 mod cells;
 mod header;
+mod marked;
 mod reading;
 mod records;
 mod refusal;
 mod vectors;
 
+pub use crate::marked::Marked;
 pub use crate::reading::read_table;
 pub use crate::refusal::TableRefusal;
 

@@ -1,34 +1,39 @@
-use Rattle.std.proofs.Common.{◌≡◌, ◌∙◌, arith, inl, inr, length, refl}
-use Rattle.std.proofs.lemmas.Grind.{common_steps}
+use Rattle.std.proofs.Common.{◌≡◌, arith, inl, inr, length, refl}
 use Rattle.std.proofs.lemmas.Result.{err_from_is_err_and}
 use Rattle.csv.specs.Records.{fields_of}
-use Rattle.table_csv.proofs.CellSteps.{cells_end, cells_more, cells_stop, row_many, row_short, row_whole}
+use Rattle.rdf_values.specs.TableText.{field_count}
+use Rattle.table_csv.proofs.CellSteps.{one_if, row_bad, row_many, row_marked, row_plain, row_short}
+use Rattle.table_csv.proofs.MarkAnswers.{after_mark}
 use Rattle.table_csv.proofs.cells.read_row.Goals as goal
 
 pub returns-then-entry-ge-MAX_ENTRIES : goal.returns-then-entry-ge-MAX_ENTRIES
-returns-then-entry-ge-MAX_ENTRIES c = inr (_, refl, row_many c.args.entry c.args.columns.now (fields_of c.args.fields.now) (omega arith))
+returns-then-entry-ge-MAX_ENTRIES c = inr (_, refl, row_many c.args.entry _ (fields_of c.args.fields.now) (omega arith))
 
 pub returns-then-len-columns : goal.returns-then-len-columns
-returns-then-len-columns c = inr (_, refl, grind (arith, row_short))
+returns-then-len-columns c =
+    let one = one_if c.args.marked in
+    inr (_, refl, row_short c.args.entry _ (fields_of c.args.fields.now) (omega arith) (λ q. c.if-len-columns.true (omega (arith, q, one, c.len.ensures, c.from.ensures))))
 
-pub returns-in_err-value : goal.returns-in_err-value
-returns-in_err-value c =
+pub returns-in_err-read_cells : goal.returns-in_err-read_cells
+returns-in_err-read_cells c =
+    let one = one_if c.args.marked in
+    let all : length (fields_of c.args.fields.now) ≡ field_count (record { columns = c.args.columns.now; marked = c.args.marked }) = omega (arith, one, c.if-len-columns.false, c.len.ensures, c.from.ensures) in
     let p = err_from_is_err_and c.from_residual.result c.from_residual.ensures.1 in
-    let cols = c.args.columns.now in
-    let fs = fields_of c.args.fields.now in
-    let same : length fs ≡ length cols = omega arith in
-    rw (p.1, p.2) (elim c.in_err-value.ensures [
+    rw (p.1, p.2) (elim c.in_err-read_cells.ensures [
       | inl memory ↦ inl memory
-      | inr bad ↦ inr (
-        bad.0,
-        bad.1,
-        row_whole c.args.entry cols fs (omega arith) same ∙ c.loop-i.invariant.0
-            ∙ cells_stop c.args.entry c.loop-i.row cols fs c.loop-i.i c.index-columns-i.result _ (omega arith) (omega arith) c.index-columns-i.is (rw (← c.field.ensures) (rw (← c.index-columns-i.is) at bad.2)),
-      )
+      | inr bad ↦ inr (bad.0, bad.1, row_bad c.args.entry _ (fields_of c.args.fields.now) _ (omega arith) all bad.2)
     ])
 
-pub loop-i-preserved : goal.loop-i-preserved
-loop-i-preserved c = grind (arith, cells_more, common_steps)
+pub returns-then-not-marked : goal.returns-then-not-marked
+returns-then-not-marked c =
+    let one = one_if c.args.marked in
+    let all : length (fields_of c.args.fields.now) ≡ field_count (record { columns = c.args.columns.now; marked = c.args.marked }) = omega (arith, one, c.if-len-columns.false, c.len.ensures, c.from.ensures) in
+    row_plain c.args.entry c.args.columns.now c.args.marked (fields_of c.args.fields.now) c.read_cells.new.row (omega arith) all c.if-not-marked.true c.in_ok-read_cells.ensures
 
 pub returns : goal.returns
-returns c = grind (arith, cells_end, row_whole)
+returns c =
+    let one = one_if c.args.marked in
+    let all : length (fields_of c.args.fields.now) ≡ field_count (record { columns = c.args.columns.now; marked = c.args.marked }) = omega (arith, one, c.if-len-columns.false, c.len.ensures, c.from.ensures) in
+    after_mark _ _ _ c.read_mark.result
+    (row_marked c.args.entry c.args.columns.now c.args.marked (fields_of c.args.fields.now) c.read_cells.new.row _ (omega arith) all c.if-not-marked.false c.in_ok-read_cells.ensures refl)
+    (rw c.field.ensures at c.read_mark.ensures)

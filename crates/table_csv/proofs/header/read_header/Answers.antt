@@ -1,14 +1,41 @@
-use Rattle.std.proofs.Common.{◌∙◌, arith, inr, refl, rules}
-use Rattle.std.proofs.lemmas.Grind.{common_steps}
+use Rattle.std.proofs.Common.{◌≡◌, ◌<◌, ◌+◌, ◌∙◌, [], ◌∷◌, arith, inr, refl, sym, length, length-append}
 use Rattle.csv.specs.Records.{fields_of}
-use Rattle.table_csv.proofs.HeaderSteps.{header_end, header_more, header_stop}
+use Rattle.table_csv.proofs.HeaderSteps.{NoCut, header_cut, header_end, header_more, header_onto-none, header_stop}
 use Rattle.table_csv.proofs.header.read_header.Goals as goal
+use Rattle.table_csv.proofs.header.read_header.Goals.{else-i-len-via-then-i-len+in_ok-is_cut+else-branch, else-i-len-via-else-i-len}
+
+pub loop-i-init : goal.loop-i-init
+loop-i-init c = rw c.new-columns.ensures (sym (header_onto-none _), refl, omega arith)
+
+pub returns-then-branch-clause-value : goal.returns-then-branch-clause-value
+returns-then-branch-clause-value c =
+    let last : c.loop-i.i + 1 ≡ length (fields_of c.args.header.now) = omega (arith, c.if-i-len.true, c.len.ensures) in
+    c.loop-i.invariant.0 ∙ header_cut c.loop-i.columns (fields_of c.args.header.now) c.loop-i.i last (rw (← c.as_slice.ensures, ← c.field-text.ensures) (sym c.in_ok-is_cut.ensures ∙ c.if-branch.true))
 
 pub returns-in_default-clause-value : goal.returns-in_default-clause-value
-returns-in_default-clause-value c = inr (_, refl, grind (arith, header_stop, common_steps))
+returns-in_default-clause-value c =
+    let no : NoCut c.loop-i.columns (fields_of c.args.header.now) c.loop-i.i = elim c.else-i-len.branch [
+      | else-i-len-via-then-i-len+in_ok-is_cut+else-branch w ↦ λ _. rw (← w.as_slice.ensures, ← c.field-text.ensures) (sym w.in_ok-is_cut.ensures ∙ w.if-branch.false)
+      | else-i-len-via-else-i-len w ↦ λ q. absurd (omega (arith, q, w.if-i-len.false, c.len.ensures))
+    ] in
+    let there : c.loop-i.i < length (fields_of c.args.header.now) = omega (arith, c.loop-i-test.true, c.len-i-end.ensures) in
+    let none = rw (c.as_slice-in-loop-i.ensures, c.field-text.ensures) at (sym c.in_ok-column.ensures.value ∙ c.in_default.is) in
+    inr (_, refl, c.loop-i.invariant.0 ∙ header_stop c.loop-i.columns (fields_of c.args.header.now) c.loop-i.i there no none)
 
 pub loop-i-preserved : goal.loop-i-preserved
-loop-i-preserved c = grind (arith, header_more, common_steps)
+loop-i-preserved c =
+    let no : NoCut c.loop-i.columns (fields_of c.args.header.now) c.loop-i.i = elim c.else-i-len.branch [
+      | else-i-len-via-then-i-len+in_ok-is_cut+else-branch w ↦ λ _. rw (← w.as_slice.ensures, ← c.field-text.ensures) (sym w.in_ok-is_cut.ensures ∙ w.if-branch.false)
+      | else-i-len-via-else-i-len w ↦ λ q. absurd (omega (arith, q, w.if-i-len.false, c.len.ensures))
+    ] in
+    let there : c.loop-i.i < length (fields_of c.args.header.now) = omega (arith, c.loop-i-test.true, c.len-i-end.ensures) in
+    let some = rw (c.as_slice-in-loop-i.ensures, c.field-text.ensures) at (sym c.in_ok-column.ensures.value ∙ c.in-Some.is) in
+    let room = rw (c.as_slice-in-loop-i.ensures, c.in-Some.is) at c.in_ok-column.ensures.room in
+    rw c.in_ok-push.ensures.ok (
+      c.loop-i.invariant.0 ∙ header_more c.loop-i.columns (fields_of c.args.header.now) c.loop-i.i c.in-Some.column there no some,
+      omega (arith, c.loop-i.invariant.1, length-append c.loop-i.columns (c.in-Some.column ∷ [])),
+      omega (arith, c.loop-i.invariant.1, room),
+    )
 
 pub returns-clause-value : goal.returns-clause-value
-returns-clause-value c = c.loop-i.invariant.0 ∙ header_end c.loop-i.columns (fields_of c.args.header.now) c.loop-i.i (search rules)
+returns-clause-value c = c.loop-i.invariant.0 ∙ header_end c.loop-i.columns (fields_of c.args.header.now) c.loop-i.i (omega (arith, c.loop-i-test.false, c.len-i-end.ensures))

@@ -1,28 +1,21 @@
-use Rattle.std.proofs.Common.{◌≡◌, ◌+◌, ◌*◌, ◌∙◌, arith, min, refl}
-use Rattle.clusters.proofs.Clusters.{length-cut, range_at, starts_below}
+use Rattle.std.proofs.Common.{arith}
+use Rattle.clusters.proofs.Clusters.{is_even}
+use Rattle.clusters.proofs.MarkedCuts.{as_many}
 use Rattle.clusters.proofs.cuts.Cuts.range.Goals as goal
 
-pub overflow_mul-lo : goal.overflow_mul-lo
-overflow_mul-lo c =
-    let cluster = rw (← c.self.view_is, length-cut) at c.requires in
-    let start = starts_below c.self.inside.entries c.self.inside.size c.args.cluster c.self.invariant.some cluster in
-    omega (arith, c.self.invariant.few)
+pub even_range-requires-clause-there : goal.even_range-requires-clause-there
+even_range-requires-clause-there c =
+    let none = rw c.in-Even.is at c.self.invariant.kept in
+    rw (← c.self.view_is, is_even c.self.inside.entries c.self.inside.size c.self.inside.marks c.self.invariant.valid.some none) at c.requires
 
-pub overflow_sub-self-inside : goal.overflow_sub-self-inside
-overflow_sub-self-inside c =
-    let cluster = rw (← c.self.view_is, length-cut) at c.requires in
-    let start = starts_below c.self.inside.entries c.self.inside.size c.args.cluster c.self.invariant.some cluster in
-    omega arith
+pub range_at-requires : goal.range_at-requires
+range_at-requires c =
+    let kept = rw c.in-Marked.is at c.self.invariant.kept in
+    let there = rw (← c.self.view_is) at c.requires in
+    let many = as_many c.in-Marked.ends c.self.inside.entries c.self.inside.size c.self.inside.marks kept in
+    rw c.as_slice.ensures (omega (arith, there, many))
 
-pub overflow_add-hi : goal.overflow_add-hi
-overflow_add-hi c =
-    let cluster = rw (← c.self.view_is, length-cut) at c.requires in
-    let start = starts_below c.self.inside.entries c.self.inside.size c.args.cluster c.self.invariant.some cluster in
-    omega (arith, c.self.invariant.few, c.min.ensures)
-
-pub returns : goal.returns
-returns c =
-    let cluster = rw (← c.self.view_is, length-cut) at c.requires in
-    let start = starts_below c.self.inside.entries c.self.inside.size c.args.cluster c.self.invariant.some cluster in
-    let end : min ((c.args.cluster + 1) * c.self.inside.size) c.self.inside.entries ≡ c.args.cluster * c.self.inside.size + c.min.result = omega (arith, c.min.ensures) in
-    rw (← c.self.view_is) (range_at c.self.inside.entries c.self.inside.size c.args.cluster cluster ∙ rw end refl)
+pub returns-in-Even : goal.returns-in-Even
+returns-in-Even c =
+    let none = rw c.in-Even.is at c.self.invariant.kept in
+    rw (← c.self.view_is, is_even c.self.inside.entries c.self.inside.size c.self.inside.marks c.self.invariant.valid.some none) c.even_range.ensures

@@ -2,7 +2,7 @@ use Rattle.std.proofs.Common.{◌≡◌, drop, length}
 use Rattle.csv.specs.Records.{fields_of}
 use Rattle.rdf_values.specs.TableText.{cells_from}
 use Rattle.table_csv.proofs.Onto.{result_onto}
-use Rattle.table_csv.proofs.cells.read_row.Given as goal
+use Rattle.table_csv.proofs.cells.read_cells.Given as goal
 
 abbrev pub invariant-loop-i : goal.invariant-loop-i
 invariant-loop-i l =
