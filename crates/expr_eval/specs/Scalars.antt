@@ -1,6 +1,7 @@
 -- Evaluations without vectors.
-use Rattle.std.specs.Prelude.{◌≡◌, ℕ, ℤ, pos, nat_abs, List, [], ◌∷◌, ◌++◌, map, slice_get, Result, Ok, Err}
+use Rattle.std.specs.Prelude.{◌≡◌, Bool, true, false, ℕ, ℤ, pos, nat_abs, List, [], ◌∷◌, ◌++◌, map, slice_get, Result, Ok, Err}
 use Rattle.rdf_values.specs.Functions.{Function}
+use Rattle.rdf_values.specs.Tree.{NumTree, Truth, Cond, Pick}
 use Rattle.rdf_values.specs.declared.num_expr.Callee.{Callee}
 use Rattle.rdf_values.specs.declared.num_expr.Callee.TheVariants as fn
 use Rattle.rdf_values.specs.declared.value.Value.{Value}
@@ -36,3 +37,10 @@ Gathers (Ok u) before after (Gives vs) = AreScalars vs × (after ≡ before ++ m
 Gathers (Err (Fault kind)) before after (Faults other) = kind ≡ other
 Gathers (Err (Need c)) before after (Needs other) = c ≡ other
 Gathers r before after o = ⊥
+
+-- a truth value, a choice or an element
+abbrev pub is_rare : NumTree → Bool
+is_rare (Truth b) = true
+is_rare (Cond c a b) = true
+is_rare (Pick v i) = true
+is_rare e = false

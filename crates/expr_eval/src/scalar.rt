@@ -2,6 +2,7 @@
 ghost use Rattle.std.specs.Prelude.{◌≡◌, ◌+◌, ◌<◌, ◌≤◌, ℕ, ℤ, true, length, All, OnOk, IfOk};
 ghost use Rattle.rdf_values.specs.Kinds.{args_count};
 ghost use Rattle.rdf_values.specs.NumExprTree.{num_tree, num_trees};
+ghost use Rattle.rdf_values.specs.Tree.{Neg as NegTree, Not as NotTree, Call as CallTree};
 ghost use Rattle.rdf_values.specs.EachColumn.{EachColumn, EachArgument};
 ghost use Rattle.rdf_values.specs.Functions.{fn_names};
 ghost use Rattle.rdf_values.specs.Tables.{FitsKind};
@@ -12,7 +13,7 @@ ghost use Rattle.expr_check.specs.NumKinds.{is_plain, CallsFit};
 ghost use Rattle.expr_eval.specs.Answers.{scalar_outcome, scalar_value, number_value};
 ghost use Rattle.expr_eval.specs.CanCall.{CallFits, CanCall, ArgumentsCanCall};
 ghost use Rattle.expr_eval.specs.Inputs.{input_outcome};
-ghost use Rattle.expr_eval.specs.Scalars.{GivesScalar, Gathers, number_call};
+ghost use Rattle.expr_eval.specs.Scalars.{is_rare, GivesScalar, Gathers, number_call};
 
 use crate::calls::{Calls, answer, callable};
 use crate::inputs::{Input, Inputs};
@@ -46,6 +47,8 @@ pub fn eval_int<I: Inputs, L: Ledger>(
     eval_node(callable(expr, functions), inputs, functions)
 }
 
+// A function fills its locals with zeros whenever it is called. So the nodes that are met most have a small one, and the
+// others one of their own.
 #[cycle(scalar)]
 fn eval_node<I: Inputs, C: Calls>(
     node: &NumNode,
@@ -59,10 +62,7 @@ fn eval_node<I: Inputs, C: Calls>(
 {
     match node {
         NumNode::Lit(z) => Ok(Scalar::Int(*z)),
-        NumNode::Truth(b) => Ok(Scalar::Bool(*b)),
         NumNode::Col(c) => column(*c, inputs.at(*c)),
-        NumNode::Neg(a) => negative(eval_node(a, inputs, calls)?),
-        NumNode::Not(a) => inverse(eval_node(a, inputs, calls)?),
         NumNode::Bin(op, a, b) => {
             let left = eval_node(a, inputs, calls)?;
             match (*op, left) {
@@ -71,6 +71,28 @@ fn eval_node<I: Inputs, C: Calls>(
                 _ => combine(*op, left, eval_node(b, inputs, calls)?),
             }
         }
+        NumNode::Neg(a) => eval_negative(a, inputs, calls),
+        NumNode::Not(a) => eval_inverse(a, inputs, calls),
+        NumNode::Call(callee, args) => eval_call(*callee, args, inputs, calls),
+        _ => eval_rare(node, inputs, calls),
+    }
+}
+
+/// The value of a truth value, a choice or an element.
+#[cycle(scalar)]
+fn eval_rare<I: Inputs, C: Calls>(
+    node: &NumNode,
+    inputs: &I,
+    calls: &C,
+) -> Result<Scalar, ScalarStop>
+    requires rare { is_rare (num_tree node.now) ≡ true }
+    requires can { EachColumn (I.can inputs.now) (num_tree node.now) }
+    requires scalars { EachColumn (λ c. GivesScalar (I.look inputs.now c)) (num_tree node.now) }
+    requires calls { CanCall (C.functions calls.now) (num_tree node.now) }
+    ensures { scalar_outcome result ≡ evaluate (I.look inputs.now) (call_outcome (C.functions calls.now)) (num_tree node.now) }
+{
+    match node {
+        NumNode::Truth(b) => Ok(Scalar::Bool(*b)),
         NumNode::Cond(c, a, b) => match eval_node(c, inputs, calls)? {
             Scalar::Bool(true) => eval_node(a, inputs, calls),
             Scalar::Bool(false) => eval_node(b, inputs, calls),
@@ -81,12 +103,54 @@ fn eval_node<I: Inputs, C: Calls>(
             let place = eval_node(i, inputs, calls)?;
             Ok(pick(vector, place))
         }
-        NumNode::Call(callee, args) => {
-            let mut numbers = ArrayVec::new();
-            gather(args, inputs, calls, &mut numbers)?;
-            call(*callee, numbers.as_slice(), calls)
-        }
+        _ => unreachable!(),
     }
+}
+
+#[cycle(scalar)]
+fn eval_negative<I: Inputs, C: Calls>(
+    a: &NumNode,
+    inputs: &I,
+    calls: &C,
+) -> Result<Scalar, ScalarStop>
+    requires can { EachColumn (I.can inputs.now) (num_tree a.now) }
+    requires scalars { EachColumn (λ c. GivesScalar (I.look inputs.now c)) (num_tree a.now) }
+    requires calls { CanCall (C.functions calls.now) (num_tree a.now) }
+    ensures { scalar_outcome result ≡ evaluate (I.look inputs.now) (call_outcome (C.functions calls.now)) (NegTree (num_tree a.now)) }
+{
+    negative(eval_node(a, inputs, calls)?)
+}
+
+#[cycle(scalar)]
+fn eval_inverse<I: Inputs, C: Calls>(
+    a: &NumNode,
+    inputs: &I,
+    calls: &C,
+) -> Result<Scalar, ScalarStop>
+    requires can { EachColumn (I.can inputs.now) (num_tree a.now) }
+    requires scalars { EachColumn (λ c. GivesScalar (I.look inputs.now c)) (num_tree a.now) }
+    requires calls { CanCall (C.functions calls.now) (num_tree a.now) }
+    ensures { scalar_outcome result ≡ evaluate (I.look inputs.now) (call_outcome (C.functions calls.now)) (NotTree (num_tree a.now)) }
+{
+    inverse(eval_node(a, inputs, calls)?)
+}
+
+/// The value of a call. It has a frame of its own, since the room for its arguments is filled with zeros at each entry.
+#[cycle(scalar)]
+fn eval_call<I: Inputs, C: Calls>(
+    callee: Callee,
+    args: &NumArgs,
+    inputs: &I,
+    calls: &C,
+) -> Result<Scalar, ScalarStop>
+    requires can { EachArgument (I.can inputs.now) (num_trees args.now) }
+    requires scalars { EachArgument (λ c. GivesScalar (I.look inputs.now c)) (num_trees args.now) }
+    requires calls { CallFits (C.functions calls.now) callee (args_count (num_trees args.now)) × (args_count (num_trees args.now) ≤ 8) × ArgumentsCanCall (C.functions calls.now) (num_trees args.now) }
+    ensures { scalar_outcome result ≡ evaluate (I.look inputs.now) (call_outcome (C.functions calls.now)) (CallTree callee (num_trees args.now)) }
+{
+    let mut numbers = ArrayVec::new();
+    gather(args, inputs, calls, &mut numbers)?;
+    call(callee, numbers.as_slice(), calls)
 }
 
 /// Appends the values of the arguments as numbers.
