@@ -56,12 +56,7 @@ impl Core {
     {
         let clusters = self.clusters;
         let front = self.front;
-        match step_among(self.slots.as_mut_slice(), clusters, front, event) {
-            Ok(after) => {
-                self.front = after;
-                Ok(())
-            }
-            Err(refusal) => Err(refusal),
-        }
+        self.front = step_among(self.slots.as_mut_slice(), clusters, front, event)?;
+        Ok(())
     }
 }

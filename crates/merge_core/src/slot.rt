@@ -6,7 +6,7 @@ ghost use Rattle.merge_core.specs.Slots.{Steps, StepsAmong, fresh_slot, seen_mac
 use crate::front::Front;
 use crate::phase::Phase;
 use crate::refusal::StepRefusal;
-use rdf_values::{Event, ListOf, Memory, StepCause};
+use rdf_values::{Event, ListOf, StepCause};
 use std::alloc::Global;
 
 /// The clusters that a slot drew, the one that it holds, and whether it goes on.
@@ -41,17 +41,13 @@ impl Slot {
         if cluster != next || next >= clusters {
             return Err(StepRefusal::Cause(StepCause::NotNext { next }));
         }
-        match self.drawn.push(next) {
-            Ok(()) => {
-                self.held = Some(next);
-                self.phase = Phase::Running;
-                Ok(Front {
-                    next: next + 1,
-                    bar,
-                })
-            }
-            Err(Memory) => Err(StepRefusal::Memory),
-        }
+        self.drawn.push(next)?;
+        self.held = Some(next);
+        self.phase = Phase::Running;
+        Ok(Front {
+            next: next + 1,
+            bar,
+        })
     }
 
     // Gives up the cluster that it holds.

@@ -27,12 +27,8 @@ fn keep<P: Copy>(
     ensures pieces { IfOk result (λ _. pieces.new.items ≡ pieces.old.items ++ map piece_in (if_kept kept noted.now)) }
 {
     if kept {
-        if clusters.push(noted.cluster).is_err() {
-            return Err(Memory);
-        }
-        if pieces.push(noted.piece).is_err() {
-            return Err(Memory);
-        }
+        clusters.push(noted.cluster)?;
+        pieces.push(noted.piece)?;
     }
     Ok(())
 }
