@@ -1,0 +1,1 @@
+"""Reads what rdf prints and draws it."""
