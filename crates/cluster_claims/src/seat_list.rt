@@ -1,9 +1,9 @@
 // The rights of all slots to draw.
-ghost use Rattle.std.specs.Prelude.{◌≡◌, List, [], ◌∷◌, ◌++◌, length, IfOk, MatchOption};
+ghost use Rattle.std.specs.Prelude.{◌≡◌, List, [], ◌∷◌, ◌++◌, length, MatchOption, OnErr, OnOk};
 
 use crate::seat::ClaimSeat;
 use rdf_values::Memory;
-use std::alloc::{AllocFailed, Global};
+use std::alloc::Global;
 use std::marker::Model;
 
 /// Seats in order. Contracts see it as a list.
@@ -38,17 +38,16 @@ impl SeatList {
         self.seats.len()
     }
 
-    /// On a refusal the seat is dropped.
+    /// Appends a seat, which is dropped on a refusal.
     pub fn push(&mut self, seat: ClaimSeat) -> Result<(), Memory>
-        ensures { IfOk result (λ _. self.new ≡ self.old ++ seat ∷ []) }
+        ensures ok { OnOk result (self.new ≡ self.old ++ seat ∷ []) }
+        ensures err { OnErr result (self.new ≡ self.old) }
     {
-        match self.seats.push(seat) {
-            Ok(()) => Ok(()),
-            Err(AllocFailed { value: _ }) => Err(Memory),
-        }
+        self.seats.push(seat)?;
+        Ok(())
     }
 
-    /// The last seat.
+    /// Takes the last seat.
     pub fn pop(&mut self) -> Option<ClaimSeat>
         ensures { MatchOption result ((self.old ≡ []) × (self.new ≡ [])) (λ s. self.old ≡ self.new ++ s ∷ []) }
     {

@@ -76,19 +76,37 @@ fn no_clusters_are_over_at_once(rt: HostRuntime) -> Result<(), Fail> {
     let mut core = Core::new(rt.alloc(), 0, 1)?;
     assert_eq!(rt; core.step(Event::End { slot: 0 }), Ok(()));
     let mut fresh = Core::new(rt.alloc(), 0, 1)?;
-    assert_eq!(rt; fresh.step(claim(0, 0)), refused(StepCause::NotNext { next: 0 }));
+    assert_eq!(rt;
+        fresh.step(claim(0, 0)),
+        refused(StepCause::NotNext { next: 0 })
+    );
     Ok(())
 }
 
 #[test]
 fn refused_steps_change_nothing(rt: HostRuntime) -> Result<(), Fail> {
     let mut core = Core::new(rt.alloc(), 2, 2)?;
-    assert_eq!(rt; core.step(Event::End { slot: 0 }), refused(StepCause::NotOver { next: 0 }));
-    assert_eq!(rt; core.step(claim(2, 0)), refused(StepCause::NoSlot { slots: 2 }));
-    assert_eq!(rt; core.step(finish(0, 0)), refused(StepCause::NotHeld { held: None }));
+    assert_eq!(rt;
+        core.step(Event::End { slot: 0 }),
+        refused(StepCause::NotOver { next: 0 })
+    );
+    assert_eq!(rt;
+        core.step(claim(2, 0)),
+        refused(StepCause::NoSlot { slots: 2 })
+    );
+    assert_eq!(rt;
+        core.step(finish(0, 0)),
+        refused(StepCause::NotHeld { held: None })
+    );
     assert_eq!(rt; core.step(claim(0, 0)), Ok(()));
-    assert_eq!(rt; core.step(claim(0, 1)), refused(StepCause::Busy { cluster: 0 }));
-    assert_eq!(rt; core.step(finish(0, 1)), refused(StepCause::NotHeld { held: Some(0) }));
+    assert_eq!(rt;
+        core.step(claim(0, 1)),
+        refused(StepCause::Busy { cluster: 0 })
+    );
+    assert_eq!(rt;
+        core.step(finish(0, 1)),
+        refused(StepCause::NotHeld { held: Some(0) })
+    );
     Ok(())
 }
 

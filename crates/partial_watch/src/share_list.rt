@@ -1,9 +1,9 @@
 // The rights of all slots to note.
-ghost use Rattle.std.specs.Prelude.{◌≡◌, List, [], ◌∷◌, ◌++◌, length, IfOk, MatchOption};
+ghost use Rattle.std.specs.Prelude.{◌≡◌, List, [], ◌∷◌, ◌++◌, length, MatchOption, OnErr, OnOk};
 
 use crate::share::Share;
 use rdf_values::Memory;
-use std::alloc::{AllocFailed, Global};
+use std::alloc::Global;
 use std::marker::Model;
 
 /// Shares in order. Contracts see it as a list.
@@ -38,17 +38,16 @@ impl ShareList {
         self.shares.len()
     }
 
-    /// On a refusal the share is dropped.
+    /// Appends a share, which is dropped on a refusal.
     pub fn push(&mut self, share: Share) -> Result<(), Memory>
-        ensures { IfOk result (λ _. self.new ≡ self.old ++ share ∷ []) }
+        ensures ok { OnOk result (self.new ≡ self.old ++ share ∷ []) }
+        ensures err { OnErr result (self.new ≡ self.old) }
     {
-        match self.shares.push(share) {
-            Ok(()) => Ok(()),
-            Err(AllocFailed { value: _ }) => Err(Memory),
-        }
+        self.shares.push(share)?;
+        Ok(())
     }
 
-    /// The last share.
+    /// Takes the last share.
     pub fn pop(&mut self) -> Option<Share>
         ensures { MatchOption result ((self.old ≡ []) × (self.new ≡ [])) (λ s. self.old ≡ self.new ++ s ∷ []) }
     {

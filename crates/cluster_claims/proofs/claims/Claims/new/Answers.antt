@@ -29,7 +29,7 @@ loop-slot-preserved c =
     record {
       of = s.0 ∙ i.of;
       undealt = s.2 ∙ ap (λ m. (others m.0, m.1)) i.undealt ∙ ap (λ v. (v, [])) (others_replicate n (c.args.slots - (c.loop-slot.slot + 1)) h (omega arith));
-      dealt = c.in_ok-push.ensures ∙ dealt_more (fresh_seat claims) c.loop-slot.slot c.loop-slot.seats _ i.dealt (fresh_value claims c.loop-slot.slot c.split_seat-seat.result.table_id c.split_seat-seat.result.me (s.3 ∙ i.of) one);
+      dealt = c.in_ok-push.ensures.ok ∙ dealt_more (fresh_seat claims) c.loop-slot.slot c.loop-slot.seats _ i.dealt (fresh_value claims c.loop-slot.slot c.split_seat-seat.result.table_id c.split_seat-seat.result.me (s.3 ∙ i.of) one);
     }
 
 pub returns : goal.returns
@@ -39,4 +39,4 @@ returns c =
     let last : c.loop-slot.slot ≡ c.args.slots - 1 = omega arith in
     let one : c.loop-slot.first.me.0 ≡ empty_hand claims.clusters ∷ [] = ap (λ m. m.0) i.undealt ∙ ap (λ k. replicate k (empty_hand claims.clusters)) {y = 1} (omega arith) in
     let dealt = i.dealt ∙ ap (fresh_seats claims) last in
-    (refl, refl, c.in_ok-push-2.ensures ∙ dealt_more (fresh_seat claims) (c.args.slots - 1) c.loop-slot.seats _ dealt (fresh_value claims (c.args.slots - 1) c.loop-slot.first.table_id c.loop-slot.first.me i.of one) ∙ ap (fresh_seats claims) (omega arith))
+    (refl, refl, c.in_ok-push-2.ensures.ok ∙ dealt_more (fresh_seat claims) (c.args.slots - 1) c.loop-slot.seats _ dealt (fresh_value claims (c.args.slots - 1) c.loop-slot.first.table_id c.loop-slot.first.me i.of one) ∙ ap (fresh_seats claims) (omega arith))

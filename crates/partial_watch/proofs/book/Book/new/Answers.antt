@@ -22,7 +22,7 @@ loop-slot-preserved c =
     record {
       of = s.0 ∙ i.of;
       undealt = s.2 ∙ ap (λ m. (others m.0, m.1)) i.undealt ∙ ap (λ v. (v, [])) (others_replicate n (c.args.slots - (c.loop-slot.slot + 1)) h (omega arith));
-      dealt = c.in_ok-push.ensures ∙ dealt_more (fresh_share book) c.loop-slot.slot c.loop-slot.shares _ i.dealt (c.in_ok-fresh.ensures ∙ ap (λ t. record { table = t; slot = c.loop-slot.slot; clusters = c.args.clusters; numbers = [] }) (s.3 ∙ i.of));
+      dealt = c.in_ok-push.ensures.ok ∙ dealt_more (fresh_share book) c.loop-slot.slot c.loop-slot.shares _ i.dealt (c.in_ok-fresh.ensures ∙ ap (λ t. record { table = t; slot = c.loop-slot.slot; clusters = c.args.clusters; numbers = [] }) (s.3 ∙ i.of));
     }
 
 pub returns : goal.returns
@@ -31,4 +31,4 @@ returns c =
     let book : BookSeen = record { table = c.in_ok-table.table.shared.table_id; clusters = c.args.clusters; slots = c.args.slots } in
     let last : c.loop-slot.slot ≡ c.args.slots - 1 = omega (arith, c.requires.slots) in
     let dealt = i.dealt ∙ ap (fresh_shares book) last in
-    (refl, refl, c.in_ok-push-2.ensures ∙ dealt_more (fresh_share book) (c.args.slots - 1) c.loop-slot.shares _ dealt (c.in_ok-fresh-2.ensures ∙ ap (λ t. record { table = t; slot = c.args.slots - 1; clusters = c.args.clusters; numbers = [] }) i.of) ∙ ap (fresh_shares book) (omega (arith, c.requires.slots)))
+    (refl, refl, c.in_ok-push-2.ensures.ok ∙ dealt_more (fresh_share book) (c.args.slots - 1) c.loop-slot.shares _ dealt (c.in_ok-fresh-2.ensures ∙ ap (λ t. record { table = t; slot = c.args.slots - 1; clusters = c.args.clusters; numbers = [] }) i.of) ∙ ap (fresh_shares book) (omega (arith, c.requires.slots)))
