@@ -1,7 +1,7 @@
 -- To the same words and files at most one answer is due.
 use Rattle.std.proofs.Common.{◌≡◌, ℕ, Bool, true, false, List, [], ◌∷◌, length, Option, None, Some, Result, Ok, Err, MatchResult, nat_lt, inl, inr, ap, sym, subst, ◌∙◌}
 use Rattle.std.specs.Bool.{MatchBool}
-use Rattle.rdf_values.specs.TableText.{table_of}
+use Rattle.rdf_values.specs.TableText.{MarkedTable, table_of}
 use Rattle.rdf_values.specs.Tables.{TableView}
 use Rattle.rdf_values.specs.declared.table_cause.TableCause.{TableCause}
 use Rattle.rdf_values.specs.declared.script.Script.{Script}
@@ -32,9 +32,9 @@ module _ (d e : Due) where
       let P : Script → Type 0 = λ s. Next s d in
       one g.0 (subst P same h.2) g.2
 
-  one_table : (r : Result TableView TableCause) (Next : TableView → Due → Type 0) → ((t : TableView) → Next t d → Next t e → d ≡ e)
-      → MatchResult r (λ t. Next t d) (λ cause. d ≡ due_of TableRefused (table_cause_line cause)) → MatchResult r (λ t. Next t e) (λ cause. e ≡ due_of TableRefused (table_cause_line cause)) → d ≡ e
-  one_table (Ok t) Next one h g = one t h g
+  one_table : (r : Result MarkedTable TableCause) (Next : TableView → Due → Type 0) → ((t : TableView) → Next t d → Next t e → d ≡ e)
+      → MatchResult r (λ m. Next m.table d) (λ cause. d ≡ due_of TableRefused (table_cause_line cause)) → MatchResult r (λ m. Next m.table e) (λ cause. e ≡ due_of TableRefused (table_cause_line cause)) → d ≡ e
+  one_table (Ok m) Next one h g = one m.table h g
   one_table (Err cause) Next one h g = h ∙ sym g
 
   over_table : (script : Script) (bytes : List ℕ) → IsDueOverTable script bytes d → IsDueOverTable script bytes e → d ≡ e

@@ -1,7 +1,7 @@
 -- To all words and files an answer is due.
 use Rattle.std.proofs.Common.{◌≡◌, ℕ, Bool, true, false, List, [], ◌∷◌, length, Option, None, Some, Result, Ok, Err, MatchResult, nat_lt, inl, inr, refl}
 use Rattle.std.specs.Bool.{MatchBool}
-use Rattle.rdf_values.specs.TableText.{table_of}
+use Rattle.rdf_values.specs.TableText.{MarkedTable, table_of}
 use Rattle.rdf_values.specs.Tables.{TableView}
 use Rattle.rdf_values.specs.declared.table_cause.TableCause.{TableCause}
 use Rattle.rdf_values.specs.declared.script.Script.{Script}
@@ -29,8 +29,8 @@ some_reading bytes Next some =
       | inr c ↦ (due_of ScriptRefused (script_cause_line c.0), inl (c.0, c.1, refl))
     ]
 
-some_table : (r : Result TableView TableCause) (Next : TableView → Due → Type 0) → ((t : TableView) → SomeDue (Next t)) → SomeDue (λ d. MatchResult r (λ t. Next t d) (λ cause. d ≡ due_of TableRefused (table_cause_line cause)))
-some_table (Ok t) Next some = some t
+some_table : (r : Result MarkedTable TableCause) (Next : TableView → Due → Type 0) → ((t : TableView) → SomeDue (Next t)) → SomeDue (λ d. MatchResult r (λ m. Next m.table d) (λ cause. d ≡ due_of TableRefused (table_cause_line cause)))
+some_table (Ok m) Next some = some m.table
 some_table (Err cause) Next some = (due_of TableRefused (table_cause_line cause), refl)
 
 over_table : (script : Script) (bytes : List ℕ) → SomeDue (IsDueOverTable script bytes)

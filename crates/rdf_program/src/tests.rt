@@ -300,6 +300,12 @@ fn a_table_is_refused_at_its_first_fault(rt: HostRuntime) -> Result<(), Fail> {
             "pt:int,w:int,jets:vec\n10,1,1;\n",
             "table refused at entry 0 field 2: B4 BadVec\n",
         ),
+        refused_table(
+            COUNT,
+            "x:int,k:cut\n1,1\n2,2\n",
+            "table refused at entry 1 field 1: B6 BadCut\n",
+        ),
+        refused_table(COUNT, "k:cut,x:int\n", no_column),
     ];
     assert_eq!(rt; first_wrong(rt.alloc(), &runs)?, None);
     Ok(())

@@ -13,5 +13,8 @@ returns-in_ok-format-in-BadInt c = rw (c.in-BadInt.is, c.in_ok-format-in-BadInt.
 pub returns-in_ok-format-in-BadVec : goal.returns-in_ok-format-in-BadVec
 returns-in_ok-format-in-BadVec c = rw (c.in-BadVec.is, c.in_ok-format-in-BadVec.ensures.ok) (simp append_assoc)
 
+pub returns-in_ok-format-in-BadCut : goal.returns-in_ok-format-in-BadCut
+returns-in_ok-format-in-BadCut c = rw (c.in-BadCut.is, c.in_ok-format-in-BadCut.ensures.ok) (simp append_assoc)
+
 pub returns-in_ok-format-in-TooMany : goal.returns-in_ok-format-in-TooMany
 returns-in_ok-format-in-TooMany c = rw (c.in-TooMany.is, c.in_ok-format-in-TooMany.ensures.ok) (simp append_assoc)
