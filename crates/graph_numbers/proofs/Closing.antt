@@ -1,0 +1,298 @@
+-- What a pass demands, as a set of sites: it has what is tried and read, and with each site those that its evaluation meets.
+use Rattle.std.proofs.Common.{◌≡◌, ◌⊎◌, inl, inr, ℕ, Bool, true, false, List, [], ◌∷◌, ◌++◌, map, Option, Some, Ok, refl, sym, ◌∙◌, ap, subst, nat_eq, slice_get, if◌then◌else◌}
+use Rattle.std.specs.Prelude.{⊤}
+use Rattle.rdf_values.specs.Names.{place}
+use Rattle.rdf_values.specs.Path.{Under, makes, parent_of, path, target_of}
+use Rattle.rdf_values.specs.Bookings.{ActionAt, columns_of}
+use Rattle.rdf_values.specs.Depends.{columns_in, columns_in_all}
+use Rattle.rdf_values.specs.EachColumn.{EachColumn, EachArgument}
+use Rattle.rdf_values.specs.Functions.{Function, fn_names}
+use Rattle.rdf_values.specs.Kinds.{scope_of, column_kind, shape_of}
+use Rattle.rdf_values.specs.Numbered.{callee}
+use Rattle.rdf_values.specs.Tree.{Tree, Trees, Lit, Truth, Col, Neg, Not, Bin, Cond, Pick, Call, End, More}
+use Rattle.rdf_values.specs.Verdict.{AreAccepted, scope_at}
+use Rattle.rdf_values.specs.declared.action.ActionKind.{ActionKind}
+use Rattle.rdf_values.specs.declared.column.Column.{Column}
+use Rattle.rdf_values.specs.declared.value.ColType.{ColType}
+use Rattle.rdf_values.specs.declared.value.Value.{Value}
+use Rattle.rdf_values.specs.declared.statement.Statement.{Statement}
+use Rattle.rdf_values.specs.declared.statement.Statement.TheVariants.{Filter, Action}
+use Rattle.rdf_model.specs.Evaluation.{Outcome, Gives, Faults, Needs, ◌>>=◌, call_outcome, named_call, is_need, without}
+use Rattle.rdf_model.specs.ColumnValues.{column_value}
+use Rattle.rdf_model.specs.Demanded.{site_at, Demand, with_needs, demands_after, met_columns, site_demands, column_demands, filter_demands, input_demands, booking_demands, same_site}
+use Rattle.rdf_model.specs.EntryOutcomes.{through, truth_of}
+use Rattle.rdf_model.specs.Laws.{IsKnown, gives, faults}
+use Rattle.rdf_model.proofs.Evaluations.{evaluate_renamed, call_known}
+use Rattle.graph_numbers.specs.Versions.{version_at}
+use Rattle.graph_numbers.specs.Sites.{SiteAt, site_in, sites, site_count, own_filter_site, filter_sites}
+use Rattle.graph_numbers.specs.Sources.{source_in, sources}
+use Rattle.graph_numbers.specs.Outcomes.{through_sites}
+use Rattle.graph_numbers.specs.Meets.{meets, IfGiven, IfPassed, HasSourceIn, HasFilters, HasInputs}
+use Rattle.graph_numbers.specs.declared.source.Source.{Source}
+use Rattle.graph_numbers.specs.declared.source.Source.TheVariants as from
+use Rattle.std.proofs.lemmas.List.{append-nil}
+use Rattle.std.proofs.lemmas.Option.{get_or_from_slice_get}
+use Rattle.graph_numbers.proofs.Apart.{site_number}
+use Rattle.graph_numbers.proofs.Extending.{Extends}
+use Rattle.graph_numbers.proofs.ColumnDemands.{HasDemandsOf, column_demanded, of_site, of_cell, of_element, read}
+use Rattle.graph_numbers.proofs.ColumnSources.{column_source}
+use Rattle.graph_numbers.proofs.Demands.{of_append, demand_of, AreExplained, own_site}
+use Rattle.graph_numbers.proofs.Equations.{number_value, version_value, source_is, source_later}
+use Rattle.rdf_model.proofs.KnownColumns.{IsKnownColumn, known_columns, each_weaker}
+use Rattle.graph_numbers.proofs.Meeting.{In, here, there, in_left, in_right, met_name}
+use Rattle.rdf_model.specs.Alike as alike
+use Rattle.rdf_model.specs.Alike.{Alike}
+use Rattle.rdf_model.proofs.Missing.{named_alike, alike_is, call_alike}
+use Rattle.graph_numbers.proofs.Passing.{shorter, through_is, AreVisible, action_visible}
+use Rattle.graph_numbers.proofs.Placing.{IsPlaced, placed}
+use Rattle.graph_numbers.proofs.Origins as origin
+
+either_in : {A : Type 0} (x : A) (P : Type 0) (xs ys : List A) → (In x xs → P) → (In x ys → P) → In x xs ⊎ In x ys → P
+either_in x P xs ys f g (inl k) = f k
+either_in x P xs ys f g (inr k) = g k
+
+both_in : {A : Type 0} (P : A → Type 0) (c : A) (xs ys : List A) → (In c xs → P c) → (In c ys → P c) → In c (xs ++ ys) → P c
+both_in P c xs ys f g h = either_in c (P c) xs ys f g (of_append xs ys h)
+
+-- what holds of each column of an expression holds of each in its list
+module _ {C F : Type 0} (P : C → Type 0) where
+  mutual
+    pub each_at : (e : Tree C F) → EachColumn P e → (c : C) → In c (columns_in e) → P c
+    each_at (Lit z) h c k = elim k [ ]
+    each_at (Truth b) h c k = elim k [ ]
+    each_at (Col d) h c here = h
+    each_at (Col d) h c (there k) = elim k [ ]
+    each_at (Neg a) h c k = each_at a h c k
+    each_at (Not a) h c k = each_at a h c k
+    each_at (Bin o a b) h c k = both_in P c (columns_in a) (columns_in b) (each_at a h.0 c) (each_at b h.1 c) k
+    each_at (Cond d a b) h c k = both_in P c (columns_in d ++ columns_in a) (columns_in b) (λ l. both_in P c (columns_in d) (columns_in a) (each_at d h.0 c) (each_at a h.1 c) l) (each_at b h.2 c) k
+    each_at (Pick v i) h c k = both_in P c (columns_in v) (columns_in i) (each_at v h.0 c) (each_at i h.1 c) k
+    each_at (Call f args) h c k = each_argument_at args h c k
+
+    each_argument_at : (es : Trees C F) → EachArgument P es → (c : C) → In c (columns_in_all es) → P c
+    each_argument_at End h c k = elim k [ ]
+    each_argument_at (More a rest) h c k = both_in P c (columns_in a) (columns_in_all rest) (each_at a h.0 c) (each_argument_at rest h.1 c) k
+
+with_needs_known : {M A : Type 0} (o : Outcome ⊥ A) → IsKnown (with_needs {M = M} o)
+with_needs_known (Gives a) = gives
+with_needs_known (Faults k) = faults
+with_needs_known (Needs m) = elim m [ ]
+
+with_needs_alike : {M N A : Type 0} (o : Outcome ⊥ A) → Alike (with_needs {M = M} o) (with_needs {M = N} o)
+with_needs_alike (Gives a) = alike.gives
+with_needs_alike (Faults k) = alike.faults
+with_needs_alike (Needs m) = elim m [ ]
+
+some_is : {A : Type 0} (a b : A) (o : Option A) → o ≡ Some a → o ≡ Some b → a ≡ b
+some_is a b o h k = let e : ◌≡◌ {A = Option _} (Some a) (Some b) = sym h ∙ k in cc e
+
+module _ (fns : List Function) (columns : List Column) (row : List Value) (u : Under) (before : List Statement) (good : AreAccepted (fn_names fns) (scope_of columns) before) where
+  -- the site of that number is demanded
+  abbrev pub IsDemanded : List Demand → ℕ → Type 0
+  IsDemanded ds s = (x : SiteAt) × (slice_get (sites columns (fn_names fns) before) s ≡ Some x) × In (demand_of fns columns row u before x) ds
+
+  -- a site is known by its node and places
+  same_number : (s t : ℕ) (x y : SiteAt) → slice_get (sites columns (fn_names fns) before) s ≡ Some x → slice_get (sites columns (fn_names fns) before) t ≡ Some y → x.site ≡ y.site → x ≡ y
+  same_number s t x y h k e =
+      let p = site_number columns (fn_names fns) before good s x h in
+      let q = site_number columns (fn_names fns) before good t y k in
+      let n : s ≡ t = some_is s t (place (λ (z : SiteAt). same_site x.site z.site) (sites columns (fn_names fns) before)) p (ap (λ w. place (λ (z : SiteAt). same_site w z.site) (sites columns (fn_names fns) before)) e ∙ q) in
+      some_is x y (slice_get (sites columns (fn_names fns) before) s) h (ap (slice_get (sites columns (fn_names fns) before)) n ∙ k)
+
+  abbrev version : ℕ → Outcome ℕ Value
+  version = version_value ℕ fns columns row u before
+
+  -- the name through which a site meets a version
+  met_of : (s : ℕ) (x : SiteAt) (p : IsPlaced columns (fn_names fns) before s x) (c : ℕ)
+      → meets fns version (site_in columns (fn_names fns) p.earlier p.parent p.site p.expr) c ≡ true
+      → (n : List ℕ) × (version_at columns p.earlier p.parent n ≡ c) × In n (columns_in p.expr) × In n (met_columns fns columns row (path p.earlier p.parent) u p.expr)
+  met_of s x p c h =
+      let known = known_columns (column_kind (scope_at (fn_names fns) (scope_of columns) p.earlier p.parent)) (shape_of (fn_names fns)) p.expr p.kind p.typed in
+      met_name (version_at columns p.earlier p.parent) version (λ n. with_needs (column_value fns columns row (path p.earlier p.parent) u n)) (named_call fns) (named_call fns)
+      (λ f vs. call_alike ℕ (List ℕ) fns (callee (fn_names fns) f) vs) (λ f vs. call_known (List ℕ) fns (callee (fn_names fns) f) vs) (λ n. with_needs_known (column_value fns columns row (path p.earlier p.parent) u n))
+      p.expr
+      (each_weaker (IsKnownColumn (column_kind (scope_at (fn_names fns) (scope_of columns) p.earlier p.parent)) (shape_of (fn_names fns))) _ (λ n k. alikes n k.0 k.1) p.expr known)
+      c
+      (ap is_need (sym (evaluate_renamed (version_at columns p.earlier p.parent) (callee (fn_names fns)) (without nat_eq c version) (call_outcome fns) p.expr)) ∙ h)
+    where
+      alikes : (n : List ℕ) (t : ColType) → column_kind (scope_at (fn_names fns) (scope_of columns) p.earlier p.parent) n ≡ Ok t
+          → Alike (version (version_at columns p.earlier p.parent n)) (with_needs {M = List ℕ} (column_value fns columns row (path p.earlier p.parent) u n))
+      alikes n t k =
+          let e : version (version_at columns p.earlier p.parent n) ≡ column_value fns columns row (path p.earlier p.parent) u n =
+          source_is ℕ fns columns row u before _ _ (source_later ℕ fns columns row u p.earlier before p.extends _ _ (column_source ℕ fns columns row u p.earlier p.accepted p.parent n t k)) in
+          let f : column_value fns columns row {M = ℕ} (path p.earlier p.parent) u n ≡ with_needs (column_value fns columns row (path p.earlier p.parent) u n) =
+          alike_is _ _ (named_alike ⊥ ℕ fns columns row (path p.earlier p.parent) u (target_of (path p.earlier p.parent) n)) in
+          subst (λ (o : Outcome ℕ Value). Alike o (with_needs {M = List ℕ} (column_value fns columns row (path p.earlier p.parent) u n))) (sym (e ∙ f)) (with_needs_alike (column_value fns columns row (path p.earlier p.parent) u n))
+
+  -- what reading a version demands
+  source_demanded : (ds small : List Demand) (c : ℕ) → HasDemandsOf fns columns row u before c small → ((e : Demand) → In e small → In e ds) → HasSourceIn (IsDemanded ds) (source_in (sources columns (fn_names fns) u before) c)
+  source_demanded ds small c h f =
+      subst (HasSourceIn (IsDemanded ds)) (sym (get_or_from_slice_get (sources columns (fn_names fns) u before) c h.0 (from.Cell 0) h.1)) (go h.0 h.2)
+    where
+      go : (src : Source) → origin.IsGiven columns (fn_names fns) u (read fns columns row u) (of_cell fns columns row u) (of_site fns columns row u) (of_element fns columns row u) [] before src small → HasSourceIn (IsDemanded ds) src
+      go (from.Cell col) k = tt
+      go (from.Site t) k = (k.0, k.1, f (demand_of fns columns row u before k.0) (subst (In (demand_of fns columns row u before k.0)) (sym k.2) here))
+      go (from.Element t i tags) k = (k.0, k.1, f (demand_of fns columns row u before k.0) (subst (In (demand_of fns columns row u before k.0)) (sym k.2) here))
+
+  -- with each demanded site those of the versions that its evaluation meets are demanded
+  pub closed : (ds : List Demand) → AreExplained fns columns row u before ds → (s c : ℕ) (x : SiteAt) → slice_get (sites columns (fn_names fns) before) s ≡ Some x → IsDemanded ds s
+      → meets fns version x c ≡ true → HasSourceIn (IsDemanded ds) (source_in (sources columns (fn_names fns) u before) c)
+  closed ds explained s c x h demanded met =
+      let z : demanded.0 ≡ x = some_is demanded.0 x (slice_get (sites columns (fn_names fns) before) s) demanded.1 h in
+      let w = explained (demand_of fns columns row u before demanded.0) demanded.2 in
+      let same_one : demanded.0 ≡ w.site = same_number s w.number demanded.0 w.site demanded.1 w.there_is (ap (λ (d : Demand). d.site) w.is) in
+      let p = placed columns (fn_names fns) before good s x h in
+      let y : w.site ≡ site_in columns (fn_names fns) p.earlier p.parent p.site p.expr = sym same_one ∙ z ∙ p.is in
+      let n = met_of s x p c (ap (λ (v : SiteAt). meets fns version v c) (sym p.is) ∙ met) in
+      let known = known_columns (column_kind (scope_at (fn_names fns) (scope_of columns) p.earlier p.parent)) (shape_of (fn_names fns)) p.expr p.kind p.typed in
+      let k = each_at (IsKnownColumn (column_kind (scope_at (fn_names fns) (scope_of columns) p.earlier p.parent)) (shape_of (fn_names fns))) p.expr known n.0 n.2 in
+      let d = origin.source_later columns (fn_names fns) u (read fns columns row u) (of_cell fns columns row u) (of_site fns columns row u) (of_element fns columns row u) [] p.earlier before p.extends _ _
+      (column_demanded fns columns row u p.earlier p.accepted p.parent n.0 k.0 k.1) in
+      source_demanded ds (column_demands fns columns row (path p.earlier p.parent) u n.0) c
+      (subst (λ (v : ℕ). HasDemandsOf fns columns row u before v (column_demands fns columns row (path p.earlier p.parent) u n.0)) n.1 d)
+      (λ e i. w.met n.0 (subst (λ (v : SiteAt). In n.0 (met_columns fns columns row v.at u v.expr)) (sym y) n.3) e (subst (λ (v : SiteAt). In e (column_demands fns columns row v.at u n.0)) (sym y) i))
+
+  -- ---- what a pass tries and reads
+
+  pub wider_filters : (D E : ℕ → Type 0) → ((s : ℕ) → D s → E s) → (site : ℕ → Outcome ⊥ Value) (ss : List ℕ) → HasFilters D site ss → HasFilters E site ss
+  wider_filters D E f site [] h = tt
+  wider_filters D E f site (s ∷ ss) h = (f s h.0, go (site s >>= truth_of) h.1 (wider_filters D E f site ss))
+    where
+      go : (o : Outcome ⊥ Bool) → IfPassed o (HasFilters D site ss) → (HasFilters D site ss → HasFilters E site ss) → IfPassed o (HasFilters E site ss)
+      go (Gives true) k next = next k
+      go (Gives false) k next = tt
+      go (Faults e) k next = tt
+      go (Needs m) k next = elim m [ ]
+
+  -- one more filter, tried where those before it are passed
+  more_filters : (D : ℕ → Type 0) (site : ℕ → Outcome ⊥ Value) (ss : List ℕ) (s : ℕ) → HasFilters D site ss → IfPassed (through_sites site ss) (D s) → HasFilters D site (ss ++ s ∷ [])
+  more_filters D site [] s h k = (k, last (site s >>= truth_of))
+    where
+      last : (o : Outcome ⊥ Bool) → IfPassed o ⊤
+      last (Gives true) = tt
+      last (Gives false) = tt
+      last (Faults e) = tt
+      last (Needs m) = elim m [ ]
+  more_filters D site (t ∷ ss) s h k = (h.0, go (site t >>= truth_of) h.1 k (λ a b. more_filters D site ss s a b))
+    where
+      go : (o : Outcome ⊥ Bool) → IfPassed o (HasFilters D site ss) → IfPassed (o >>= λ passed. if passed then through_sites site ss else Gives false) (D s)
+          → (HasFilters D site ss → IfPassed (through_sites site ss) (D s) → HasFilters D site (ss ++ s ∷ [])) → IfPassed o (HasFilters D site (ss ++ s ∷ []))
+      go (Gives true) a b next = next a b
+      go (Gives false) a b next = tt
+      go (Faults e) a b next = tt
+      go (Needs m) a b next = elim m [ ]
+
+  abbrev site : ℕ → Outcome ⊥ Value
+  site = number_value ⊥ fns columns row u before
+
+  pub demanded_wider : (ds es : List Demand) → ((e : Demand) → In e ds → In e es) → (s : ℕ) → IsDemanded ds s → IsDemanded es s
+  demanded_wider ds es f s h = (h.0, h.1, f (demand_of fns columns row u before h.0) h.2)
+
+  -- what follows an outcome, where it is an answer that the test passes
+  after_passed : (o : Outcome ⊥ Bool) (next : List Demand) (D : List Demand → Type 0) → D next → IfPassed o (D (demands_after o (λ passed. if passed then next else [])))
+  after_passed (Gives true) next D h = h
+  after_passed (Gives false) next D h = tt
+  after_passed (Faults e) next D h = tt
+  after_passed (Needs m) next D h = elim m [ ]
+
+  pub then_wider : (o : Outcome ⊥ Bool) {P Q : Type 0} → (P → Q) → IfPassed o P → IfPassed o Q
+  then_wider (Gives true) f h = f h
+  then_wider (Gives false) f h = tt
+  then_wider (Faults e) f h = tt
+  then_wider (Needs m) f h = elim m [ ]
+
+  pub filter_statement : (earlier : List Statement) (s : Statement) → Extends (s ∷ earlier) before
+      → HasFilters (IsDemanded (filter_demands fns columns row (path earlier (parent_of s)) u)) site (filter_sites columns (fn_names fns) earlier (parent_of s))
+      → HasFilters (IsDemanded (filter_demands fns columns row (s ∷ path earlier (parent_of s)) u)) site (filter_sites columns (fn_names fns) earlier (parent_of s) ++ own_filter_site s (site_count columns (fn_names fns) earlier))
+  filter_statement earlier (Filter node parent expr label) e h =
+      let above : List Demand = filter_demands fns columns row (path earlier parent) u in
+      let own : List Demand = site_demands fns columns row (path earlier parent) u (site_at node) expr (column_demands fns columns row (path earlier parent) u) in
+      let n : ℕ = site_count columns (fn_names fns) earlier in
+      let whole : List Demand = filter_demands fns columns row (Filter node parent expr label ∷ path earlier parent) u in
+      let here_is : IsDemanded own n = (site_in columns (fn_names fns) earlier parent (site_at node) expr, own_site fns columns row u before earlier (Filter node parent expr label) parent node expr e refl, here) in
+      let t : IfPassed (through fns columns row (path earlier parent) u) (IsDemanded whole n) =
+      then_wider (through fns columns row (path earlier parent) u) (demanded_wider _ whole (λ d k. in_right above _ k) n) (after_passed (through fns columns row (path earlier parent) u) own (λ ds. IsDemanded ds n) here_is) in
+      more_filters (IsDemanded whole) site (filter_sites columns (fn_names fns) earlier parent) n
+      (wider_filters (IsDemanded above) (IsDemanded whole) (demanded_wider above whole (λ d k. in_left above _ k)) site (filter_sites columns (fn_names fns) earlier parent) h)
+      (subst (λ (o : Outcome ⊥ Bool). IfPassed o (IsDemanded whole n)) (through_is ⊥ fns columns row u before earlier (shorter (Filter node parent expr label) earlier before e) parent) t)
+  filter_statement earlier s e h =
+      subst (λ (ss : List ℕ). HasFilters (IsDemanded (filter_demands fns columns row (path earlier (parent_of s)) u)) site ss) (sym (append-nil (filter_sites columns (fn_names fns) earlier (parent_of s)))) h
+
+  -- the filters that are tried
+  pub filters_demanded : (earlier : List Statement) → Extends earlier before → (node : List ℕ) → HasFilters (IsDemanded (filter_demands fns columns row (path earlier node) u)) site (filter_sites columns (fn_names fns) earlier node)
+  filters_demanded [] e node = tt
+  filters_demanded (s ∷ earlier) e node = go (makes s node) (filters_demanded earlier (shorter s earlier before e) (parent_of s)) (filters_demanded earlier (shorter s earlier before e) node)
+    where
+      go : (b : Bool) → HasFilters (IsDemanded (filter_demands fns columns row (path earlier (parent_of s)) u)) site (filter_sites columns (fn_names fns) earlier (parent_of s))
+          → HasFilters (IsDemanded (filter_demands fns columns row (path earlier node) u)) site (filter_sites columns (fn_names fns) earlier node)
+          → HasFilters (IsDemanded (filter_demands fns columns row (if b then s ∷ path earlier (parent_of s) else path earlier node) u)) site
+          (if b then filter_sites columns (fn_names fns) earlier (parent_of s) ++ own_filter_site s (site_count columns (fn_names fns) earlier) else filter_sites columns (fn_names fns) earlier node)
+      go true h k = filter_statement earlier s e h
+      go false h k = k
+
+  abbrev value : ℕ → Outcome ⊥ Value
+  value = version_value ⊥ fns columns row u before
+
+  abbrev source : ℕ → Source
+  source c = source_in (sources columns (fn_names fns) u before) c
+
+  source_wider : (D E : ℕ → Type 0) → ((s : ℕ) → D s → E s) → (x : Source) → HasSourceIn D x → HasSourceIn E x
+  source_wider D E f (from.Cell col) h = tt
+  source_wider D E f (from.Site s) h = f s h
+  source_wider D E f (from.Element s k tags) h = f s h
+
+  pub wider_inputs : (D E : ℕ → Type 0) → ((s : ℕ) → D s → E s) → (cs : List ℕ) → HasInputs D source value cs → HasInputs E source value cs
+  wider_inputs D E f [] h = tt
+  wider_inputs D E f (c ∷ cs) h = (source_wider D E f (source c) h.0, go (value c) h.1 (wider_inputs D E f cs))
+    where
+      go : (o : Outcome ⊥ Value) → IfGiven o (HasInputs D source value cs) → (HasInputs D source value cs → HasInputs E source value cs) → IfGiven o (HasInputs E source value cs)
+      go (Gives v) k next = next k
+      go (Faults e) k next = tt
+      go (Needs m) k next = elim m [ ]
+
+  -- what follows an answer
+  after_given : (o : Outcome ⊥ Value) (next : List Demand) (D : List Demand → Type 0) → D next → IfGiven o (D (demands_after o (λ v. next)))
+  after_given (Gives v) next D h = h
+  after_given (Faults e) next D h = tt
+  after_given (Needs m) next D h = elim m [ ]
+
+  given_wider : (o : Outcome ⊥ Value) {P Q : Type 0} → (P → Q) → IfGiven o P → IfGiven o Q
+  given_wider (Gives v) f h = f h
+  given_wider (Faults e) f h = tt
+  given_wider (Needs m) f h = elim m [ ]
+
+  -- the versions that an action reads
+  inputs_demanded : (earlier : List Statement) → AreAccepted (fn_names fns) (scope_of columns) earlier → Extends earlier before → (node : List ℕ) (cs : List (List ℕ)) → AreVisible ⊥ fns columns row u before earlier node cs
+      → HasInputs (IsDemanded (input_demands fns columns row (path earlier node) u cs)) source value (map (version_at columns earlier node) cs)
+  inputs_demanded earlier ok e node [] v = tt
+  inputs_demanded earlier ok e node (c ∷ cs) v =
+      let own : List Demand = column_demands fns columns row (path earlier node) u c in
+      let rest : List Demand = input_demands fns columns row (path earlier node) u cs in
+      let whole : List Demand = input_demands fns columns row (path earlier node) u (c ∷ cs) in
+      let d = origin.source_later columns (fn_names fns) u (read fns columns row u) (of_cell fns columns row u) (of_site fns columns row u) (of_element fns columns row u) [] earlier before e _ _ (column_demanded fns columns row u earlier ok node c v.0.0 v.0.1) in
+      let is : value (version_at columns earlier node c) ≡ column_value fns columns row (path earlier node) u c =
+      source_is ⊥ fns columns row u before _ _ (source_later ⊥ fns columns row u earlier before e _ _ (column_source ⊥ fns columns row u earlier ok node c v.0.0 v.0.1)) in
+      let next : IfGiven (column_value fns columns row (path earlier node) u c) (HasInputs (IsDemanded whole) source value (map (version_at columns earlier node) cs)) =
+      given_wider (column_value fns columns row (path earlier node) u c)
+      (wider_inputs (IsDemanded (demands_after (column_value fns columns row (path earlier node) u c) (λ v. rest))) (IsDemanded whole) (demanded_wider _ whole (λ x k. in_right own _ k)) (map (version_at columns earlier node) cs))
+      (after_given (column_value fns columns row (path earlier node) u c) rest (λ ds. HasInputs (IsDemanded ds) source value (map (version_at columns earlier node) cs)) (inputs_demanded earlier ok e node cs v.1)) in (
+        source_demanded whole own (version_at columns earlier node c) d (λ x k. in_left own _ k),
+        subst (λ (o : Outcome ⊥ Value). IfGiven o (HasInputs (IsDemanded whole) source value (map (version_at columns earlier node) cs))) (sym is) next,
+      )
+
+  -- what an action demands has what it tries and reads
+  pub action_demanded : (earlier : List Statement) (result parent : List ℕ) (k : ActionKind) → AreAccepted (fn_names fns) (scope_of columns) (Action result parent k ∷ earlier) → Extends earlier before
+      → HasFilters (IsDemanded (booking_demands fns columns row (ActionAt k (path earlier parent)) u)) site (filter_sites columns (fn_names fns) earlier parent)
+      × IfPassed (through_sites site (filter_sites columns (fn_names fns) earlier parent))
+      (HasInputs (IsDemanded (booking_demands fns columns row (ActionAt k (path earlier parent)) u)) source value (map (version_at columns earlier parent) (columns_of k)))
+  action_demanded earlier result parent k ok e =
+      let above : List Demand = filter_demands fns columns row (path earlier parent) u in
+      let own : List Demand = input_demands fns columns row (path earlier parent) u (columns_of k) in
+      let whole : List Demand = booking_demands fns columns row (ActionAt k (path earlier parent)) u in
+      let t : IfPassed (through fns columns row (path earlier parent) u) (HasInputs (IsDemanded whole) source value (map (version_at columns earlier parent) (columns_of k))) =
+      then_wider (through fns columns row (path earlier parent) u) (wider_inputs _ (IsDemanded whole) (demanded_wider _ whole (λ d j. in_right above _ j)) (map (version_at columns earlier parent) (columns_of k)))
+      (after_passed (through fns columns row (path earlier parent) u) own (λ ds. HasInputs (IsDemanded ds) source value (map (version_at columns earlier parent) (columns_of k)))
+      (inputs_demanded earlier ok.1 e parent (columns_of k) (action_visible ⊥ fns columns row u before earlier result parent k ok))) in (
+        wider_filters (IsDemanded above) (IsDemanded whole) (demanded_wider above whole (λ d j. in_left above _ j)) site (filter_sites columns (fn_names fns) earlier parent) (filters_demanded earlier e parent),
+        subst (λ (o : Outcome ⊥ Bool). IfPassed o (HasInputs (IsDemanded whole) source value (map (version_at columns earlier parent) (columns_of k)))) (through_is ⊥ fns columns row u before earlier e parent) t,
+      )

@@ -1,0 +1,105 @@
+-- What a site comes to, by what its columns' versions come to; and that the sites of these have lower numbers.
+use Rattle.std.proofs.Common.{◌≡◌, ℕ, ◌<◌, ◌≤◌, List, [], length, Some, refl, sym, ◌∙◌, ap, subst, arith, slice_get}
+use Rattle.std.proofs.lemmas.Option.{get_or_from_slice_get, slice_get_within}
+use Rattle.rdf_values.specs.Path.{Under, path}
+use Rattle.rdf_values.specs.EachColumn.{EachColumn}
+use Rattle.rdf_values.specs.Functions.{Function, fn_names}
+use Rattle.rdf_values.specs.Kinds.{scope_of, column_kind, shape_of}
+use Rattle.rdf_values.specs.Numbered.{renamed, callee}
+use Rattle.rdf_values.specs.Tree.{Tree}
+use Rattle.rdf_values.specs.Verdict.{AreAccepted, scope_at}
+use Rattle.rdf_values.specs.declared.column.Column.{Column}
+use Rattle.rdf_values.specs.declared.value.Value.{Value}
+use Rattle.rdf_values.specs.declared.statement.Statement.{Statement}
+use Rattle.rdf_model.specs.Evaluation.{Outcome, untyped, ◌>>=◌, evaluate, call_outcome, named_call}
+use Rattle.rdf_model.specs.ColumnValues.{column_value, tag_element}
+use Rattle.rdf_model.proofs.Close.{Close, same, missing, evaluate_close}
+use Rattle.rdf_model.proofs.Evaluations.{evaluate_renamed}
+use Rattle.graph_numbers.specs.Versions.{version_at, version_count}
+use Rattle.graph_numbers.specs.Sites.{SiteAt, site_in, sites, site_count, site_outcome}
+use Rattle.graph_numbers.specs.Sources.{IsBelow, source_in, sources, site_value, source_value}
+use Rattle.graph_numbers.specs.declared.source.Source.{Source}
+use Rattle.graph_numbers.specs.declared.source.Source.TheVariants as from
+use Rattle.graph_numbers.proofs.Extending.{Extends, source_kept, source_count}
+use Rattle.rdf_model.proofs.KnownColumns.{known_columns, each_weaker, each_renamed, IsKnownColumn}
+use Rattle.graph_numbers.proofs.Origins as origin
+use Rattle.graph_numbers.proofs.ColumnSources.{IsGiven, HasSource, column_source, read, of_cell, of_site, of_element}
+use Rattle.graph_numbers.proofs.Placing.{placed}
+
+-- ---- looks that agree
+
+close_equal : {M : Type 0} {o p : Outcome M Value} → Close (λ _. ⊥) o p → o ≡ p
+close_equal same = refl
+close_equal (missing n) = absurd n
+
+close_if : {M : Type 0} {o p : Outcome M Value} → o ≡ p → Close (λ (_ : M). ⊥) o p
+close_if {M} {o} h = subst (λ (x : Outcome M Value). Close (λ (_ : M). ⊥) o x) h same
+
+-- two looks that agree on the columns of an expression give one outcome
+pub agrees : {C F M : Type 0} (look look' : C → Outcome M Value) (call : F → List Value → Outcome M Value) (e : Tree C F) → EachColumn (λ c. look c ≡ look' c) e → evaluate look call e ≡ evaluate look' call e
+agrees {M = M} look look' call e h =
+    close_equal (evaluate_close (λ _. ⊥) look look' call e (each_weaker (λ c. look c ≡ look' c) (λ c. Close (λ (_ : M). ⊥) (look c) (look' c)) (λ c. close_if) e h))
+
+module _ (M : Type 0) (fns : List Function) (columns : List Column) (row : List Value) (u : Under) where
+  -- what a site and a version of the statements so far come to, by their numbers
+  abbrev pub number_value : List Statement → ℕ → Outcome M Value
+  number_value before s = site_value (λ x. site_outcome fns columns row x u) (slice_get (sites columns (fn_names fns) before) s)
+
+  abbrev pub version_value : List Statement → ℕ → Outcome M Value
+  version_value before c = source_value row (number_value before) (source_in (sources columns (fn_names fns) u before) c)
+
+  given_value : (before : List Statement) (src : Source) (o : Outcome M Value) → IsGiven M fns columns row u before src o → source_value row (number_value before) src ≡ o
+  given_value before (from.Cell col) o h = sym h.1
+  given_value before (from.Site t) o h = ap (site_value (λ x. site_outcome fns columns row x u)) h.1 ∙ sym h.2
+  given_value before (from.Element t k tags) o h = ap (λ p. site_value (λ x. site_outcome fns columns row x u) p >>= tag_element tags k) h.1 ∙ sym h.2
+
+  -- the value of a version by its number is what its source gives
+  pub source_is : (before : List Statement) (c : ℕ) (o : Outcome M Value) → HasSource M fns columns row u before c o → version_value before c ≡ o
+  source_is before c o h =
+      ap (source_value row (number_value before)) (get_or_from_slice_get (sources columns (fn_names fns) u before) c h.0 (from.Cell 0) h.1) ∙ given_value before h.0 o h.2
+
+  pub source_later : (before after : List Statement) → Extends before after → (c : ℕ) (o : Outcome M Value) → HasSource M fns columns row u before c o → HasSource M fns columns row u after c o
+  source_later = origin.source_later columns (fn_names fns) u (read M fns columns row u) (of_cell M fns columns row u) (of_site M fns columns row u) (of_element M fns columns row u) untyped
+
+  -- a site comes to what its expression over versions comes to
+  pub site_is : (before : List Statement) → AreAccepted (fn_names fns) (scope_of columns) before → (s : ℕ) (x : SiteAt) → slice_get (sites columns (fn_names fns) before) s ≡ Some x
+      → site_outcome fns columns row x u ≡ evaluate (version_value before) (call_outcome fns) x.tree
+  site_is before good s x h =
+      let p = placed columns (fn_names fns) before good s x h in
+      let e : EachColumn (λ c. version_value before (version_at columns p.earlier p.parent c) ≡ column_value fns columns row (path p.earlier p.parent) u c) p.expr =
+      each_weaker (IsKnownColumn (column_kind (scope_at (fn_names fns) (scope_of columns) p.earlier p.parent)) (shape_of (fn_names fns))) _
+      (λ c k. source_is before _ _ (source_later p.earlier before p.extends _ _ (column_source M fns columns row u p.earlier p.accepted p.parent c k.0 k.1))) p.expr
+      (known_columns (column_kind (scope_at (fn_names fns) (scope_of columns) p.earlier p.parent)) (shape_of (fn_names fns)) p.expr p.kind p.typed) in
+      let f : evaluate (version_value before) (call_outcome fns) (renamed (version_at columns p.earlier p.parent) (callee (fn_names fns)) p.expr)
+      ≡ site_outcome fns columns row (site_in columns (fn_names fns) p.earlier p.parent p.site p.expr) u =
+      evaluate_renamed (version_at columns p.earlier p.parent) (callee (fn_names fns)) (version_value before) (call_outcome fns) p.expr ∙ agrees _ _ (named_call fns) p.expr e in
+      ap (λ (y : SiteAt). site_outcome fns columns row y u) p.is ∙ sym f ∙ ap (λ (y : SiteAt). evaluate (version_value before) (call_outcome fns) y.tree) (sym p.is)
+
+-- ---- the order of numbers
+
+module _ (fns : List Function) (columns : List Column) (u : Under) where
+  below_of : (before earlier : List Statement) → Extends earlier before → (s c : ℕ) → site_count columns (fn_names fns) earlier ≤ s → (o : Outcome ⊥ Value) → HasSource ⊥ fns columns [] u earlier c o
+      → (c < version_count columns before) × IsBelow (length columns) s (source_in (sources columns (fn_names fns) u before) c)
+  below_of before earlier e s c le o h =
+      let at : slice_get (sources columns (fn_names fns) u before) c ≡ Some h.0 = source_kept columns (fn_names fns) u earlier before e c h.0 h.1 in
+      let lt = slice_get_within (sources columns (fn_names fns) u before) c h.0 at in (
+        subst (λ (n : ℕ). c < n) (source_count columns (fn_names fns) u before) lt,
+        subst (IsBelow (length columns) s) (sym (get_or_from_slice_get (sources columns (fn_names fns) u before) c h.0 (from.Cell 0) at)) (go h.0 h.2),
+      )
+    where
+      go : (src : Source) → IsGiven ⊥ fns columns [] u earlier src o → IsBelow (length columns) s src
+      go (from.Cell col) k = k.0
+      go (from.Site t) k = let lt = slice_get_within (sites columns (fn_names fns) earlier) t k.0 k.1 in omega (arith, lt, le)
+      go (from.Element t i tags) k = let lt = slice_get_within (sites columns (fn_names fns) earlier) t k.0 k.1 in omega (arith, lt, le)
+
+  -- the columns of a site are versions, given by the table's columns and by sites with lower numbers
+  pub columns_below : (before : List Statement) → AreAccepted (fn_names fns) (scope_of columns) before → (s : ℕ) (x : SiteAt) → slice_get (sites columns (fn_names fns) before) s ≡ Some x
+      → EachColumn (λ c. (c < version_count columns before) × IsBelow (length columns) s (source_in (sources columns (fn_names fns) u before) c)) x.tree
+  columns_below before good s x h =
+      let p = placed columns (fn_names fns) before good s x h in
+      let e : EachColumn (λ c. (version_at columns p.earlier p.parent c < version_count columns before) × IsBelow (length columns) s (source_in (sources columns (fn_names fns) u before) (version_at columns p.earlier p.parent c))) p.expr =
+      each_weaker (IsKnownColumn (column_kind (scope_at (fn_names fns) (scope_of columns) p.earlier p.parent)) (shape_of (fn_names fns))) _
+      (λ c k. below_of before p.earlier p.extends s (version_at columns p.earlier p.parent c) p.start _ (column_source ⊥ fns columns [] u p.earlier p.accepted p.parent c k.0 k.1)) p.expr
+      (known_columns (column_kind (scope_at (fn_names fns) (scope_of columns) p.earlier p.parent)) (shape_of (fn_names fns)) p.expr p.kind p.typed) in
+      subst (λ (y : SiteAt). EachColumn (λ c. (c < version_count columns before) × IsBelow (length columns) s (source_in (sources columns (fn_names fns) u before) c)) y.tree) (sym p.is)
+      (each_renamed (version_at columns p.earlier p.parent) (callee (fn_names fns)) _ p.expr e)

@@ -1,0 +1,71 @@
+-- A script that goes on keeps the numbers of what it booked before.
+use Rattle.std.proofs.Common.{◌≡◌, ℕ, suc, ◌+◌, List, [], ◌∷◌, length, Some, refl, ◌∙◌, ap, slice_get, length-append}
+use Rattle.rdf_values.specs.Path.{Under}
+use Rattle.rdf_values.specs.Kinds.{FunctionNames}
+use Rattle.rdf_values.specs.declared.column.Column.{Column}
+use Rattle.rdf_values.specs.declared.vary_values.VaryValues.{VaryValues}
+use Rattle.rdf_values.specs.declared.statement.Statement.{Statement}
+use Rattle.rdf_values.specs.declared.statement.Statement.TheVariants.{Define, Redefine, Vary}
+use Rattle.graph_numbers.specs.Versions.{own_columns, version_count}
+use Rattle.graph_numbers.specs.Sites.{SiteAt, sites, own_sites}
+use Rattle.graph_numbers.specs.Sources.{sources, own_sources, varied_sources, cell_sources, versions, own_versions, varied_versions, cell_versions}
+use Rattle.graph_numbers.specs.declared.source.Source.{Source}
+use Rattle.graph_numbers.proofs.Listed.{kept_at}
+
+-- the latter statements are the former with others after them
+pub data Extends : List Statement → List Statement → Type 0 where
+  itself : {before : List Statement} → Extends before before
+  further : {before after : List Statement} (s : Statement) → Extends before after → Extends before (s ∷ after)
+
+module _ (header : List Column) (names : FunctionNames) where
+  pub site_kept : (before after : List Statement) → Extends before after → (k : ℕ) (x : SiteAt) → slice_get (sites header names before) k ≡ Some x → slice_get (sites header names after) k ≡ Some x
+  site_kept before after itself k x h = h
+  site_kept before after (further {after = c} s e) k x h = kept_at (sites header names c) (own_sites header names c s) k x (site_kept before c e k x h)
+
+  module _ (u : Under) where
+    pub source_kept : (before after : List Statement) → Extends before after → (k : ℕ) (x : Source) → slice_get (sources header names u before) k ≡ Some x → slice_get (sources header names u after) k ≡ Some x
+    source_kept before after itself k x h = h
+    source_kept before after (further {after = c} s e) k x h =
+        kept_at (sources header names u c) (own_sources header names u c (sources header names u c) s) k x (source_kept before c e k x h)
+
+    cell_sources_count : (n : ℕ) (cs : List Column) → length (cell_sources n cs) ≡ length cs
+    cell_sources_count n [] = refl
+    cell_sources_count n (c ∷ cs) = ap suc (cell_sources_count (suc n) cs)
+
+    varied_count : (before : List Statement) (below : List Source) (parent : List ℕ) (values : VaryValues) (tags : List (List ℕ)) (vary : List ℕ) (i : ℕ) (columns : List (List ℕ))
+        → length (varied_sources header names u before below parent values tags vary i columns) ≡ length columns
+    varied_count before below parent values tags vary i [] = refl
+    varied_count before below parent values tags vary i (c ∷ cs) = ap suc (varied_count before below parent values tags vary (suc i) cs)
+
+    own_count : (before : List Statement) (below : List Source) (s : Statement) → length (own_sources header names u before below s) ≡ length (own_columns s)
+    own_count before below (Define node parent column expr) = refl
+    own_count before below (Redefine node parent column expr) = refl
+    own_count before below (Vary node parent columns values tags vary) = varied_count before below parent values tags vary 0 columns
+    own_count before below s = refl
+
+    -- there is one source for each version
+    pub source_count : (before : List Statement) → length (sources header names u before) ≡ version_count header before
+    source_count [] = cell_sources_count 0 header
+    source_count (s ∷ before) =
+        length-append (sources header names u before) (own_sources header names u before (sources header names u before) s)
+        ∙ (λ i. source_count before i + own_count before (sources header names u before) s i)
+
+  cell_versions_count : (n : ℕ) (cs : List Column) → length (cell_versions header names n cs) ≡ length cs
+  cell_versions_count n [] = refl
+  cell_versions_count n (c ∷ cs) = ap suc (cell_versions_count (suc n) cs)
+
+  varied_versions_count : (before : List Statement) (parent : List ℕ) (values : VaryValues) (tags : List (List ℕ)) (i : ℕ) (columns : List (List ℕ))
+      → length (varied_versions header names before parent values tags i columns) ≡ length columns
+  varied_versions_count before parent values tags i [] = refl
+  varied_versions_count before parent values tags i (c ∷ cs) = ap suc (varied_versions_count before parent values tags (suc i) cs)
+
+  own_versions_count : (before : List Statement) (s : Statement) → length (own_versions header names before s) ≡ length (own_columns s)
+  own_versions_count before (Define node parent column expr) = refl
+  own_versions_count before (Redefine node parent column expr) = refl
+  own_versions_count before (Vary node parent columns values tags vary) = varied_versions_count before parent values tags 0 columns
+  own_versions_count before s = refl
+
+  -- there are as many versions
+  pub versions_count : (before : List Statement) → length (versions header names before) ≡ version_count header before
+  versions_count [] = cell_versions_count 0 header
+  versions_count (s ∷ before) = length-append (versions header names before) (own_versions header names before s) ∙ (λ i. versions_count before i + own_versions_count before s i)

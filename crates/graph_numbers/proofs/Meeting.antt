@@ -1,0 +1,187 @@
+-- A column that an evaluation over numbers meets is that of a name that the evaluation over names meets.
+use Rattle.std.proofs.Common.{◌≡◌, ◌≢◌, ℕ, Bool, true, false, List, [], ◌∷◌, ◌++◌, refl, sym, ◌∙◌, ap, subst, nat_eq, if◌then◌else◌}
+use Rattle.std.specs.Prelude.{filter}
+use Rattle.std.proofs.lemmas.Bool.Decides.{Decides-eqb}
+use Rattle.rdf_values.specs.Names.{same}
+use Rattle.rdf_values.specs.Depends.{columns_in, columns_in_all}
+use Rattle.rdf_values.specs.EachColumn.{EachColumn, EachArgument}
+use Rattle.rdf_values.specs.Tree.{Tree, Trees, Lit, Truth, Col, Neg, Not, Bin, Cond, Pick, Call, End, More}
+use Rattle.rdf_values.specs.declared.value.Value.{Value}
+use Rattle.rdf_model.specs.Evaluation.{Outcome, Gives, Faults, Needs, evaluate, is_need, without, is_met, untyped}
+use Rattle.rdf_model.specs.Laws.{IsKnown, gives, faults}
+use Rattle.rdf_model.proofs.Accepted.{names_equal, itself}
+use Rattle.rdf_model.proofs.Close as close
+use Rattle.rdf_model.proofs.Evaluations.{evaluate_known}
+use Rattle.rdf_model.specs.Alike.{Alike}
+use Rattle.rdf_model.proofs.Missing.{everywhere}
+use Rattle.rdf_model.specs.Alike as alike
+use Rattle.rdf_model.proofs.Missing as missing
+
+-- ---- elements of lists
+
+pub data In {A : Type 0} (x : A) : List A → Type 0 where
+  here : {xs : List A} → In x (x ∷ xs)
+  there : {y : A} {xs : List A} → In x xs → In x (y ∷ xs)
+
+pub in_left : {A : Type 0} {x : A} (xs ys : List A) → In x xs → In x (xs ++ ys)
+in_left xs ys (here {xs = zs}) = here
+in_left xs ys (there {xs = zs} h) = there (in_left zs ys h)
+
+pub in_right : {A : Type 0} {x : A} (xs ys : List A) → In x ys → In x (xs ++ ys)
+in_right [] ys h = h
+in_right (y ∷ xs) ys h = there (in_right xs ys h)
+
+pub in_filter : {A : Type 0} {x : A} (p : A → Bool) (xs : List A) → In x xs → p x ≡ true → In x (filter p xs)
+in_filter {x = x} p xs (here {xs = zs}) e = go (p x) e
+  where
+    go : (b : Bool) → b ≡ true → In x (if b then x ∷ filter p zs else filter p zs)
+    go true e = here
+    go false e = cc e
+in_filter {x = x} p xs (there {y = y} {xs = zs} h) e = go (p y) (in_filter p zs h e)
+  where
+    go : (b : Bool) → In x (filter p zs) → In x (if b then y ∷ filter p zs else filter p zs)
+    go true k = there k
+    go false k = k
+
+-- what holds of each column that stands in an expression
+module _ {C F : Type 0} (P : C → Type 0) where
+  mutual
+    pub each_of : (e : Tree C F) → ((c : C) → In c (columns_in e) → P c) → EachColumn P e
+    each_of (Lit z) h = tt
+    each_of (Truth b) h = tt
+    each_of (Col c) h = h c here
+    each_of (Neg a) h = each_of a h
+    each_of (Not a) h = each_of a h
+    each_of (Bin o a b) h = (each_of a (λ c k. h c (in_left (columns_in a) (columns_in b) k)), each_of b (λ c k. h c (in_right (columns_in a) (columns_in b) k)))
+    each_of (Cond c a b) h = (
+      each_of c (λ d k. h d (in_left (columns_in c ++ columns_in a) (columns_in b) (in_left (columns_in c) (columns_in a) k))),
+      each_of a (λ d k. h d (in_left (columns_in c ++ columns_in a) (columns_in b) (in_right (columns_in c) (columns_in a) k))),
+      each_of b (λ d k. h d (in_right (columns_in c ++ columns_in a) (columns_in b) k)),
+    )
+    each_of (Pick v i) h = (each_of v (λ c k. h c (in_left (columns_in v) (columns_in i) k)), each_of i (λ c k. h c (in_right (columns_in v) (columns_in i) k)))
+    each_of (Call f args) h = each_of_all args h
+
+    pub each_of_all : (es : Trees C F) → ((c : C) → In c (columns_in_all es) → P c) → EachArgument P es
+    each_of_all End h = tt
+    each_of_all (More a rest) h = (each_of a (λ c k. h c (in_left (columns_in a) (columns_in_all rest) k)), each_of_all rest (λ c k. h c (in_right (columns_in a) (columns_in_all rest) k)))
+
+-- two facts of each column
+module _ {C F : Type 0} (P Q R : C → Type 0) (f : (c : C) → P c → Q c → R c) where
+  mutual
+    pub each_both : (e : Tree C F) → EachColumn P e → EachColumn Q e → EachColumn R e
+    each_both (Lit z) h k = tt
+    each_both (Truth b) h k = tt
+    each_both (Col c) h k = f c h k
+    each_both (Neg a) h k = each_both a h k
+    each_both (Not a) h k = each_both a h k
+    each_both (Bin o a b) h k = (each_both a h.0 k.0, each_both b h.1 k.1)
+    each_both (Cond c a b) h k = (each_both c h.0 k.0, each_both a h.1 k.1, each_both b h.2 k.2)
+    each_both (Pick v i) h k = (each_both v h.0 k.0, each_both i h.1 k.1)
+    each_both (Call g args) h k = each_both_all args h k
+
+    pub each_both_all : (es : Trees C F) → EachArgument P es → EachArgument Q es → EachArgument R es
+    each_both_all End h k = tt
+    each_both_all (More a rest) h k = (each_both a h.0 k.0, each_both_all rest h.1 k.1)
+
+-- ---- what is needed
+
+not_known : {M A : Type 0} (o : Outcome M A) (m : M) → IsKnown o → o ≡ Needs m → ⊥
+not_known o m gives h = cc h
+not_known o m faults h = cc h
+
+abbrev in_need : {M A : Type 0} → M → Outcome M A → M
+in_need d (Needs m) = m
+in_need d (Gives a) = d
+in_need d (Faults k) = d
+
+module _ {C F M : Type 0} (look : C → Outcome M Value) (call : F → List Value → Outcome M Value) (calls_known : (f : F) (vs : List Value) → IsKnown (call f vs)) (e : Tree C F) where
+  -- what a column gives, or something known in place of a need
+  abbrev given : Outcome M Value → Outcome M Value
+  given (Gives v) = Gives v
+  given (Faults k) = Faults k
+  given (Needs m) = untyped
+
+  given_known : (o : Outcome M Value) → IsKnown (given o)
+  given_known (Gives v) = gives
+  given_known (Faults k) = faults
+  given_known (Needs m) = gives
+
+  abbrev IsNeeded : M → Type 0
+  IsNeeded m = (c : C) × In c (columns_in e) × (look c ≡ Needs m)
+
+  closed : (c : C) → In c (columns_in e) → (o : Outcome M Value) → look c ≡ o → close.Close IsNeeded o (given o)
+  closed c k (Gives v) q = close.same
+  closed c k (Faults v) q = close.same
+  closed c k (Needs m) q = close.missing (c, k, q)
+
+  -- what an evaluation needs is what one of its columns needs
+  pub needed : (m : M) → evaluate look call e ≡ Needs m → IsNeeded m
+  needed m h =
+      go (evaluate look call e) (evaluate (λ c. given (look c)) call e) h
+      (evaluate_known M (λ c. given (look c)) call calls_known e (each_of (λ c. IsKnown (given (look c))) e (λ c k. given_known (look c))))
+      (close.evaluate_close IsNeeded look (λ c. given (look c)) call e (each_of (λ c. close.Close IsNeeded (look c) (given (look c))) e (λ c k. closed c k (look c) refl)))
+    where
+      go : (o p : Outcome M Value) → o ≡ Needs m → IsKnown p → close.Close IsNeeded o p → IsNeeded m
+      go o p q known close.same = absurd (not_known o m known q)
+      go o p q known (close.missing {d = d} n) = let is : d ≡ m = ap (in_need m) q in subst IsNeeded is n
+
+-- ---- by names
+
+if_need : {M A : Type 0} (o : Outcome M A) → is_need o ≡ true → (m : M) × (o ≡ Needs m)
+if_need (Needs m) h = (m, refl)
+if_need (Gives a) h = cc h
+if_need (Faults k) h = cc h
+
+alike_need : {M N A : Type 0} (o : Outcome M A) (p : Outcome N A) → Alike o p → is_need o ≡ is_need p
+alike_need o p alike.gives = refl
+alike_need o p alike.faults = refl
+alike_need o p alike.needs = refl
+
+-- with a number for each name, an outcome for each number, and the same for each name, where no call needs anything
+module _ {F : Type 0} (number : List ℕ → ℕ) (look : ℕ → Outcome ℕ Value) (named : List ℕ → Outcome (List ℕ) Value) (call : F → List Value → Outcome ℕ Value) (named_call : F → List Value → Outcome (List ℕ) Value)
+    (calls : (f : F) (vs : List Value) → Alike (call f vs) (named_call f vs)) (calls_known : (f : F) (vs : List Value) → IsKnown (named_call f vs)) (named_known : (c : List ℕ) → IsKnown (named c))
+    (e : Tree (List ℕ) F) (alikes : EachColumn (λ c. Alike (look (number c)) (named c)) e) (c : ℕ) where
+  -- each name of that number is missing
+  abbrev all_missing : List ℕ → Outcome (List ℕ) Value
+  all_missing n = if nat_eq c (number n) then Needs n else named n
+
+  missing_alike : (n : List ℕ) → Alike (look (number n)) (named n) → Alike (without nat_eq c look (number n)) (all_missing n)
+  missing_alike n h = go (nat_eq c (number n))
+    where
+      go : (b : Bool) → Alike (if b then Needs c else look (number n)) (if b then Needs n else named n)
+      go true = alike.needs
+      go false = h
+
+  its_number : (n m : List ℕ) → all_missing n ≡ Needs m → (n ≡ m) × (nat_eq c (number n) ≡ true)
+  its_number n m h = go (nat_eq c (number n)) refl h
+    where
+      go : (b : Bool) → nat_eq c (number n) ≡ b → (if b then Needs n else named n) ≡ Needs m → (n ≡ m) × (nat_eq c (number n) ≡ true)
+      go true p q = (ap (in_need m) q, p)
+      go false p q = absurd (not_known (named n) m (named_known n) q)
+
+  -- of the missing names the one that is needed, alone
+  alone : (n : List ℕ) → nat_eq c (number n) ≡ true → (m : List ℕ) → close.Close (λ d. d ≢ n) (all_missing m) (without same n named m)
+  alone n h m = go (same n m) (nat_eq c (number m)) refl refl
+    where
+      go : (a b : Bool) → same n m ≡ a → nat_eq c (number m) ≡ b → close.Close (λ d. d ≢ n) (if b then Needs m else named m) (if a then Needs n else named m)
+      go true true p q = subst (λ (x : List ℕ). close.Close {M = List ℕ} {A = Value} (λ d. d ≢ n) (Needs x) (Needs n)) (names_equal n m p) close.same
+      go true false p q = cc (sym h ∙ ap (λ x. nat_eq c (number x)) (names_equal n m p) ∙ q)
+      go false true p q = close.missing (λ x. cc (sym p ∙ ap (same n) x ∙ itself n))
+      go false false p q = close.same
+
+  pub met_name : is_need (evaluate (λ n. without nat_eq c look (number n)) call e) ≡ true
+      → (n : List ℕ) × (number n ≡ c) × In n (columns_in e) × In n (filter (is_met same named named_call e) (columns_in e))
+  met_name h =
+      let a : Alike (evaluate (λ n. without nat_eq c look (number n)) call e) (evaluate all_missing named_call e) =
+      missing.evaluate_alike ℕ (List ℕ) _ _ call named_call calls e (each_both (λ n. Alike (look (number n)) (named n)) (λ n. Unit {0}) _ (λ n k l. missing_alike n k) e alikes (everywhere ℕ ℕ (λ n. Unit {0}) (λ n. tt) e)) in
+      let m = if_need (evaluate all_missing named_call e) (sym (alike_need _ _ a) ∙ h) in
+      let n = needed all_missing named_call calls_known e m.0 m.1 in
+      let p = its_number n.0 m.0 n.2 in
+      let r : is_met same named named_call e n.0 ≡ true =
+      go n.0 (evaluate all_missing named_call e) (evaluate (without same n.0 named) named_call e) (m.1 ∙ ap Needs (sym p.0))
+      (close.evaluate_close (λ d. d ≢ n.0) all_missing (without same n.0 named) named_call e (each_of _ e (λ x k. alone n.0 p.1 x))) in
+      (n.0, sym ((Decides-eqb c (number n.0)).0 p.1), n.1, in_filter (is_met same named named_call e) (columns_in e) n.1 r)
+    where
+      go : (n : List ℕ) (o p : Outcome (List ℕ) Value) → o ≡ Needs n → close.Close (λ d. d ≢ n) o p → is_need p ≡ true
+      go n o p q close.same = ap is_need q
+      go n o p q (close.missing {d = d} k) = absurd (k (ap (in_need n) q))

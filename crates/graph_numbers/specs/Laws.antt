@@ -1,0 +1,100 @@
+-- Laws of a booked graph's numbers: what they are of the script's own definitions. Each is the contract of a function of this crate, and so proved.
+use Rattle.std.specs.Prelude.{◌≡◌, ◌<◌, ℕ, List, length, map, Option, Some, None, Ok, slice_get, option_and_then}
+use Rattle.rdf_values.specs.Bookings.{bookings}
+use Rattle.rdf_values.specs.EachColumn.{EachColumn}
+use Rattle.rdf_values.specs.Functions.{fn_names}
+use Rattle.rdf_values.specs.Kinds.{scope_of, column_kind}
+use Rattle.rdf_values.specs.Names.{place}
+use Rattle.rdf_values.specs.Path.{Variation, Under, history, path, same_variation}
+use Rattle.rdf_values.specs.Verdict.{scope_at}
+use Rattle.rdf_values.specs.declared.script.Script.{Script}
+use Rattle.rdf_values.specs.declared.value.ColType.{ColType}
+use Rattle.rdf_values.specs.declared.value.Value.{Value}
+use Rattle.rdf_model.specs.ColumnValues.{column_value}
+use Rattle.rdf_model.specs.Demanded.{same_site}
+use Rattle.rdf_model.specs.EntryOutcomes.{booking_outcome}
+use Rattle.rdf_model.specs.Evaluation.{Outcome, evaluate, call_outcome}
+use Rattle.rdf_model.specs.Loops.{Access, accesses, loop_passes, loop_results}
+use Rattle.rdf_model.specs.Results.{Dataset}
+use Rattle.graph_numbers.specs.Graphs.{GraphView, IsGraph, graph_filters, graph_loops, graph_results, graph_runs, graph_sites, graph_variations, graph_versions}
+use Rattle.graph_numbers.specs.Outcomes.{booking_numbers}
+use Rattle.graph_numbers.specs.Results.{ResultAt, pass_at}
+use Rattle.graph_numbers.specs.Sites.{SiteAt, site_outcome}
+use Rattle.graph_numbers.specs.Sources.{IsBelow, site_value, source_in, source_value, sources}
+use Rattle.graph_numbers.specs.Versions.{version_at}
+use Rattle.graph_numbers.specs.declared.source.Source.{Source}
+
+-- the graph of a script over a table, with the functions' names
+abbrev pub graph_of : Script → Dataset → GraphView
+graph_of script d = record { script = script; header = d.columns; names = fn_names d.fns }
+
+-- what the site of that number comes to in a row
+abbrev pub site_by : Script → Dataset → List Value → Under → ℕ → Outcome ⊥ Value
+site_by script d row u s = site_value (λ x. site_outcome d.fns d.columns row x u) (slice_get (graph_sites (graph_of script d)) s)
+
+-- what the version of that number is given by
+abbrev pub source_by : Script → Dataset → Under → ℕ → Source
+source_by script d u c = source_in (sources d.columns (fn_names d.fns) u (history script)) c
+
+-- what the version of that number comes to in a row
+abbrev pub version_by : Script → Dataset → List Value → Under → ℕ → Outcome ⊥ Value
+version_by script d row u c = source_value row (site_by script d row u) (source_by script d u c)
+
+-- a site comes to what its expression over versions does on what these come to
+abbrev pub SitesAreEvaluations : Type 0
+SitesAreEvaluations =
+    (script : Script) (d : Dataset) → IsGraph (graph_of script d) → (row : List Value) (u : Under) (s : ℕ) (x : SiteAt)
+    → slice_get (graph_sites (graph_of script d)) s ≡ Some x
+    → site_outcome d.fns d.columns row x u ≡ evaluate (version_by script d row u) (call_outcome d.fns) x.tree
+
+-- a visible column comes to what its version does
+abbrev pub ColumnsAreVersions : Type 0
+ColumnsAreVersions =
+    (script : Script) (d : Dataset) → IsGraph (graph_of script d) → (row : List Value) (u : Under) (node name : List ℕ) (t : ColType)
+    → column_kind (scope_at (fn_names d.fns) (scope_of d.columns) (history script) node) name ≡ Ok t
+    → column_value d.fns d.columns row (path (history script) node) u name ≡ version_by script d row u (version_at d.columns (history script) node name)
+
+-- a site reads versions, and under every variation each of them is a cell of the table or given by a site of a lower number
+abbrev pub SitesReadBelow : Type 0
+SitesReadBelow =
+    (script : Script) (d : Dataset) → IsGraph (graph_of script d) → (u : Under) (s : ℕ) (x : SiteAt)
+    → slice_get (graph_sites (graph_of script d)) s ≡ Some x
+    → EachColumn (λ c. (c < length (graph_versions (graph_of script d))) × IsBelow (length d.columns) s (source_by script d u c)) x.tree
+
+-- a site is found by its node and places
+abbrev pub SitesAreApart : Type 0
+SitesAreApart =
+    (script : Script) (d : Dataset) → IsGraph (graph_of script d) → (s : ℕ) (x : SiteAt)
+    → slice_get (graph_sites (graph_of script d)) s ≡ Some x
+    → place (λ (y : SiteAt). same_site x.site y.site) (graph_sites (graph_of script d)) ≡ Some s
+
+-- and a variation by its name and tag
+abbrev pub VariationsAreApart : Type 0
+VariationsAreApart =
+    (script : Script) (d : Dataset) → IsGraph (graph_of script d) → (v : ℕ) (x : Variation)
+    → slice_get (graph_variations (graph_of script d)) v ≡ Some x
+    → place (same_variation x) (graph_variations (graph_of script d)) ≡ Some v
+
+-- there is a result for each that is booked, in their order
+abbrev pub ResultsAreBookings : Type 0
+ResultsAreBookings = (g : GraphView) → map (λ (r : ResultAt). r.booked) (graph_results g) ≡ bookings (history g.script)
+
+-- a row comes to for a result what it does by the numbers of its filters and versions
+abbrev pub ResultsByNumbers : Type 0
+ResultsByNumbers =
+    (script : Script) (d : Dataset) → IsGraph (graph_of script d) → (row : List Value) (u : Under) (n : ℕ) (r : ResultAt)
+    → slice_get (graph_results (graph_of script d)) n ≡ Some r
+    → booking_outcome d.fns d.columns row r.booked.booking u
+    ≡ booking_numbers (site_by script d row None) (site_by script d row u) (version_by script d row u) (graph_filters (graph_of script d)) r r.booked.booking
+
+-- a loop has the passes of the results that it fills
+abbrev pub LoopsAreTheScripts : Type 0
+LoopsAreTheScripts =
+    (g : GraphView)
+    → map (map (pass_at (history g.script))) (graph_loops g) ≡ map (λ results. map (λ p. Some p) (loop_passes (history g.script) results)) (loop_results (history g.script))
+
+-- each Print runs the loop of the results that it fills
+abbrev pub PrintsRunTheirLoops : Type 0
+PrintsRunTheirLoops =
+    (g : GraphView)
+    → map (λ (a : Access). a.fills) (accesses (history g.script)) ≡ map (λ (o : Option ℕ). option_and_then (slice_get (loop_results (history g.script))) o) (graph_runs g)

@@ -1,0 +1,161 @@
+-- The results, named filters and loops of a script by numbers.
+use Rattle.std.specs.Prelude.{ℕ, suc, Bool, not, List, [], ◌∷◌, ◌++◌, map, length, Option, Some, None, if◌then◌else◌, slice_get, option_map}
+use Rattle.rdf_values.specs.Names.{same, among, place}
+use Rattle.rdf_values.specs.Path.{Path, Under, makes, parent_of, path, variations}
+use Rattle.rdf_values.specs.Bookings.{columns_of, named_before, Booking, ActionAt, ReportOn, Booked, covered, bookings, result_depends, has_variations, Pass, filled}
+use Rattle.rdf_values.specs.Kinds.{FunctionNames}
+use Rattle.rdf_values.specs.declared.column.Column.{Column}
+use Rattle.rdf_values.specs.declared.statement.Statement.{Statement}
+use Rattle.rdf_values.specs.declared.statement.Statement.TheVariants.{Filter, Action, Report, Print}
+use Rattle.rdf_model.specs.Loops.{loop_results}
+use Rattle.graph_numbers.specs.Versions.{version_at}
+use Rattle.graph_numbers.specs.Sites.{filter_sites, site_count}
+use Rattle.graph_numbers.specs.Sources.{numbers_from}
+use Rattle.graph_numbers.specs.declared.result_kind.ResultKind.{ResultKind}
+use Rattle.graph_numbers.specs.declared.result_kind.ResultKind.TheVariants as what
+use Rattle.graph_numbers.specs.declared.pass.Pass.{Pass as NumberedPass}
+
+-- ---- variations
+
+-- the places of the elements that pass the test, where the list's own are numbered from n on
+abbrev pub places_from : {A : Type 0} → (A → Bool) → ℕ → List A → List ℕ
+places_from test n [] = []
+places_from test n (x ∷ xs) = if test x then n ∷ places_from test (suc n) xs else places_from test (suc n) xs
+
+-- nominal, or the variation of that number
+abbrev pub under_at : List Statement → Option ℕ → Under
+under_at script None = None
+under_at script (Some v) = slice_get (variations script) v
+
+-- ---- named filters
+
+-- a named filter: its label, the path that begins with it, and the sites of the filters above it and its own
+pub record FilterAt : Type 0 where
+  pub label : List ℕ
+  pub at : Path
+  pub sites : List ℕ
+
+-- the number of a named Filter, which is numbered next
+abbrev pub own_filter : Statement → ℕ → List ℕ
+own_filter (Filter node parent expr (Some label)) next = next ∷ []
+own_filter s next = []
+
+-- the named filters of the path of a node, head first
+abbrev pub filters_on : List Statement → List ℕ → List ℕ
+filters_on [] node = []
+filters_on (s ∷ before) node =
+    if makes s node then filters_on before (parent_of s) ++ own_filter s (length (named_before before)) else filters_on before node
+
+-- all of so many filters for the head, and otherwise those of the path
+abbrev pub all_or : {A : Type 0} → Path → List A → List ℕ → List ℕ
+all_or [] all on = numbers_from 0 all
+all_or (s ∷ up) all on = on
+
+-- the filters that a Report on a node covers
+abbrev pub covered_at : List Statement → List ℕ → List ℕ
+covered_at before node = all_or (path before node) (named_before before) (filters_on before node)
+
+-- ---- results
+
+-- a result, the sites of the filters above it, head first, the versions that it reads, and the filters that it covers
+pub record ResultAt : Type 0 where
+  pub booked : Booked
+  pub filters : List ℕ
+  pub inputs : List ℕ
+  pub covers : List ℕ
+
+-- what a result is
+abbrev pub kind_of_booking : Booking → ResultKind
+kind_of_booking (ActionAt k at) = what.Action k
+kind_of_booking (ReportOn filters) = what.Report
+
+-- over a table with these columns, with the caller's functions
+module _ (header : List Column) (names : FunctionNames) where
+  -- the named filters of a statement after those before it
+  abbrev pub own_filters : List Statement → Statement → List FilterAt
+  own_filters before (Filter node parent expr (Some label)) =
+      record {
+        label = label;
+        at = Filter node parent expr (Some label) ∷ path before parent;
+        sites = filter_sites header names before parent ++ site_count header names before ∷ [];
+      }
+      ∷ []
+  own_filters before s = []
+
+  -- the named filters of the statements so far, in the order of booking
+  abbrev pub filters : List Statement → List FilterAt
+  filters [] = []
+  filters (s ∷ before) = filters before ++ own_filters before s
+
+  -- the results of a statement after those before it
+  abbrev pub own_results : List Statement → Statement → List ResultAt
+  own_results before (Action result parent k) =
+      record {
+        booked = record { name = result; booking = ActionAt k (path before parent) };
+        filters = filter_sites header names before parent;
+        inputs = map (version_at header before parent) (columns_of k);
+        covers = [];
+      }
+      ∷ []
+  own_results before (Report result parent) =
+      record {
+        booked = record { name = result; booking = ReportOn (covered before (path before parent)) };
+        filters = filter_sites header names before parent;
+        inputs = [];
+        covers = covered_at before parent;
+      }
+      ∷ []
+  own_results before s = []
+
+  -- the results of the statements so far, in the order of booking
+  abbrev pub results : List Statement → List ResultAt
+  results [] = []
+  results (s ∷ before) = results before ++ own_results before s
+
+-- the number of the result of that name
+abbrev pub result_number : List Statement → List ℕ → Option ℕ
+result_number script name = place (λ (b : Booked). same b.name name) (bookings script)
+
+-- ---- passes and loops
+
+-- a pass by the numbers of its result and of its variation
+abbrev pub numbered_pass : ℕ → Option ℕ → NumberedPass
+numbered_pass result variation = record { result = result; variation = variation }
+
+-- the pass of those numbers
+abbrev pub pass_at : List Statement → NumberedPass → Option Pass
+pass_at script p = option_map (λ b. record { result = b; under = under_at script p.variation }) (slice_get (bookings script) p.result)
+
+-- of the whole script
+module _ (script : List Statement) where
+  -- the passes of a result by its number
+  abbrev pub result_passes : ℕ → Booked → List NumberedPass
+  result_passes n b =
+      numbered_pass n None
+      ∷ (if has_variations script b.name then map (λ v. numbered_pass n (Some v)) (places_from (λ v. result_depends v b.booking) 0 (variations script)) else [])
+
+  -- the passes of the results that pass the test, numbered from n on
+  abbrev pub passes_from : (Booked → Bool) → ℕ → List Booked → List NumberedPass
+  passes_from test n [] = []
+  passes_from test n (b ∷ bs) = (if test b then result_passes n b else []) ++ passes_from test (suc n) bs
+
+  -- the loop of a Print: the passes of all results that wait, in the order of booking; none where its own result is filled
+  abbrev pub own_loop : List Statement → Statement → List (List NumberedPass)
+  own_loop before (Print result) =
+      if among result (filled before) then [] else passes_from (λ (b : Booked). not (among b.name (filled before))) 0 (bookings before) ∷ []
+  own_loop before s = []
+
+  -- the loops of the statements so far
+  abbrev pub loops : List Statement → List (List NumberedPass)
+  loops [] = []
+  loops (s ∷ before) = loops before ++ own_loop before s
+
+-- the loop that a Print runs, which is numbered next; none where its result is filled
+abbrev pub own_run : List Statement → Statement → List (Option ℕ)
+own_run before (Print result) = (if among result (filled before) then None else Some (length (loop_results before))) ∷ []
+own_run before s = []
+
+-- for each Print of the statements so far the loop that it runs
+abbrev pub runs : List Statement → List (Option ℕ)
+runs [] = []
+runs (s ∷ before) = runs before ++ own_run before s

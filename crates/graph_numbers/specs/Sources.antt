@@ -1,0 +1,118 @@
+-- What gives each version its value, under nominal or a variation.
+use Rattle.std.specs.Prelude.{ℕ, suc, ◌+◌, ◌<◌, true, false, List, [], ◌∷◌, ◌++◌, length, Option, Some, None, slice_get, slice_index_or}
+use Rattle.rdf_values.specs.Path.{Under, variations}
+use Rattle.rdf_values.specs.Kinds.{FunctionNames}
+use Rattle.rdf_values.specs.declared.column.Column.{Column}
+use Rattle.rdf_values.specs.declared.value.Value.{Value}
+use Rattle.rdf_values.specs.declared.vary_values.VaryValues.TheVariants.{Lists, Vector}
+use Rattle.rdf_values.specs.declared.vary_values.VaryValues.{VaryValues}
+use Rattle.rdf_values.specs.declared.statement.Statement.{Statement}
+use Rattle.rdf_values.specs.declared.statement.Statement.TheVariants.{Define, Redefine, Vary}
+use Rattle.rdf_model.specs.Evaluation.{Outcome, Gives, ◌>>=◌, untyped}
+use Rattle.rdf_model.specs.ColumnValues.{own_place, tag_element}
+use Rattle.graph_numbers.specs.Versions.{named_version}
+use Rattle.graph_numbers.specs.Sites.{SiteAt, list_start, site_count}
+use Rattle.graph_numbers.specs.declared.source.Source.{Source}
+use Rattle.graph_numbers.specs.declared.source.Source.TheVariants as from
+use Rattle.graph_numbers.specs.declared.version.Version.{Version}
+use Rattle.graph_numbers.specs.declared.version.Version.TheVariants as as_version
+
+-- the numbers from n on, one for each element
+abbrev pub numbers_from : {A : Type 0} → ℕ → List A → List ℕ
+numbers_from n [] = []
+numbers_from n (x ∷ xs) = n ∷ numbers_from (suc n) xs
+
+-- ---- sources
+
+-- each of the table's columns
+abbrev pub cell_sources : ℕ → List Column → List Source
+cell_sources n [] = []
+cell_sources n (c ∷ cs) = from.Cell n ∷ cell_sources (suc n) cs
+
+-- the source where the variation has a place among the Vary's own, and otherwise the one below
+abbrev pub own_source : VaryValues → ℕ → ℕ → ℕ → Option ℕ → Source → Source
+own_source values first i tags None below = below
+own_source (Lists lists) first i tags (Some k) below = from.Site (first + list_start lists i + k)
+own_source (Vector e) first i tags (Some k) below = from.Element first k tags
+
+-- the source of a version; the table's first column where there is no such version
+abbrev pub source_in : List Source → ℕ → Source
+source_in sources c = slice_index_or sources c (from.Cell 0)
+
+-- the source is one of so many columns of the table, or a site below s
+abbrev pub IsBelow : ℕ → ℕ → Source → Type 0
+IsBelow width s (from.Cell col) = col < width
+IsBelow width s (from.Site t) = t < s
+IsBelow width s (from.Element t k tags) = t < s
+
+-- over a table with these columns, with the caller's functions
+module _ (header : List Column) (names : FunctionNames) where
+  module _ (u : Under) where
+    -- the sources of the columns that a Vary changes, from place i on, over the sources below
+    abbrev pub varied_sources : List Statement → List Source → List ℕ → VaryValues → List (List ℕ) → List ℕ → ℕ → List (List ℕ) → List Source
+    varied_sources before below parent values tags vary i [] = []
+    varied_sources before below parent values tags vary i (name ∷ columns) =
+        own_source values (site_count header names before) i (length tags) (own_place u vary tags) (source_in below (named_version header before parent name))
+        ∷ varied_sources before below parent values tags vary (suc i) columns
+
+    -- the sources of the columns that a statement makes or changes
+    abbrev pub own_sources : List Statement → List Source → Statement → List Source
+    own_sources before below (Define node parent column expr) = from.Site (site_count header names before) ∷ []
+    own_sources before below (Redefine node parent column expr) = from.Site (site_count header names before) ∷ []
+    own_sources before below (Vary node parent columns values tags vary) = varied_sources before below parent values tags vary 0 columns
+    own_sources before below s = []
+
+    -- the source of each version of the statements so far
+    abbrev pub sources : List Statement → List Source
+    sources [] = cell_sources 0 header
+    sources (s ∷ before) = sources before ++ own_sources before (sources before) s
+
+  -- ---- versions
+
+  -- each of the table's columns
+  abbrev pub cell_versions : ℕ → List Column → List Version
+  cell_versions n [] = []
+  cell_versions n (c ∷ cs) = as_version.Cell n ∷ cell_versions (suc n) cs
+
+  -- a column that a Vary changes
+  abbrev pub varied_version : VaryValues → ℕ → ℕ → ℕ → List (List ℕ) → ℕ → Version
+  varied_version (Lists lists) below first site tags i =
+      as_version.Varied below first (length tags) (numbers_from (site + list_start lists i) tags) false
+  varied_version (Vector e) below first site tags i = as_version.Varied below first (length tags) (site ∷ []) true
+
+  -- the columns that a Vary changes, from place i on
+  abbrev pub varied_versions : List Statement → List ℕ → VaryValues → List (List ℕ) → ℕ → List (List ℕ) → List Version
+  varied_versions before parent values tags i [] = []
+  varied_versions before parent values tags i (name ∷ columns) =
+      varied_version values (named_version header before parent name) (length (variations before)) (site_count header names before) tags i
+      ∷ varied_versions before parent values tags (suc i) columns
+
+  -- the columns that a statement makes or changes
+  abbrev pub own_versions : List Statement → Statement → List Version
+  own_versions before (Define node parent column expr) = as_version.Computed (site_count header names before) ∷ []
+  own_versions before (Redefine node parent column expr) = as_version.Computed (site_count header names before) ∷ []
+  own_versions before (Vary node parent columns values tags vary) = varied_versions before parent values tags 0 columns
+  own_versions before s = []
+
+  -- the versions of the statements so far
+  abbrev pub versions : List Statement → List Version
+  versions [] = cell_versions 0 header
+  versions (s ∷ before) = versions before ++ own_versions before s
+
+-- ---- values
+
+-- the value of a row's column; the outcome for which nothing is said where it has none
+abbrev pub cell_value : {M : Type 0} → Option Value → Outcome M Value
+cell_value None = untyped
+cell_value (Some v) = Gives v
+
+-- what a site comes to, where there is one of that number
+abbrev pub site_value : {M : Type 0} → (SiteAt → Outcome M Value) → Option SiteAt → Outcome M Value
+site_value value None = untyped
+site_value value (Some s) = value s
+
+-- what a source gives, by the row and what each site comes to
+abbrev pub source_value : {M : Type 0} → List Value → (ℕ → Outcome M Value) → Source → Outcome M Value
+source_value row site (from.Cell col) = cell_value (slice_get row col)
+source_value row site (from.Site s) = site s
+source_value row site (from.Element s k tags) = site s >>= tag_element tags k
