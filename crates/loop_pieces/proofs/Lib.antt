@@ -1,0 +1,12 @@
+pub mod Agreeing
+pub mod ByCluster
+pub mod ClusterFaults
+pub mod Empty
+pub mod FedOver
+pub mod Joined
+pub mod Joins
+pub mod Places
+pub mod Rows
+pub mod Turns
+pub mod WatchLemmas
+pub mod WholeLoops

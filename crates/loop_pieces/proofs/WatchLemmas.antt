@@ -1,0 +1,260 @@
+-- Pieces of a watched result.
+use Rattle.std.proofs.Common.{◌≡◌, ℕ, zero, suc, ◌+◌, ◌-◌, ◌*◌, ◌^◌, ◌≤◌, ℤ, pos, negsuc, ◌+ℤ◌, List, [], ◌∷◌, ◌++◌, length, map, take, drop, Option, None, Some, refl, sym, ap, ◌∙◌, subst, arith, length-append}
+use Rattle.std.specs.Prelude.{flat_map, fold, nat_abs, slice_get}
+use Rattle.std.specs.List.{AllByRecursion}
+use Rattle.std.specs.Int.{int_max, int_min}
+use Rattle.std.specs.List.Sorted.{IsStrictlyIncreasing}
+use Rattle.std.proofs.lemmas.List.Elements.{recursion_from_All}
+use Rattle.rdf_values.specs.Draws.{IsUnion}
+use Rattle.rdf_values.specs.Fold as filled
+use Rattle.rdf_values.specs.Fold.{Filled, fold_items, numbers_of}
+use Rattle.rdf_values.specs.Words.{Has64Bits}
+use Rattle.rdf_values.specs.declared.action.ActionKind.{ActionKind}
+use Rattle.rdf_values.specs.declared.action.ActionKind.TheVariants as kind
+use Rattle.rdf_values.specs.declared.item.Item.{Item}
+use Rattle.rdf_values.specs.declared.item.Item.TheVariants as item
+use Rattle.rdf_values.specs.declared.span.Span.{Span}
+use Rattle.rdf_model.specs.PartialResults.{span_rows, rows_in}
+use Rattle.rdf_model.specs.LoopFacts.{FitsAction, FitsSpread, IsLoopFacts, items_over, list_at, result_over}
+use Rattle.rdf_model.specs.declared.loop_facts.LoopFacts.{LoopFacts}
+use Rattle.actions.specs.Extremes.{better_of_two}
+use Rattle.actions.specs.Feeding.{Fed, in_file_order}
+use Rattle.actions.proofs.Merges.{merge_count, merge_max, merge_min, merge_sum}
+use Rattle.actions.proofs.Sums.{abs_add}
+use Rattle.loop_pieces.specs.LoopPieces.{cluster_items, entries_over, fed_over}
+use Rattle.loop_pieces.specs.PieceLaws.{WatchPiecesOfOneSetAgree}
+use Rattle.loop_pieces.specs.Watching.{CanAdd, IsOfKind, WatchStandsFor, added, watch_filled}
+use Rattle.loop_pieces.specs.declared.watch_piece.WatchFacts.{WatchFacts}
+use Rattle.loop_pieces.specs.declared.watch_piece.WatchPiece.{WatchPiece}
+use Rattle.loop_pieces.specs.declared.watch_piece.WatchPiece.TheVariants.{Count, Sum, Least, Greatest}
+use Rattle.loop_pieces.proofs.FedOver.{items_in_order, order_union}
+use Rattle.loop_pieces.proofs.Rows.{entries_few, entries_union}
+
+-- ---- two pieces of one kind
+
+module _ (P : ActionKind → WatchPiece → WatchPiece → Type 0) (counts : (n m : ℕ) → P kind.Count (Count n) (Count m)) (sums : (c : List ℕ) (y z : ℤ) → P (kind.Sum c) (Sum y) (Sum z))
+    (leasts : (c : List ℕ) (y z : Option ℤ) → P (kind.Min c) (Least y) (Least z)) (greatests : (c : List ℕ) (y z : Option ℤ) → P (kind.Max c) (Greatest y) (Greatest z)) where
+  two_counts : (p q : WatchPiece) → IsOfKind kind.Count p → IsOfKind kind.Count q → P kind.Count p q
+  two_counts (Count n) (Count m) a b = counts n m
+  two_counts (Count n) (Sum z) a b = absurd b
+  two_counts (Count n) (Least z) a b = absurd b
+  two_counts (Count n) (Greatest z) a b = absurd b
+  two_counts (Sum z) q a b = absurd a
+  two_counts (Least z) q a b = absurd a
+  two_counts (Greatest z) q a b = absurd a
+
+  two_sums : (c : List ℕ) (p q : WatchPiece) → IsOfKind (kind.Sum c) p → IsOfKind (kind.Sum c) q → P (kind.Sum c) p q
+  two_sums c (Sum y) (Sum z) a b = sums c y z
+  two_sums c (Sum y) (Count n) a b = absurd b
+  two_sums c (Sum y) (Least z) a b = absurd b
+  two_sums c (Sum y) (Greatest z) a b = absurd b
+  two_sums c (Count n) q a b = absurd a
+  two_sums c (Least z) q a b = absurd a
+  two_sums c (Greatest z) q a b = absurd a
+
+  two_leasts : (c : List ℕ) (p q : WatchPiece) → IsOfKind (kind.Min c) p → IsOfKind (kind.Min c) q → P (kind.Min c) p q
+  two_leasts c (Least y) (Least z) a b = leasts c y z
+  two_leasts c (Least y) (Count n) a b = absurd b
+  two_leasts c (Least y) (Sum z) a b = absurd b
+  two_leasts c (Least y) (Greatest z) a b = absurd b
+  two_leasts c (Count n) q a b = absurd a
+  two_leasts c (Sum z) q a b = absurd a
+  two_leasts c (Greatest z) q a b = absurd a
+
+  two_greatests : (c : List ℕ) (p q : WatchPiece) → IsOfKind (kind.Max c) p → IsOfKind (kind.Max c) q → P (kind.Max c) p q
+  two_greatests c (Greatest y) (Greatest z) a b = greatests c y z
+  two_greatests c (Greatest y) (Count n) a b = absurd b
+  two_greatests c (Greatest y) (Sum z) a b = absurd b
+  two_greatests c (Greatest y) (Least z) a b = absurd b
+  two_greatests c (Count n) q a b = absurd a
+  two_greatests c (Sum z) q a b = absurd a
+  two_greatests c (Least z) q a b = absurd a
+
+  pub of_one_kind : (k : ActionKind) (p q : WatchPiece) → IsOfKind k p → IsOfKind k q → P k p q
+  of_one_kind kind.Count p q a b = two_counts p q a b
+  of_one_kind (kind.Sum c) p q a b = two_sums c p q a b
+  of_one_kind (kind.Min c) p q a b = two_leasts c p q a b
+  of_one_kind (kind.Max c) p q a b = two_greatests c p q a b
+  of_one_kind (kind.Take c) (Count n) q a b = absurd a
+  of_one_kind (kind.Take c) (Sum z) q a b = absurd a
+  of_one_kind (kind.Take c) (Least z) q a b = absurd a
+  of_one_kind (kind.Take c) (Greatest z) q a b = absurd a
+  of_one_kind (kind.Reduce o c) (Count n) q a b = absurd a
+  of_one_kind (kind.Reduce o c) (Sum z) q a b = absurd a
+  of_one_kind (kind.Reduce o c) (Least z) q a b = absurd a
+  of_one_kind (kind.Reduce o c) (Greatest z) q a b = absurd a
+  of_one_kind (kind.Histo1D xs c w) (Count n) q a b = absurd a
+  of_one_kind (kind.Histo1D xs c w) (Sum z) q a b = absurd a
+  of_one_kind (kind.Histo1D xs c w) (Least z) q a b = absurd a
+  of_one_kind (kind.Histo1D xs c w) (Greatest z) q a b = absurd a
+  of_one_kind (kind.Histo2D xs ys c d w) (Count n) q a b = absurd a
+  of_one_kind (kind.Histo2D xs ys c d w) (Sum z) q a b = absurd a
+  of_one_kind (kind.Histo2D xs ys c d w) (Least z) q a b = absurd a
+  of_one_kind (kind.Histo2D xs ys c d w) (Greatest z) q a b = absurd a
+
+same_kind : {a b : ActionKind} → ◌≡◌ {A = Option ActionKind} (Some a) (Some b) → a ≡ b
+same_kind q = cc
+
+pub watch_pieces_of_one_set_agree : WatchPiecesOfOneSetAgree
+watch_pieces_of_one_set_agree w set p q s t =
+    let one : s.kind ≡ t.kind = same_kind (sym s.its_kind ∙ t.its_kind) in
+    of_one_kind (λ k a b. watch_filled a ≡ watch_filled b → a ≡ b) (λ n m e. cc) (λ c y z e. cc) (λ c y z e. cc) (λ c y z e. cc) s.kind p q s.is_of_kind (subst (λ k. IsOfKind k q) (sym one) t.is_of_kind)
+    (s.result ∙ ap (result_over w.facts set w.watched) one ∙ sym t.result)
+
+-- ---- items that fit
+
+abbrev Each : {A : Type 0} → (A → Type 0) → List A → Type 0
+Each P xs = AllByRecursion P xs
+
+each_take : {A : Type 0} (P : A → Type 0) (n : ℕ) (xs : List A) → Each P xs → Each P (take n xs)
+each_take P zero xs h = tt
+each_take P (suc n) [] h = tt
+each_take P (suc n) (x ∷ xs) h = (h.0, each_take P n xs h.1)
+
+each_drop : {A : Type 0} (P : A → Type 0) (n : ℕ) (xs : List A) → Each P xs → Each P (drop n xs)
+each_drop P zero xs h = h
+each_drop P (suc n) [] h = tt
+each_drop P (suc n) (x ∷ xs) h = each_drop P n xs h.1
+
+each_append : {A : Type 0} (P : A → Type 0) (xs ys : List A) → Each P xs → Each P ys → Each P (xs ++ ys)
+each_append P [] ys h k = k
+each_append P (x ∷ xs) ys h k = (h.0, each_append P xs ys h.1 k)
+
+each_span : {A : Type 0} (P : A → Type 0) (rows : List A) (o : Option Span) → Each P rows → Each P (span_rows rows o)
+each_span P rows None h = tt
+each_span P rows (Some s) h = each_take P (s.hi - s.lo) (drop s.lo rows) (each_drop P s.lo rows h)
+
+each_in : {A : Type 0} (P : A → Type 0) (ranges : List Span) (rows : List A) (set : List ℕ) → Each P rows → Each P (rows_in ranges rows set)
+each_in P ranges rows [] h = tt
+each_in P ranges rows (c ∷ cs) h = each_append P (span_rows rows (slice_get ranges c)) (rows_in ranges rows cs) (each_span P rows (slice_get ranges c) h) (each_in P ranges rows cs h)
+
+each_place : {A : Type 0} (P : A → Type 0) (xs : List A) → ((k : ℕ) (x : A) → slice_get xs k ≡ Some x → P x) → Each P xs
+each_place P [] h = tt
+each_place P (x ∷ xs) h = (h 0 x refl, each_place P xs (λ k. h (suc k)))
+
+module _ (k : ActionKind) (i : ℕ) where
+  abbrev FitsRow : List (List Item) → Type 0
+  FitsRow row = FitsSpread k (list_at row i)
+
+  nothing_fits : FitsSpread k []
+  nothing_fits = record { few = omega arith; fit = λ j d lt. absurd (omega arith) }
+
+  rows_fit : (f : LoopFacts) → IsLoopFacts f → slice_get f.kinds i ≡ Some k → Each FitsRow f.spreads
+  rows_fit f facts at = each_place FitsRow f.spreads (λ e row there. go row (slice_get row i) refl (λ items its. facts.fit e i row items k there its at))
+    where
+      go : (row : List (List Item)) (o : Option (List Item)) → slice_get row i ≡ o → ((items : List Item) → slice_get row i ≡ Some items → FitsSpread k items) → FitsSpread k (elim o [ None ↦ [] | Some xs ↦ xs ])
+      go row None is h = nothing_fits
+      go row (Some items) is h = h items is
+
+  few_of : (rows : List (List (List Item))) → Each FitsRow rows → length (flat_map (λ row. list_at row i) rows) ≤ 4096 * length rows
+  few_of [] h = omega arith
+  few_of (row ∷ rows) h = let first = h.0.few in let rest = few_of rows h.1 in omega (arith, length-append (list_at row i) (flat_map (λ r. list_at r i) rows))
+
+  fit_of : (rows : List (List (List Item))) → Each FitsRow rows → Each (FitsAction k) (flat_map (λ row. list_at row i) rows)
+  fit_of [] h = tt
+  fit_of (row ∷ rows) h = each_append (FitsAction k) (list_at row i) (flat_map (λ r. list_at r i) rows) (recursion_from_All (FitsAction k) (list_at row i) h.0.fit) (fit_of rows h.1)
+
+abs_small : (z : ℤ) → Has64Bits z → nat_abs z ≤ 2 ^ 63
+abs_small (pos n) h = omega arith
+abs_small (negsuc n) h = omega arith
+
+sum_few : (c : List ℕ) (items : List Item) (s : ℤ) (a : ℕ) → Each (FitsAction (kind.Sum c)) items → nat_abs s ≤ a → nat_abs (fold ◌+ℤ◌ s (numbers_of items)) ≤ a + length items * 2 ^ 63
+sum_few c [] s a h le = omega arith
+sum_few c (item.Number z ∷ items) s a h le =
+    let more = abs_add s z in
+    let small = abs_small z h.0 in
+    let rest = sum_few c items (s +ℤ z) (a + 2 ^ 63) h.1 (omega arith) in
+    omega arith
+sum_few c (item.Unit ∷ items) s a h le = absurd h.0
+sum_few c (item.Single x ∷ items) s a h le = absurd h.0
+sum_few c (item.Point x w ∷ items) s a h le = absurd h.0
+sum_few c (item.Point2 x y w ∷ items) s a h le = absurd h.0
+
+-- ---- joining
+
+module _ (f : LoopFacts) (i : ℕ) (mine theirs all : List ℕ) (facts : IsLoopFacts f) (up : IsStrictlyIncreasing mine) (down : IsStrictlyIncreasing theirs) (u : IsUnion (mine ∷ theirs ∷ []) all) where
+  few_items : (k : ActionKind) (set : List ℕ) → slice_get f.kinds i ≡ Some k → length (items_over f set i) ≤ 4096 * entries_over f set
+  few_items k set at = few_of k i (rows_in f.ranges f.spreads set) (each_in (FitsRow k i) f.ranges f.spreads set (rows_fit k i f facts at))
+
+  items_fit : (k : ActionKind) (set : List ℕ) → slice_get f.kinds i ≡ Some k → Each (FitsAction k) (items_over f set i)
+  items_fit k set at = fit_of k i (rows_in f.ranges f.spreads set) (each_in (FitsRow k i) f.ranges f.spreads set (rows_fit k i f facts at))
+
+  -- both sets together have at most a million entries
+  few_entries : entries_over f mine + entries_over f theirs ≤ 1000000
+  few_entries = omega (arith, entries_union f mine theirs all u, entries_few f all facts u.rising)
+
+  in_fed : (k : ActionKind) (x : Filled) (set : List ℕ) → IsStrictlyIncreasing set → x ≡ result_over f set i k → x ≡ fold_items k (in_file_order (fed_over f set i))
+  in_fed k x set rises h = h ∙ ap (fold_items k) (sym (items_in_order f set i rises))
+
+  of_union : (k : ActionKind) (x : Filled) → x ≡ fold_items k (in_file_order (fed_over f mine i ++ fed_over f theirs i)) → x ≡ result_over f all i k
+  of_union k x h = h ∙ ap (λ l. fold_items k (map (λ (g : Fed). g.item) l)) (order_union (cluster_items f i) mine theirs all u) ∙ ap (fold_items k) (items_in_order f all i u.rising)
+
+  abbrev Joins : ActionKind → WatchPiece → WatchPiece → Type 0
+  Joins k p q = slice_get f.kinds i ≡ Some k → watch_filled p ≡ result_over f mine i k → watch_filled q ≡ result_over f theirs i k
+      → CanAdd p q × IsOfKind k (added p q) × (watch_filled (added p q) ≡ result_over f all i k)
+
+  join_counts : (n m : ℕ) → Joins kind.Count (Count n) (Count m)
+  join_counts n m at a b =
+      let few = few_entries in
+      let x = few_items kind.Count mine at in
+      let y = few_items kind.Count theirs at in
+      let n_is : n ≡ length (items_over f mine i) = cc in
+      let m_is : m ≡ length (items_over f theirs i) = cc in (
+        omega arith,
+        tt,
+        of_union kind.Count (filled.Count (n + m))
+            (merge_count (fed_over f mine i) (fed_over f theirs i) n m (record { made = in_fed kind.Count (filled.Count n) mine up a; kept = refl }) (record { made = in_fed kind.Count (filled.Count m) theirs down b; kept = refl })).made,
+      )
+
+  join_sums : (c : List ℕ) (y z : ℤ) → Joins (kind.Sum c) (Sum y) (Sum z)
+  join_sums c y z at a b =
+      let few = few_entries in
+      let x = few_items (kind.Sum c) mine at in
+      let v = few_items (kind.Sum c) theirs at in
+      let y_is : y ≡ filled.integer_sum (numbers_of (items_over f mine i)) = cc in
+      let z_is : z ≡ filled.integer_sum (numbers_of (items_over f theirs i)) = cc in
+      let low = sum_few c (items_over f mine i) (pos 0) 0 (items_fit (kind.Sum c) mine at) (omega arith) in
+      let high = sum_few c (items_over f theirs i) (pos 0) 0 (items_fit (kind.Sum c) theirs at) (omega arith) in (
+        omega (arith, ap nat_abs y_is, ap nat_abs z_is, low, high),
+        tt,
+        of_union (kind.Sum c) (filled.Sum (y +ℤ z))
+            (merge_sum (fed_over f mine i) (fed_over f theirs i) c c y z (y +ℤ z) refl (record { made = in_fed (kind.Sum c) (filled.Sum y) mine up a; kept = refl }) (record { made = in_fed (kind.Sum c) (filled.Sum z) theirs down b; kept = refl })).made,
+      )
+
+  join_leasts : (c : List ℕ) (y z : Option ℤ) → Joins (kind.Min c) (Least y) (Least z)
+  join_leasts c y z at a b = (
+    tt,
+    tt,
+    of_union (kind.Min c) (filled.Extreme (better_of_two int_min y z))
+        (merge_min (fed_over f mine i) (fed_over f theirs i) c c y z (better_of_two int_min y z) refl (record { made = in_fed (kind.Min c) (filled.Extreme y) mine up a; kept = refl }) (record { made = in_fed (kind.Min c) (filled.Extreme z) theirs down b; kept = refl })).made,
+  )
+
+  join_greatests : (c : List ℕ) (y z : Option ℤ) → Joins (kind.Max c) (Greatest y) (Greatest z)
+  join_greatests c y z at a b = (
+    tt,
+    tt,
+    of_union (kind.Max c) (filled.Extreme (better_of_two int_max y z))
+        (merge_max (fed_over f mine i) (fed_over f theirs i) c c y z (better_of_two int_max y z) refl (record { made = in_fed (kind.Max c) (filled.Extreme y) mine up a; kept = refl }) (record { made = in_fed (kind.Max c) (filled.Extreme z) theirs down b; kept = refl })).made,
+  )
+
+  joins : (k : ActionKind) (p q : WatchPiece) → IsOfKind k p → IsOfKind k q → Joins k p q
+  joins = of_one_kind Joins join_counts join_sums join_leasts join_greatests
+
+module _ (w : WatchFacts) (mine theirs all : List ℕ) (p q : WatchPiece) (s : WatchStandsFor w mine p) (t : WatchStandsFor w theirs q) (u : IsUnion (mine ∷ theirs ∷ []) all) where
+  both_joined : CanAdd p q × IsOfKind s.kind (added p q) × (watch_filled (added p q) ≡ result_over w.facts all w.watched s.kind)
+  both_joined =
+      let one : t.kind ≡ s.kind = same_kind (sym t.its_kind ∙ s.its_kind) in
+      joins w.facts w.watched mine theirs all s.facts s.rises t.rises u s.kind p q s.is_of_kind (subst (λ k. IsOfKind k q) one t.is_of_kind) s.its_kind s.result (t.result ∙ ap (result_over w.facts theirs w.watched) one)
+
+  pub can_add : CanAdd p q
+  can_add = both_joined.0
+
+  pub watch_joined : (r : WatchPiece) → r ≡ added p q → WatchStandsFor w all r
+  watch_joined r is = record {
+    facts = s.facts;
+    rises = u.rising;
+    kind = s.kind;
+    its_kind = s.its_kind;
+    is_of_kind = subst (IsOfKind s.kind) (sym is) both_joined.1;
+    result = ap watch_filled is ∙ both_joined.2;
+  }

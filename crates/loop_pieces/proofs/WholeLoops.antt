@@ -1,0 +1,136 @@
+-- A piece gives what separate passes give over the rows of its clusters.
+use Rattle.std.proofs.Common.{◌≡◌, ℕ, zero, suc, ◌<◌, ◌≤◌, Bool, true, false, List, [], ◌∷◌, ◌++◌, length, get_or, Option, None, Some, refl, sym, ap, ap₂, ◌∙◌, subst, arith, length-append}
+use Rattle.std.specs.Prelude.{flat_map, slice_get, slice_range, option_map, All, ◌||◌}
+use Rattle.std.specs.List.{list_any}
+use Rattle.std.proofs.lemmas.Option.{slice_get-map, slice_get_within, get_or_from_slice_get}
+use Rattle.rdf_values.specs.Path.{Path, Under}
+use Rattle.rdf_values.specs.Cuts.{Lead, below}
+use Rattle.rdf_values.specs.Bookings.{Booking, ActionAt, ReportOn, Pass}
+use Rattle.rdf_values.specs.Fold.{fold_items}
+use Rattle.rdf_values.specs.Names.{same}
+use Rattle.rdf_values.specs.declared.action.ActionKind.{ActionKind}
+use Rattle.rdf_values.specs.declared.span.Span.{Span}
+use Rattle.rdf_values.specs.declared.value.Value.{Value}
+use Rattle.rdf_values.proofs.Below.{slice_get-below}
+use Rattle.rdf_model.specs.Evaluation.{Outcome, Gives, Faults, Needs, ◌>>=◌}
+use Rattle.rdf_model.specs.EntryOutcomes.{Entry, booking_outcome}
+use Rattle.rdf_model.specs.Results.{Dataset, FilterCounts, fault_in}
+use Rattle.rdf_model.specs.PartialResults.{span_rows, rows_in, over_clusters}
+use Rattle.rdf_model.specs.LoopFacts.{filter_node, loop_facts, kinds_in, kind_in, is_covered, reports_on, result_over}
+use Rattle.rdf_model.specs.Laws.{action_pass, filter_in, report_in}
+use Rattle.rdf_model.proofs.Accepted.{itself}
+use Rattle.rdf_model.proofs.Faults.{first_fault_is_least}
+use Rattle.rdf_model.proofs.Parts.{facts_give_results, facts_give_counts}
+use Rattle.actions.specs.Accumulators.{Accumulator}
+use Rattle.actions.specs.Feeding.{in_file_order}
+use Rattle.loop_pieces.specs.LoopPieces.{fed_over, counts_at}
+use Rattle.loop_pieces.specs.Whole.{AllClustersAreTheTable, PieceHoldsResults, PieceHoldsCounts, WatchPieceIsPartialResult, counts_of}
+use Rattle.loop_pieces.proofs.FedOver.{items_in_order}
+use Rattle.loop_pieces.proofs.Places.{joined_places, lead_up, ranges_join, range_none, range_whole}
+
+-- ---- all rows
+
+module _ {A : Type 0} (rows : List A) where
+  between : (spans : List Span) (lo hi : ℕ) → Lead lo hi spans → hi ≤ length rows → flat_map (λ (s : Span). span_rows rows (Some s)) spans ≡ slice_range rows lo hi
+  between [] lo hi h le = sym (ap (λ k. slice_range rows lo k) (sym h) ∙ range_none rows lo)
+  between (s ∷ ss) lo hi h le =
+      let up = lead_up ss s.hi hi h.2 in
+      let first = h.1 in
+      ap₂ (λ a b. a ++ b) (ap (λ k. slice_range rows k s.hi) h.0) (between ss s.hi hi h.2 le) ∙ ranges_join rows lo s.hi hi (omega arith) up le
+
+  all_rows : (spans : List Span) → Lead 0 (length rows) spans → rows_in spans rows (below (length spans)) ≡ rows
+  all_rows spans leads = joined_places (span_rows rows) spans ∙ between spans 0 (length rows) leads (omega arith) ∙ range_whole rows
+
+pub all_clusters_are_the_table : AllClustersAreTheTable
+all_clusters_are_the_table d spans leads = ap (λ rows. record d { rows = rows }) (all_rows d.rows spans leads)
+
+-- ---- results
+
+abbrev kind_at : Accumulator → ActionKind
+kind_at acc = acc.kind
+
+-- the kind of an action pass stands at its place
+kind_there : (before after : List Pass) (name : List ℕ) (k : ActionKind) (at : Path) (u : Under) → slice_get (kinds_in (before ++ action_pass name k at u ∷ after)) (length (kinds_in before)) ≡ Some k
+kind_there [] after name k at u = refl
+kind_there (q ∷ before) after name k at u = go q.result.booking (kind_there before after name k at u)
+  where
+    go : (b : Booking) → slice_get (kinds_in (before ++ action_pass name k at u ∷ after)) (length (kinds_in before)) ≡ Some k
+        → slice_get (kind_in b ++ kinds_in (before ++ action_pass name k at u ∷ after)) (length (kind_in b ++ kinds_in before)) ≡ Some k
+    go (ActionAt j p) h = h
+    go (ReportOn fs) h = h
+
+same_some : {a b : ActionKind} → ◌≡◌ {A = Option ActionKind} (Some a) (Some b) → a ≡ b
+same_some q = cc
+
+pub piece_holds_results : PieceHoldsResults
+piece_holds_results d filters spans set before after name k at u piece acc stands there =
+    let f = loop_facts d filters spans (before ++ action_pass name k at u ∷ after) in
+    let i = length (kinds_in before) in
+    let within = slice_get_within piece.accs.items i acc there in
+    let is = get_or_from_slice_get piece.accs.items i acc acc there in
+    let pass = stands.accs i acc within in
+    let kind : acc.kind ≡ k = same_some (sym (slice_get-map kind_at piece.accs.items i ∙ ap (λ (o : Option Accumulator). elim o [ None ↦ None | Some a ↦ Some (kind_at a) ]) there) ∙ ap (λ l. slice_get l i) stands.kinds ∙ kind_there before after name k at u) in (
+      kind,
+      ap (λ (a : Accumulator). a.filled) (sym is) ∙ pass.fed.filled ∙ ap (λ (a : Accumulator). fold_items a.kind (in_file_order (fed_over f set i))) is
+          ∙ ap (λ j. fold_items j (in_file_order (fed_over f set i))) kind ∙ ap (fold_items k) (items_in_order f set i stands.rises)
+          ∙ facts_give_results d filters spans set before after name k at u,
+    )
+
+pub watch_piece_is_partial_result : WatchPieceIsPartialResult
+watch_piece_is_partial_result d filters spans set before after name k at piece stands =
+    let f = loop_facts d filters spans (before ++ action_pass name k at None ∷ after) in
+    let kind : stands.kind ≡ k = same_some (sym stands.its_kind ∙ kind_there before after name k at None) in
+    stands.result ∙ ap (result_over f set (length (kinds_in before))) kind ∙ facts_give_results d filters spans set before after name k at None
+
+-- ---- counts
+
+-- a report without a fault tries each of its filters without one
+first_faultless : (o : Outcome ⊥ Bool) (rest : Outcome ⊥ Entry) → fault_in (o >>= λ passed. rest) ≡ None → (fault_in o ≡ None) × (fault_in rest ≡ None)
+first_faultless (Gives b) rest h = (refl, h)
+first_faultless (Faults kind) rest h = absurd (cc)
+first_faultless (Needs m) rest h = elim m [ ]
+
+filter_faultless : (d : Dataset) (row : List Value) (filters : List Path) (i : ℕ) (f : Path) → fault_in (report_in d row filters) ≡ None → slice_get filters i ≡ Some f → fault_in (filter_in d row f) ≡ None
+filter_faultless d row [] i f h at = absurd (cc)
+filter_faultless d row (g ∷ gs) zero f h at = subst (λ (x : Path). fault_in (filter_in d row x) ≡ None) (same_path at) (first_faultless (filter_in d row g) (report_in d row gs) h).0
+  where
+    same_path : {a b : Path} → ◌≡◌ {A = Option Path} (Some a) (Some b) → a ≡ b
+    same_path q = cc
+filter_faultless d row (g ∷ gs) (suc i) f h at = filter_faultless d row gs i f (first_faultless (filter_in d row g) (report_in d row gs) h).1 at
+
+row_there : (rows : List (List Value)) (k : ℕ) (x : List Value) → k < length rows → slice_get rows k ≡ Some (get_or rows k x)
+row_there [] k x lt = absurd (omega arith)
+row_there (r ∷ rs) zero x lt = refl
+row_there (r ∷ rs) (suc k) x lt = row_there rs k x (omega arith)
+
+or_right : (a b : Bool) → b ≡ true → (a || b) ≡ true
+or_right true b h = refl
+or_right false b h = h
+
+or_left : (a b : Bool) → a ≡ true → (a || b) ≡ true
+or_left true b h = refl
+or_left false b h = absurd (cc)
+
+any_at : {A : Type 0} (p : A → Bool) (xs : List A) (i : ℕ) (x : A) → slice_get xs i ≡ Some x → p x ≡ true → list_any p xs ≡ true
+any_at p [] i x at h = absurd (cc)
+any_at {A} p (y ∷ ys) zero x at h = or_left (p y) (list_any p ys) (ap p (same_at at) ∙ h)
+  where
+    same_at : {a b : A} → ◌≡◌ {A = Option A} (Some a) (Some b) → a ≡ b
+    same_at q = cc
+any_at p (y ∷ ys) (suc i) x at h = or_right (p y) (list_any p ys) (any_at p ys i x at h)
+
+pub piece_holds_counts : PieceHoldsCounts
+piece_holds_counts d before after s up spans set ps n i p filters piece its_pass booked its_filter good stands =
+    let f = loop_facts d (before ++ (s ∷ up) ∷ after) spans ps in
+    let over = over_clusters spans d set in
+    let within : length before < length (before ++ (s ∷ up) ∷ after) = omega (arith, length-append before ((s ∷ up) ∷ after)) in
+    let covered : is_covered ps (s ∷ up) ≡ true = any_at (λ (q : Pass). reports_on (filter_node (s ∷ up)) q.result.booking) ps n p its_pass
+    (ap (reports_on (filter_node (s ∷ up))) booked ∙ any_at (λ g. same (filter_node (s ∷ up)) (filter_node g)) filters i (s ∷ up) its_filter (itself (filter_node (s ∷ up)))) in
+    let faultless : All (λ row. fault_in (filter_in d row (s ∷ up)) ≡ None) over.rows = λ k x lt.
+    filter_faultless d (get_or over.rows k x) filters i (s ∷ up)
+    (ap (λ (b : Booking). fault_in (booking_outcome d.fns d.columns (get_or over.rows k x) b p.under)) (sym booked) ∙ (first_fault_is_least over ps).1 good k n (get_or over.rows k x) p (row_there over.rows k x lt) its_pass)
+    its_filter in
+    ap (λ l. slice_get l (length before)) stands.flow
+    ∙ slice_get-map (counts_at f set) (below (length (before ++ (s ∷ up) ∷ after))) (length before)
+    ∙ ap (option_map (counts_at f set)) (slice_get-below (length (before ++ (s ∷ up) ∷ after)) (length before) within)
+    ∙ ap (λ (c : FilterCounts). Some (counts_of c)) (facts_give_counts d before after s up spans set ps covered faultless)

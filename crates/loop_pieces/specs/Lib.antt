@@ -1,0 +1,6 @@
+pub mod Accs
+pub mod LoopPieces
+pub mod PieceLaws
+pub mod Trails
+pub mod Watching
+pub mod Whole
