@@ -1,0 +1,16 @@
+pub mod Appending
+pub mod Checking
+pub mod Counting
+pub mod Dependences
+pub mod Depending
+pub mod Gaining
+pub mod Listing
+pub mod ResultSets
+pub mod Resulted
+pub mod SetTables
+pub mod SiteTotals
+pub mod Rows
+pub mod Scoping
+pub mod Telling
+pub mod Varying
+pub mod Walking

@@ -1,0 +1,100 @@
+-- Lines as look-ups walk them, the latest first, and what a statement adds to each answer.
+use Rattle.std.specs.Prelude.{◌≡◌, ◌≤◌, ℕ, Bool, false, List, [], ◌∷◌, map, length, All, Some, Ok, if◌then◌else◌, slice_get}
+use Rattle.std.specs.List.{AllByRecursion, list_any}
+use Rattle.rdf_values.specs.Bookings.{Booking, Booked, results_named}
+use Rattle.rdf_values.specs.EachColumn.{EachColumn}
+use Rattle.rdf_values.specs.Kinds.{FunctionNames, scope_of, column_kind, kind_of}
+use Rattle.rdf_values.specs.Names.{same, among}
+use Rattle.rdf_values.specs.Numbered.{ScopeColumn, kinds_in, number_in, renamed, callee}
+use Rattle.rdf_values.specs.Tree.{NamedTree}
+use Rattle.rdf_values.specs.Verdict.{AreAccepted, scope_at}
+use Rattle.rdf_values.specs.declared.column.Column.{Column}
+use Rattle.rdf_values.specs.declared.value.ColType.{ColType}
+use Rattle.rdf_values.specs.declared.script.Line.{Line}
+use Rattle.rdf_values.specs.declared.statement.Statement.{Statement}
+use Rattle.rdf_values.specs.declared.statement.Statement.TheVariants.{Define, Redefine, Alias, Action, Report}
+use Rattle.expr_check.specs.NumKinds.{CheckedExpr, IsWellTyped, CallsFit}
+use Rattle.graph_numbers.specs.Kinds.{version_kinds}
+use Rattle.graph_numbers.specs.Versions.{version_at}
+
+-- the statements of lines
+abbrev pub statements : List Line → List Statement
+statements lines = map (λ (l : Line). l.statement) lines
+
+-- the statement books the result of that name
+abbrev pub books : Statement → List ℕ → Bool
+books (Action result parent k) name = same name result
+books (Report result parent) name = same name result
+books s name = false
+
+-- what a statement's alias makes of a name
+abbrev pub own_target : Statement → List ℕ → List ℕ
+own_target (Alias node parent column target) name = if same column name then target else name
+own_target s name = name
+
+-- the statement makes the name an alias
+abbrev pub own_alias : Statement → List ℕ → Bool
+own_alias (Alias node parent column target) name = same name column
+own_alias s name = false
+
+-- the statement makes the column
+abbrev pub own_made : Statement → List ℕ → Bool
+own_made (Define node parent column expr) name = same column name
+own_made (Redefine node parent column expr) name = same column name
+own_made s name = false
+
+-- the kinds of the versions so far, of statements that were accepted
+pub record AreKinds (header : List Column) (names : FunctionNames) (before : List Statement) (kinds : List ColType) : Type 0 where
+  pub accepted : AreAccepted names (scope_of header) before
+  pub are : kinds ≡ version_kinds header names before
+  pub few : length kinds ≤ 4294967295
+
+-- a visible column with its kind and its version
+pub record IsFound (header : List Column) (names : FunctionNames) (before : List Statement) (node : List ℕ) (kinds : List ColType) (name : List ℕ) (t : ColType) (n : ℕ) : Type 0 where
+  pub kind : column_kind (scope_at names (scope_of header) before node) name ≡ Ok t
+  pub number : version_at header before node name ≡ n
+  pub own : slice_get kinds n ≡ Some t
+
+-- a name means in a scope what it does at the node
+pub record IsAlike (header : List Column) (names : FunctionNames) (before : List Statement) (node : List ℕ) (scope : List ScopeColumn) (name : List ℕ) : Type 0 where
+  pub kind : column_kind (kinds_in scope) name ≡ column_kind (scope_at names (scope_of header) before node) name
+  pub number : (t : ColType) → column_kind (scope_at names (scope_of header) before node) name ≡ Ok t → number_in scope name ≡ version_at header before node name
+
+-- each column of a scope has the kind of its version, and means what it does at the node
+pub record IsScopeAt (header : List Column) (names : FunctionNames) (before : List Statement) (node : List ℕ) (kinds : List ColType) (scope : List ScopeColumn) : Type 0 where
+  pub own : All (λ (c : ScopeColumn). slice_get kinds c.number ≡ Some c.kind) scope
+  pub means : (x : List ℕ) (t : ColType) → column_kind (kinds_in scope) x ≡ Ok t → IsAlike header names before node scope x
+
+-- a scope into which names were brought
+pub record AreNoted (header : List Column) (names : FunctionNames) (before : List Statement) (node : List ℕ) (kinds : List ColType) (old new : List ScopeColumn) (noted : List (List ℕ)) : Type 0 where
+  pub scope : IsScopeAt header names before node kinds new
+  pub kept : (x : List ℕ) → IsAlike header names before node old x → IsAlike header names before node new x
+  pub each : AllByRecursion (IsAlike header names before node new) noted
+
+-- a scope with the columns of an expression
+pub record IsScopeOf (header : List Column) (names : FunctionNames) (before : List Statement) (node : List ℕ) (kinds : List ColType) (e : NamedTree) (scope : List ScopeColumn) : Type 0 where
+  pub scope_at_node : IsScopeAt header names before node kinds scope
+  pub each : EachColumn (IsAlike header names before node scope) e
+
+-- an expression that was checked at a node, by versions
+pub record IsCheckedAt (header : List Column) (names : FunctionNames) (before : List Statement) (node : List ℕ) (e : NamedTree) (c : CheckedExpr) : Type 0 where
+  pub kind : kind_of (scope_at names (scope_of header) before node) names e ≡ Ok c.kind
+  pub tree : c.tree ≡ renamed (version_at header before node) (callee names) e
+  pub kinds : All (λ (k : ℕ × ColType). slice_get (version_kinds header names before) k.0 ≡ Some k.1) c.kinds
+  pub typed : IsWellTyped names c
+  pub calls : CallsFit names c.tree
+
+-- the name of the result that a statement books
+abbrev pub own_results : Statement → List (List ℕ)
+own_results (Action result parent k) = result ∷ []
+own_results (Report result parent) = result ∷ []
+own_results s = []
+
+-- a result of that name among these passes the test
+abbrev pub result_in : (Booking → Bool) → List ℕ → List Booked → Bool
+result_in test name bs = list_any (λ (b : Booked). test b.booking) (results_named name bs)
+
+-- a list has as many names as another, and the same ones
+pub record IsSame (xs ys : List (List ℕ)) : Type 0 where
+  pub count : length ys ≡ length xs
+  pub has : (x : List ℕ) → among x ys ≡ among x xs

@@ -1,0 +1,70 @@
+// The first refusal of several checks in order.
+ghost use Rattle.std.specs.Prelude.{◌≡◌, ◌∷◌, []};
+ghost use Rattle.rdf_values.specs.Verdict.{first_refusal, refuse_if, refuse_unless};
+
+use rdf_values::GraphCause;
+
+pub(crate) fn refuse_if(refused: bool, cause: GraphCause) -> Option<GraphCause>
+    ensures { result ≡ refuse_if refused cause }
+{
+    if refused { Some(cause) } else { None }
+}
+
+pub(crate) fn refuse_unless(holds: bool, cause: GraphCause) -> Option<GraphCause>
+    ensures { result ≡ refuse_unless holds cause }
+{
+    if holds { None } else { Some(cause) }
+}
+
+/// The first of two refusals.
+pub(crate) fn first_of(first: Option<GraphCause>, second: Option<GraphCause>) -> Option<GraphCause>
+    ensures { result ≡ first_refusal (first ∷ second ∷ []) }
+{
+    match first {
+        Some(cause) => Some(cause),
+        None => second,
+    }
+}
+
+/// The first of three refusals.
+pub(crate) fn first_of_three(
+    first: Option<GraphCause>,
+    second: Option<GraphCause>,
+    third: Option<GraphCause>,
+) -> Option<GraphCause>
+    ensures { result ≡ first_refusal (first ∷ second ∷ third ∷ []) }
+{
+    match first {
+        Some(cause) => Some(cause),
+        None => first_of(second, third),
+    }
+}
+
+pub(crate) fn first_of_four(
+    first: Option<GraphCause>,
+    second: Option<GraphCause>,
+    third: Option<GraphCause>,
+    fourth: Option<GraphCause>,
+) -> Option<GraphCause>
+    ensures { result ≡ first_refusal (first ∷ second ∷ third ∷ fourth ∷ []) }
+{
+    match first {
+        Some(cause) => Some(cause),
+        None => first_of_three(second, third, fourth),
+    }
+}
+
+pub(crate) fn first_of_five(
+    first: Option<GraphCause>,
+    second: Option<GraphCause>,
+    third: Option<GraphCause>,
+    fourth: Option<GraphCause>,
+    fifth: Option<GraphCause>,
+) -> Option<GraphCause>
+    ensures { result ≡ first_refusal (first ∷ second ∷ third ∷ fourth ∷ fifth ∷ []) }
+{
+    match first {
+        Some(cause) => Some(cause),
+        None => first_of_four(second, third, fourth, fifth),
+    }
+}
