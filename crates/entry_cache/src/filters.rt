@@ -1,0 +1,83 @@
+// Trying filters.
+ghost use Rattle.std.specs.Prelude.{◌≡◌, ◌≢◌, ◌<◌, ℕ, Bool, Option, true, Err, length};
+ghost use Rattle.std.specs.List.{AllByRecursion};
+ghost use Rattle.graph_numbers.specs.Graphs.{graph_sites};
+ghost use Rattle.entry_cache.specs.Jobs.{Fits, JobView, job_graph, job_of};
+ghost use Rattle.entry_cache.specs.Keys.{AreKeys};
+ghost use Rattle.entry_cache.specs.Plain.{ArePlain};
+ghost use Rattle.entry_cache.specs.Store.{CanLook, IsFiltered, IsRight, IsSound, IsTriedFilter, IsTruth, is_held, site_in};
+
+use crate::fill::serve;
+use crate::held::Held;
+use crate::outcome::OutcomeStop;
+use crate::reading::{Reading, key};
+use crate::store::Store;
+use expr_eval::Steps;
+use rdf_values::{EntryFault, Memory};
+use std::alloc::Global;
+use std::sync::ledger::Ledger;
+
+/// Whether a filter's outcome lets the entry through.
+fn lets_through(held: &Held) -> Result<bool, EntryFault>
+    requires { is_held held.now ≡ true }
+    ensures { (j : JobView) (entry : ℕ) (u : Option ℕ) (s : ℕ) → IsRight (site_in j entry u s) held.now → IsTruth (site_in j entry u s) result }
+{
+    match held {
+        Held::Bool(b) => Ok(*b),
+        Held::Faulted(kind) => Err(*kind),
+        _ => Ok(false),
+    }
+}
+
+/// Whether the entry passes the filter of that site.
+pub(crate) fn try_filter<L: Ledger>(
+    alloc: Global,
+    at: &Reading<'_>,
+    store: &mut Store,
+    site: u32,
+    steps: &mut Steps<L>,
+) -> Result<bool, OutcomeStop>
+    requires job { Fits at.now.job.now }
+    requires keys { AreKeys (job_graph (job_of at.now.job.now)) at.now.keys.now }
+    requires can { CanLook (job_of at.now.job.now) at.now.entry store.old }
+    requires sound { IsSound (job_of at.now.job.now) at.now.entry store.old }
+    requires site { site < length (graph_sites (job_graph (job_of at.now.job.now))) }
+    ensures tried { IsTriedFilter (job_of at.now.job.now) at.now.entry at.now.under site store.old store.new steps.old steps.new result }
+    ensures sized { length store.new ≡ length store.old }
+    ensures plain { (used : ℕ → Bool) → ArePlain (job_of at.now.job.now) used → used site ≡ true → result ≢ Err OutcomeStop.Memory }
+{
+    match serve(alloc, at, store, site, steps) {
+        Err(Memory) => Err(OutcomeStop::Memory),
+        Ok(()) => match lets_through(store.at(key(at, site))) {
+            Err(kind) => Err(OutcomeStop::Fault(kind)),
+            Ok(passed) => Ok(passed),
+        },
+    }
+}
+
+/// Whether the entry passes the filters of these sites, head first.
+pub(crate) fn pass_filters<L: Ledger>(
+    alloc: Global,
+    at: &Reading<'_>,
+    store: &mut Store,
+    path: &[u32],
+    steps: &mut Steps<L>,
+) -> Result<bool, OutcomeStop>
+    requires job { Fits at.now.job.now }
+    requires keys { AreKeys (job_graph (job_of at.now.job.now)) at.now.keys.now }
+    requires can { CanLook (job_of at.now.job.now) at.now.entry store.old }
+    requires sound { IsSound (job_of at.now.job.now) at.now.entry store.old }
+    requires path { AllByRecursion (λ s. s < length (graph_sites (job_graph (job_of at.now.job.now)))) path.now }
+    ensures filtered { IsFiltered (job_of at.now.job.now) at.now.entry at.now.under path.now store.old store.new steps.old steps.new result }
+    ensures sized { length store.new ≡ length store.old }
+    ensures plain { (used : ℕ → Bool) → ArePlain (job_of at.now.job.now) used → AllByRecursion (λ s. used s ≡ true) path.now → result ≢ Err OutcomeStop.Memory }
+{
+    let Some((first, rest)) = path.split_first() else {
+        return Ok(true);
+    };
+    match try_filter(alloc, at, store, *first, steps) {
+        Err(stop) => Err(stop),
+        Ok(false) => Ok(false),
+        Ok(true) => pass_filters(alloc, at, store, rest, steps),
+    }
+}
