@@ -1,9 +1,15 @@
 //! The columns of a table over its clusters, as an event loop reads them. Stands on `rdf_values` and `clusters`.
 #![tactic(auto)]
 
+mod block;
+mod bytes;
 pub mod columns;
+mod kept;
+mod packed_ints;
+pub mod packing;
 
 pub use crate::columns::Columns;
+pub use crate::packing::Packing;
 
 #[cfg(test)]
 mod tests;

@@ -51,8 +51,8 @@ fn gives_the_numbers_of_a_table(rt: HostRuntime) -> Result<(), Fail> {
         panic!(rt; "no name");
     };
     let cuts = cut(rt.alloc(), 2, 1, &Marks::new(rt.alloc()))?;
-    let columns = Columns::build(table, cuts);
-    assert_eq!(rt; columns.ints(0), [10, -3].as_slice());
+    let columns = Columns::build(rt.alloc(), table, cuts)?;
+    assert_eq!(rt; columns.int_at(0, 0), 10);
     assert_eq!(rt; columns.int_at(1, 0), -3);
     Ok(())
 }
@@ -63,7 +63,7 @@ fn gives_the_vectors_of_a_table(rt: HostRuntime) -> Result<(), Fail> {
         panic!(rt; "no name");
     };
     let cuts = cut(rt.alloc(), 2, 1, &Marks::new(rt.alloc()))?;
-    let columns = Columns::build(table, cuts);
+    let columns = Columns::build(rt.alloc(), table, cuts)?;
     assert_eq!(rt; columns.vec_at(0, 0), [3, 4].as_slice());
     assert!(rt; columns.vec_at(1, 0).is_empty());
     Ok(())

@@ -1,0 +1,4 @@
+pub mod BlockSteps
+pub mod Joining
+pub mod Keeping
+pub mod Unpacking
