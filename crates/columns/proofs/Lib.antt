@@ -1,4 +1,5 @@
 pub mod BlockSteps
+pub mod Examples
 pub mod Joining
 pub mod Keeping
 pub mod Unpacking

@@ -78,7 +78,7 @@ impl Columns {
     }
 
     // The numbers of an int column, by cluster.
-    fn ints(&self, col: u32) -> &PackedInts
+    pub(crate) fn ints(&self, col: u32) -> &PackedInts
         requires { kind_at self.now.table.columns col ≡ Some k.Int }
         ensures column { IsIntColumn self.now.table col (joined result.now) }
         ensures clusters { result.now ≡ cluster_values (cut self.now.cuts.entries self.now.cuts.size self.now.cuts.marks) (joined result.now) }

@@ -5,10 +5,12 @@ mod block;
 mod bytes;
 pub mod columns;
 mod kept;
+pub mod over;
 mod packed_ints;
 pub mod packing;
 
 pub use crate::columns::Columns;
+pub use crate::over::Over;
 pub use crate::packing::Packing;
 
 #[cfg(test)]

@@ -54,6 +54,7 @@ fn gives_the_numbers_of_a_table(rt: HostRuntime) -> Result<(), Fail> {
     let columns = Columns::build(rt.alloc(), table, cuts)?;
     assert_eq!(rt; columns.int_at(0, 0), 10);
     assert_eq!(rt; columns.int_at(1, 0), -3);
+    assert_eq!(rt; columns.over(1).int_at(1, 0), -3);
     Ok(())
 }
 
