@@ -1,6 +1,7 @@
 -- How the numbers of a cluster are packed: the least of them, and each one's difference to it in the fewest bytes.
-use Rattle.std.specs.Prelude.{ℕ, zero, suc, ℤ, pos, ◌-ℤ◌, ◌+ℤ◌, List, [], ◌∷◌, length, drop, flat_map, slice_index, unsigned_abs, if◌then◌else◌, nat_eq, nat_lt}
+use Rattle.std.specs.Prelude.{ℕ, zero, suc, ℤ, pos, ◌≤◌, ◌<◌, ◌^◌, ◌-ℤ◌, ◌+ℤ◌, ◌≤ℤ◌, All, Contains, List, [], ◌∷◌, length, drop, flat_map, slice_index, unsigned_abs, if◌then◌else◌, nat_eq, nat_lt}
 use Rattle.std.specs.Int.{bytes_low_first, from_le_bytes, int_max, int_min, w16, w32, w64}
+use Rattle.columns.specs.Widths.{IsWidth}
 use Rattle.columns.specs.declared.packing.Packing.{Packing}
 
 -- the least of a number and others, and the greatest
@@ -43,3 +44,13 @@ number_in w bs = if nat_eq w 0 then 0 else if nat_eq w 1 then slice_index bs 0 e
 abbrev pub values_in : ℤ → ℕ → ℕ → List ℕ → List ℤ
 values_in least w zero bs = []
 values_in least w (suc n) bs = (least +ℤ pos (number_in w bs)) ∷ values_in least w n (drop w bs)
+
+-- ---- in plain words
+
+-- the packing of numbers: the least of them, and the fewest bytes that hold each one's difference to it
+pub record IsTight (values : List ℤ) (p : Packing) : Type 0 where
+  pub below : All (λ z. p.least ≤ℤ z) values
+  pub reached : Contains values p.least
+  pub width : IsWidth p.width
+  pub enough : All (λ z. unsigned_abs (z -ℤ p.least) < 256 ^ p.width) values
+  pub fewest : (w : ℕ) → IsWidth w → All (λ z. unsigned_abs (z -ℤ p.least) < 256 ^ w) values → p.width ≤ w

@@ -11,7 +11,7 @@ pub mod packing;
 
 pub use crate::columns::Columns;
 pub use crate::over::Over;
-pub use crate::packing::Packing;
+pub use crate::packing::{Packing, packings_are_tight};
 
 #[cfg(test)]
 mod tests;

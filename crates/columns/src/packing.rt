@@ -1,6 +1,7 @@
 // How the numbers of a cluster are packed.
-ghost use Rattle.std.specs.Prelude.{◌≡◌, ◌<◌, length};
-ghost use Rattle.columns.specs.Packings.{packing_of, width_of};
+ghost use Rattle.std.specs.Prelude.{◌≡◌, ◌<◌, All, FitsSigned, List, ℤ, length};
+ghost use Rattle.std.specs.Int.{w64};
+ghost use Rattle.columns.specs.Packings.{IsTight, packing_of, width_of};
 
 /// The least of some numbers, and the fewest bytes (0, 1, 2, 4 or 8) in which each one's difference to it fits.
 #[derive(Clone, Copy, Debug, PartialEq, Eq)]
@@ -21,6 +22,11 @@ fn width_of(difference: u64) -> u32
         _ => 8,
     }
 }
+
+/// A law: a packing has the least number, and no fewer bytes hold every difference to it.
+pub fn packings_are_tight()
+    ensures { (values : List ℤ) → 0 < length values → All (FitsSigned w64) values → IsTight values (packing_of values) }
+{}
 
 impl Packing {
     ghost use Rattle.columns.specs.Packings.{packing_of};
