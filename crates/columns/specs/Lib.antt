@@ -1,1 +1,5 @@
+pub mod Blocks
 pub mod ColumnsView
+pub mod KeptColumns
+pub mod Packings
+pub mod Widths

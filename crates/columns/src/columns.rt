@@ -1,37 +1,56 @@
 // The columns of a table over its clusters.
-ghost use Rattle.std.specs.Prelude.{◌≡◌, ◌<◌, length, Some};
-ghost use Rattle.rdf_values.specs.Tables.{IsIntColumn, IsTable, cell, kind_at};
+ghost use Rattle.std.specs.Prelude.{◌≡◌, ◌<◌, ℤ, List, IfOk, Some, length, slice_get, slice_range};
+ghost use Rattle.rdf_values.specs.Cuts.{cut};
+ghost use Rattle.rdf_values.specs.Tables.{IsIntColumn, IsTable, IsVectColumn, cell, kind_at};
+ghost use Rattle.rdf_values.specs.declared.span.Span.{Span};
 ghost use Rattle.rdf_values.specs.declared.value.ColType.TheVariants as k;
 ghost use Rattle.rdf_values.specs.declared.value.Value.TheVariants as v;
+ghost use Rattle.columns.specs.Blocks.{cluster_values};
+ghost use Rattle.columns.specs.KeptColumns.{joined};
+ghost use Rattle.columns.specs.Packings.{packed_of, packing_of};
 
+use crate::kept::{Kept, keep_all};
+use crate::packed_ints::PackedInts;
+use crate::packing::Packing;
 use clusters::Cuts;
-use rdf_values::{Column, Table};
+use rdf_values::{Column, ListOf, Memory, Table, Vects};
+use std::alloc::Global;
 use std::marker::Model;
 
-/// The columns of a table, and the cuts of its entries.
+/// The columns of a table, and the cuts of its entries. The numbers of an int column are packed cluster by cluster.
 #[derive(Drop)]
 pub struct Columns {
-    table: Table,
+    columns: ListOf<Column>,
+    kept: Vec<Kept>,
     cuts: Cuts,
 }
 
 impl Model for Columns {
-    ghost use Rattle.columns.specs.ColumnsView.{ColumnsView, HoldColumns};
+    ghost use Rattle.std.specs.Prelude.{map};
+    ghost use Rattle.rdf_values.specs.Kept.{rows_kept};
+    ghost use Rattle.columns.specs.ColumnsView.{ColumnsView};
+    ghost use Rattle.columns.specs.KeptColumns.{HoldColumns, cells_of};
 
     ghost Value = { ColumnsView };
 
-    ghost view = { λ c. record { table = c.table; cuts = c.cuts } };
+    ghost view = { λ c. record { table = record { columns = c.columns; rows = rows_kept c.cuts.entries (map cells_of c.kept.items) }; cuts = c.cuts } };
 
-    ghost invariant = { λ c. HoldColumns c.table c.cuts };
+    ghost invariant = { λ c. HoldColumns c.columns c.kept.items c.cuts };
 }
 
 impl Columns {
-    /// The columns of a table, which is moved here with its cuts; no memory is taken.
-    pub fn build(table: Table, cuts: Cuts) -> Columns
+    /// The columns of a table over the clusters of its entries. Each column of the table goes as soon as it is packed.
+    pub fn build(alloc: Global, table: Table, cuts: Cuts) -> Result<Columns, Memory>
         requires { cuts.entries ≡ length table.rows }
-        ensures { result ≡ record { table = table; cuts = cuts } }
+        ensures { IfOk result (λ columns. columns ≡ record { table = table; cuts = cuts }) }
     {
-        Columns { table, cuts }
+        let parts = table.into_parts();
+        let kept = keep_all(alloc, parts.cells, &cuts)?;
+        Ok(Columns {
+            columns: parts.columns,
+            kept,
+            cuts,
+        })
     }
 
     /// How the entries are cut.
@@ -47,7 +66,7 @@ impl Columns {
         ensures value { result.now ≡ self.now.table.columns }
         ensures valid { IsTable self.now.table }
     {
-        self.table.columns()
+        self.columns.as_slice()
     }
 
     /// How many entries there are.
@@ -55,15 +74,30 @@ impl Columns {
         ensures value { result ≡ length self.now.table.rows }
         ensures valid { IsTable self.now.table }
     {
-        self.table.entries()
+        self.cuts.entries()
     }
 
-    /// The numbers of an int column, one per entry.
-    pub fn ints(&self, col: u32) -> &[i64]
+    // The numbers of an int column, by cluster.
+    pub(crate) fn ints(&self, col: u32) -> &PackedInts
         requires { kind_at self.now.table.columns col ≡ Some k.Int }
-        ensures { IsIntColumn self.now.table col result.now }
+        ensures column { IsIntColumn self.now.table col (joined result.now) }
+        ensures clusters { result.now ≡ cluster_values (cut self.now.cuts.entries self.now.cuts.size self.now.cuts.marks) (joined result.now) }
     {
-        self.table.ints(col)
+        match &self.kept[col as usize] {
+            Kept::Ints(numbers) => numbers,
+            Kept::Vects(_) => unreachable!(),
+        }
+    }
+
+    // The vectors of a vec column, one per entry.
+    fn vects(&self, col: u32) -> &Vects
+        requires { kind_at self.now.table.columns col ≡ Some k.Vect }
+        ensures { IsVectColumn self.now.table col result.now }
+    {
+        match &self.kept[col as usize] {
+            Kept::Vects(vectors) => vectors,
+            Kept::Ints(_) => unreachable!(),
+        }
     }
 
     /// The number of an entry in an int column.
@@ -72,7 +106,10 @@ impl Columns {
         requires column { kind_at self.now.table.columns col ≡ Some k.Int }
         ensures { cell self.now.table entry col ≡ Some (v.Int result) }
     {
-        self.table.int_at(entry, col)
+        let cluster = self.cuts.cluster_of(entry);
+        let first = self.cuts.range(cluster).lo;
+        self.ints(col)
+            .at(cluster as usize, (entry - first) as usize)
     }
 
     /// The elements of an entry's vector in a vec column.
@@ -81,6 +118,26 @@ impl Columns {
         requires column { kind_at self.now.table.columns col ≡ Some k.Vect }
         ensures { cell self.now.table entry col ≡ Some (v.Vect result.now) }
     {
-        self.table.vec_at(entry, col)
+        self.vects(col).at(entry as usize)
+    }
+
+    /// How the numbers of a cluster are packed in an int column.
+    pub fn packing(&self, cluster: u32, col: u32) -> Packing
+        requires cluster { cluster < length (cut self.now.cuts.entries self.now.cuts.size self.now.cuts.marks) }
+        requires column { kind_at self.now.table.columns col ≡ Some k.Int }
+        ensures { (numbers : List ℤ) (span : Span) → IsIntColumn self.now.table col numbers → slice_get (cut self.now.cuts.entries self.now.cuts.size self.now.cuts.marks) cluster ≡ Some span
+            → result ≡ packing_of (slice_range numbers span.lo span.hi) }
+    {
+        self.ints(col).packing(cluster as usize)
+    }
+
+    /// The bytes of the numbers of a cluster in an int column: for each entry its difference to the least, lowest byte first.
+    pub fn packed(&self, cluster: u32, col: u32) -> &[u8]
+        requires cluster { cluster < length (cut self.now.cuts.entries self.now.cuts.size self.now.cuts.marks) }
+        requires column { kind_at self.now.table.columns col ≡ Some k.Int }
+        ensures { (numbers : List ℤ) (span : Span) → IsIntColumn self.now.table col numbers → slice_get (cut self.now.cuts.entries self.now.cuts.size self.now.cuts.marks) cluster ≡ Some span
+            → result.now ≡ packed_of (slice_range numbers span.lo span.hi) }
+    {
+        self.ints(col).packed(cluster as usize)
     }
 }

@@ -1,9 +1,17 @@
 //! The columns of a table over its clusters, as an event loop reads them. Stands on `rdf_values` and `clusters`.
 #![tactic(auto)]
 
+mod block;
+mod bytes;
 pub mod columns;
+mod kept;
+pub mod over;
+mod packed_ints;
+pub mod packing;
 
 pub use crate::columns::Columns;
+pub use crate::over::Over;
+pub use crate::packing::{Packing, packings_are_tight};
 
 #[cfg(test)]
 mod tests;

@@ -1,7 +1,7 @@
 ghost use Rattle.std.specs.Prelude.{◌≡◌, ⊤, length, IfOk, MatchOption, Some};
 ghost use Rattle.rdf_values.specs.Tables.{kind_at};
 
-use crate::Columns;
+use crate::{Columns, Packing};
 use clusters::cut;
 use rdf_values::{ColType, Column, IntList, ListOf, Marks, Memory, Name, Table, Value};
 use std::alloc::Global;
@@ -51,9 +51,27 @@ fn gives_the_numbers_of_a_table(rt: HostRuntime) -> Result<(), Fail> {
         panic!(rt; "no name");
     };
     let cuts = cut(rt.alloc(), 2, 1, &Marks::new(rt.alloc()))?;
-    let columns = Columns::build(table, cuts);
-    assert_eq!(rt; columns.ints(0), [10, -3].as_slice());
+    let columns = Columns::build(rt.alloc(), table, cuts)?;
+    assert_eq!(rt; columns.int_at(0, 0), 10);
     assert_eq!(rt; columns.int_at(1, 0), -3);
+    assert_eq!(rt; columns.over(1).int_at(1, 0), -3);
+    Ok(())
+}
+
+#[test]
+fn packs_the_numbers_of_a_cluster(rt: HostRuntime) -> Result<(), Fail> {
+    let Some(table) = ints(rt.alloc())? else {
+        panic!(rt; "no name");
+    };
+    let cuts = cut(rt.alloc(), 2, 2, &Marks::new(rt.alloc()))?;
+    let columns = Columns::build(rt.alloc(), table, cuts)?;
+    let packing = Packing {
+        least: -3,
+        width: 1,
+    };
+    assert_eq!(rt; columns.packing(0, 0), packing);
+    assert_eq!(rt; columns.packed(0, 0), [13, 0].as_slice());
+    assert_eq!(rt; columns.over(0).int_at(0, 0), 10);
     Ok(())
 }
 
@@ -63,7 +81,7 @@ fn gives_the_vectors_of_a_table(rt: HostRuntime) -> Result<(), Fail> {
         panic!(rt; "no name");
     };
     let cuts = cut(rt.alloc(), 2, 1, &Marks::new(rt.alloc()))?;
-    let columns = Columns::build(table, cuts);
+    let columns = Columns::build(rt.alloc(), table, cuts)?;
     assert_eq!(rt; columns.vec_at(0, 0), [3, 4].as_slice());
     assert!(rt; columns.vec_at(1, 0).is_empty());
     Ok(())

@@ -1,26 +1,24 @@
 -- Sums over the rows of a table.
 use Rattle.std.proofs.Common.{◌≡◌, ◌<◌, ◌≤◌, ◌+◌, ℕ, ℤ, pos, zero, suc, ◌+ℤ◌, List, [], ◌∷◌, length, map, drop, fold, Some, get_or, refl, ap, sym, ◌∙◌, arith, add-one}
-use Rattle.std.specs.Prelude.{slice_get}
+use Rattle.std.specs.Prelude.{option_and_then, slice_get}
 use Rattle.std.proofs.Math.ListN.{drop_of_length-le}
-use Rattle.std.proofs.lemmas.Simd.{map-map}
 use Rattle.rdf_values.specs.Fold.{integer_sum}
-use Rattle.rdf_values.specs.Tables.{IsIntColumn, TableView}
+use Rattle.rdf_values.specs.Tables.{TableView}
+use Rattle.rdf_values.specs.declared.value.Value.{Value}
 use Rattle.rdf_values.specs.declared.value.Value.TheVariants as v
 use Rattle.rdf_program.specs.Plan.{sum_over, tally_over}
 use Rattle.rdf_program.specs.Results.{number_at, number_in}
 use Rattle.rdf_program.specs.declared.quantity.Quantity.TheVariants as q
 use Rattle.rdf_program.specs.declared.tally.Tally.{Tally}
 
-numbers_in : (ns : List ℤ) → map number_in (map (λ n. Some (v.Int n)) ns) ≡ ns
-numbers_in [] = refl
-numbers_in (n ∷ ns) = ap (λ t. n ∷ t) (numbers_in ns)
+sum_added : (t : TableView) (i : ℕ) (before sum : ℤ) → before ≡ pos 0 → sum ≡ integer_sum (map (number_at i) t.rows) → sum ≡ fold ◌+ℤ◌ before (map (number_at i) t.rows)
+sum_added t i before sum z e = rw z e
 
--- the numbers of a column
-column_numbers : (t : TableView) (i : ℕ) (ns : List ℤ) → IsIntColumn t i ns → map (number_at i) t.rows ≡ ns
-column_numbers t i ns h = sym (map-map number_in (λ row. slice_get row i) t.rows) ∙ ap (map number_in) h ∙ numbers_in ns
-
-sum_added : (t : TableView) (i : ℕ) (ns : List ℤ) (before sum : ℤ) → IsIntColumn t i ns → before ≡ pos 0 → sum ≡ integer_sum ns → sum ≡ fold ◌+ℤ◌ before (map (number_at i) t.rows)
-sum_added t i ns before sum h z e = rw (z, column_numbers t i ns h) e
+-- the number of an entry
+pub number_here : (rows : List (List Value)) (i e : ℕ) (z : ℤ) → option_and_then (λ row. slice_get row i) (slice_get rows e) ≡ Some (v.Int z) → get_or (map (number_at i) rows) e (pos 0) ≡ z
+number_here [] i e z h = cc h
+number_here (row ∷ rows) i zero z h = ap number_in h
+number_here (row ∷ rows) i (suc e) z h = number_here rows i e z h
 
 -- ---- one more number
 
@@ -38,7 +36,7 @@ number_added ns i d before after lt a h = rw a (rw (numbers_left ns i d lt) at h
 pub all_numbers : (ns : List ℤ) (i : ℕ) (sum : ℤ) → length ns ≤ i → fold ◌+ℤ◌ sum (drop i ns) ≡ integer_sum ns → sum ≡ integer_sum ns
 all_numbers ns i sum le h = rw (drop_of_length-le ns le) at h
 
-pub tally_added : (t : TableView) (tally : Tally) (i : ℕ) (ns : List ℤ) (sum : ℤ) → IsIntColumn t i ns → tally.quantity ≡ q.Sum i → tally.sum ≡ pos 0 → sum ≡ integer_sum ns → record tally { sum = sum } ≡ tally_over t.rows tally
-tally_added t tally i ns sum h asked z e =
-    let whole : sum ≡ sum_over t.rows tally.quantity tally.sum = rw asked (sum_added t i ns tally.sum sum h z e) in
+pub tally_added : (t : TableView) (tally : Tally) (i : ℕ) (sum : ℤ) → tally.quantity ≡ q.Sum i → tally.sum ≡ pos 0 → sum ≡ integer_sum (map (number_at i) t.rows) → record tally { sum = sum } ≡ tally_over t.rows tally
+tally_added t tally i sum asked z e =
+    let whole : sum ≡ sum_over t.rows tally.quantity tally.sum = rw asked (sum_added t i tally.sum sum z e) in
     ap (λ s. record tally { sum = s }) whole

@@ -21,7 +21,7 @@ fn columns_of(alloc: Global, marked: Marked) -> Result<Columns, Memory>
     ensures { IfOk result (λ columns. columns.table ≡ marked.table) }
 {
     let cuts = cut(alloc, marked.table.entries(), CLUSTER_SIZE, &marked.marks)?;
-    Ok(Columns::build(marked.table, cuts))
+    Columns::build(alloc, marked.table, cuts)
 }
 
 // The answer to lines over a table.

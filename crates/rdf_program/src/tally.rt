@@ -1,7 +1,10 @@
 // The results over the entries.
-ghost use Rattle.std.specs.Prelude.{◌≡◌, ◌<◌, ◌≤◌, ◌+◌, ◌^◌, ◌+ℤ◌};
+ghost use Rattle.std.specs.Prelude.{◌≡◌, ◌<◌, ◌≤◌, ◌+◌, ◌^◌, ◌+ℤ◌, Some, map};
 ghost use lib.Signed.{mag};
 ghost use Rattle.rdf_values.specs.Fold.{integer_sum};
+ghost use Rattle.rdf_values.specs.Tables.{kind_at};
+ghost use Rattle.rdf_values.specs.declared.value.ColType.TheVariants as k;
+ghost use Rattle.rdf_program.specs.Results.{number_at};
 
 use crate::quantity::Quantity;
 use columns::Columns;
@@ -24,7 +27,7 @@ impl Tally {
         ensures { self.new ≡ tally_over columns.now.table.rows self.old }
     {
         if let Quantity::Sum(column) = self.quantity {
-            self.sum = sum_of(columns.ints(column));
+            self.sum = sum_of(columns, column);
         }
     }
 }
@@ -37,13 +40,14 @@ fn plus(sum: i128, number: i64) -> i128
     sum + i128::from(number)
 }
 
-// A slice has fewer than 2^60 numbers, so that the sum fits.
-fn sum_of(numbers: &[i64]) -> i128
-    ensures { result ≡ integer_sum numbers.now }
+// A table has at most 1,000,000 entries, so that the sum fits.
+fn sum_of(columns: &Columns, column: u32) -> i128
+    requires { kind_at columns.now.table.columns column ≡ Some k.Int }
+    ensures { result ≡ integer_sum (map (number_at column) columns.now.table.rows) }
 {
     let mut sum = 0;
-    for number in numbers {
-        sum = plus(sum, *number);
+    for entry in 0..columns.entries() {
+        sum = plus(sum, columns.int_at(entry, column));
     }
     sum
 }

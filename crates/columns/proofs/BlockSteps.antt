@@ -1,0 +1,158 @@
+-- Blocks give their numbers back, and one more block.
+use Rattle.std.proofs.Common.{◌≡◌, ◌≤◌, ◌<◌, ◌+◌, ◌-◌, ◌*◌, ◌^◌, ℕ, zero, suc, ℤ, pos, ◌+ℤ◌, ◌-ℤ◌, List, [], ◌∷◌, ◌++◌, length, get_or, drop, take, map, Some, refl, sym, ap, ap₂, ◌∙◌, subst, arith, append_assoc, append-nil, length-append, unsigned_abs, slice_get, All}
+use Rattle.std.proofs.lemmas.List.{drop-append-le, length-drop, take-append-drop, take-append-le, take_all, take_more}
+use Rattle.std.proofs.lemmas.List.Elements.{All-append, All-cons}
+use Rattle.std.proofs.Math.Seq.{drop-append_seam}
+use Rattle.std.specs.Int.RustNames.{FitsSigned}
+use mir.Syntax.{w64, w128}
+use mir.Val.{to_z, of_z}
+use Rattle.std.proofs.lemmas.Int.{ints}
+use native.Mathlib.Nat.{add-mul, mul-le-mul_right}
+use Rattle.std.proofs.lemmas.Option.{slice_get-get_or}
+use Rattle.columns.specs.Packings.{low_bytes, number_in, packed_by, packed_of, packing_of, values_in}
+use Rattle.columns.specs.Blocks.{AreBlocks, IsBlock, block_values}
+use Rattle.columns.specs.Widths.{IsWidth}
+use Rattle.columns.specs.declared.block.Block.{Block}
+use Rattle.columns.specs.declared.packing.Packing.{Packing}
+use Rattle.columns.proofs.Unpacking.{drop_two, length-packed, low_of_eight, packing_fits, packing_width, packing_word, value_at, values_back}
+
+same_least : (b : Block) (p : Packing) → record { least = b.least; width = b.width } ≡ p → b.least ≡ p.least
+same_least b p e = ap (λ (q : Packing). q.least) e
+
+same_width : (b : Block) (p : Packing) → record { least = b.least; width = b.width } ≡ p → b.width ≡ p.width
+same_width b p e = ap (λ (q : Packing). q.width) e
+
+pub block_back : (bytes : List ℕ) (b : Block) (values : List ℤ) → IsBlock bytes b values → block_values bytes b ≡ values
+block_back bytes b values h =
+    let split : packed_of values ++ drop (length (packed_of values)) (drop b.begin bytes) ≡ drop b.begin bytes = subst (λ (l : List ℕ). l ++ drop (length (packed_of values)) (drop b.begin bytes) ≡ drop b.begin bytes) h.kept (take-append-drop (length (packed_of values)) (drop b.begin bytes)) in
+    let back = values_back (packing_of values) values (drop (length (packed_of values)) (drop b.begin bytes)) (packing_width values) (packing_fits values h.words) in
+    rw (same_least b (packing_of values) h.packing, same_width b (packing_of values) h.packing, h.entries, ← split) back
+
+pub blocks_back : (bytes : List ℕ) (bs : List Block) (vs : List (List ℤ)) → AreBlocks bytes bs vs → map (block_values bytes) bs ≡ vs
+blocks_back bytes [] [] h = refl
+blocks_back bytes [] (v ∷ vs) h = absurd h
+blocks_back bytes (b ∷ bs) [] h = absurd h
+blocks_back bytes (b ∷ bs) (v ∷ vs) h = ap₂ (λ x xs. x ∷ xs) (block_back bytes b v h.0) (blocks_back bytes bs vs h.1)
+
+pub blocks_hold : (bytes : List ℕ) (bs : List Block) (vs : List (List ℤ)) → AreBlocks bytes bs vs → AreBlocks bytes bs (map (block_values bytes) bs)
+blocks_hold bytes bs vs h = rw (blocks_back bytes bs vs h) h
+
+-- ---- one more
+
+still : (bytes more : List ℕ) (b : Block) (values : List ℤ) → IsBlock bytes b values → IsBlock (bytes ++ more) b values
+still bytes more b values h =
+    let inside = h.inside in
+    let begins : b.begin ≤ length bytes = omega (arith, inside) in
+    let wide : length (packed_of values) ≤ length (drop b.begin bytes) = omega (arith, inside, length-drop b.begin bytes) in
+    record {
+      entries = h.entries;
+      packing = h.packing;
+      inside = omega (arith, inside, length-append bytes more);
+      kept = rw (drop-append-le b.begin bytes more begins, take-append-le (length (packed_of values)) (drop b.begin bytes) more wide) h.kept;
+      words = h.words;
+    }
+
+grown : (bytes more : List ℕ) (bs : List Block) (vs : List (List ℤ)) → AreBlocks bytes bs vs → AreBlocks (bytes ++ more) bs vs
+grown bytes more [] [] h = h
+grown bytes more [] (v ∷ vs) h = h
+grown bytes more (b ∷ bs) [] h = h
+grown bytes more (b ∷ bs) (v ∷ vs) h = (still bytes more b v h.0, grown bytes more bs vs h.1)
+
+one_more : (bytes : List ℕ) (bs : List Block) (vs : List (List ℤ)) (b : Block) (v : List ℤ) → AreBlocks bytes bs vs → IsBlock bytes b v → AreBlocks bytes (bs ++ b ∷ []) (vs ++ v ∷ [])
+one_more bytes [] [] b v h k = (k, tt)
+one_more bytes [] (w ∷ ws) b v h k = absurd h
+one_more bytes (c ∷ cs) [] b v h k = absurd h
+one_more bytes (c ∷ cs) (w ∷ ws) b v h k = (h.0, one_more bytes cs ws b v h.1 k)
+
+pub block_more : (bytes new : List ℕ) (bs : List Block) (vs : List (List ℤ)) (b : Block) (v : List ℤ) → AreBlocks bytes bs vs → new ≡ bytes ++ packed_of v → IsBlock new b v → AreBlocks new (bs ++ b ∷ []) (vs ++ v ∷ [])
+block_more bytes new bs vs b v h e k = one_more new bs vs b v (rw e (grown bytes (packed_of v) bs vs h)) k
+
+-- a block whose bytes were just appended
+pub block_made : (bytes new : List ℕ) (b : Block) (values : List ℤ) → new ≡ bytes ++ packed_of values → b.begin ≡ length bytes → b.entries ≡ length values → record { least = b.least; width = b.width } ≡ packing_of values
+    → All (FitsSigned w64) values → IsBlock new b values
+block_made bytes new b values e at many p words = record {
+  entries = many;
+  packing = p;
+  inside = rw e (omega (arith, at, length-append bytes (packed_of values)));
+  kept = rw (e, at) (ap (take (length (packed_of values))) (drop-append_seam bytes (packed_of values)) ∙ take_all (length (packed_of values)) (packed_of values) (omega arith));
+  words = words;
+}
+
+-- ---- one number
+
+pub block_at : (bytes : List ℕ) (bs : List Block) (vs : List (List ℤ)) (c : ℕ) (d : Block) → AreBlocks bytes bs vs → c < length vs → IsBlock bytes (get_or bs c d) (get_or vs c [])
+block_at bytes [] [] c d h l = absurd (omega (arith, l))
+block_at bytes [] (v ∷ vs) c d h l = absurd h
+block_at bytes (b ∷ bs) [] c d h l = absurd h
+block_at bytes (b ∷ bs) (v ∷ vs) zero d h l = h.0
+block_at bytes (b ∷ bs) (v ∷ vs) (suc c) d h l = block_at bytes bs vs c d h.1 (omega (arith, l))
+
+pub block_width : (bytes : List ℕ) (b : Block) (values : List ℤ) → IsBlock bytes b values → IsWidth b.width
+block_width bytes b values h = rw (same_width b (packing_of values) h.packing) (packing_width values)
+
+pub block_inside : (bytes : List ℕ) (b : Block) (values : List ℤ) (i : ℕ) → IsBlock bytes b values → i < length values → b.begin + i * b.width + b.width ≤ length bytes
+block_inside bytes b values i h l =
+    let inside = h.inside in
+    let long = length-packed (packing_of values) values (packing_width values) in
+    let same = same_width b (packing_of values) h.packing in
+    let low : (i + 1) * b.width ≤ length values * b.width = (let step : i + 1 ≤ length values = omega (arith, l) in mul-le-mul_right b.width step) in
+    let step : (i + 1) * b.width ≡ i * b.width + b.width = omega (arith, add-mul i 1 b.width) in
+    let all : length values * b.width ≡ length values * (packing_of values).width = ap (λ (w : ℕ). length values * w) same in
+    omega (arith, inside, long, low, step, all)
+
+pub block_value : (bytes : List ℕ) (b : Block) (values : List ℤ) (i : ℕ) → IsBlock bytes b values → i < length values → slice_get values i ≡ Some (b.least +ℤ pos (number_in b.width (drop (b.begin + i * b.width) bytes)))
+block_value bytes b values i h l =
+    let back = block_back bytes b values h in
+    let n = h.entries in
+    subst (λ (vs : List ℤ). slice_get vs i ≡ Some (b.least +ℤ pos (number_in b.width (drop (b.begin + i * b.width) bytes)))) back
+    (value_at b.least b.width b.entries (drop b.begin bytes) i (omega (arith, l, n)) ∙ ap (λ xs. Some (b.least +ℤ pos (number_in b.width xs))) (drop_two bytes b.begin (i * b.width)))
+
+-- ---- what the functions ask
+
+pub found_block : (bs : List Block) (c : ℕ) (b : Block) → b ≡ get_or bs c b → get_or bs c b ≡ b
+found_block bs c b e = sym e
+
+pub block_of : (bytes : List ℕ) (bs : List Block) (c : ℕ) (b : Block) → AreBlocks bytes bs (map (block_values bytes) bs) → c < length (map (block_values bytes) bs) → b ≡ get_or bs c b → IsBlock bytes b (get_or (map (block_values bytes) bs) c [])
+block_of bytes bs c b h l e = subst (λ (x : Block). IsBlock bytes x (get_or (map (block_values bytes) bs) c [])) (sym e) (block_at bytes bs (map (block_values bytes) bs) c b h l)
+
+pub block_size : (bytes : List ℕ) (b : Block) (values : List ℤ) → IsBlock bytes b values → b.entries * b.width ≡ length (packed_of values)
+block_size bytes b values h =
+    let same = same_width b (packing_of values) h.packing in
+    ap₂ (λ (m n : ℕ). m * n) h.entries same ∙ sym (length-packed (packing_of values) values (packing_width values))
+
+pub block_bytes : (bytes : List ℕ) (b : Block) (values : List ℤ) → IsBlock bytes b values → take (b.begin + b.entries * b.width - b.begin) (drop b.begin bytes) ≡ packed_of values
+block_bytes bytes b values h =
+    let size = block_size bytes b values h in
+    let same : b.begin + b.entries * b.width - b.begin ≡ length (packed_of values) = omega (arith, size) in
+    ap (λ (n : ℕ). take n (drop b.begin bytes)) same ∙ h.kept
+
+pub block_word : (bytes : List ℕ) (b : Block) (values : List ℤ) (i : ℕ) → IsBlock bytes b values → i < length values → FitsSigned w64 (b.least +ℤ pos (number_in b.width (drop (b.begin + i * b.width) bytes)))
+block_word bytes b values i h l =
+    let at = block_value bytes b values i h l in
+    let found : get_or values i (pos 0) ≡ b.least +ℤ pos (number_in b.width (drop (b.begin + i * b.width) bytes)) = cc (sym (slice_get-get_or values i (pos 0) l) ∙ at) in
+    subst (FitsSigned w64) found (h.words i (pos 0) l)
+
+pub block_least : (bytes : List ℕ) (b : Block) (values : List ℤ) → IsBlock bytes b values → FitsSigned w64 b.least
+block_least bytes b values h = rw (same_least b (packing_of values) h.packing) (packing_word values h.words)
+
+-- a sum in 128 bits that has 64
+pub cast_back : (a : ℤ) (d : ℕ) (f g : ℤ) → f ≡ a → g ≡ pos d → FitsSigned w64 a → d < 2 ^ 64 → to_z w128 (of_z w128 (to_z w128 (of_z w128 f) +ℤ to_z w128 (of_z w128 g))) ≡ a +ℤ pos d
+cast_back a d f g e h k l = rw (e, h) (omega (arith, ints))
+
+-- ---- bytes that are appended
+
+packed_more : (p : Packing) (zs : List ℤ) (z : ℤ) → packed_by p (zs ++ z ∷ []) ≡ packed_by p zs ++ low_bytes p.width (unsigned_abs (z -ℤ p.least))
+packed_more p [] z = append-nil (low_bytes p.width (unsigned_abs (z -ℤ p.least)))
+packed_more p (x ∷ xs) z = ap (λ l. low_bytes p.width (unsigned_abs (x -ℤ p.least)) ++ l) (packed_more p xs z) ∙ sym (append_assoc (low_bytes p.width (unsigned_abs (x -ℤ p.least))) (packed_by p xs) (low_bytes p.width (unsigned_abs (z -ℤ p.least))))
+
+pub pack_step : (begin old new low : List ℕ) (p : Packing) (values : List ℤ) (i d : ℕ) → i < length values → old ≡ begin ++ packed_by p (take i values) → new ≡ old ++ take p.width low → low ≡ low_bytes 8 d
+    → d ≡ unsigned_abs (get_or values i (pos 0) -ℤ p.least) → IsWidth p.width → new ≡ begin ++ packed_by p (take (i + 1) values)
+pack_step begin old new low p values i d h o e l q w =
+    let z = get_or values i (pos 0) in
+    let last : take p.width low ≡ low_bytes p.width (unsigned_abs (z -ℤ p.least)) = ap (take p.width) l ∙ low_of_eight p.width d w ∙ ap (low_bytes p.width) q in
+    let next : take (i + 1) values ≡ take i values ++ z ∷ [] = take_more values i (pos 0) h in
+    e ∙ ap₂ (λ a b. a ++ b) o last ∙ append_assoc begin (packed_by p (take i values)) (low_bytes p.width (unsigned_abs (z -ℤ p.least))) ∙ ap (λ b. begin ++ b) (sym (packed_more p (take i values) z) ∙ ap (packed_by p) (sym next))
+
+pub words_step : (values : List ℤ) (i : ℕ) → i < length values → All (FitsSigned w64) (take i values) → FitsSigned w64 (get_or values i (pos 0)) → All (FitsSigned w64) (take (i + 1) values)
+words_step values i h all one =
+    rw (take_more values i (pos 0) h) (All-append (FitsSigned w64) (take i values) (get_or values i (pos 0) ∷ []) all (All-cons (FitsSigned w64) (get_or values i (pos 0)) [] one (λ k d l. absurd (omega (arith, l)))))

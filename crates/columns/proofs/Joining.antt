@@ -1,0 +1,83 @@
+-- The numbers of the clusters are those of the column.
+use Rattle.std.proofs.Common.{◌≡◌, ◌≤◌, ◌<◌, ◌+◌, ◌-◌, ℕ, zero, suc, ℤ, List, [], ◌∷◌, ◌++◌, length, get_or, drop, take, map, None, Some, Option, refl, sym, ap, ap₂, ◌∙◌, subst, arith, slice_get}
+use Rattle.std.proofs.lemmas.List.{length-drop, take_all}
+use Rattle.rdf_values.specs.Cuts.{Lead, cut}
+use Rattle.rdf_values.specs.declared.span.Span.{Span}
+use Rattle.rdf_values.proofs.Leading.{cuts_lead}
+use Rattle.columns.specs.Blocks.{cluster_values}
+use Rattle.columns.specs.KeptColumns.{joined}
+
+drop_none : (k : ℕ) → drop {A = ℤ} k [] ≡ []
+drop_none zero = refl
+drop_none (suc k) = refl
+
+pub drop_again : (xs : List ℤ) (m n : ℕ) → drop n (drop m xs) ≡ drop (m + n) xs
+drop_again xs zero n = let e : n ≡ 0 + n = omega arith in ap (λ (k : ℕ). drop k xs) e
+drop_again [] (suc m) n = drop_none n ∙ sym (drop_none (suc m + n))
+drop_again (x ∷ xs) (suc m) n = let e : suc m + n ≡ suc (m + n) = omega arith in drop_again xs m n ∙ ap (λ (k : ℕ). drop k (x ∷ xs)) (sym e)
+
+take_none : (k : ℕ) → take {A = ℤ} k [] ≡ []
+take_none zero = refl
+take_none (suc k) = refl
+
+take_two : (xs : List ℤ) (a b : ℕ) → take a xs ++ take b (drop a xs) ≡ take (a + b) xs
+take_two xs zero b = let e : b ≡ 0 + b = omega arith in ap (λ (k : ℕ). take k xs) e
+take_two [] (suc a) b = ap (take b) (drop_none (suc a)) ∙ take_none b ∙ sym (take_none (suc a + b))
+take_two (x ∷ xs) (suc a) b = let e : suc a + b ≡ suc (a + b) = omega arith in ap (λ l. x ∷ l) (take_two xs a b) ∙ ap (λ (k : ℕ). take k (x ∷ xs)) (sym e)
+
+-- a range of a list that leads
+ends_after : (spans : List Span) (lo hi : ℕ) → Lead lo hi spans → lo ≤ hi
+ends_after [] lo hi h = omega (arith, h)
+ends_after (s ∷ ss) lo hi h = let more = ends_after ss s.hi hi h.2 in let some = h.1 in omega (arith, more, some)
+
+pub span_within : (spans : List Span) (lo hi c : ℕ) (s : Span) → Lead lo hi spans → slice_get spans c ≡ Some s → (lo ≤ s.lo) × (s.lo < s.hi) × (s.hi ≤ hi)
+span_within [] lo hi c s h e = cc e
+span_within (x ∷ xs) lo hi zero s h e =
+    let same : x ≡ s = cc e in
+    let more = ends_after xs x.hi hi h.2 in
+    let at = h.0 in
+    let some = h.1 in
+    rw (← same) (omega (arith, at), omega (arith, at, some), more)
+span_within (x ∷ xs) lo hi (suc c) s h e =
+    let more = span_within xs x.hi hi c s h.2 e in
+    let some = h.1 in
+    let low = more.0 in
+    (omega (arith, some, low), more.1, more.2)
+
+joined_from : (spans : List Span) (numbers : List ℤ) (lo hi : ℕ) → Lead lo hi spans → joined (cluster_values spans numbers) ≡ take (hi - lo) (drop lo numbers)
+joined_from [] numbers lo hi h = let none : 0 ≡ hi - lo = omega (arith, h) in ap (λ (k : ℕ). take k (drop lo numbers)) none
+joined_from (s ∷ ss) numbers lo hi h =
+    let more = joined_from ss numbers s.hi hi h.2 in
+    let after = ends_after ss s.hi hi h.2 in
+    let some = h.1 in
+    let at = h.0 in
+    let wide : s.hi - lo + (hi - s.hi) ≡ hi - lo = omega (arith, after, some) in
+    let on : lo + (s.hi - lo) ≡ s.hi = omega (arith, some) in
+    ap (λ (a : ℕ). take (s.hi - a) (drop a numbers) ++ joined (cluster_values ss numbers)) at
+    ∙ ap (λ l. take (s.hi - lo) (drop lo numbers) ++ l) (more ∙ ap (take (hi - s.hi)) (ap (λ (k : ℕ). drop k numbers) (sym on) ∙ sym (drop_again numbers lo (s.hi - lo))))
+    ∙ take_two (drop lo numbers) (s.hi - lo) (hi - s.hi) ∙ ap (λ (k : ℕ). take k (drop lo numbers)) wide
+
+pub joined_back : (n size : ℕ) (marks : List ℕ) (numbers : List ℤ) → length numbers ≡ n → joined (cluster_values (cut n size marks) numbers) ≡ numbers
+joined_back n size marks numbers l = joined_from (cut n size marks) numbers 0 n (cuts_lead n size marks) ∙ take_all (n - 0) numbers (omega (arith, l))
+
+-- so numbers that were packed are kept by cluster
+pub packed_is_by : (n size : ℕ) (marks : List ℕ) (numbers : List ℤ) (values : List (List ℤ)) → length numbers ≡ n → values ≡ cluster_values (cut n size marks) numbers
+    → (joined values ≡ numbers) × (values ≡ cluster_values (cut n size marks) (joined values))
+packed_is_by n size marks numbers values l e =
+    let back : joined values ≡ numbers = ap joined e ∙ joined_back n size marks numbers l in
+    (back, e ∙ ap (cluster_values (cut n size marks)) (sym back))
+
+-- ---- one cluster, one number
+
+pub take_next_of : (xs : List (List ℤ)) (i : ℕ) (x : List ℤ) → slice_get xs i ≡ Some x → take (i + 1) xs ≡ take i xs ++ x ∷ []
+take_next_of xs i x e = let one : suc i ≡ i + 1 = omega arith in ap (λ (k : ℕ). take k xs) (sym one) ∙ go xs i e
+  where
+    go : (ys : List (List ℤ)) (k : ℕ) → slice_get ys k ≡ Some x → take (suc k) ys ≡ take k ys ++ x ∷ []
+    go [] k e = cc e
+    go (y ∷ ys) zero e = let same : y ≡ x = cc e in ap (λ z. z ∷ []) same
+    go (y ∷ ys) (suc k) e = ap (λ l. y ∷ l) (go ys k e)
+
+pub values_of_cluster : (spans : List Span) (numbers : List ℤ) (c : ℕ) (s : Span) → slice_get spans c ≡ Some s → slice_get (cluster_values spans numbers) c ≡ Some (take (s.hi - s.lo) (drop s.lo numbers))
+values_of_cluster [] numbers c s e = cc e
+values_of_cluster (x ∷ xs) numbers zero s e = let same : x ≡ s = cc e in rw same refl
+values_of_cluster (x ∷ xs) numbers (suc c) s e = values_of_cluster xs numbers c s e

@@ -1,0 +1,135 @@
+-- What is kept gives the table's columns.
+use Rattle.std.proofs.Common.{◌≡◌, ◌≤◌, ◌<◌, ◌-◌, ◌+◌, ℕ, zero, suc, ℤ, List, [], ◌∷◌, ◌++◌, append_assoc, length, get_or, drop, take, map, Some, refl, sym, ap, ap₂, ◌∙◌, subst, arith, slice_get}
+use Rattle.std.specs.List.{AllByRecursion}
+use Rattle.std.proofs.lemmas.List.{length-drop, length-map, length-take}
+use Rattle.std.proofs.lemmas.Option.{slice_get-get_or, slice_get-map, slice_get_within}
+use Rattle.rdf_values.specs.Kept.{AreKept, HoldsTable, Keep, count, rows_kept}
+use Rattle.rdf_values.specs.declared.cells.Cells.{Cells}
+use Rattle.rdf_values.specs.Cuts.{cut}
+use Rattle.rdf_values.proofs.Leading.{cuts_lead}
+use Rattle.clusters.specs.Ranges.{Holds}
+use Rattle.rdf_values.specs.Tables.{IsIntColumn, TableView, kind_at}
+use Rattle.rdf_values.specs.declared.cells.Cells.TheVariants as cells
+use Rattle.rdf_values.specs.declared.column.Column.{Column}
+use Rattle.rdf_values.specs.declared.span.Span.{Span}
+use Rattle.rdf_values.specs.declared.value.ColType.{ColType}
+use Rattle.rdf_values.specs.declared.value.ColType.TheVariants as k
+use Rattle.rdf_values.specs.declared.value.Value.TheVariants as v
+use Rattle.rdf_values.proofs.KeptLemmas.{ints_column, kept_within, no_ints, no_vects, vects_column}
+use Rattle.columns.specs.Blocks.{cluster_values}
+use Rattle.columns.specs.KeptColumns.{IsByCluster, cells_of, joined}
+use Rattle.columns.specs.declared.kept.Kept.{Kept}
+use Rattle.columns.specs.declared.kept.Kept.TheVariants as kept
+use Rattle.columns.proofs.Joining.{span_within, values_of_cluster}
+
+pub col_within : (columns : List Column) (all : List Kept) (n col : ℕ) (kind : ColType) → AreKept n columns (map cells_of all) → kind_at columns col ≡ Some kind → col < length all
+col_within columns all n col kind h e = let l = kept_within columns (map cells_of all) n col kind h e in omega (arith, l, length-map all cells_of)
+
+found : (columns : List Column) (all : List Kept) (n col : ℕ) (kind : ColType) (x : Kept) → AreKept n columns (map cells_of all) → kind_at columns col ≡ Some kind → x ≡ get_or all col x → slice_get (map cells_of all) col ≡ Some (cells_of x)
+found columns all n col kind x h e q =
+    let there : slice_get all col ≡ Some x = slice_get-get_or all col x (col_within columns all n col kind h e) ∙ ap Some (sym q) in
+    slice_get-map cells_of all col ∙ rw there refl
+
+pub ints_found : (columns : List Column) (all : List Kept) (n col : ℕ) (x : Kept) (values : List (List ℤ)) → AreKept n columns (map cells_of all) → kind_at columns col ≡ Some k.Int → x ≡ get_or all col x → x ≡ kept.Ints values
+    → map (λ row. slice_get row col) (rows_kept n (map cells_of all)) ≡ map (λ z. Some (v.Int z)) (joined values)
+ints_found columns all n col x values h e q i = ints_column columns (map cells_of all) n col (cells_of x) (joined values) h e (found columns all n col k.Int x h e q) (ap cells_of i)
+
+pub vects_found : (columns : List Column) (all : List Kept) (n col : ℕ) (x : Kept) (vectors : List (List ℤ)) → AreKept n columns (map cells_of all) → kind_at columns col ≡ Some k.Vect → x ≡ get_or all col x → x ≡ kept.Vects vectors
+    → map (λ row. slice_get row col) (rows_kept n (map cells_of all)) ≡ map (λ zs. Some (v.Vect zs)) vectors
+vects_found columns all n col x vectors h e q i = vects_column columns (map cells_of all) n col (cells_of x) vectors h e (found columns all n col k.Vect x h e q) (ap cells_of i)
+
+pub not_vects : (columns : List Column) (all : List Kept) (n col : ℕ) (x : Kept) (vectors : List (List ℤ)) → AreKept n columns (map cells_of all) → kind_at columns col ≡ Some k.Int → x ≡ get_or all col x → x ≡ kept.Vects vectors → ⊥
+not_vects columns all n col x vectors h e q i = no_vects columns (map cells_of all) n col (cells_of x) vectors h e (found columns all n col k.Int x h e q) (ap cells_of i)
+
+pub not_ints : (columns : List Column) (all : List Kept) (n col : ℕ) (x : Kept) (values : List (List ℤ)) → AreKept n columns (map cells_of all) → kind_at columns col ≡ Some k.Vect → x ≡ get_or all col x → x ≡ kept.Ints values → ⊥
+not_ints columns all n col x values h e q i = no_ints columns (map cells_of all) n col (cells_of x) (joined values) h e (found columns all n col k.Vect x h e q) (ap cells_of i)
+
+at_by : (P : Kept → Type 0) (all : List Kept) (col : ℕ) (d : Kept) → AllByRecursion P all → col < length all → P (get_or all col d)
+at_by P [] col d h l = absurd (omega (arith, l))
+at_by P (x ∷ xs) zero d h l = h.0
+at_by P (x ∷ xs) (suc col) d h l = at_by P xs col d h.1 (omega (arith, l))
+
+pub by_cluster : (columns : List Column) (all : List Kept) (n col : ℕ) (x : Kept) (values : List (List ℤ)) (spans : List Span) → AreKept n columns (map cells_of all) → kind_at columns col ≡ Some k.Int → x ≡ get_or all col x → x ≡ kept.Ints values
+    → AllByRecursion (IsByCluster spans) all → values ≡ cluster_values spans (joined values)
+by_cluster columns all n col x values spans h e q i a =
+    let here = at_by (IsByCluster spans) all col x a (col_within columns all n col k.Int h e) in
+    let same : get_or all col x ≡ kept.Ints values = sym q ∙ i in
+    rw same at here
+
+-- ---- one number
+
+get_of : (xs : List (List ℤ)) (c : ℕ) (x : List ℤ) → slice_get xs c ≡ Some x → get_or xs c [] ≡ x
+get_of [] c x h = cc h
+get_of (y ∷ ys) zero x h = let same : y ≡ x = cc h in same
+get_of (y ∷ ys) (suc c) x h = get_of ys c x h
+
+pub cluster_at : (spans : List Span) (numbers : List ℤ) (c : ℕ) (s : Span) → slice_get spans c ≡ Some s → get_or (cluster_values spans numbers) c [] ≡ take (s.hi - s.lo) (drop s.lo numbers)
+cluster_at spans numbers c s h = get_of (cluster_values spans numbers) c _ (values_of_cluster spans numbers c s h)
+
+pub cluster_there : (spans : List Span) (numbers : List ℤ) (c : ℕ) (s : Span) → slice_get spans c ≡ Some s → c < length (cluster_values spans numbers)
+cluster_there spans numbers c s h = slice_get_within (cluster_values spans numbers) c _ (values_of_cluster spans numbers c s h)
+
+get_taken : (xs : List ℤ) (n i : ℕ) → i < n → slice_get (take n xs) i ≡ slice_get xs i
+get_taken [] zero i l = refl
+get_taken [] (suc n) i l = refl
+get_taken (x ∷ xs) zero i l = absurd (omega (arith, l))
+get_taken (x ∷ xs) (suc n) zero l = refl
+get_taken (x ∷ xs) (suc n) (suc i) l = get_taken xs n i (omega (arith, l))
+
+get_dropped : (xs : List ℤ) (n i : ℕ) → slice_get (drop n xs) i ≡ slice_get xs (n + i)
+get_dropped xs zero i = let e : i ≡ 0 + i = omega arith in ap (λ (k : ℕ). slice_get xs k) e
+get_dropped [] (suc n) i = let e : suc n + i ≡ suc (n + i) = omega arith in sym (ap (λ (k : ℕ). slice_get [] k) e)
+get_dropped (x ∷ xs) (suc n) i = let e : suc n + i ≡ suc (n + i) = omega arith in get_dropped xs n i ∙ sym (ap (λ (k : ℕ). slice_get (x ∷ xs) k) e)
+
+pub number_here : (numbers : List ℤ) (s : Span) (entry : ℕ) → s.lo ≤ entry → entry < s.hi → slice_get (take (s.hi - s.lo) (drop s.lo numbers)) (entry - s.lo) ≡ slice_get numbers entry
+number_here numbers s entry from below =
+    let e : s.lo + (entry - s.lo) ≡ entry = omega (arith, from) in
+    get_taken (drop s.lo numbers) (s.hi - s.lo) (entry - s.lo) (omega (arith, from, below)) ∙ get_dropped numbers s.lo (entry - s.lo) ∙ ap (λ (k : ℕ). slice_get numbers k) e
+
+pub place_here : (numbers : List ℤ) (s : Span) (entry : ℕ) → s.lo ≤ entry → entry < s.hi → s.hi ≤ length numbers → entry - s.lo < length (take (s.hi - s.lo) (drop s.lo numbers))
+place_here numbers s entry from below few = omega (arith, from, below, few, length-take (s.hi - s.lo) (drop s.lo numbers), length-drop s.lo numbers)
+
+pub slice_some : (numbers : List ℤ) (lo hi : ℕ) → lo < hi → hi ≤ length numbers → 0 < length (take (hi - lo) (drop lo numbers))
+slice_some numbers lo hi some few = omega (arith, some, few, length-take (hi - lo) (drop lo numbers), length-drop lo numbers)
+
+pub entry_here : (n size : ℕ) (marks : List ℕ) (numbers : List ℤ) (values : List (List ℤ)) (entry c : ℕ) (s : Span) → values ≡ cluster_values (cut n size marks) numbers → length numbers ≡ n → Holds (cut n size marks) entry c
+    → slice_get (cut n size marks) c ≡ Some s → (c < length values) × (s.lo ≤ entry) × (entry - s.lo < length (get_or values c [])) × (slice_get (get_or values c []) (entry - s.lo) ≡ slice_get numbers entry)
+entry_here n size marks numbers values entry c s e l held at =
+    let spans = cut n size marks in
+    let same : held.range ≡ s = cc (sym held.stands ∙ at) in
+    let lo : held.range.lo ≡ s.lo = ap (λ (x : Span). x.lo) same in
+    let hi : held.range.hi ≡ s.hi = ap (λ (x : Span). x.hi) same in
+    let hf = held.from in
+    let hb = held.below in
+    let from : s.lo ≤ entry = omega (arith, hf, lo) in
+    let below : entry < s.hi = omega (arith, hb, hi) in
+    let within = span_within spans 0 n c s (cuts_lead n size marks) at in
+    let top = within.2 in
+    let few : s.hi ≤ length numbers = omega (arith, top, l) in
+    rw (e, cluster_at spans numbers c s at) (cluster_there spans numbers c s at, from, place_here numbers s entry from below few, number_here numbers s entry from below)
+
+one_list : (xs ys : List ℤ) → map (λ z. Some (v.Int z)) xs ≡ map (λ z. Some (v.Int z)) ys → xs ≡ ys
+one_list [] [] h = refl
+one_list [] (y ∷ ys) h = cc h
+one_list (x ∷ xs) [] h = cc h
+one_list (x ∷ xs) (y ∷ ys) h =
+    let first : x ≡ y = cc h in
+    let rest : map (λ z. Some (v.Int z)) xs ≡ map (λ z. Some (v.Int z)) ys = cc h in
+    ap₂ (λ a b. a ∷ b) first (one_list xs ys rest)
+
+pub cluster_numbers : (table : TableView) (col : ℕ) (spans : List Span) (values : List (List ℤ)) (numbers : List ℤ) (c : ℕ) (s : Span) → IsIntColumn table col (joined values) → IsIntColumn table col numbers
+    → values ≡ cluster_values spans (joined values) → slice_get spans c ≡ Some s → get_or values c [] ≡ take (s.hi - s.lo) (drop s.lo numbers)
+cluster_numbers table col spans values numbers c s h k e at =
+    let same = one_list (joined values) numbers (sym h ∙ k) in
+    ap (λ (vs : List (List ℤ)). get_or vs c []) (e ∙ ap (cluster_values spans) same) ∙ cluster_at spans numbers c s at
+
+-- each of the columns that are taken in turn keeps so many values
+pub keep_next : (n : ℕ) (taken : List Cells) (x : Cells) (rest all : List Cells) → Keep n all → all ≡ taken ++ x ∷ rest → count x ≡ n
+keep_next n taken x rest all h e = go taken (rw e at h)
+  where
+    go : (ys : List Cells) → Keep n (ys ++ x ∷ rest) → count x ≡ n
+    go [] k = k.0
+    go (y ∷ ys) k = go ys k.1
+
+pub taken_next : (taken : List Cells) (x : Cells) (left rest all : List Cells) → all ≡ taken ++ left → left ≡ x ∷ rest → all ≡ (taken ++ x ∷ []) ++ rest
+taken_next taken x left rest all h e = h ∙ ap (λ l. taken ++ l) e ∙ sym (append_assoc taken (x ∷ []) rest)

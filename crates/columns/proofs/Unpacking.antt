@@ -1,0 +1,218 @@
+-- Packed bytes give their numbers back.
+use Rattle.std.proofs.Common.{◌≡◌, ◌≢◌, ◌≤◌, ◌<◌, ◌+◌, ◌*◌, ◌%◌, ◌^◌, ℕ, zero, suc, ℤ, pos, ◌+ℤ◌, ◌-ℤ◌, ◌≤ℤ◌, Bool, true, false, List, [], ◌∷◌, ◌++◌, length, get_or, drop, take, Some, refl, sym, ap, ap₂, ◌∙◌, ◌⊎◌, inl, inr, subst, arith, append_assoc, length-append, unsigned_abs, slice_get, if◌then◌else◌, nat_lt, nat_eq, All, flat_map}
+use Rattle.std.specs.Int.{int_max, int_min}
+use Rattle.std.specs.Int.RustNames.{FitsSigned}
+use Rattle.std.specs.List.{AllByRecursion}
+use mir.Syntax.{w64}
+use Rattle.std.proofs.lemmas.Int.{clamps, ints}
+use Rattle.std.proofs.lemmas.Bool.Decides.{nat_tests}
+use Rattle.std.proofs.lemmas.List.Elements.{All-from_recursion, All-head, All-tail, recursion_from_All}
+use Rattle.std.proofs.lemmas.Nat.{from_le_bytes-to_le_bytes_2, from_le_bytes-to_le_bytes_4, from_le_bytes-to_le_bytes_8}
+use native.Mathlib.Nat.{add-mul}
+use Rattle.columns.specs.Packings.{greatest_from, least_from, low_bytes, number_in, packed_by, packing_of, values_in, width_of}
+use Rattle.columns.specs.Widths.{IsWidth}
+use Rattle.columns.specs.declared.packing.Packing.{Packing}
+
+-- ---- widths
+
+abbrev OneOf : ℕ → Type 0
+OneOf w = (w ≡ 0) ⊎ (w ≡ 1) ⊎ (w ≡ 2) ⊎ (w ≡ 4) ⊎ (w ≡ 8)
+
+pub width_is : (n : ℕ) → IsWidth (width_of n)
+width_is n = record { one_of = go (nat_eq n 0) (nat_lt n 256) (nat_lt n 65536) (nat_lt n 4294967296) }
+  where
+    go : (a b c d : Bool) → OneOf (if a then 0 else if b then 1 else if c then 2 else if d then 4 else 8)
+    go true b c d = inl refl
+    go false true c d = inr (inl refl)
+    go false false true d = inr (inr (inl refl))
+    go false false false true = inr (inr (inr (inl refl)))
+    go false false false false = inr (inr (inr (inr refl)))
+
+-- a number below 2 ^ 64 fits its width
+pub fits_width : (n : ℕ) → n < 2 ^ 64 → n < 256 ^ width_of n
+fits_width n h = go (nat_eq n 0) (nat_lt n 256) (nat_lt n 65536) (nat_lt n 4294967296) refl refl refl refl
+  where
+    go : (a b c d : Bool) → nat_eq n 0 ≡ a → nat_lt n 256 ≡ b → nat_lt n 65536 ≡ c → nat_lt n 4294967296 ≡ d → n < 256 ^ (if a then 0 else if b then 1 else if c then 2 else if d then 4 else 8)
+    go true b c d p q r s = grind (arith, nat_tests)
+    go false true c d p q r s = grind (arith, nat_tests)
+    go false false true d p q r s = grind (arith, nat_tests)
+    go false false false true p q r s = grind (arith, nat_tests)
+    go false false false false p q r s = omega arith
+
+-- ---- one number
+
+length_by : (w n : ℕ) → OneOf w → length (low_bytes w n) ≡ w
+length_by w n (inl h) = rw h refl
+length_by w n (inr (inl h)) = rw h refl
+length_by w n (inr (inr (inl h))) = rw h refl
+length_by w n (inr (inr (inr (inl h)))) = rw h refl
+length_by w n (inr (inr (inr (inr h)))) = rw h refl
+
+pub length-low_bytes : (w n : ℕ) → IsWidth w → length (low_bytes w n) ≡ w
+length-low_bytes w n h = length_by w n h.one_of
+
+low_by : (w n : ℕ) → OneOf w → take w (low_bytes 8 n) ≡ low_bytes w n
+low_by w n (inl h) = rw h refl
+low_by w n (inr (inl h)) = rw h refl
+low_by w n (inr (inr (inl h))) = rw h refl
+low_by w n (inr (inr (inr (inl h)))) = rw h refl
+low_by w n (inr (inr (inr (inr h)))) = rw h refl
+
+pub low_of_eight : (w n : ℕ) → IsWidth w → take w (low_bytes 8 n) ≡ low_bytes w n
+low_of_eight w n h = low_by w n h.one_of
+
+pub width_few : (w : ℕ) → IsWidth w → w ≤ 8
+width_few w h = go h.one_of
+  where
+    go : OneOf w → w ≤ 8
+    go (inl h) = omega (arith, h)
+    go (inr (inl h)) = omega (arith, h)
+    go (inr (inr (inl h))) = omega (arith, h)
+    go (inr (inr (inr (inl h)))) = omega (arith, h)
+    go (inr (inr (inr (inr h)))) = omega (arith, h)
+
+back_0 : (n : ℕ) (more : List ℕ) → n < 256 ^ 0 → number_in 0 (low_bytes 0 n ++ more) ≡ n
+back_0 n more h = omega arith
+
+mod_small : (n : ℕ) → n < 256 → n % 256 ≡ n
+mod_small n h = omega arith
+
+back_1 : (n : ℕ) (more : List ℕ) → n < 256 ^ 1 → number_in 1 (low_bytes 1 n ++ more) ≡ n
+back_1 n more h = let small : n < 256 = omega arith in mod_small n small
+
+back_2 : (n : ℕ) (more : List ℕ) → n < 256 ^ 2 → number_in 2 (low_bytes 2 n ++ more) ≡ n
+back_2 n more h = from_le_bytes-to_le_bytes_2 n (omega arith)
+
+back_4 : (n : ℕ) (more : List ℕ) → n < 256 ^ 4 → number_in 4 (low_bytes 4 n ++ more) ≡ n
+back_4 n more h = from_le_bytes-to_le_bytes_4 n (omega arith)
+
+back_8 : (n : ℕ) (more : List ℕ) → n < 256 ^ 8 → number_in 8 (low_bytes 8 n ++ more) ≡ n
+back_8 n more h = from_le_bytes-to_le_bytes_8 n (omega arith)
+
+back_by : (w n : ℕ) (more : List ℕ) → OneOf w → n < 256 ^ w → number_in w (low_bytes w n ++ more) ≡ n
+back_by w n more (inl h) l = subst (λ (v : ℕ). number_in v (low_bytes v n ++ more) ≡ n) (sym h) (back_0 n more (rw h at l))
+back_by w n more (inr (inl h)) l = subst (λ (v : ℕ). number_in v (low_bytes v n ++ more) ≡ n) (sym h) (back_1 n more (rw h at l))
+back_by w n more (inr (inr (inl h))) l = subst (λ (v : ℕ). number_in v (low_bytes v n ++ more) ≡ n) (sym h) (back_2 n more (rw h at l))
+back_by w n more (inr (inr (inr (inl h)))) l = subst (λ (v : ℕ). number_in v (low_bytes v n ++ more) ≡ n) (sym h) (back_4 n more (rw h at l))
+back_by w n more (inr (inr (inr (inr h)))) l = subst (λ (v : ℕ). number_in v (low_bytes v n ++ more) ≡ n) (sym h) (back_8 n more (rw h at l))
+
+pub number_back : (w n : ℕ) (more : List ℕ) → IsWidth w → n < 256 ^ w → number_in w (low_bytes w n ++ more) ≡ n
+number_back w n more h l = back_by w n more h.one_of l
+
+-- ---- many numbers
+
+pub drop_behind : (xs ys : List ℕ) (n : ℕ) → length xs ≡ n → drop n (xs ++ ys) ≡ ys
+drop_behind [] ys n h = rw (← h) refl
+drop_behind (x ∷ xs) ys n h = rw (← h) (drop_behind xs ys (length xs) refl)
+
+-- a number that fits above the least
+abbrev pub FitsAbove : Packing → ℤ → Type 0
+FitsAbove p z = (p.least ≤ℤ z) × (unsigned_abs (z -ℤ p.least) < 256 ^ p.width)
+
+above_least : (l z : ℤ) → l ≤ℤ z → l +ℤ pos (unsigned_abs (z -ℤ l)) ≡ z
+above_least l z h = omega (arith, ints)
+
+pub values_back : (p : Packing) (zs : List ℤ) (more : List ℕ) → IsWidth p.width → All (FitsAbove p) zs → values_in p.least p.width (length zs) (packed_by p zs ++ more) ≡ zs
+values_back p [] more w h = refl
+values_back p (z ∷ zs) more w h =
+    let fit = All-head (FitsAbove p) z zs h in
+    let d = unsigned_abs (z -ℤ p.least) in
+    let split : (low_bytes p.width d ++ packed_by p zs) ++ more ≡ low_bytes p.width d ++ (packed_by p zs ++ more) = append_assoc (low_bytes p.width d) (packed_by p zs) more in
+    let first : p.least +ℤ pos (number_in p.width (low_bytes p.width d ++ (packed_by p zs ++ more))) ≡ z = ap (λ n. p.least +ℤ pos n) (number_back p.width d (packed_by p zs ++ more) w fit.1) ∙ above_least p.least z fit.0 in
+    let rest = drop_behind (low_bytes p.width d) (packed_by p zs ++ more) p.width (length-low_bytes p.width d w) in
+    let others = values_back p zs more w (All-tail (FitsAbove p) z zs h) in
+    rw split (ap₂ (λ a b. a ∷ b) first (ap (values_in p.least p.width (length zs)) rest ∙ others))
+
+-- ---- what a packing is
+
+least_below : (z : ℤ) (xs : List ℤ) → least_from z xs ≤ℤ z
+least_below z [] = omega (arith, ints)
+least_below z (x ∷ xs) = let more = least_below (int_min z x) xs in omega (arith, ints, clamps)
+
+greatest_above : (z : ℤ) (xs : List ℤ) → z ≤ℤ greatest_from z xs
+greatest_above z [] = omega (arith, ints)
+greatest_above z (x ∷ xs) = let more = greatest_above (int_max z x) xs in omega (arith, ints, clamps)
+
+-- each number stands between the least and the greatest
+abbrev pub Between : ℤ → ℤ → ℤ → Type 0
+Between a b z = (a ≤ℤ z) × (z ≤ℤ b)
+
+all_between : (xs : List ℤ) (a b : ℤ) → AllByRecursion (Between (least_from a xs) (greatest_from b xs)) xs
+all_between [] a b = tt
+all_between (x ∷ xs) a b =
+    let low = least_below (int_min a x) xs in
+    let high = greatest_above (int_max b x) xs in
+    ((omega (arith, ints, clamps), omega (arith, ints, clamps)), all_between xs (int_min a x) (int_max b x))
+
+pub least_of_all : (xs : List ℤ) (z : ℤ) → FitsSigned w64 z → AllByRecursion (FitsSigned w64) xs → FitsSigned w64 (least_from z xs)
+least_of_all [] z f h = f
+least_of_all (x ∷ xs) z f h = least_of_all xs (int_min z x) (let g = h.0 in omega (arith, ints, clamps)) h.1
+
+pub greatest_of_all : (xs : List ℤ) (z : ℤ) → FitsSigned w64 z → AllByRecursion (FitsSigned w64) xs → FitsSigned w64 (greatest_from z xs)
+greatest_of_all [] z f h = f
+greatest_of_all (x ∷ xs) z f h = greatest_of_all xs (int_max z x) (let g = h.0 in omega (arith, ints, clamps)) h.1
+
+far : (a b : ℤ) → FitsSigned w64 a → FitsSigned w64 b → unsigned_abs (b -ℤ a) < 2 ^ 64
+far a b f g = omega (arith, ints)
+
+nearer : (a b z : ℤ) → a ≤ℤ z → z ≤ℤ b → unsigned_abs (z -ℤ a) ≤ unsigned_abs (b -ℤ a)
+nearer a b z l h = omega (arith, ints)
+
+-- each number fits the packing of all
+abbrev pub AreWords : List ℤ → Type 0
+AreWords zs = All (FitsSigned w64) zs
+
+each_fits : (a b : ℤ) (xs : List ℤ) → FitsSigned w64 a → FitsSigned w64 b → AllByRecursion (Between a b) xs → AllByRecursion (FitsAbove (record { least = a; width = width_of (unsigned_abs (b -ℤ a)) })) xs
+each_fits a b [] f g h = tt
+each_fits a b (x ∷ xs) f g h =
+    let near = nearer a b x h.0.0 h.0.1 in
+    let wide = fits_width (unsigned_abs (b -ℤ a)) (far a b f g) in
+    ((h.0.0, omega (arith, near, wide)), each_fits a b xs f g h.1)
+
+pub packing_fits : (zs : List ℤ) → AreWords zs → All (FitsAbove (packing_of zs)) zs
+packing_fits [] h = λ k d l. absurd (omega (arith, l))
+packing_fits (z ∷ zs) h =
+    let all = recursion_from_All (FitsSigned w64) (z ∷ zs) h in
+    let a = least_from z zs in
+    let b = greatest_from z zs in
+    let f = least_of_all zs z all.0 all.1 in
+    let g = greatest_of_all zs z all.0 all.1 in
+    All-from_recursion (FitsAbove (packing_of (z ∷ zs))) (z ∷ zs) (each_fits a b (z ∷ zs) f g ((least_below z zs, greatest_above z zs), all_between zs z z))
+
+pub packing_width : (zs : List ℤ) → IsWidth (packing_of zs).width
+packing_width [] = record { one_of = inl refl }
+packing_width (z ∷ zs) = width_is (unsigned_abs (greatest_from z zs -ℤ least_from z zs))
+
+-- ---- how many bytes, and which stand where
+
+pub length-packed : (p : Packing) (zs : List ℤ) → IsWidth p.width → length (packed_by p zs) ≡ length zs * p.width
+length-packed p [] w = omega arith
+length-packed p (z ∷ zs) w =
+    let one = length-low_bytes p.width (unsigned_abs (z -ℤ p.least)) w in
+    let more = length-packed p zs w in
+    let wide : suc (length zs) * p.width ≡ p.width + length zs * p.width = suc_times (length zs) p.width in
+    omega (arith, length-append (low_bytes p.width (unsigned_abs (z -ℤ p.least))) (packed_by p zs), one, more, wide)
+  where
+    suc_times : (n w : ℕ) → suc n * w ≡ w + n * w
+    suc_times n w = omega (arith, add-mul n 1 w)
+
+drop_none : (k : ℕ) → drop {A = ℕ} k [] ≡ []
+drop_none zero = refl
+drop_none (suc k) = refl
+
+pub drop_two : (xs : List ℕ) (m n : ℕ) → drop n (drop m xs) ≡ drop (m + n) xs
+drop_two xs zero n = let e : n ≡ 0 + n = omega arith in ap (λ (k : ℕ). drop k xs) e
+drop_two [] (suc m) n = drop_none n ∙ sym (drop_none (suc m + n))
+drop_two (x ∷ xs) (suc m) n = let e : suc m + n ≡ suc (m + n) = omega arith in drop_two xs m n ∙ ap (λ (k : ℕ). drop k (x ∷ xs)) (sym e)
+
+-- the value at a place of those that the bytes spell
+pub value_at : (least : ℤ) (w n : ℕ) (bs : List ℕ) (i : ℕ) → i < n → slice_get (values_in least w n bs) i ≡ Some (least +ℤ pos (number_in w (drop (i * w) bs)))
+value_at least w zero bs i h = absurd (omega (arith, h))
+value_at least w (suc n) bs zero h = let none : 0 ≡ 0 * w = omega arith in ap (λ (k : ℕ). Some (least +ℤ pos (number_in w (drop k bs)))) none
+value_at least w (suc n) bs (suc i) h =
+    let wide : w + i * w ≡ suc i * w = omega (arith, add-mul i 1 w) in
+    value_at least w n (drop w bs) i (omega (arith, h)) ∙ ap (λ l. Some (least +ℤ pos (number_in w l))) (drop_two bs w (i * w) ∙ ap (λ (k : ℕ). drop k bs) wide)
+
+pub packing_word : (zs : List ℤ) → AreWords zs → FitsSigned w64 (packing_of zs).least
+packing_word [] h = omega (arith, ints)
+packing_word (z ∷ zs) h = let all = recursion_from_All (FitsSigned w64) (z ∷ zs) h in least_of_all zs z all.0 all.1

@@ -1,0 +1,7 @@
+use Rattle.std.proofs.Common.{map, sym}
+use Rattle.rdf_values.proofs.RowPushed.{length-rows_kept}
+use Rattle.columns.specs.KeptColumns.{cells_of}
+use Rattle.columns.proofs.columns.Columns.cuts.Goals as goal
+
+pub returns-clause-valid : goal.returns-clause-valid
+returns-clause-valid c = rw (← c.self.view_is) (sym (length-rows_kept c.self.inside.cuts.entries (map cells_of c.self.inside.kept.items)))

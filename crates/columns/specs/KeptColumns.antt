@@ -1,0 +1,32 @@
+-- How columns are kept over clusters.
+use Rattle.std.specs.Prelude.{◌≡◌, ⊤, List, ℤ, flat_map, map}
+use Rattle.std.specs.List.{AllByRecursion}
+use Rattle.rdf_values.specs.Cuts.{cut}
+use Rattle.rdf_values.specs.Kept.{HoldsTable}
+use Rattle.rdf_values.specs.declared.cells.Cells.{Cells}
+use Rattle.rdf_values.specs.declared.cells.Cells.TheVariants as cells
+use Rattle.rdf_values.specs.declared.column.Column.{Column}
+use Rattle.rdf_values.specs.declared.span.Span.{Span}
+use Rattle.clusters.specs.CutsView.{CutsView}
+use Rattle.columns.specs.Blocks.{cluster_values}
+use Rattle.columns.specs.declared.kept.Kept.{Kept}
+use Rattle.columns.specs.declared.kept.Kept.TheVariants as kept
+
+-- the numbers of all clusters
+abbrev pub joined : List (List ℤ) → List ℤ
+joined values = flat_map (λ v. v) values
+
+-- the values for which a column stands
+abbrev pub cells_of : Kept → Cells
+cells_of (kept.Ints values) = cells.Ints (joined values)
+cells_of (kept.Vects vectors) = cells.Vects vectors
+
+-- numbers are kept cluster by cluster
+abbrev pub IsByCluster : List Span → Kept → Type 0
+IsByCluster spans (kept.Ints values) = values ≡ cluster_values spans (joined values)
+IsByCluster spans (kept.Vects vectors) = ⊤
+
+-- what is kept is a table over the ranges of the cuts
+pub record HoldColumns (columns : List Column) (all : List Kept) (cuts : CutsView) : Type 0 where
+  pub table : HoldsTable columns (map cells_of all) cuts.entries
+  pub clusters : AllByRecursion (IsByCluster (cut cuts.entries cuts.size cuts.marks)) all

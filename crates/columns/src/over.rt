@@ -1,0 +1,66 @@
+// The columns over one cluster.
+ghost use Rattle.std.specs.Prelude.{◌≡◌, ◌≤◌, ◌<◌, Some, length, slice_get};
+ghost use Rattle.rdf_values.specs.Cuts.{cut};
+ghost use Rattle.rdf_values.specs.Tables.{cell, kind_at};
+ghost use Rattle.rdf_values.specs.declared.value.ColType.TheVariants as k;
+ghost use Rattle.rdf_values.specs.declared.value.Value.TheVariants as v;
+
+use crate::columns::Columns;
+use rdf_values::Span;
+
+/// A reader of the entries of one cluster, which looks the cluster up once.
+#[derive(Clone, Copy)]
+pub struct Over<'a> {
+    columns: &'a Columns,
+    cluster: u32,
+    span: Span,
+    ghost there: { slice_get (cut columns.now.cuts.entries columns.now.cuts.size columns.now.cuts.marks) cluster ≡ Some span },
+    ghost whole: { columns.now.cuts.entries ≡ length columns.now.table.rows },
+}
+
+impl Columns {
+    /// The columns over a cluster.
+    pub fn over(&self, cluster: u32) -> Over<'_>
+        requires { cluster < length (cut self.now.cuts.entries self.now.cuts.size self.now.cuts.marks) }
+        ensures columns { result.columns.now ≡ self.now }
+        ensures span { slice_get (cut self.now.cuts.entries self.now.cuts.size self.now.cuts.marks) cluster ≡ Some result.span }
+    {
+        Over {
+            columns: self,
+            cluster,
+            span: self.cuts().range(cluster),
+        }
+    }
+}
+
+impl Over<'_> {
+    /// The cluster's entries.
+    pub fn span(&self) -> Span
+        ensures { result ≡ self.now.span }
+    {
+        self.span
+    }
+
+    /// The number of an entry of the cluster in an int column.
+    pub fn int_at(&self, entry: u32, col: u32) -> i64
+        requires from { self.now.span.lo ≤ entry }
+        requires below { entry < self.now.span.hi }
+        requires column { kind_at self.now.columns.now.table.columns col ≡ Some k.Int }
+        ensures { cell self.now.columns.now.table entry col ≡ Some (v.Int result) }
+    {
+        let place = entry - self.span.lo;
+        self.columns
+            .ints(col)
+            .at(self.cluster as usize, place as usize)
+    }
+
+    /// The elements of an entry's vector in a vec column.
+    pub fn vec_at(&self, entry: u32, col: u32) -> &[i64]
+        requires from { self.now.span.lo ≤ entry }
+        requires below { entry < self.now.span.hi }
+        requires column { kind_at self.now.columns.now.table.columns col ≡ Some k.Vect }
+        ensures { cell self.now.columns.now.table entry col ≡ Some (v.Vect result.now) }
+    {
+        self.columns.vec_at(entry, col)
+    }
+}
