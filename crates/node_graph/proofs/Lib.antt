@@ -1,0 +1,10 @@
+pub mod Counted
+pub mod Filled
+pub mod Finished
+pub mod Labelled
+pub mod Looped
+pub mod Reading
+pub mod Refusing
+pub mod Rowed
+pub mod Sourced
+pub mod Walked
