@@ -1,14 +1,11 @@
 -- Which results are filled, and the passes of a loop, by the numbers of results.
 use Rattle.std.proofs.Common.{◌≡◌, ◌⊎◌, inl, inr, ℕ, zero, suc, ◌+◌, ◌<◌, ◌≤◌, Bool, true, false, not, ◌||◌, List, [], ◌∷◌, ◌++◌, map, length, take, drop, Option, Some, None, option_map, refl, sym, ◌∙◌, ap, subst, arith, slice_get, if◌then◌else◌, length-append, append_assoc}
-use Rattle.std.specs.Prelude.{⊤}
-use Rattle.std.specs.List.{list_any}
-use Rattle.std.proofs.lemmas.List.{append-nil, map-append, take-append-le}
+use Rattle.std.proofs.lemmas.List.{append-nil}
 use Rattle.rdf_values.specs.Bookings.{Booked, booked_by, bookings, names_of, filled, has_variations, result_depends}
 use Rattle.rdf_values.specs.Kinds.{FunctionNames, Scope}
 use Rattle.rdf_values.specs.Names.{same, among, place}
 use Rattle.rdf_values.specs.Path.{Variation, variations}
-use Rattle.rdf_values.specs.Verdict.{AreAccepted, check, check_node, check_columns, check_edges, check_results, check_passes, first_refusal, is_in_use, is_node, is_result, permitted_kinds, printed_results, refuse_if, refuse_unless, scope_at}
-use Rattle.rdf_values.specs.Bookings.{columns_of}
+use Rattle.rdf_values.specs.Verdict.{AreAccepted, check, check_node, is_in_use, is_node, is_result, refuse_if, refuse_unless}
 use Rattle.rdf_values.specs.declared.graph_cause.GraphCause.TheVariants as cause
 use Rattle.rdf_values.specs.declared.statement.Statement.{Statement}
 use Rattle.rdf_values.specs.declared.statement.Statement.TheVariants.{Define, Redefine, Alias, Filter, Vary, Action, Report, VariationsFor, Watch, Print}
@@ -116,7 +113,7 @@ unfolding IsFilled
 further_filled before s e f h =
     let c = length-append (bookings before) (booked_by before s) in let l = h.1 in (
       e ∙ h.0 ∙ ap (λ bs. names_of bs) (sym (take_within (filled_count before) (bookings before) (booked_by before s) h.1))
-      ∙ ap (λ k. names_of (take k (bookings before ++ booked_by before s))) (sym f),
+          ∙ ap (λ k. names_of (take k (bookings before ++ booked_by before s))) (sym f),
       omega (arith, c, f, l),
     )
 
@@ -207,7 +204,7 @@ module _ (script : List Statement) where
   row_passes : (n : ℕ) (b : Booked) (r : ResultRow) → IsRowOf script b r → result_passes script n b ≡ passes_of_row script (length (variations script)) n r
   row_passes n b r h =
       λ i. numbered_pass n None
-          ∷ (if has_variations script (sym h.name i) then map (λ v. numbered_pass n (Some v)) (members_are (λ v. result_depends v b.booking) (has r.set) 0 (variations script) (λ k. ap (has r.set) (zero_first k) ∙ h.set k) i) else [])
+      ∷ (if has_variations script (sym h.name i) then map (λ v. numbered_pass n (Some v)) (members_are (λ v. result_depends v b.booking) (has r.set) 0 (variations script) (λ k. ap (has r.set) (zero_first k) ∙ h.set k) i) else [])
     where
       zero_first : (k : ℕ) → 0 + k ≡ k
       zero_first k = omega arith

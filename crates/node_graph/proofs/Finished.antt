@@ -1,37 +1,35 @@
 -- The fields of a finished graph.
-use Rattle.std.proofs.Common.{◌≡◌, ◌⊎◌, inl, inr, ℕ, zero, suc, ◌+◌, ◌*◌, ◌<◌, ◌≤◌, Bool, true, false, List, [], ◌∷◌, ◌++◌, map, length, reverse, Option, Some, None, Ok, option_map, refl, sym, ◌∙◌, ap, subst, arith, slice_get, length-append, if◌then◌else◌}
-use Rattle.std.specs.List.{All, AllByRecursion}
+use Rattle.std.proofs.Common.{◌≡◌, inl, inr, ℕ, suc, ◌+◌, ◌≤◌, Bool, true, false, List, [], ◌∷◌, ◌++◌, map, length, reverse, Option, Some, None, Ok, option_map, refl, sym, ◌∙◌, ap, subst, arith, slice_get, length-append, if◌then◌else◌}
+use Rattle.std.specs.List.{AllByRecursion}
 use Rattle.std.proofs.lemmas.List.{length-map, reverse-reverse, reverse-append}
 use Rattle.std.proofs.lemmas.List.Elements.{recursion_from_All}
 use Rattle.rdf_values.specs.Answers.{Refuses}
 use Rattle.rdf_values.specs.Bookable.{IsBookable, IsShort}
 use Rattle.rdf_values.specs.Bookings.{Booked, bookings, is_watched, named_before, result_depends}
 use Rattle.rdf_values.specs.Kinds.{FunctionNames, scope_of}
-use Rattle.rdf_values.specs.Path.{Variation, history, variations}
+use Rattle.rdf_values.specs.Path.{variations}
 use Rattle.rdf_values.specs.Tables.{IsHeader}
 use Rattle.rdf_values.specs.Verdict.{AreAccepted, verdict}
 use Rattle.rdf_values.specs.declared.column.Column.{Column}
-use Rattle.rdf_values.specs.declared.graph_cause.GraphCause.{GraphCause}
 use Rattle.rdf_values.specs.declared.script.Line.{Line}
 use Rattle.rdf_values.specs.declared.script.Script.{Script}
 use Rattle.rdf_values.specs.declared.statement.Statement.{Statement}
 use Rattle.rdf_values.specs.declared.statement.Statement.TheVariants.{Define, Redefine, Alias, Filter, Vary, Action, Report, VariationsFor, Watch, Print}
 use Rattle.rdf_model.specs.Loops.{Access, accesses, filled_by}
 use Rattle.graph_numbers.proofs.Resulting.{booked_are}
-use Rattle.graph_numbers.specs.Graphs.{GraphView, IsGraph, booked, booked_unless, booked_statements, graph_results, graph_sources, graph_variations, holds_at, result_depends_at}
-use Rattle.graph_numbers.specs.Results.{FilterAt, ResultAt, filters, results}
-use Rattle.graph_numbers.specs.Sources.{sources, versions}
-use Rattle.graph_numbers.specs.Results.{result_number, under_at}
+use Rattle.graph_numbers.specs.Graphs.{GraphView, IsGraph, booked, booked_unless, booked_statements, graph_results, graph_sources, graph_variations, holds_at}
+use Rattle.graph_numbers.specs.Results.{FilterAt, ResultAt, filters}
+use Rattle.graph_numbers.specs.Results.{result_number}
 use Rattle.graph_numbers.specs.declared.version.Version.{Version}
 use Rattle.graph_numbers.proofs.Extending.{versions_count}
-use Rattle.statement_checks.specs.Dependence.{Numbers, depends_at, result_sets, site_sets}
+use Rattle.statement_checks.specs.Dependence.{Numbers, depends_at, result_sets}
 use Rattle.statement_checks.specs.Gains.{AreRows as AreCheckRows, AreTables}
 use Rattle.statement_checks.specs.Laws.{ResultSetsAreDependence, SiteSetsAreDependence}
 use Rattle.statement_checks.specs.Lookups.{statements}
 use Rattle.statement_checks.specs.declared.result_row.ResultRow.{ResultRow}
 use Rattle.node_graph.specs.Bookings.{IsBooking, refused, IsRefusal}
 use Rattle.node_graph.specs.GraphFields.{IsBooked, view_of}
-use Rattle.node_graph.specs.LoopRows.{AreNamedInTurn, IsRowOf, AreRowsOf, AreLoops}
+use Rattle.node_graph.specs.LoopRows.{AreNamedInTurn, AreRowsOf, AreLoops}
 use Rattle.node_graph.specs.Refusals.{refused_at}
 use Rattle.node_graph.specs.Rows.{AreRows, is_named, result_path}
 use Rattle.node_graph.specs.VersionSources.{AreSourcesOf, AreAbove}
@@ -39,7 +37,6 @@ use Rattle.node_graph.specs.declared.booking.Booking.{Booking}
 use Rattle.node_graph.specs.declared.loops.LoopTables.{LoopTables}
 use Rattle.node_graph.specs.declared.refusal.GraphRefusal.{GraphRefusal}
 use Rattle.node_graph.specs.declared.refusal.GraphRefusal.TheVariants as refusal
-use Rattle.node_graph.specs.declared.rows.ResultPath.{ResultPath}
 use Rattle.node_graph.proofs.Counted.{versions_are, sites_fit}
 use Rattle.node_graph.proofs.Filled.{all_in_turn}
 use Rattle.node_graph.proofs.Looped.{bookings_few, loops_few}

@@ -1,9 +1,8 @@
 -- The labels of named filters by their numbers.
-use Rattle.std.proofs.Common.{◌≡◌, ℕ, suc, ◌+◌, ◌-◌, ◌<◌, List, [], ◌∷◌, ◌++◌, length, Option, Some, None, refl, sym, ◌∙◌, ap, subst, arith, slice_get, length-append}
+use Rattle.std.proofs.Common.{◌≡◌, ℕ, ◌+◌, ◌-◌, ◌<◌, List, [], ◌∷◌, ◌++◌, length, Some, ◌∙◌, ap, arith, slice_get, length-append}
 use Rattle.std.specs.Prelude.{option_to_list}
 use Rattle.rdf_values.specs.Bookings.{named_before}
 use Rattle.rdf_values.specs.declared.script.Line.{Line}
-use Rattle.rdf_values.specs.declared.statement.Statement.{Statement}
 use Rattle.graph_numbers.proofs.Listed.{kept_at, next_at}
 use Rattle.statement_checks.specs.Lookups.{statements}
 use Rattle.node_graph.specs.Rows.{own_label, labels}

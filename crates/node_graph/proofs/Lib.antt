@@ -6,5 +6,6 @@ pub mod Looped
 pub mod Reading
 pub mod Refusing
 pub mod Rowed
+pub mod Shared
 pub mod Sourced
 pub mod Walked

@@ -1,7 +1,7 @@
 -- What a line adds to the lists of loops and Prints.
 use Rattle.std.proofs.Common.{◌≡◌, ◌⊎◌, inl, inr, ℕ, zero, suc, ◌+◌, ◌-◌, ◌<◌, ◌≤◌, Bool, true, false, not, ◌||◌, List, [], ◌∷◌, ◌++◌, map, length, take, drop, replicate, Option, Some, None, option_map, refl, sym, ◌∙◌, ap, subst, arith, slice_get, if◌then◌else◌, length-append, filter, filter_map, unwrap_or}
-use Rattle.std.specs.Prelude.{⊤, Result, Ok, Err, OnOk}
-use Rattle.std.specs.List.{list_any, cons_option}
+use Rattle.std.specs.Prelude.{Result, Ok, Err, OnOk}
+use Rattle.std.specs.List.{cons_option}
 use Rattle.std.proofs.lemmas.List.{append-nil, map-append, drop-take}
 use Rattle.rdf_values.specs.Bookings.{Booked, booked_by, bookings, names_of, filled, waiting}
 use Rattle.rdf_values.specs.Names.{same, among, place}
@@ -11,15 +11,15 @@ use Rattle.rdf_values.specs.declared.statement.Statement.{Statement}
 use Rattle.rdf_values.specs.declared.statement.Statement.TheVariants.{Define, Redefine, Alias, Filter, Vary, Action, Report, VariationsFor, Watch, Print}
 use Rattle.rdf_model.proofs.Accepted.{names_equal, itself}
 use Rattle.rdf_model.proofs.Evaluations.{neither}
-use Rattle.rdf_model.specs.Loops.{Access, filled_by, accesses, loop_results, loop_of}
-use Rattle.graph_numbers.proofs.Listed.{kept_at, next_at, of_joined}
+use Rattle.rdf_model.specs.Loops.{Access, filled_by, accesses, loop_results}
+use Rattle.graph_numbers.proofs.Listed.{of_joined}
 use Rattle.graph_numbers.specs.Results.{loops, own_loop, runs, own_run, passes_from, result_number}
 use Rattle.graph_numbers.specs.declared.pass.Pass.{Pass}
 use Rattle.statement_checks.specs.Lookups.{statements}
 use Rattle.statement_checks.specs.declared.result_row.ResultRow.{ResultRow}
-use Rattle.node_graph.specs.LoopRows.{IsNoPrint, is_booking, IsNamedInTurn, AreNamedInTurn, filled_count, IsRowOf, AreRowsOf, passes_of_rows, filler_of, AreLoops, BeginsWith}
+use Rattle.node_graph.specs.LoopRows.{IsNoPrint, is_booking, IsNamedInTurn, AreNamedInTurn, filled_count, AreRowsOf, passes_of_rows, filler_of, AreLoops, BeginsWith}
 use Rattle.node_graph.specs.declared.loops.LoopTables.{LoopTables}
-use Rattle.node_graph.proofs.Filled.{same_sym, take_whole, take_within, take_drop, take_count, filled_few, filled_first, later_named, rows_first, at_last, loop_is, is_filled, is_waiting}
+use Rattle.node_graph.proofs.Filled.{same_sym, take_whole, take_drop, filled_few, filled_first, later_named, rows_first, loop_is, is_filled, is_waiting}
 
 -- ---- lists
 
@@ -508,9 +508,9 @@ pub added_loop : {A E : Type 0} (script before : List Statement) (r : List ℕ) 
 added_loop script before r rows n filled booked count old new passes result turn named begins rs h number e le b c ps loops fillers runs prints filling =
     on_five
     (λ v w x y z.
-        print_fills script before r turn begins n (sym (place_of_row script (bookings script) rows r rs) ∙ sym number) old new passes named h (omega (arith, e, le))
-        (ps ∙ (λ i. passes_of_rows script (c i) filled (take (booked - filled) (drop filled rows))) ∙ open_passes script before named begins rows rs filled booked (e ∙ h.count) b)
-        v (w ∙ (λ i. old.fillers.items ++ replicate (b i - e i) (length old.loops.items))) x y z)
+    print_fills script before r turn begins n (sym (place_of_row script (bookings script) rows r rs) ∙ sym number) old new passes named h (omega (arith, e, le))
+    (ps ∙ (λ i. passes_of_rows script (c i) filled (take (booked - filled) (drop filled rows))) ∙ open_passes script before named begins rows rs filled booked (e ∙ h.count) b)
+    v (w ∙ (λ i. old.fillers.items ++ replicate (b i - e i) (length old.loops.items))) x y z)
     result loops fillers runs prints filling
 
 pub line_added : {A E : Type 0} (script before : List Statement) (s : Statement) (r : List ℕ) (new : LoopTables) (result : Result A E) → s ≡ Print r → OnOk result (AreLoops script (Print r ∷ before) new) → OnOk result (AreLoops script (s ∷ before) new)

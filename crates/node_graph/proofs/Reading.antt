@@ -1,6 +1,6 @@
 -- What the fields of a graph say of its numbers.
-use Rattle.std.proofs.Common.{◌≡◌, ℕ, zero, suc, ◌+◌, ◌<◌, ◌≤◌, Bool, List, [], ◌∷◌, ◌++◌, map, length, reverse, Option, Some, None, option_map, refl, sym, ◌∙◌, ap, subst, arith, slice_get, length-append}
-use Rattle.std.specs.Prelude.{All, option_to_list, option_and_then, unwrap_or}
+use Rattle.std.proofs.Common.{◌≡◌, ℕ, zero, suc, ◌+◌, ◌<◌, Bool, List, [], ◌∷◌, ◌++◌, map, length, Option, Some, None, option_map, refl, sym, ◌∙◌, ap, subst, arith, slice_get, length-append}
+use Rattle.std.specs.Prelude.{option_to_list, option_and_then}
 use Rattle.std.proofs.lemmas.List.{length-map}
 use Rattle.rdf_values.specs.Bookings.{Booked, bookings, is_watched, named_before}
 use Rattle.rdf_values.specs.Kinds.{FunctionNames}
@@ -13,14 +13,13 @@ use Rattle.expr_check.specs.NumKinds.{CheckedExpr}
 use Rattle.graph_numbers.proofs.Extending.{itself}
 use Rattle.graph_numbers.proofs.Looping.{runs_are}
 use Rattle.graph_numbers.proofs.Resulting.{booked_are}
-use Rattle.graph_numbers.specs.Graphs.{GraphView, IsGraph, IsSiteExpr, booked_statements, graph_filters, graph_kinds, graph_loops, graph_prints, graph_results, graph_runs, graph_sites, graph_sources, graph_variations, graph_versions, result_depends_at, site_depends_at}
-use Rattle.graph_numbers.specs.Results.{FilterAt, ResultAt, own_filters, filters, kind_of_booking, runs}
+use Rattle.graph_numbers.specs.Graphs.{GraphView, IsSiteExpr, booked_statements, graph_filters, graph_loops, graph_prints, graph_results, graph_runs, graph_sites, graph_variations, graph_versions, result_depends_at, site_depends_at}
+use Rattle.graph_numbers.specs.Results.{FilterAt, ResultAt, own_filters, filters, kind_of_booking}
 use Rattle.graph_numbers.specs.Sites.{SiteAt, own_sites, sites}
 use Rattle.graph_numbers.specs.declared.pass.Pass.{Pass}
-use Rattle.graph_numbers.specs.declared.source.Source.{Source}
 use Rattle.graph_numbers.specs.declared.version.Version.{Version}
-use Rattle.statement_checks.specs.Dependence.{Numbers, IsSet, AreSets, depends_at, own_site_sets, site_set, site_sets, result_sets}
-use Rattle.statement_checks.specs.Gains.{IsSite, AreSites, IsRow, AreRows}
+use Rattle.statement_checks.specs.Dependence.{Numbers, AreSets, depends_at, own_site_sets, site_set, site_sets}
+use Rattle.statement_checks.specs.Gains.{IsSite, AreSites, AreRows}
 use Rattle.statement_checks.specs.declared.result_row.ResultRow.{ResultRow}
 use Rattle.statement_checks.specs.declared.tables.Tables.{Tables}
 use Rattle.variation_sets.specs.Sets.{has}

@@ -1,5 +1,5 @@
 -- What a statement adds to the lists is what the numbers of the script say.
-use Rattle.std.proofs.Common.{◌≡◌, ℕ, zero, suc, ◌+◌, Bool, true, false, List, [], ◌∷◌, ◌++◌, map, length, Option, Some, None, refl, sym, ◌∙◌, ap, arith, if◌then◌else◌, length-append}
+use Rattle.std.proofs.Common.{◌≡◌, ℕ, suc, ◌+◌, false, List, [], ◌∷◌, ◌++◌, map, length, Some, None, refl, sym, ◌∙◌, ap, if◌then◌else◌, length-append}
 use Rattle.std.specs.Prelude.{Result, Ok, Err, OnOk}
 use Rattle.std.proofs.lemmas.List.{map-append}
 use Rattle.rdf_values.specs.Bookings.{named_before, columns_of}
@@ -11,9 +11,9 @@ use Rattle.rdf_values.specs.declared.vary_values.VaryValues.{VaryValues}
 use Rattle.rdf_values.specs.declared.vary_values.VaryValues.TheVariants.{Lists, Vector}
 use Rattle.rdf_values.specs.declared.statement.Statement.{Statement}
 use Rattle.rdf_values.specs.declared.statement.Statement.TheVariants.{Define, Redefine, Alias, Filter, Vary, Action, Report, VariationsFor, Watch, Print}
-use Rattle.graph_numbers.specs.Results.{FilterAt, ResultAt, own_filter, filters_on, all_or, covered_at, own_filters, filters, own_results, results}
+use Rattle.graph_numbers.specs.Results.{FilterAt, own_filter, filters_on, all_or, covered_at, own_filters, filters, own_results, results}
 use Rattle.graph_numbers.specs.Sites.{list_start, list_sites, lists_sites, own_sites, sites, site_count, own_filter_site, filter_sites}
-use Rattle.graph_numbers.specs.Sources.{cell_versions, numbers_from, varied_version, varied_versions, own_versions, versions}
+use Rattle.graph_numbers.specs.Sources.{cell_versions, numbers_from, varied_version, varied_versions, own_versions}
 use Rattle.graph_numbers.specs.Versions.{named_version, version_at}
 use Rattle.graph_numbers.specs.declared.result_kind.ResultKind.TheVariants as what
 use Rattle.graph_numbers.specs.declared.version.Version.TheVariants as as_version
@@ -107,8 +107,8 @@ module _ (header : List Column) (names : FunctionNames) where
     varied_are parent values tags i [] = refl
     varied_are parent values tags i (c ∷ cs) =
         λ l. (varied_is values (named_version header before parent c) (length (variations before)) (site_count header names before) i tags
-            ∙ ap (λ n. varied_row values (named_version header before parent c) (length (variations before)) n (length tags) i) (total_is before)) l
-            ∷ varied_are parent values tags (suc i) cs l
+        ∙ ap (λ n. varied_row values (named_version header before parent c) (length (variations before)) n (length tags) i) (total_is before)) l
+        ∷ varied_are parent values tags (suc i) cs l
 
     own_versions_are : (s : Statement) → own_versions header names before s ≡ version_rows header before (length (variations before)) (site_total before) s
     own_versions_are (Define node parent column expr) = λ l. as_version.Computed (total_is before l) ∷ []

@@ -1,38 +1,33 @@
 -- The sources of versions are found by walking down the Varys of a column.
-use Rattle.std.proofs.Common.{◌≡◌, ◌⊎◌, inl, inr, ℕ, zero, suc, ◌+◌, ◌-◌, ◌<◌, ◌≤◌, Bool, true, false, ◌&&◌, List, [], ◌∷◌, ◌++◌, map, length, Option, Some, None, Ok, option_map, refl, sym, ◌∙◌, ap, subst, arith, nat_eq, nat_le, nat_lt, slice_get, if◌then◌else◌, length-append}
-use Rattle.std.specs.Prelude.{⊤}
+use Rattle.std.proofs.Common.{◌≡◌, ◌⊎◌, inl, inr, ℕ, zero, suc, ◌+◌, ◌-◌, ◌<◌, ◌≤◌, Bool, true, false, ◌&&◌, List, [], ◌∷◌, ◌++◌, map, length, Option, Some, None, option_map, refl, sym, ◌∙◌, ap, subst, arith, nat_le, nat_lt, slice_get, if◌then◌else◌}
 use Rattle.std.proofs.lemmas.Bool.Decides.{leb_tells, Decides-ltb}
-use Rattle.std.proofs.lemmas.List.{length-map}
 use Rattle.std.proofs.lemmas.Option.{slice_get_within, get_or_from_slice_get}
 use Rattle.rdf_values.specs.Names.{same, place}
-use Rattle.rdf_values.specs.Path.{Path, Variation, Under, path, same_variation, own_variations, variations}
-use Rattle.rdf_values.specs.Kinds.{FunctionNames, scope_of, column_kind}
-use Rattle.rdf_values.specs.Verdict.{AreAccepted, check, check_node, check_tags, check_target, check_values, first_refusal, is_alias, is_visible, refuse_if, refuse_unless, repeats, scope_at}
-use Rattle.rdf_values.specs.Tree.{NamedTree}
+use Rattle.rdf_values.specs.Path.{Variation, path, own_variations, variations}
+use Rattle.rdf_values.specs.Kinds.{FunctionNames, scope_of}
+use Rattle.rdf_values.specs.Verdict.{AreAccepted, check_node, check_tags, check_target, check_values, first_refusal, is_alias, is_visible, refuse_if, refuse_unless, repeats, scope_at}
 use Rattle.rdf_values.specs.declared.column.Column.{Column}
-use Rattle.rdf_values.specs.declared.graph_cause.GraphCause.{GraphCause}
 use Rattle.rdf_values.specs.declared.graph_cause.GraphCause.TheVariants as cause
 use Rattle.rdf_values.specs.declared.statement.Statement.{Statement}
-use Rattle.rdf_values.specs.declared.statement.Statement.TheVariants.{Define, Redefine, Alias, Filter, Vary, Action, Report, VariationsFor, Watch, Print}
-use Rattle.rdf_values.specs.declared.value.ColType.{ColType}
+use Rattle.rdf_values.specs.declared.statement.Statement.TheVariants.{Define, Redefine, Vary}
 use Rattle.rdf_values.specs.declared.vary_values.VaryValues.{VaryValues}
 use Rattle.rdf_values.specs.declared.vary_values.VaryValues.TheVariants.{Lists, Vector}
-use Rattle.rdf_model.proofs.Accepted.{both_none, if_fails, unless_holds, names_equal, itself as same_itself, visible_known, no_target, there, own_within, place_within}
+use Rattle.rdf_model.proofs.Accepted.{both_none, if_fails, unless_holds, names_equal, itself as same_itself, visible_known, no_target, there, own_within}
 use Rattle.rdf_model.specs.ColumnValues.{own_place}
-use Rattle.graph_numbers.proofs.Apart.{of_tags, tags_checked, variation_number}
+use Rattle.graph_numbers.proofs.Apart.{variation_number}
 use Rattle.graph_numbers.proofs.Extending.{Extends, itself, further, source_count, versions_count}
 use Rattle.graph_numbers.proofs.Listed.{kept_at, next_at, of_joined}
 use Rattle.graph_numbers.proofs.VersionKinds.{kind_count, visible_kind}
 use Rattle.graph_numbers.specs.Kinds.{version_kinds}
 use Rattle.graph_numbers.specs.Results.{under_at}
 use Rattle.graph_numbers.specs.Sites.{list_start, site_count}
-use Rattle.graph_numbers.specs.Sources.{numbers_from, own_source, source_in, sources, own_sources, varied_sources, cell_sources, varied_version, varied_versions, own_versions, versions, cell_versions}
+use Rattle.graph_numbers.specs.Sources.{numbers_from, own_source, source_in, sources, varied_sources, cell_sources, varied_version, varied_versions, own_versions, versions, cell_versions}
 use Rattle.graph_numbers.specs.Versions.{named_version, version_at, version_count}
 use Rattle.graph_numbers.specs.declared.source.Source.{Source}
 use Rattle.graph_numbers.specs.declared.source.Source.TheVariants as from
 use Rattle.graph_numbers.specs.declared.version.Version.{Version}
 use Rattle.graph_numbers.specs.declared.version.Version.TheVariants as as_version
-use Rattle.node_graph.specs.VersionSources.{tag_at, tag_source, tagged, version_source, AreSourcesOf, HasSites, IsAbove, AreAbove}
+use Rattle.node_graph.specs.VersionSources.{tag_at, tagged, version_source, AreSourcesOf, IsAbove, AreAbove}
 
 -- ---- tests and lists
 
@@ -273,12 +268,13 @@ module _ (header : List Column) (names : FunctionNames) (script : List Statement
           let src : source_in (own before) (below_of r.0) ≡ y.0 = get_or_from_slice_get (own before) (below_of r.0) y.0 (from.Cell 0) y.1 in
           let at : slice_get (own (Vary node parent cs values tags vary ∷ before)) (below_of r.0) ≡ Some y.0 = kept_at (own before) _ (below_of r.0) y.0 y.1 in
           let p : c ≡ length (own before) + k = omega (arith, n, m) in
-          let tag = own_tag before node parent cs values tags vary e u in
-          (next_at (own before) (varied_sources header names (under_at script u) before (own before) parent values tags vary 0 cs) k c p ∙ r.3
-          ∙ (λ i. Some (own_source values (site_count header names before) (0 + k) (length tags) (own_place (under_at script u) vary tags) (src i)))
-          ∙ own_tagged values (0 + k) (below_of r.0) y.0 (own (Vary node parent cs values tags vary ∷ before)) (own_place (under_at script u) vary tags) (λ j q. own_within (under_at script u) vary tags j q) at (sym tag)
-          ∙ ap (version_source u (own (Vary node parent cs values tags vary ∷ before))) (sym r.2),
-          subst (IsAbove c) (sym r.2) (own_above values (0 + k) (below_of r.0) c (omega (arith, lt, n))))
+          let tag = own_tag before node parent cs values tags vary e u in (
+            next_at (own before) (varied_sources header names (under_at script u) before (own before) parent values tags vary 0 cs) k c p ∙ r.3
+                ∙ (λ i. Some (own_source values (site_count header names before) (0 + k) (length tags) (own_place (under_at script u) vary tags) (src i)))
+                ∙ own_tagged values (0 + k) (below_of r.0) y.0 (own (Vary node parent cs values tags vary ∷ before)) (own_place (under_at script u) vary tags) (λ j q. own_within (under_at script u) vary tags j q) at (sym tag)
+                ∙ ap (version_source u (own (Vary node parent cs values tags vary ∷ before))) (sym r.2),
+            subst (IsAbove c) (sym r.2) (own_above values (0 + k) (below_of r.0) c (omega (arith, lt, n))),
+          )
 
     own_source_at : (before : List Statement) (s : Statement) → Extends (s ∷ before) script → AreAccepted names (scope_of header) (s ∷ before) → (k c : ℕ) (x : Version) → c ≡ version_count header before + k
         → slice_get (own_versions header names before s) k ≡ Some x → IsSourceAt (s ∷ before) c x

@@ -10,7 +10,6 @@ use Rattle.statement_checks.specs.Gains.{AreTables}
 use Rattle.statement_checks.specs.Lookups.{statements}
 use Rattle.node_graph.specs.Rows.{AreRows}
 use Rattle.node_graph.specs.declared.booking.Booking.{Booking}
-use Rattle.node_graph.specs.declared.booking.Counts.{Counts}
 use Rattle.node_graph.specs.declared.refusal.GraphRefusal.{GraphRefusal}
 use Rattle.node_graph.specs.declared.refusal.GraphRefusal.TheVariants as refusal
 

@@ -1,5 +1,5 @@
 -- The loops and Prints of a script, as they are listed while its lines are walked.
-use Rattle.std.specs.Prelude.{◌≡◌, ⊤, ◌≤◌, ℕ, zero, suc, Bool, true, false, List, [], ◌∷◌, ◌++◌, map, length, take, Option, Some, None, if◌then◌else◌, slice_get}
+use Rattle.std.specs.Prelude.{◌≡◌, ⊤, ℕ, zero, suc, Bool, true, false, List, [], ◌∷◌, ◌++◌, map, length, take, Option, Some, None, if◌then◌else◌, slice_get}
 use Rattle.rdf_values.specs.Bookings.{Booked, bookings, names_of, filled, has_variations, result_depends}
 use Rattle.rdf_values.specs.Names.{among, place}
 use Rattle.rdf_values.specs.Path.{variations}

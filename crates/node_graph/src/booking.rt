@@ -85,6 +85,7 @@ impl Booking {
     {
         let counts = self.counts(before, header, names);
         self.rows.add(alloc, before, header, counts, statement)?;
-        self.tables.add(alloc, before, header, names, statement, gain)
+        self.tables
+            .add(alloc, before, header, names, statement, gain)
     }
 }

@@ -335,11 +335,7 @@ pub(crate) fn watched_results(
     Ok(watched)
 }
 
-fn push_watched(
-    watched: &mut Vec<bool>,
-    all: &[Line],
-    results: &[ResultRow],
-) -> Result<(), Memory>
+fn push_watched(watched: &mut Vec<bool>, all: &[Line], results: &[ResultRow]) -> Result<(), Memory>
     ensures { OnOk result (watched.new.items ≡ watched.old.items ++ map (λ r. is_watched (statements all.now) r.name) results.now) }
 {
     let Some((first, rest)) = results.split_first() else {

@@ -112,7 +112,15 @@ fn push_varied(
         return Ok(());
     };
     let below = version_below(before, header, counts.versions, parent, column);
-    let version = varied(alloc, values, below, counts.variations, counts.sites, tags, i)?;
+    let version = varied(
+        alloc,
+        values,
+        below,
+        counts.variations,
+        counts.sites,
+        tags,
+        i,
+    )?;
     push(versions, version)?;
     push_varied(
         alloc,

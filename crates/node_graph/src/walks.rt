@@ -59,13 +59,7 @@ pub(crate) fn version_below(
 }
 
 /// The version of a column at a node, of so many.
-fn version_at(
-    before: &[Line],
-    header: &[Column],
-    count: usize,
-    node: &Name,
-    name: &Name,
-) -> u32
+fn version_at(before: &[Line], header: &[Column], count: usize, node: &Name, name: &Name) -> u32
     requires all { count ≡ version_count header.now (statements before.now) }
     requires few { count ≤ 4294967295 }
     ensures { result ≡ version_at header.now (statements before.now) node.now name.now }
@@ -119,7 +113,8 @@ fn own_label(statement: &Statement) -> Option<&Label>
 {
     match statement {
         Statement::Filter {
-            label: Some(label), ..
+            label: Some(label),
+            ..
         } => Some(label),
         _ => None,
     }
@@ -156,17 +151,16 @@ pub(crate) fn named_count(before: &[Line]) -> usize
         return 0;
     };
     let above = named_count(rest);
-    if is_named(&last.statement) { above + 1 } else { above }
+    if is_named(&last.statement) {
+        above + 1
+    } else {
+        above
+    }
 }
 
 /// The named filters of the path of a node, head first, where there are so many named filters.
 #[tactic(auto, using(crate::proofs::Walked::named_more))]
-fn named_on(
-    alloc: Global,
-    before: &[Line],
-    count: u32,
-    node: &Name,
-) -> Result<ListOf<u32>, Memory>
+fn named_on(alloc: Global, before: &[Line], count: u32, node: &Name) -> Result<ListOf<u32>, Memory>
     requires { count ≡ length (named_before (statements before.now)) }
     ensures { IfOk result (λ l. l ≡ named_numbers (statements before.now) node.now) }
 {

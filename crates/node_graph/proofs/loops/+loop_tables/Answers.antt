@@ -1,6 +1,6 @@
 use Rattle.std.proofs.Common.{◌∙◌, arith, rules, length, ap}
 use Rattle.statement_checks.specs.Lookups.{statements}
-use Rattle.node_graph.proofs.Looped.{split, no_lines, lines_joined}
+use Rattle.node_graph.proofs.Looped.{split, no_lines}
 use Rattle.node_graph.proofs.loops.+loop_tables.Goals as goal
 
 pub returns-in_default : goal.returns-in_default

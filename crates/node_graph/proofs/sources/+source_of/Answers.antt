@@ -1,4 +1,4 @@
-use Rattle.std.proofs.Common.{◌≡◌, Some, ap, ◌∙◌, sym, subst, arith, ℕ, List, length}
+use Rattle.std.proofs.Common.{Some, ap, ◌∙◌, sym, subst, arith, ℕ, List, length}
 use Rattle.graph_numbers.specs.declared.version.Version.TheVariants.{Varied}
 use Rattle.node_graph.specs.VersionSources.{HasSites}
 use Rattle.node_graph.proofs.sources.+source_of.Goals as goal

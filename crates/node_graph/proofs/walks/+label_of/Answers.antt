@@ -1,5 +1,4 @@
-use Rattle.std.proofs.Common.{◌∙◌, sym, ap, arith, length}
-use Rattle.statement_checks.specs.Lookups.{statements}
+use Rattle.std.proofs.Common.{sym}
 use Rattle.node_graph.proofs.Labelled.{last_label, label_before}
 use Rattle.node_graph.proofs.walks.+label_of.Goals as goal
 

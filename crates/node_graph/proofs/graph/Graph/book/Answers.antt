@@ -1,10 +1,8 @@
 use Rattle.std.proofs.Common.{◌∙◌, subst}
-use Rattle.std.specs.List.{AllByRecursion}
-use Rattle.rdf_values.specs.Bookable.{IsShort}
 use Rattle.rdf_values.specs.Kinds.{scope_of}
 use Rattle.rdf_values.specs.Verdict.{AreAccepted}
 use Rattle.statement_checks.specs.Lookups.{statements}
-use Rattle.node_graph.proofs.Finished.{all_short, graph_is, answered, refusal_answered}
+use Rattle.node_graph.proofs.Finished.{all_short, graph_is, refusal_answered}
 use Rattle.node_graph.proofs.graph.Graph.book.Goals as goal
 
 pub book_lines-requires-clause-short : goal.book_lines-requires-clause-short

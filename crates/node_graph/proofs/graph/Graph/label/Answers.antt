@@ -1,4 +1,4 @@
-use Rattle.std.proofs.Common.{ap, length, ◌∙◌, sym, subst, slice_get, Some, ◌≡◌}
+use Rattle.std.proofs.Common.{ap, length, ◌∙◌, sym, slice_get}
 use Rattle.rdf_values.specs.Bookings.{named_before}
 use Rattle.statement_checks.specs.Lookups.{statements}
 use Rattle.node_graph.specs.GraphFields.{view_of}
