@@ -66,9 +66,9 @@ packings_are_tight (z ∷ zs) some words =
     let fit = packing_fits (z ∷ zs) words in
     let top = greatest_reached zs z in
     record {
-  below = λ k d h. (fit k d h).0;
-  reached = least_reached zs z;
-  width = packing_width (z ∷ zs);
-  enough = λ k d h. (fit k d h).1;
-  fewest = λ w i all. width_least (unsigned_abs (greatest_from z zs -ℤ least_from z zs)) w i (subst (λ (g : ℤ). unsigned_abs (g -ℤ least_from z zs) < 256 ^ w) top.2 (all top.0 (greatest_from z zs) top.1));
-}
+      below = λ k d h. (fit k d h).0;
+      reached = least_reached zs z;
+      width = packing_width (z ∷ zs);
+      enough = λ k d h. (fit k d h).1;
+      fewest = λ w i all. width_least (unsigned_abs (greatest_from z zs -ℤ least_from z zs)) w i (subst (λ (g : ℤ). unsigned_abs (g -ℤ least_from z zs) < 256 ^ w) top.2 (all top.0 (greatest_from z zs) top.1));
+    }

@@ -23,12 +23,7 @@ pub fn booked(
     }
     let script = read_script(alloc, text.as_bytes())?;
     let marked = read_table(alloc, columns.as_bytes())?;
-    Ok(Graph::book(
-        alloc,
-        script,
-        marked.table.columns(),
-        &FnNames::new(alloc),
-    ))
+    Ok(Graph::book(alloc, script, marked.table.columns(), &FnNames::new(alloc)))
 }
 
 /// Whether a script is refused at a line for a cause; where there is none, whether it is accepted.

@@ -135,7 +135,9 @@ fn greatest(alloc: Global) -> Result<String, AllocError> {
     text.push_str("f0 = v8.Filter(\"pt > 0\")\n")?;
     for i in 0..182 {
         let next = i + 1;
-        text.push_str(format!(in alloc; "f{next} = f{i}.Filter(\"pt + pt > {i}\", \"cut\")\n")?.as_str())?;
+        text.push_str(format!(in alloc;
+            "f{next} = f{i}.Filter(\"pt + pt > {i}\", \"cut\")\n"
+        )?.as_str())?;
     }
     for i in 0..64 {
         text.push_str(format!(in alloc; "n{i} = f182.Sum(\"pt\")\n")?.as_str())?;
