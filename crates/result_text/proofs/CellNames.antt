@@ -1,0 +1,152 @@
+-- The names of an axis's cells, by their places, and the lines of cells.
+use Rattle.std.proofs.Common.{◌≡◌, ℕ, zero, suc, ◌+◌, ◌<◌, ◌≤◌, ℤ, pos, List, [], ◌∷◌, ◌++◌, length, map, drop, get_or, Option, None, Some, refl, sym, ap, ap₂, ◌∙◌, arith, append_assoc}
+use Rattle.std.specs.Prelude.{codes, slice_get}
+use Rattle.std.specs.Fmt.{signed_decimal}
+use Rattle.rdf_values.specs.Fold.{Cell}
+use Rattle.rdf_model.specs.ResultLines.{cell_line, cell_lines, cell_names, cell_names_from, plane_lines}
+use Rattle.result_text.specs.FilledLines.{behind, bin_name, line_at, lines_on, name_at, plane_at, planes_on}
+use Rattle.result_text.proofs.Lists.{drop_whole, map_same, none_left, one_left, put_last, put_next}
+
+pub first_name : (edges : List ℤ) → name_at edges 0 ≡ Some (codes "under")
+first_name [] = refl
+first_name (lo ∷ es) = refl
+
+from_over : (lo : ℤ) (es : List ℤ) → slice_get (cell_names_from lo es) (length es) ≡ Some (codes "over")
+from_over lo [] = refl
+from_over lo (hi ∷ es) = from_over hi es
+
+pub last_name : (edges : List ℤ) (i : ℕ) → i ≡ length edges → 0 < i → name_at edges i ≡ Some (codes "over")
+last_name [] i e h = absurd (omega arith)
+last_name (lo ∷ es) i e h = ap (name_at (lo ∷ es)) e ∙ from_over lo es
+
+from_bin : (lo : ℤ) (es : List ℤ) (k : ℕ) → k < length es → slice_get (cell_names_from lo es) k ≡ Some (bin_name (get_or (lo ∷ es) k (pos 0)) (get_or es k (pos 0)))
+from_bin lo [] k lt = absurd (omega arith)
+from_bin lo (hi ∷ es) zero lt = refl
+from_bin lo (hi ∷ es) (suc k) lt = from_bin hi es k (omega arith)
+
+pub bin_at : (edges : List ℤ) (k i : ℕ) → i ≡ k + 1 → i < length edges → name_at edges i ≡ Some (bin_name (get_or edges k (pos 0)) (get_or edges i (pos 0)))
+bin_at [] k i e lt = absurd (omega arith)
+bin_at (lo ∷ es) k zero e lt = absurd (omega arith)
+bin_at (lo ∷ es) k (suc i) e lt = from_bin lo es i (omega arith) ∙ (let same : i ≡ k = omega arith in ap (λ n. Some (bin_name (get_or (lo ∷ es) n (pos 0)) (get_or es i (pos 0)))) same)
+
+nothing_left : (m : ℕ) → ◌≡◌ {A = List (List ℕ)} (drop m []) []
+nothing_left zero = refl
+nothing_left (suc m) = refl
+
+no_lines : (names : List (List ℕ)) → cell_lines names [] ≡ []
+no_lines [] = refl
+no_lines (n ∷ ns) = refl
+
+-- the lines from a place of the axis on, with a text before each name
+pub lines_are : (before : List ℕ) (edges : List ℤ) (i : ℕ) (cells : List Cell) → lines_on before edges i cells ≡ cell_lines (map (λ n. before ++ n) (drop i (cell_names edges))) cells
+lines_are before edges i [] = sym (no_lines (map (λ n. before ++ n) (drop i (cell_names edges))))
+lines_are before edges i (c ∷ cs) = go (name_at edges i) refl (lines_are before edges (i + 1) cs)
+  where
+    none_behind : (ns : List (List ℕ)) (k : ℕ) → slice_get ns k ≡ None → drop (k + 1) ns ≡ []
+    none_behind [] k h = nothing_left (k + 1)
+    none_behind (n ∷ ns) zero h = absurd (cc)
+    none_behind (n ∷ ns) (suc k) h = (let e : suc k + 1 ≡ suc (k + 1) = omega arith in ap (λ m. drop m (n ∷ ns)) e) ∙ none_behind ns k h
+
+    go : (o : Option (List ℕ)) → name_at edges i ≡ o → lines_on before edges (i + 1) cs ≡ cell_lines (map (λ n. before ++ n) (drop (i + 1) (cell_names edges))) cs
+        → lines_on before edges i (c ∷ cs) ≡ cell_lines (map (λ n. before ++ n) (drop i (cell_names edges))) (c ∷ cs)
+    go None at rest =
+        let none = none_left (cell_names edges) i at in
+        ap (λ (o : Option (List ℕ)). (elim o [ None ↦ [] | Some name ↦ cell_line (before ++ name) c ]) ++ lines_on before edges (i + 1) cs) at
+        ∙ rest ∙ ap (λ l. cell_lines (map (λ n. before ++ n) l) cs) (none_behind (cell_names edges) i at)
+        ∙ sym (ap (λ l. cell_lines (map (λ n. before ++ n) l) (c ∷ cs)) none)
+    go (Some name) at rest =
+        ap (λ (o : Option (List ℕ)). (elim o [ None ↦ [] | Some x ↦ cell_line (before ++ x) c ]) ++ lines_on before edges (i + 1) cs) at
+        ∙ ap (λ l. cell_line (before ++ name) c ++ l) rest
+        ∙ sym (ap (λ l. cell_lines (map (λ n. before ++ n) l) (c ∷ cs)) (one_left (cell_names edges) i name at))
+
+pub flat_lines : (edges : List ℤ) (cells : List Cell) → lines_on [] edges 0 cells ≡ cell_lines (cell_names edges) cells
+flat_lines edges cells = lines_are [] edges 0 cells ∙ ap (λ l. cell_lines l cells) (map_same (cell_names edges))
+
+no_planes : (xs ys : List (List ℕ)) → plane_lines xs ys [] ≡ []
+no_planes [] ys = refl
+no_planes (x ∷ xs) ys = refl
+
+pub planes_are : (xs ys : List ℤ) (i : ℕ) (rows : List (List Cell)) → planes_on xs ys i rows ≡ plane_lines (drop i (cell_names xs)) (cell_names ys) rows
+planes_are xs ys i [] = sym (no_planes (drop i (cell_names xs)) (cell_names ys))
+planes_are xs ys i (row ∷ rows) = go (name_at xs i) refl (planes_are xs ys (i + 1) rows)
+  where
+    behind_none : (ns : List (List ℕ)) (k : ℕ) → slice_get ns k ≡ None → drop (k + 1) ns ≡ []
+    behind_none [] k h = nothing_left (k + 1)
+    behind_none (n ∷ ns) zero h = absurd (cc)
+    behind_none (n ∷ ns) (suc k) h = (let e : suc k + 1 ≡ suc (k + 1) = omega arith in ap (λ m. drop m (n ∷ ns)) e) ∙ behind_none ns k h
+
+    go : (o : Option (List ℕ)) → name_at xs i ≡ o → planes_on xs ys (i + 1) rows ≡ plane_lines (drop (i + 1) (cell_names xs)) (cell_names ys) rows
+        → planes_on xs ys i (row ∷ rows) ≡ plane_lines (drop i (cell_names xs)) (cell_names ys) (row ∷ rows)
+    go None at rest =
+        ap (λ (o : Option (List ℕ)). (elim o [ None ↦ [] | Some name ↦ lines_on (name ++ codes " ") ys 0 row ]) ++ planes_on xs ys (i + 1) rows) at
+        ∙ rest ∙ ap (λ l. plane_lines l (cell_names ys) rows) (behind_none (cell_names xs) i at)
+        ∙ sym (ap (λ l. plane_lines l (cell_names ys) (row ∷ rows)) (none_left (cell_names xs) i at))
+    go (Some name) at rest =
+        ap (λ (o : Option (List ℕ)). (elim o [ None ↦ [] | Some x ↦ lines_on (x ++ codes " ") ys 0 row ]) ++ planes_on xs ys (i + 1) rows) at
+        ∙ ap₂ (λ a b. a ++ b) (lines_are (name ++ codes " ") ys 0 row) rest
+        ∙ sym (ap (λ l. plane_lines l (cell_names ys) (row ∷ rows)) (one_left (cell_names xs) i name at))
+
+-- ---- one line
+
+past_names : (lo : ℤ) (es : List ℤ) (k : ℕ) → length es < k → slice_get (cell_names_from lo es) k ≡ None
+past_names lo [] zero lt = absurd (omega arith)
+past_names lo [] (suc k) lt = refl
+past_names lo (hi ∷ es) zero lt = absurd (omega arith)
+past_names lo (hi ∷ es) (suc k) lt = past_names hi es k (omega arith)
+
+no_name : (edges : List ℤ) (i : ℕ) → length edges < i → name_at edges i ≡ None
+no_name [] zero lt = absurd (omega arith)
+no_name [] (suc i) lt = refl
+no_name (lo ∷ es) zero lt = absurd (omega arith)
+no_name (lo ∷ es) (suc i) lt = past_names lo es i (omega arith)
+
+pub no_line : (before : List ℕ) (edges : List ℤ) (i : ℕ) (c : Cell) → length edges < i → line_at before edges i c ≡ []
+no_line before edges i c lt = ap (λ (o : Option (List ℕ)). elim o [ None ↦ [] | Some name ↦ cell_line (before ++ name) c ]) (no_name edges i lt)
+
+pub no_plane : (xs ys : List ℤ) (i : ℕ) (row : List Cell) → length xs < i → plane_at xs ys i row ≡ []
+no_plane xs ys i row lt = ap (λ (o : Option (List ℕ)). elim o [ None ↦ [] | Some name ↦ lines_on (name ++ codes " ") ys 0 row ]) (no_name xs i lt)
+
+same_text : {a b : List ℕ} → ◌≡◌ {A = Option (List ℕ)} (Some a) (Some b) → a ≡ b
+same_text q = cc
+
+pub cell_put : (text before : List ℕ) (edges : List ℤ) (i : ℕ) (c : Cell) (t1 t2 t3 t4 t5 t6 t7 t8 : List ℕ) → t1 ≡ text ++ codes "  " → t2 ≡ t1 ++ before → Some t3 ≡ behind t2 (name_at edges i)
+    → t4 ≡ t3 ++ codes " " → t5 ≡ t4 ++ signed_decimal c.sum → t6 ≡ t5 ++ codes " " → t7 ≡ t6 ++ signed_decimal c.squares → t8 ≡ t7 ++ 10 ∷ [] → t8 ≡ text ++ line_at before edges i c
+cell_put text before edges i c t1 t2 t3 t4 t5 t6 t7 t8 e1 e2 e3 e4 e5 e6 e7 e8 = go (name_at edges i) e3
+  where
+    go : (o : Option (List ℕ)) → Some t3 ≡ behind t2 o → t8 ≡ text ++ (elim o [ None ↦ [] | Some name ↦ cell_line (before ++ name) c ])
+    go None h = absurd (cc)
+    go (Some n) h =
+        e8 ∙ ap (λ l. l ++ 10 ∷ [])
+        (e7 ∙ ap (λ l. l ++ signed_decimal c.squares) (e6 ∙ ap (λ l. l ++ codes " ") (e5 ∙ ap (λ l. l ++ signed_decimal c.sum) (e4 ∙ ap (λ l. l ++ codes " ") (same_text h ∙ ap (λ l. l ++ n) (e2 ∙ ap (λ l. l ++ before) e1))))))
+        ∙ simp append_assoc
+
+pub plane_put : (xs ys : List ℤ) (i : ℕ) (row : List Cell) (text b0 b1 b2 b3 now : List ℕ) → b0 ≡ [] → Some b1 ≡ behind b0 (name_at xs i) → b2 ≡ b1 ++ codes " " → b3 ≡ b2
+    → now ≡ text ++ lines_on b3 ys 0 row → now ≡ text ++ plane_at xs ys i row
+plane_put xs ys i row text b0 b1 b2 b3 now e0 e1 e2 e3 e = go (name_at xs i) e1
+  where
+    go : (o : Option (List ℕ)) → Some b1 ≡ behind b0 o → now ≡ text ++ (elim o [ None ↦ [] | Some name ↦ lines_on (name ++ codes " ") ys 0 row ])
+    go None h = absurd (cc)
+    go (Some n) h = e ∙ ap (λ b. text ++ lines_on b ys 0 row) (e3 ∙ e2 ∙ ap (λ l. l ++ codes " ") (same_text h ∙ ap (λ l. l ++ n) e0))
+
+-- ---- turns
+
+pub line_next : (before text now all : List ℕ) (edges : List ℤ) (i : ℕ) (cells : List Cell) (c : Cell) → text ++ lines_on before edges i (drop i cells) ≡ all → slice_get cells i ≡ Some c → now ≡ text ++ line_at before edges i c
+    → now ++ lines_on before edges (i + 1) (drop (i + 1) cells) ≡ all
+line_next before text now all edges i cells c h at is =
+    put_next all text now (line_at before edges i c) (lines_on before edges (i + 1) (drop (i + 1) cells)) (lines_on before edges i (drop i cells)) h (ap (lines_on before edges i) (one_left cells i c at)) is
+
+pub line_last : (before text all : List ℕ) (edges : List ℤ) (i : ℕ) (cells : List Cell) → text ++ lines_on before edges i (drop i cells) ≡ all → length cells ≤ i → text ≡ all
+line_last before text all edges i cells h le = put_last all text (lines_on before edges i (drop i cells)) h (ap (lines_on before edges i) (drop_whole cells i le))
+
+row_there : (rows : List (List Cell)) (i : ℕ) → i < length rows → slice_get rows i ≡ Some (get_or rows i [])
+row_there [] i lt = absurd (omega arith)
+row_there (r ∷ rs) zero lt = refl
+row_there (r ∷ rs) (suc i) lt = row_there rs i (omega arith)
+
+pub plane_next : (text now all : List ℕ) (xs ys : List ℤ) (i : ℕ) (rows : List (List Cell)) → text ++ planes_on xs ys i (drop i rows) ≡ all → i < length rows → now ≡ text ++ plane_at xs ys i (get_or rows i [])
+    → now ++ planes_on xs ys (i + 1) (drop (i + 1) rows) ≡ all
+plane_next text now all xs ys i rows h lt is =
+    put_next all text now (plane_at xs ys i (get_or rows i [])) (planes_on xs ys (i + 1) (drop (i + 1) rows)) (planes_on xs ys i (drop i rows)) h (ap (planes_on xs ys i) (one_left rows i (get_or rows i []) (row_there rows i lt))) is
+
+pub plane_last : (text all : List ℕ) (xs ys : List ℤ) (i : ℕ) (rows : List (List Cell)) → text ++ planes_on xs ys i (drop i rows) ≡ all → length rows ≤ i → text ≡ all
+plane_last text all xs ys i rows h le = put_last all text (planes_on xs ys i (drop i rows)) h (ap (planes_on xs ys i) (drop_whole rows i le))

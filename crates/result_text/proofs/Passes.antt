@@ -1,0 +1,85 @@
+-- The passes of a graph's loops are those of the script.
+use Rattle.std.proofs.Common.{◌≡◌, ℕ, zero, suc, ◌<◌, List, [], ◌∷◌, length, map, get_or, Option, None, Some, refl, sym, ap, ◌∙◌, subst, arith}
+use Rattle.std.specs.Prelude.{option_map, slice_get, unwrap_or}
+use Rattle.std.proofs.lemmas.List.{length-map}
+use Rattle.std.proofs.lemmas.Option.{slice_get-map, slice_get_within}
+use Rattle.rdf_values.specs.Bookings.{Booked, Pass, bookings}
+use Rattle.rdf_values.specs.Path.{variations}
+use Rattle.rdf_model.specs.Loops.{loop_passes, loop_results}
+use Rattle.rdf_model.specs.ResultLines.{label, pass_label}
+use Rattle.graph_numbers.specs.Graphs.{GraphView, booked_statements, graph_loops, graph_results, graph_variations}
+use Rattle.graph_numbers.specs.Results.{ResultAt, pass_at, under_at}
+use Rattle.graph_numbers.specs.declared.pass.Pass.{Pass as NumberedPass}
+use Rattle.graph_numbers.proofs.Extending.{itself}
+use Rattle.graph_numbers.proofs.Looping.{loops_are}
+use Rattle.graph_numbers.proofs.Resulting.{booked_are}
+use Rattle.result_text.specs.FilledLines.{passes_at, under_in}
+
+same_some : {A : Type 0} {a b : A} → ◌≡◌ {A = Option A} (Some a) (Some b) → a ≡ b
+same_some q = cc
+
+module _ (g : GraphView) where
+  -- the result and the variation of a numbered pass, which is the pass of that place in the script's loop
+  pub record IsPassAt (l n : ℕ) (p : NumberedPass) : Type 0 where
+    pub booked : Booked
+    pub its_result : slice_get (bookings (booked_statements g)) p.result ≡ Some booked
+    pub its_pass : slice_get (passes_at g l) n ≡ Some (record { result = booked; under = under_at (booked_statements g) p.variation })
+
+  pub is_pass_at : (l n : ℕ) (ps : List NumberedPass) (p : NumberedPass) → slice_get (graph_loops g) l ≡ Some ps → slice_get ps n ≡ Some p → IsPassAt l n p
+  is_pass_at l n ps p loop at = by_loop (slice_get (loop_results (booked_statements g)) l) refl both_loops
+    where
+      both_loops : ◌≡◌ {A = Option (List (Option Pass))} (Some (map (pass_at (booked_statements g)) ps)) (option_map (λ results. map (λ (q : Pass). Some q) (loop_passes (booked_statements g) results)) (slice_get (loop_results (booked_statements g)) l))
+      both_loops =
+          sym (ap (option_map (map (pass_at (booked_statements g)))) loop) ∙ sym (slice_get-map (map (pass_at (booked_statements g))) (graph_loops g) l)
+          ∙ ap (λ ls. slice_get ls l) (loops_are (booked_statements g) (booked_statements g) itself)
+          ∙ slice_get-map (λ results. map (λ (q : Pass). Some q) (loop_passes (booked_statements g) results)) (loop_results (booked_statements g)) l
+
+      by_loop : (o : Option (List Booked)) → slice_get (loop_results (booked_statements g)) l ≡ o
+          → ◌≡◌ {A = Option (List (Option Pass))} (Some (map (pass_at (booked_statements g)) ps)) (option_map (λ results. map (λ (q : Pass). Some q) (loop_passes (booked_statements g) results)) o) → IsPassAt l n p
+      by_loop None is e = absurd (cc)
+      by_loop (Some results) is e = by_pass (slice_get (loop_passes (booked_statements g) results) n) refl
+          (sym (ap (option_map (pass_at (booked_statements g))) at) ∙ sym (slice_get-map (pass_at (booked_statements g)) ps n) ∙ ap (λ qs. slice_get qs n) (same_some e) ∙ slice_get-map (λ (q : Pass). Some q) (loop_passes (booked_statements g) results) n)
+        where
+          by_booked : (q : Pass) → slice_get (loop_passes (booked_statements g) results) n ≡ Some q → (b : Option Booked) → slice_get (bookings (booked_statements g)) p.result ≡ b
+              → option_map (λ (x : Booked). record { result = x; under = under_at (booked_statements g) p.variation }) b ≡ Some q → IsPassAt l n p
+          by_booked q there None none k = absurd (cc)
+          by_booked q there (Some b) found k = record {
+            booked = b;
+            its_result = found;
+            its_pass = ap (λ (r : Option (List Booked)). slice_get (loop_passes (booked_statements g) (unwrap_or r [])) n) is ∙ there ∙ sym k;
+          }
+
+          by_pass : (q : Option Pass) → slice_get (loop_passes (booked_statements g) results) n ≡ q → ◌≡◌ {A = Option (Option Pass)} (Some (pass_at (booked_statements g) p)) (option_map (λ (x : Pass). Some x) q) → IsPassAt l n p
+          by_pass None there k = absurd (cc)
+          by_pass (Some q) there k = by_booked q there (slice_get (bookings (booked_statements g)) p.result) refl (same_some k)
+
+  pub result_within : (l n : ℕ) (p : NumberedPass) → IsPassAt l n p → p.result < length (graph_results g)
+  result_within l n p is =
+      let within = slice_get_within (bookings (booked_statements g)) p.result is.booked is.its_result in
+      let same = ap length (booked_are g.header g.names (booked_statements g)) in
+      omega (arith, length-map (graph_results g) (λ (r : ResultAt). r.booked))
+
+  -- the name that the graph has for the result is that of what was booked
+  pub name_is : (r : ℕ) (b : Booked) (name : List ℕ) → slice_get (bookings (booked_statements g)) r ≡ Some b → option_map (λ (x : ResultAt). x.booked.name) (slice_get (graph_results g) r) ≡ Some name → name ≡ b.name
+  name_is r b name its named = go (slice_get (graph_results g) r)
+      (sym (slice_get-map (λ (x : ResultAt). x.booked) (graph_results g) r) ∙ ap (λ (bs : List Booked). slice_get bs r) (booked_are g.header g.names (booked_statements g)) ∙ its) named
+    where
+      go : (o : Option ResultAt) → option_map (λ (x : ResultAt). x.booked) o ≡ Some b → option_map (λ (x : ResultAt). x.booked.name) o ≡ Some name → name ≡ b.name
+      go None e k = absurd (cc)
+      go (Some x) e k = sym (same_some k) ∙ ap (λ (y : Booked). y.name) (same_some e)
+
+  under_is : (v : Option ℕ) → under_in (graph_variations g) v ≡ under_at (booked_statements g) v
+  under_is None = refl
+  under_is (Some v) = refl
+
+  -- the label of a pass by the numbers of its loop and place
+  pub label_is : (l n : ℕ) (p : NumberedPass) (name : List ℕ) → IsPassAt l n p → option_map (λ (x : ResultAt). x.booked.name) (slice_get (graph_results g) p.result) ≡ Some name
+      → label name (under_in (graph_variations g) p.variation) ≡ pass_label (slice_get (passes_at g l) n)
+  label_is l n p name is named =
+      ap (λ (x : List ℕ). label x (under_in (graph_variations g) p.variation)) (name_is p.result is.booked name is.its_result named)
+      ∙ ap (label is.booked.name) (under_is p.variation) ∙ sym (ap pass_label is.its_pass)
+
+pub pass_there : (ps : List NumberedPass) (n : ℕ) (d : NumberedPass) → n < length ps → slice_get ps n ≡ Some (get_or ps n d)
+pass_there [] n d lt = absurd (omega arith)
+pass_there (p ∷ ps) zero d lt = refl
+pass_there (p ∷ ps) (suc n) d lt = pass_there ps n d (omega arith)

@@ -1,0 +1,6 @@
+use Rattle.std.proofs.Common.{◌≡◌, ◌++◌, drop}
+use Rattle.result_text.specs.FilledLines.{planes_on}
+use Rattle.result_text.proofs.cells.put_square.Given as goal
+
+abbrev pub invariant-loop-i : goal.invariant-loop-i
+invariant-loop-i l = l.text ++ planes_on l.x_edges l.y_edges l.i (drop l.i l.hist.cells) ≡ l.fn.text ++ planes_on l.x_edges l.y_edges 0 l.hist.cells

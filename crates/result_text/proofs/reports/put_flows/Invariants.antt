@@ -1,0 +1,10 @@
+use Rattle.std.proofs.Common.{◌≡◌, ◌++◌, drop}
+use Rattle.std.specs.Prelude.{flat_map}
+use Rattle.rdf_model.specs.ResultLines.{flow_line}
+use Rattle.result_text.specs.FilledLines.{flow_at}
+use Rattle.result_text.proofs.reports.put_flows.Given as goal
+
+abbrev pub invariant-loop-f : goal.invariant-loop-f
+invariant-loop-f l =
+    l.text ++ flat_map (λ f. flow_line l.name l.reached (flow_at l.graph l.flow f).0 (flow_at l.graph l.flow f).1) (drop l.f-index l.covered)
+    ≡ l.fn.text ++ flat_map (λ f. flow_line l.name l.reached (flow_at l.graph l.flow f).0 (flow_at l.graph l.flow f).1) l.covered

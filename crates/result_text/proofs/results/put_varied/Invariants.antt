@@ -1,0 +1,12 @@
+use Rattle.std.proofs.Common.{◌≡◌, ◌+◌, ◌≤◌, ◌++◌, drop, length}
+use Rattle.variation_sets.specs.Sets.{has}
+use Rattle.result_text.specs.FilledLines.{members_from, under_lines}
+use Rattle.result_text.proofs.results.put_varied.Given as goal
+
+abbrev pub invariant-loop-v : goal.invariant-loop-v
+invariant-loop-v l = record {
+  some : 1 ≤ l.pass;
+  count : l.pass + length (members_from (has l.depends) l.v (drop l.v l.variations)) ≡ l.filled.passes;
+  text : l.text ++ under_lines l.name l.kind l.filled.piece.now.accs.items (l.filled.first + l.pass) (members_from (has l.depends) l.v (drop l.v l.variations))
+      ≡ l.fn.text ++ under_lines l.name l.kind l.filled.piece.now.accs.items (l.filled.first + 1) (members_from (has l.depends) 0 l.variations);
+}

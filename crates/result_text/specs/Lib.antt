@@ -1,0 +1,3 @@
+pub mod FilledLines
+pub mod PartialText
+pub mod RefusalText

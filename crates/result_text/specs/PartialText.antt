@@ -1,0 +1,36 @@
+-- What is printed of partial results.
+use Rattle.std.specs.Prelude.{◌≡◌, ◌<◌, ◌-◌, ◌∷◌, ◌++◌, ℕ, List, All, codes, flat_map, map}
+use Rattle.std.specs.List.{join_with_byte}
+use Rattle.rdf_values.specs.RefusalLines.{line}
+use Rattle.rdf_values.specs.declared.span.Span.{Span}
+use Rattle.rdf_model.specs.PartialResults.{Run, maximal_runs, run_text, set_text, value_text}
+use Rattle.loop_pieces.specs.Watching.{watch_filled}
+use Rattle.loop_pieces.specs.declared.filled_result.PartialLine.{PartialLine}
+
+-- the numbers of a span, as a run
+abbrev pub run_of : Span → Run
+run_of s = record { first = s.lo; last = s.hi - 1 }
+
+-- each has a number
+abbrev pub AreRuns : List Span → Type 0
+AreRuns runs = All (λ (s : Span). s.lo < s.hi) runs
+
+-- the text of the set of these runs
+abbrev pub runs_text : List Span → List ℕ
+runs_text runs = join_with_byte 44 (map run_text (map run_of runs))
+
+-- the texts of these runs, each behind a comma
+abbrev pub more_runs : List Span → List ℕ
+more_runs runs = flat_map (λ (s : Span). 44 ∷ run_text (run_of s)) runs
+
+-- the line of one partial result
+abbrev pub watch_line : List ℕ → PartialLine → List ℕ
+watch_line name l = line (codes "partial " ++ name ++ codes " over " ++ runs_text l.runs ++ codes " = " ++ value_text (watch_filled l.value))
+
+-- the lines of several
+abbrev pub watch_lines : List ℕ → List PartialLine → List ℕ
+watch_lines name lines = flat_map (watch_line name) lines
+
+-- the spans are the maximal runs of the set
+abbrev pub AreRunsOf : List Span → List ℕ → Type 0
+AreRunsOf runs set = map run_of runs ≡ maximal_runs set

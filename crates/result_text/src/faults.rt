@@ -1,0 +1,65 @@
+// The line of a fault.
+ghost use Rattle.std.specs.Prelude.{◌≡◌, ◌<◌, ◌++◌, List, IfOk, OnOk, Some, length, slice_get};
+ghost use Rattle.graph_numbers.specs.Graphs.{graph_loops};
+ghost use Rattle.graph_numbers.specs.declared.pass.Pass.{Pass};
+ghost use Rattle.rdf_model.specs.ResultLines.{fault_line, fault_name};
+ghost use Rattle.result_text.specs.FilledLines.{passes_at};
+
+use crate::labels::put_label;
+use crate::numbers::put_count;
+use node_graph::Graph;
+use rdf_values::{EntryFault, Fault, Memory, Text};
+use std::alloc::Global;
+
+fn fault_name(kind: EntryFault) -> &'static str
+    ensures { result.now ≡ fault_name kind }
+{
+    match kind {
+        EntryFault::Overflow => "F1 Overflow",
+        EntryFault::ZeroDivisor => "F2 ZeroDivisor",
+        EntryFault::Index => "F3 Index",
+        EntryFault::EmptyVector => "F4 EmptyVector",
+        EntryFault::Lengths => "F5 Lengths",
+        EntryFault::VaryCount => "F6 VaryCount",
+        EntryFault::Weight => "F7 Weight",
+        EntryFault::Function => "F8 Function",
+    }
+}
+
+// Appends the line of a fault.
+fn put_fault(
+    alloc: Global,
+    text: &mut Text,
+    graph: &Graph,
+    loop_index: u32,
+    fault: &Fault,
+) -> Result<(), Memory>
+    requires its_loop { loop_index < length (graph_loops graph.now) }
+    requires its_pass { (ps : List Pass) → slice_get (graph_loops graph.now) loop_index ≡ Some ps → fault.now.pass < length ps }
+    ensures { OnOk result (text.new ≡ text.old ++ fault_line (passes_at graph.now loop_index) fault.now) }
+{
+    let pass = graph.passes(loop_index)[fault.pass as usize];
+    text.extend(b"fault at entry ")?;
+    put_count(alloc, text, u64::from(fault.entry))?;
+    text.extend(b" in ")?;
+    put_label(text, graph.result_name(pass.result), graph.variations(), pass.variation)?;
+    text.extend(b": ")?;
+    text.extend(fault_name(fault.kind).as_bytes())?;
+    text.push(b'\n')
+}
+
+/// The line of a fault in a loop of the graph.
+pub fn fault_line(
+    alloc: Global,
+    graph: &Graph,
+    loop_index: u32,
+    fault: &Fault,
+) -> Result<Text, Memory>
+    requires its_loop { loop_index < length (graph_loops graph.now) }
+    requires its_pass { (ps : List Pass) → slice_get (graph_loops graph.now) loop_index ≡ Some ps → fault.now.pass < length ps }
+    ensures { IfOk result (λ text. text ≡ fault_line (passes_at graph.now loop_index) fault.now) }
+{
+    let mut text = Text::new(alloc);
+    put_fault(alloc, &mut text, graph, loop_index, fault)?;
+    Ok(text)
+}

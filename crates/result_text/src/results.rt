@@ -1,0 +1,88 @@
+// The lines of results.
+ghost use Rattle.std.specs.Prelude.{◌≡◌, ◌<◌, ◌≤◌, ◌+◌, ◌^◌, ◌++◌, ℕ, IfOk, OnOk, None, Some, length, slice_get, vec_len};
+ghost use Rattle.graph_numbers.specs.Graphs.{booked_statements, graph_results, graph_variations};
+ghost use Rattle.graph_numbers.specs.Results.{ResultAt, kind_of_booking};
+ghost use Rattle.variation_sets.specs.Sets.{has};
+ghost use Rattle.result_text.specs.FilledLines.{FitsResult, filled_text, members_from, under_lines};
+
+use crate::reports::put_report;
+use crate::values::put_pass;
+use graph_numbers::ResultKind;
+use loop_pieces::FilledResult;
+use node_graph::Graph;
+use rdf_values::{ActionKind, Memory, Name, Text};
+use std::alloc::Global;
+use variation_sets::{VarSet, Variations};
+
+// Appends the lines of the passes of an action under the variations on which it depends.
+fn put_varied(
+    alloc: Global,
+    text: &mut Text,
+    name: &Name,
+    variations: &Variations,
+    depends: VarSet,
+    kind: &ActionKind,
+    filled: &FilledResult<'_>,
+) -> Result<(), Memory>
+    requires passes { filled.now.passes ≡ length (members_from (has depends) 0 variations.now) + 1 }
+    requires accs { (i : ℕ) → i < filled.now.passes → filled.now.first + i < vec_len filled.now.piece.now.accs }
+    requires numbers { filled.now.first + filled.now.passes ≤ 2 ^ 32 }
+    ensures { OnOk result (text.new ≡ text.old ++ under_lines name.now kind.now filled.now.piece.now.accs.items (filled.now.first + 1) (members_from (has depends) 0 variations.now)) }
+{
+    let mut pass = 1;
+    for v in 0..variations.len() {
+        if depends.contains(v) {
+            let acc = filled.piece.acc(filled.first + pass);
+            put_pass(alloc, text, name, variations, Some(v), kind, acc)?;
+            pass += 1;
+        }
+    }
+    Ok(())
+}
+
+// Appends the lines of the passes of an action, nominal first, then its variations in their order.
+fn put_action(
+    alloc: Global,
+    text: &mut Text,
+    graph: &Graph,
+    r: u32,
+    kind: &ActionKind,
+    filled: &FilledResult<'_>,
+) -> Result<(), Memory>
+    requires result { r < length (graph_results graph.now) }
+    requires action { (x : ResultAt) → slice_get (graph_results graph.now) r ≡ Some x → kind_of_booking x.booked.booking ≡ ResultKind.Action kind.now }
+    requires filled { (x : ResultAt) → slice_get (graph_results graph.now) r ≡ Some x → FitsResult graph.now x filled.now }
+    ensures { (x : ResultAt) → slice_get (graph_results graph.now) r ≡ Some x → OnOk result (text.new ≡ text.old ++ filled_text graph.now x filled.now) }
+{
+    let name = graph.result_name(r);
+    let variations = graph.variations();
+    let nominal = filled.piece.acc(filled.first);
+    put_pass(alloc, text, name, variations, None, kind, nominal)?;
+    if filled.passes == 1 {
+        return Ok(());
+    }
+    put_varied(alloc, text, name, variations, graph.depends(r), kind, filled)
+}
+
+/// The lines of a result of the graph: of an action its passes, nominal first, then its variations in their order; or of a report.
+pub fn result_lines(
+    alloc: Global,
+    graph: &Graph,
+    r: u32,
+    filled: &FilledResult<'_>,
+) -> Result<Text, Memory>
+    requires result { r < length (graph_results graph.now) }
+    requires filled { (x : ResultAt) → slice_get (graph_results graph.now) r ≡ Some x → FitsResult graph.now x filled.now }
+    ensures { (x : ResultAt) → slice_get (graph_results graph.now) r ≡ Some x → IfOk result (λ text. text ≡ filled_text graph.now x filled.now) }
+{
+    let mut text = Text::new(alloc);
+    match graph.kind(r) {
+        ResultKind::Action(kind) => put_action(alloc, &mut text, graph, r, kind, filled)?,
+        ResultKind::Report => {
+            let name = graph.result_name(r).bytes();
+            let covered = graph.covered(r);
+            put_report(alloc, &mut text, graph, name, covered, filled.piece.flow())?;
+        }
+    }
+    Ok(text)
+}

@@ -1,0 +1,92 @@
+// The lines of what an action holds.
+ghost use Rattle.std.specs.Prelude.{◌≡◌, ◌<◌, ◌+◌, ◌++◌, OnOk, decimal, length};
+ghost use Rattle.std.specs.Option.{ForSome};
+ghost use Rattle.actions.specs.Fillings.{filled_seen};
+ghost use Rattle.rdf_model.specs.ResultLines.{filled_lines, label, x_edges_of, y_edges_of};
+ghost use Rattle.result_text.specs.FilledLines.{under_in, value_lines};
+
+use crate::cells::{put_flat, put_square};
+use crate::labels::put_label;
+use crate::numbers::{put_count, put_number, put_option, put_sum, put_wide};
+use crate::taken::put_taken;
+use actions::{Acc, Filled};
+use rdf_values::{ActionKind, Memory, Name, Text};
+use std::alloc::Global;
+use variation_sets::Variations;
+
+fn x_edges(kind: &ActionKind) -> &[i64]
+    ensures { result.now ≡ x_edges_of kind.now }
+{
+    match kind {
+        ActionKind::Histo1D { x_edges, .. } => x_edges.as_slice(),
+        ActionKind::Histo2D { x_edges, .. } => x_edges.as_slice(),
+        _ => &[],
+    }
+}
+
+fn y_edges(kind: &ActionKind) -> &[i64]
+    ensures { result.now ≡ y_edges_of kind.now }
+{
+    match kind {
+        ActionKind::Histo2D { y_edges, .. } => y_edges.as_slice(),
+        _ => &[],
+    }
+}
+
+// Appends how many cells an axis has.
+fn put_cell_count(alloc: Global, text: &mut Text, edges: &[i64]) -> Result<(), Memory>
+    ensures { OnOk result (text.new ≡ text.old ++ decimal (length edges.now + 1)) }
+{
+    put_wide(alloc, text, edges.len() as u128 + 1)
+}
+
+// Appends what an action holds, behind the label.
+fn put_filled(
+    alloc: Global,
+    text: &mut Text,
+    kind: &ActionKind,
+    filled: &Filled<'_>,
+) -> Result<(), Memory>
+    ensures { OnOk result (text.new ≡ text.old ++ value_lines kind.now (filled_seen filled.now)) }
+{
+    match filled {
+        Filled::Count(n) => put_count(alloc, text, *n)?,
+        Filled::Sum(z) => put_sum(alloc, text, *z)?,
+        Filled::Extreme(z) => put_option(alloc, text, *z)?,
+        Filled::Taken(taken) => put_taken(alloc, text, taken)?,
+        Filled::Number(z) => put_number(alloc, text, *z)?,
+        Filled::Flat(hist) => {
+            text.extend(b"histo1d ")?;
+            put_cell_count(alloc, text, x_edges(kind))?;
+            text.push(b'\n')?;
+            return put_flat(alloc, text, x_edges(kind), hist);
+        }
+        Filled::Square(hist) => {
+            text.extend(b"histo2d ")?;
+            put_cell_count(alloc, text, x_edges(kind))?;
+            text.push(b' ')?;
+            put_cell_count(alloc, text, y_edges(kind))?;
+            text.push(b'\n')?;
+            return put_square(alloc, text, x_edges(kind), y_edges(kind), hist);
+        }
+    }
+    text.push(b'\n')
+}
+
+/// Appends the lines of a pass: what an accumulator holds, under the result's name and the variation of that number.
+pub fn put_pass(
+    alloc: Global,
+    text: &mut Text,
+    name: &Name,
+    variations: &Variations,
+    variation: Option<u32>,
+    kind: &ActionKind,
+    acc: &Acc,
+) -> Result<(), Memory>
+    requires { ForSome variation (λ v. v < length variations.now) }
+    ensures { OnOk result (text.new ≡ text.old ++ filled_lines kind.now (label name.now (under_in variations.now variation)) acc.now.filled) }
+{
+    put_label(text, name, variations, variation)?;
+    text.extend(b" = ")?;
+    put_filled(alloc, text, kind, &acc.filled())
+}
