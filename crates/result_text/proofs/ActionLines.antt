@@ -1,14 +1,14 @@
 -- The lines of the passes of an action.
 use Rattle.std.proofs.Common.{◌≡◌, ℕ, zero, suc, ◌+◌, ◌<◌, ◌≤◌, ◌^◌, Bool, true, false, List, [], ◌∷◌, ◌++◌, length, map, drop, Option, None, Some, refl, sym, ap, ◌∙◌, subst, arith, if◌then◌else◌}
-use Rattle.std.specs.Prelude.{filter, option_map, slice_get}
+use Rattle.std.specs.Prelude.{option_map, slice_get}
 use Rattle.std.proofs.lemmas.List.{length-map}
 use Rattle.std.proofs.lemmas.Option.{slice_get_within}
-use Rattle.rdf_values.specs.Path.{Path, Variation, variations}
-use Rattle.rdf_values.specs.Bookings.{Booking, ActionAt, passes_of, result_depends}
+use Rattle.rdf_values.specs.Path.{Variation}
+use Rattle.rdf_values.specs.Bookings.{ActionAt, passes_of}
 use Rattle.rdf_values.specs.declared.action.ActionKind.{ActionKind}
 use Rattle.rdf_model.specs.ResultLines.{filled_lines, label}
 use Rattle.actions.specs.Accumulators.{Accumulator}
-use Rattle.graph_numbers.specs.Graphs.{GraphView, booked_statements, graph_filters, graph_results, graph_variations, result_depends_at}
+use Rattle.graph_numbers.specs.Graphs.{GraphView, booked_statements, graph_results, graph_variations, result_depends_at}
 use Rattle.graph_numbers.specs.Results.{ResultAt, kind_of_booking}
 use Rattle.graph_numbers.specs.declared.result_kind.ResultKind.TheVariants as what
 use Rattle.loop_pieces.specs.declared.filled_result.FilledResult.{FilledResult}

@@ -1,9 +1,9 @@
 -- The lines of passes.
-use Rattle.std.proofs.Common.{◌≡◌, ℕ, zero, suc, ◌+◌, ◌<◌, Bool, true, false, List, [], ◌∷◌, ◌++◌, length, map, drop, Option, None, Some, refl, sym, ap, ap₂, ◌∙◌, subst, arith, append_assoc, if◌then◌else◌, append-nil}
-use Rattle.std.specs.Prelude.{codes, flat_map, filter, option_map, slice_get, unwrap_or, All}
+use Rattle.std.proofs.Common.{◌≡◌, ℕ, suc, ◌+◌, ◌<◌, Bool, true, false, List, [], ◌∷◌, ◌++◌, length, map, Option, None, Some, refl, sym, ap, ◌∙◌, arith, append_assoc, if◌then◌else◌, append-nil}
+use Rattle.std.specs.Prelude.{codes, flat_map, filter, slice_get, unwrap_or}
 use Rattle.std.proofs.lemmas.List.{length-map}
 use Rattle.std.proofs.lemmas.List.Folds.{flat_map-map}
-use Rattle.rdf_values.specs.Path.{Path, Variation, Under, variations}
+use Rattle.rdf_values.specs.Path.{Path, Variation, variations}
 use Rattle.rdf_values.specs.Bookings.{Booked, Booking, ActionAt, ReportOn, Pass, has_variations, passes_of, result_depends, varied_passes}
 use Rattle.rdf_values.specs.Fold.{Filled}
 use Rattle.rdf_values.specs.Fold as filled
@@ -83,9 +83,10 @@ passes_are script b k accs n vs is more = go (has_variations script b.name) more
         → (acc_lines k (label b.name None) (slice_get accs n) ++ lines_from k accs (n + 1) (if t then varied_passes script b else []) ≡ acc_lines k (label b.name None) (slice_get accs n) ++ under_lines b.name k accs (n + 1) vs)
         × (suc (length (if t then varied_passes script b else [])) ≡ length vs + 1)
     go true h = (
-        ap (λ l. acc_lines k (label b.name None) (slice_get accs n) ++ l)
-        (varied_lines b k accs (n + 1) (filter (λ v. result_depends v b.booking) (variations script)) ∙ ap (under_lines b.name k accs (n + 1)) (sym is)),
-        many)
+      ap (λ l. acc_lines k (label b.name None) (slice_get accs n) ++ l)
+          (varied_lines b k accs (n + 1) (filter (λ v. result_depends v b.booking) (variations script)) ∙ ap (under_lines b.name k accs (n + 1)) (sym is)),
+      many,
+    )
       where
         many : suc (length (map (λ (v : Variation). the_pass b v) (filter (λ v. result_depends v b.booking) (variations script)))) ≡ length vs + 1
         many = omega (arith, length-map (filter (λ v. result_depends v b.booking) (variations script)) (λ (v : Variation). the_pass b v), ap length is)

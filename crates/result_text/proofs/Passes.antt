@@ -1,10 +1,9 @@
 -- The passes of a graph's loops are those of the script.
-use Rattle.std.proofs.Common.{◌≡◌, ℕ, zero, suc, ◌<◌, List, [], ◌∷◌, length, map, get_or, Option, None, Some, refl, sym, ap, ◌∙◌, subst, arith}
+use Rattle.std.proofs.Common.{◌≡◌, ℕ, zero, suc, ◌<◌, List, [], ◌∷◌, length, map, get_or, Option, None, Some, refl, sym, ap, ◌∙◌, arith}
 use Rattle.std.specs.Prelude.{option_map, slice_get, unwrap_or}
 use Rattle.std.proofs.lemmas.List.{length-map}
 use Rattle.std.proofs.lemmas.Option.{slice_get-map, slice_get_within}
 use Rattle.rdf_values.specs.Bookings.{Booked, Pass, bookings}
-use Rattle.rdf_values.specs.Path.{variations}
 use Rattle.rdf_model.specs.Loops.{loop_passes, loop_results}
 use Rattle.rdf_model.specs.ResultLines.{label, pass_label}
 use Rattle.graph_numbers.specs.Graphs.{GraphView, booked_statements, graph_loops, graph_results, graph_variations}

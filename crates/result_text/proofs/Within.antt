@@ -1,19 +1,13 @@
 -- The numbers in a graph's tables are in range.
-use Rattle.std.proofs.Common.{◌≡◌, ℕ, zero, suc, ◌+◌, ◌<◌, ◌≤◌, Bool, true, false, List, [], ◌∷◌, ◌++◌, length, map, Option, None, Some, refl, sym, ap, ap₂, ◌∙◌, subst, arith, if◌then◌else◌, length-append}
-use Rattle.std.specs.Prelude.{⊤, not, option_map, slice_get}
-use Rattle.std.proofs.lemmas.List.{length-map}
-use Rattle.std.proofs.lemmas.Option.{slice_get-map, slice_get_within}
+use Rattle.std.proofs.Common.{◌≡◌, ℕ, zero, suc, ◌+◌, ◌<◌, ◌≤◌, Bool, true, false, List, [], ◌∷◌, ◌++◌, length, map, Option, None, Some, subst, arith, if◌then◌else◌}
+use Rattle.std.specs.Prelude.{⊤, not, slice_get}
 use Rattle.rdf_values.specs.Names.{among}
-use Rattle.rdf_values.specs.Path.{Path, Variation, makes, parent_of, path, variations}
-use Rattle.rdf_values.specs.Bookings.{Booked, Pass, bookings, filled, has_variations, named_before, result_depends}
-use Rattle.rdf_values.specs.Kinds.{FunctionNames}
-use Rattle.rdf_values.specs.declared.column.Column.{Column}
+use Rattle.rdf_values.specs.Path.{variations}
+use Rattle.rdf_values.specs.Bookings.{Booked, bookings, filled, has_variations, result_depends}
 use Rattle.rdf_values.specs.declared.statement.Statement.{Statement}
-use Rattle.rdf_values.specs.declared.statement.Statement.TheVariants.{Filter, Action, Report, Print}
-use Rattle.rdf_model.specs.Loops.{loop_passes, loop_results}
-use Rattle.graph_numbers.specs.Graphs.{GraphView, booked_statements, graph_loops, graph_results, graph_variations}
-use Rattle.graph_numbers.specs.Results.{FilterAt, ResultAt, all_or, covered_at, filters, filters_on, loops, numbered_pass, own_filter, own_loop, own_results, pass_at, passes_from, places_from, result_passes, results, under_at}
-use Rattle.graph_numbers.specs.Sources.{numbers_from}
+use Rattle.rdf_values.specs.declared.statement.Statement.TheVariants.{Print}
+use Rattle.graph_numbers.specs.Graphs.{GraphView, booked_statements, graph_loops, graph_variations}
+use Rattle.graph_numbers.specs.Results.{loops, numbered_pass, own_loop, passes_from, places_from, result_passes}
 use Rattle.graph_numbers.specs.declared.pass.Pass.{Pass as NumberedPass}
 
 -- ---- variations of passes
@@ -47,7 +41,6 @@ each_varied top n [] h = tt
 each_varied top n (v ∷ vs) h = (h.0, each_varied top n vs h.1)
 
 module _ (script : List Statement) where
-
   of_result : (n : ℕ) (b : Booked) → EachIn (length (variations script)) (result_passes script n b)
   of_result n b = (tt, go (has_variations script b.name))
     where

@@ -4,10 +4,9 @@ use Rattle.std.specs.Fmt.{signed_decimal}
 use Rattle.rdf_values.specs.RefusalLines.{line}
 use Rattle.rdf_values.specs.Fold.{Filled, Count, Sum, Extreme, Taken, Reduced, Flat, Square, Cell}
 use Rattle.rdf_values.specs.declared.value.Scalar.{Scalar}
-use Rattle.rdf_values.specs.Bookings.{Booked, Booking, ActionAt, ReportOn, Pass, passes_of}
+use Rattle.rdf_values.specs.Bookings.{Booking, ActionAt, ReportOn, Pass, passes_of}
 use Rattle.rdf_values.specs.Path.{Variation, Under}
 use Rattle.rdf_values.specs.declared.action.ActionKind.{ActionKind}
-use Rattle.rdf_values.specs.declared.statement.Statement.{Statement}
 use Rattle.rdf_model.specs.Loops.{loop_passes, loop_results}
 use Rattle.rdf_model.specs.ResultLines.{cell_line, cell_lines, cell_names, filled_lines, flow_lines, label, option_text, plane_lines, scalar_text, taken_text, x_edges_of, y_edges_of}
 use Rattle.rdf_model.specs.Results.{FilterCounts}

@@ -3,7 +3,7 @@ use Rattle.std.specs.Prelude.{◌≡◌, ◌<◌, ◌-◌, ◌∷◌, ◌++◌, 
 use Rattle.std.specs.List.{join_with_byte}
 use Rattle.rdf_values.specs.RefusalLines.{line}
 use Rattle.rdf_values.specs.declared.span.Span.{Span}
-use Rattle.rdf_model.specs.PartialResults.{Run, maximal_runs, run_text, set_text, value_text}
+use Rattle.rdf_model.specs.PartialResults.{Run, maximal_runs, run_text, value_text}
 use Rattle.loop_pieces.specs.Watching.{watch_filled}
 use Rattle.loop_pieces.specs.declared.filled_result.PartialLine.{PartialLine}
 

@@ -59,12 +59,7 @@ fn put_cell(
 }
 
 /// Appends the lines of the cells of a histogram of one axis.
-pub fn put_flat(
-    alloc: Global,
-    text: &mut Text,
-    edges: &[i64],
-    hist: &Hist1,
-) -> Result<(), Memory>
+pub fn put_flat(alloc: Global, text: &mut Text, edges: &[i64], hist: &Hist1) -> Result<(), Memory>
     ensures { OnOk result (text.new ≡ text.old ++ cell_lines (cell_names edges.now) hist.now.cells) }
 {
     for i in 0..hist.cells() {

@@ -42,7 +42,12 @@ fn put_fault(
     text.extend(b"fault at entry ")?;
     put_count(alloc, text, u64::from(fault.entry))?;
     text.extend(b" in ")?;
-    put_label(text, graph.result_name(pass.result), graph.variations(), pass.variation)?;
+    put_label(
+        text,
+        graph.result_name(pass.result),
+        graph.variations(),
+        pass.variation,
+    )?;
     text.extend(b": ")?;
     text.extend(fault_name(fault.kind).as_bytes())?;
     text.push(b'\n')

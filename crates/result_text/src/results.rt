@@ -61,7 +61,15 @@ fn put_action(
     if filled.passes == 1 {
         return Ok(());
     }
-    put_varied(alloc, text, name, variations, graph.depends(r), kind, filled)
+    put_varied(
+        alloc,
+        text,
+        name,
+        variations,
+        graph.depends(r),
+        kind,
+        filled,
+    )
 }
 
 /// The lines of a result of the graph: of an action its passes, nominal first, then its variations in their order; or of a report.

@@ -9,7 +9,10 @@ fn a_refusal_has_its_line(rt: HostRuntime) -> Result<(), Fail> {
         cause: GraphCause::WrongKind,
     };
     let text = refusal_line(rt.alloc(), &refusal)?;
-    assert_eq!(rt; text.as_bytes(), b"script refused at line 7: S14 WrongKind\n".as_slice());
+    assert_eq!(rt;
+        text.as_bytes(),
+        b"script refused at line 7: S14 WrongKind\n".as_slice()
+    );
     Ok(())
 }
 

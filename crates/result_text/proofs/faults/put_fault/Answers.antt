@@ -1,4 +1,4 @@
-use Rattle.std.proofs.Common.{◌≡◌, Some, None, get_or, subst, sym, ap, ◌∙◌, ◌++◌, decimal, length, slice_get}
+use Rattle.std.proofs.Common.{None, subst, sym, ap, ◌∙◌, ◌++◌, decimal, length, slice_get}
 use Rattle.std.specs.Prelude.{slice_index_or}
 use Rattle.graph_numbers.specs.declared.pass.Pass.{Pass}
 use Rattle.result_text.proofs.Passes.{is_pass_at, label_is, pass_there, result_within}
@@ -37,8 +37,8 @@ returns c =
     let name = c.result_name.result.now in
     on_ok c.push.result _ _
     (λ e. fault_put c.args.text.now (label name (under_in c.variations.result.now p.variation)) (pass_label (slice_get (passes_at g c.args.loop_index) n)) (fault_name c.args.fault.now.kind) c.as_bytes.result.now c.args.fault.now.entry
-      c.extend.new.self c.put_count.new.text c.extend-2.new.self c.put_label.new.text c.extend-3.new.self c.extend-4.new.self c.push.new.self
-      c.in_ok-extend.ensures.ok (c.in_ok-put_count.ensures ∙ ap (λ k. c.extend.new.self ++ decimal k) c.from.ensures) c.in_ok-extend-2.ensures.ok c.in_ok-put_label.ensures
-      (ap (λ vs. label name (under_in vs p.variation)) c.variations.ensures ∙ label_is g c.args.loop_index n p name (is_pass_at g c.args.loop_index n ps p c.passes.ensures at) c.result_name.ensures)
-      c.in_ok-extend-3.ensures.ok c.in_ok-extend-4.ensures.ok (c.as_bytes.ensures.value ∙ c.fault_name.ensures) e)
+    c.extend.new.self c.put_count.new.text c.extend-2.new.self c.put_label.new.text c.extend-3.new.self c.extend-4.new.self c.push.new.self
+    c.in_ok-extend.ensures.ok (c.in_ok-put_count.ensures ∙ ap (λ k. c.extend.new.self ++ decimal k) c.from.ensures) c.in_ok-extend-2.ensures.ok c.in_ok-put_label.ensures
+    (ap (λ vs. label name (under_in vs p.variation)) c.variations.ensures ∙ label_is g c.args.loop_index n p name (is_pass_at g c.args.loop_index n ps p c.passes.ensures at) c.result_name.ensures)
+    c.in_ok-extend-3.ensures.ok c.in_ok-extend-4.ensures.ok (c.as_bytes.ensures.value ∙ c.fault_name.ensures) e)
     c.push.ensures.ok

@@ -1,8 +1,8 @@
-use Rattle.std.proofs.Common.{◌≡◌, ◌++◌, ◌+◌, None, Some, length, slice_get, subst, sym, ap, ◌∙◌, arith, append_assoc}
+use Rattle.std.proofs.Common.{◌++◌, ◌+◌, None, length, sym, ap, ◌∙◌, arith, append_assoc}
 use Rattle.rdf_model.specs.ResultLines.{filled_lines, label}
 use Rattle.variation_sets.specs.Sets.{has}
-use Rattle.graph_numbers.specs.Graphs.{graph_results, graph_variations}
-use Rattle.result_text.specs.FilledLines.{members_from, under_in, under_lines}
+use Rattle.graph_numbers.specs.Graphs.{graph_results}
+use Rattle.result_text.specs.FilledLines.{members_from, under_lines}
 use Rattle.result_text.proofs.ActionLines.{accs_within, its_name, members_many, nominal_text, numbers_few, passes_many, something_at, varied_text}
 use Rattle.result_text.proofs.Runs.{on_ok}
 use Rattle.result_text.proofs.results.put_action.Goals as goal

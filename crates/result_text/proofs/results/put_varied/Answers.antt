@@ -1,6 +1,6 @@
 use Rattle.std.proofs.Common.{◌+◌, length, drop, sym, ap, ◌∙◌, arith}
 use Rattle.variation_sets.specs.Sets.{has}
-use Rattle.result_text.specs.FilledLines.{members_from, under_lines}
+use Rattle.result_text.specs.FilledLines.{members_from}
 use Rattle.result_text.proofs.ActionLines.{members_few, members_no, members_yes, something_at, stays, varied_next}
 use Rattle.result_text.proofs.results.put_varied.Goals as goal
 use Rattle.result_text.proofs.results.put_varied.Goals.{then-contains+in_ok-put_pass, else-contains}

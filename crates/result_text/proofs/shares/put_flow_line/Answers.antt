@@ -1,4 +1,3 @@
-use Rattle.std.proofs.Common.{◌++◌}
 use Rattle.result_text.specs.FilledLines.{counts_seen}
 use Rattle.result_text.proofs.Runs.{flow_put, on_ok}
 use Rattle.result_text.proofs.shares.put_flow_line.Goals as goal
