@@ -8,6 +8,7 @@ use Rattle.rdf_values.specs.declared.value.Value.{Value}
 use Rattle.rdf_model.specs.Evaluation.{Outcome, Gives, Faults, Needs, ◌>>=◌}
 use Rattle.rdf_model.specs.EntryOutcomes.{through, truth_of}
 use Rattle.rdf_model.specs.LoopFacts.{filter_reach, reach_of}
+use Rattle.rdf_model.specs.Results.{fault_in}
 use Rattle.rdf_model.specs.declared.loop_facts.Reach.{Reach}
 use Rattle.rdf_model.specs.declared.loop_facts.Reach.TheVariants.{Stopped, Failed, Passed}
 use Rattle.graph_numbers.specs.Graphs.{graph_filters, graph_sites}
@@ -173,12 +174,17 @@ module _ (j : JobView) (job : IsJob j) (f : ℕ) (path : List ℕ) (named : opti
           ap (filter_reach j.dataset row) o.at
           ∙ (λ i. reach_of (above_is row x its q i) ((ap (λ (p : Path). through j.dataset.fns j.dataset.columns row {M = ⊥} p None) (sym o.at) ∙ all_is row x its q) i))
 
-      pub stopped_answer : through_sites {M = ⊥} (site_in j entry None) above ≡ Gives false → IsReach j entry f (Ok Stopped)
-      stopped_answer e row x its q = reached row x its q ∙ (λ i. reach_of (e i) (through_sites (site_in {M = ⊥} j entry None) (above ++ own ∷ [])))
+      -- it doesn't fault
+      no_fault : (v : Bool) → through_sites {M = ⊥} (site_in j entry None) (above ++ own ∷ []) ≡ Gives v → (row : List Value) (x : FilterAt) → slice_get j.dataset.rows entry ≡ Some row
+          → slice_get (graph_filters (job_graph j)) f ≡ Some x → fault_in (through j.dataset.fns j.dataset.columns row x.at None) ≡ None
+      no_fault v h row x its q = ap (fault_in {A = Bool}) (all_is row x its q ∙ h)
+
+      pub stopped_answer : through_sites {M = ⊥} (site_in j entry None) above ≡ Gives false → through_sites {M = ⊥} (site_in j entry None) (above ++ own ∷ []) ≡ Gives false → IsReach j entry f (Ok Stopped)
+      stopped_answer e h row x its q = (reached row x its q ∙ (λ i. reach_of (e i) (through_sites (site_in {M = ⊥} j entry None) (above ++ own ∷ []))), no_fault false h row x its q)
 
       pub tried_answer : (v : Bool) → through_sites {M = ⊥} (site_in j entry None) above ≡ Gives true → through_sites {M = ⊥} (site_in j entry None) (above ++ own ∷ []) ≡ Gives v → IsReach j entry f (Ok (if v then Passed else Failed))
-      tried_answer true e h row x its q = reached row x its q ∙ (λ i. reach_of (e i) (h i))
-      tried_answer false e h row x its q = reached row x its q ∙ (λ i. reach_of (e i) (h i))
+      tried_answer true e h row x its q = (reached row x its q ∙ (λ i. reach_of (e i) (h i)), no_fault true h row x its q)
+      tried_answer false e h row x its q = (reached row x its q ∙ (λ i. reach_of (e i) (h i)), no_fault false h row x its q)
 
       pub fault_answer : (r : OutcomeStop) → IsFiltered j entry None (above ++ own ∷ []) a b first last (Err r) → IsReach j entry f (Err r)
       fault_answer (stop.Fault k) h = λ row x its q. all_is row x its q ∙ h.0
@@ -225,7 +231,7 @@ module _ (j : JobView) (job : IsJob j) (f : ℕ) (path : List ℕ) (named : opti
   above_no a b first last v q h =
       let k : IsFiltered j entry None above a b first last (Ok false) = subst (λ (w : Bool). IsFiltered j entry None above a b first last (Ok w)) q (as_nominal above a b first last (Ok v) h) in
       let m = above_false j entry None above own a b first last k in
-      (stopped_answer j job f path named above own split entry within a b first last k.0, paid_given j job f path named above own split entry within a b first last false Stopped m)
+      (stopped_answer j job f path named above own split entry within a b first last k.0 m.0, paid_given j job f path named above own split entry within a b first last false Stopped m)
 
   module _ (a b : List Held) (first middle : ℕ) (v : Bool) (q : v ≡ true) (h : IsFiltered j entry u above a b first middle (Ok v)) (c : List Held) (last : ℕ) where
     passed_above : IsFiltered j entry None above a b first middle (Ok true)

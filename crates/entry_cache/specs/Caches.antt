@@ -9,6 +9,7 @@ use Rattle.rdf_model.specs.Evaluation.{Gives, Faults}
 use Rattle.rdf_model.specs.Demanded.{Demand, pass_demands, filter_demands}
 use Rattle.rdf_model.specs.EntryOutcomes.{Skip, Feed, through}
 use Rattle.rdf_model.specs.LoopFacts.{filter_reach}
+use Rattle.rdf_model.specs.Results.{fault_in}
 use Rattle.rdf_model.specs.declared.loop_facts.Reach.{Reach}
 use Rattle.graph_numbers.specs.Graphs.{graph_filters, graph_loops, graph_results}
 use Rattle.graph_numbers.specs.Results.{FilterAt, ResultAt}
@@ -73,10 +74,11 @@ IsOutcome j entry pass (Ok answer.Feed) = (values : List Value) × (pass_outcome
 IsOutcome j entry pass (Err (stop.Fault k)) = pass_outcome j entry pass ≡ Faults k
 IsOutcome j entry pass (Err stop.Memory) = ⊤
 
--- what a named filter does by itself under nominal, or want of memory
+-- what a named filter does by itself under nominal, where neither it nor one above it faults; its fault; or want of memory
 abbrev pub IsReach : JobView → ℕ → ℕ → Result Reach OutcomeStop → Type 0
 IsReach j entry f (Ok r) =
-    (row : List Value) (x : FilterAt) → slice_get j.dataset.rows entry ≡ Some row → slice_get (graph_filters (job_graph j)) f ≡ Some x → filter_reach j.dataset row x.at ≡ r
+    (row : List Value) (x : FilterAt) → slice_get j.dataset.rows entry ≡ Some row → slice_get (graph_filters (job_graph j)) f ≡ Some x
+    → (filter_reach j.dataset row x.at ≡ r) × (fault_in (through j.dataset.fns j.dataset.columns row x.at None) ≡ None)
 IsReach j entry f (Err (stop.Fault k)) =
     (row : List Value) (x : FilterAt) → slice_get j.dataset.rows entry ≡ Some row → slice_get (graph_filters (job_graph j)) f ≡ Some x → through j.dataset.fns j.dataset.columns row {M = ⊥} x.at None ≡ Faults k
 IsReach j entry f (Err stop.Memory) = ⊤
