@@ -1,5 +1,6 @@
 pub mod Accs
 pub mod LoopPieces
+pub mod PartialLines
 pub mod PieceLaws
 pub mod Trails
 pub mod Watching

@@ -1,0 +1,32 @@
+// One event loop over all clusters.
+ghost use Rattle.std.specs.Prelude.{◌≡◌, ◌<◌, ◌≤◌, IfOk};
+ghost use Rattle.rdf_values.specs.Path.{history};
+ghost use Rattle.rdf_values.specs.Words.{StatementsHaveWords};
+ghost use Rattle.entry_cache.specs.Jobs.{Fits, job_of};
+ghost use Rattle.slot_state.specs.Jobs.{job_facts};
+ghost use Rattle.event_loop.specs.Ends.{HasEnded};
+
+use crate::end::LoopEnd;
+use entry_cache::Job;
+use rdf_outside::Gate;
+use rdf_values::Memory;
+use std::alloc::Global;
+use std::thread::Threads;
+
+/// Runs a loop over all clusters with so many slots, and notes its watched results after every `watch`-th cluster.
+pub fn run_loop<R: Threads + Sync, G: Gate>(
+    rt: &R,
+    alloc: Global,
+    job: &Job<'_>,
+    slots: u32,
+    watch: u32,
+    gate: &G,
+) -> Result<LoopEnd, Memory>
+    requires job { Fits job.now }
+    requires words { StatementsHaveWords (history (job_of job.now).script) }
+    requires slots { (0 < slots) × (slots ≤ 16) }
+    requires watch { 0 < watch }
+    ensures { IfOk result (λ end. HasEnded (job_facts (job_of job.now)) watch end) }
+{
+    Err(Memory)
+}

@@ -1,0 +1,9 @@
+//! One slot of an event loop: it processes clusters, one at a time, into a piece that can be joined with those of other slots.
+//! It stands on `entry_passes` and `cluster_tally`.
+#![tactic(auto)]
+
+pub mod progress;
+pub mod state;
+
+pub use crate::progress::{Phase, Progress, SlotStop};
+pub use crate::state::SlotState;
