@@ -1,5 +1,10 @@
 -- Several threads may read at once what a loop works on.
+use mathlib.Core.List.{[], ◌∷◌}
+use mir.Syntax.{Sym}
+use denote.RattleType.{RattleType}
 use denote.Param.Send.{IsSync, sendable}
+use denote.Param.SendFields.{declared_sync}
+use denote.Struct.Tuple.{TupleAt, type_at}
 use Rattle.std.proofs.Crossing.{crosses}
 use Rattle.std.specs.contracts.option.Option.{the_row as option_row}
 use Rattle.rdf_values.proofs.SharedScript.{columns_sync}
@@ -21,3 +26,8 @@ claims_sync = claims.the_sync
 
 pub books_sync : IsSync (option_row book_row)
 books_sync = search (sendable, crosses, book.the_sync) depth 40 fits 4000
+
+-- what a closure captures, part by part
+pub nine_sync : (ν : Sym) (A B C D E F G H I : RattleType) → IsSync A → IsSync B → IsSync C → IsSync D → IsSync E → IsSync F → IsSync G → IsSync H → IsSync I → IsSync (TupleAt ν (A ∷ B ∷ C ∷ D ∷ E ∷ F ∷ G ∷ H ∷ I ∷ []))
+nine_sync ν A B C D E F G H I a b c d e f g h i =
+    declared_sync (type_at ν (A ∷ B ∷ C ∷ D ∷ E ∷ F ∷ G ∷ H ∷ I ∷ [])) (record { shared = a.shared }, (record { shared = b.shared }, (record { shared = c.shared }, (record { shared = d.shared }, (record { shared = e.shared }, (record { shared = f.shared }, (record { shared = g.shared }, (record { shared = h.shared }, (record { shared = i.shared }, tt)))))))))
