@@ -1,18 +1,17 @@
 -- The clusters that were noted first.
-use Rattle.std.proofs.Common.{◌≡◌, ◌⊎◌, ℕ, zero, suc, ◌+◌, ◌<◌, ◌≤◌, List, [], ◌∷◌, ◌++◌, length, map, get_or, Bool, true, false, cond, Some, refl, sym, ap, ap₂, ◌∙◌, subst, inl, inr, ⊎_elim, arith, length-append}
-use Rattle.std.specs.Prelude.{nat_lt, slice_get, IsPermutation, All, Contains}
-use Rattle.std.specs.List.{concat, filter, sum_by, All as Every}
+use Rattle.std.proofs.Common.{◌≡◌, ◌⊎◌, ℕ, zero, suc, ◌<◌, ◌≤◌, List, [], ◌∷◌, ◌++◌, length, map, get_or, Bool, true, false, cond, refl, sym, ap, ap₂, ◌∙◌, inl, inr, ⊎_elim, arith}
+use Rattle.std.specs.Prelude.{nat_lt, IsPermutation, Contains}
+use Rattle.std.specs.List.{sum_by, All as Every}
 use Rattle.std.specs.List.Sorted.{IsStrictlyIncreasing}
-use Rattle.std.proofs.lemmas.Bool.{cases_lt, cases_Bool, lt-ltb, le-ltb, ltb-true, ltb-false, cond-true, cond-false}
+use Rattle.std.proofs.lemmas.Bool.{cases_lt, lt-ltb, le-ltb, cond-true, cond-false}
 use Rattle.std.proofs.lemmas.List.{map-append, length-map}
-use Rattle.std.proofs.lemmas.List.Elements.{All-nil, All-cons, All-head, All-tail, All-filter}
+use Rattle.std.proofs.lemmas.List.Elements.{All-head, All-tail, All-filter}
 use Rattle.std.proofs.lemmas.List.Kept.{IsStrictlyIncreasing-filter}
 use Rattle.std.proofs.lemmas.List.Sorted.{length_permutation}
 use Rattle.std.proofs.lemmas.List.Sums.{sum_by-cons}
 use Rattle.rdf_values.specs.Cuts.{below}
-use Rattle.rdf_values.specs.Draws.{DrawnBy, IsUnion}
 use Rattle.rdf_values.specs.Times.{times, once_below}
-use Rattle.rdf_values.proofs.DrawCounts.{times_append, times_below, times_cons, times_self, times_concat, times_contains, times_permuted, permuted_by_counts, once_inside, inside_once}
+use Rattle.rdf_values.proofs.DrawCounts.{times_append, times_below, times_cons, times_self, times_contains, times_permuted, permuted_by_counts, once_inside, inside_once}
 use Rattle.rdf_values.proofs.UnionLemmas.{counted, below_rises, all_below, times_filter, rises_from, same_rising}
 use Rattle.rdf_model.specs.declared.loop_facts.LoopFacts.{LoopFacts}
 use Rattle.merge_core.specs.declared.noted.Noted.{Noted}

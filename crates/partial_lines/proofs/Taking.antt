@@ -1,12 +1,12 @@
 -- Trails that are taken out of pieces, one piece after another.
-use Rattle.std.proofs.Common.{◌≡◌, ◌⊎◌, ℕ, suc, ◌+◌, ◌<◌, ◌≤◌, List, [], ◌∷◌, ◌++◌, length, Option, None, Some, refl, sym, ap, ◌∙◌, subst, inl, inr, ⊎_elim, arith, length-append}
+use Rattle.std.proofs.Common.{◌≡◌, ℕ, ◌+◌, ◌<◌, ◌≤◌, List, [], ◌∷◌, ◌++◌, length, Some, refl, sym, ap, ◌∙◌, subst, ⊎_elim, arith, length-append}
 use Rattle.std.specs.Prelude.{slice_get, slice_set}
 use Rattle.std.proofs.lemmas.Option.{slice_get_within}
 use Rattle.std.proofs.lemmas.Bool.{cases_lt}
 use Rattle.merge_core.specs.declared.noted.Noted.{Noted}
 use Rattle.loop_pieces.specs.declared.loop_piece.LoopPiece.{LoopPiece}
 use Rattle.loop_pieces.specs.declared.watch_piece.WatchPiece.{WatchPiece}
-use Rattle.partial_lines.specs.Trails.{AreTaken, AreLeft, HasSameBody, HaveSameBodies}
+use Rattle.partial_lines.specs.Trails.{AreTaken, AreLeft, HasSameBody}
 use Rattle.partial_lines.proofs.Places.{pushed, set_other, set_same, set_long, same_item}
 
 abbrev pub TrailOf : Type 0

@@ -1,19 +1,18 @@
 -- The watched results whose trails are taken out of the pieces, one result after another.
-use Rattle.std.proofs.Common.{◌≡◌, ◌⊎◌, ℕ, ◌+◌, ◌<◌, ◌≤◌, List, [], ◌∷◌, ◌++◌, length, get_or, Option, None, Some, refl, sym, ap, ◌∙◌, subst, inl, inr, ⊎_elim, arith, length-append}
-use Rattle.std.specs.Prelude.{slice_get, slice_set}
+use Rattle.std.proofs.Common.{◌≡◌, ℕ, ◌+◌, ◌<◌, ◌≤◌, List, [], ◌∷◌, ◌++◌, length, get_or, Some, refl, sym, ap, ◌∙◌, subst, ⊎_elim, arith, length-append}
+use Rattle.std.specs.Prelude.{slice_get}
 use Rattle.std.specs.List.{All}
 use Rattle.std.proofs.lemmas.Option.{slice_get-get_or, slice_get_within}
 use Rattle.rdf_values.specs.Cuts.{stride}
 use Rattle.rdf_model.specs.PartialResults.{IsChain}
 use Rattle.rdf_model.specs.declared.loop_facts.LoopFacts.{LoopFacts}
 use Rattle.merge_core.specs.declared.noted.Noted.{Noted}
-use Rattle.loop_pieces.specs.Trails.{HaveTrails, IsTrail}
 use Rattle.loop_pieces.specs.PartialLines.{ArePartialLines, HavePartials}
 use Rattle.loop_pieces.specs.declared.filled_result.PartialLine.{PartialLine}
 use Rattle.loop_pieces.specs.declared.loop_piece.LoopPiece.{LoopPiece}
 use Rattle.loop_pieces.specs.declared.watch_piece.WatchPiece.{WatchPiece}
 use Rattle.partial_lines.specs.Chains.{AreNoted, chain_of}
-use Rattle.partial_lines.specs.Trails.{AreTrails, HaveAllTrails, AreTaken, AreLeft, HasSameBody, HaveSameBodies}
+use Rattle.partial_lines.specs.Trails.{AreTrails, HaveAllTrails, AreTaken, AreLeft, HaveSameBodies}
 use Rattle.partial_lines.proofs.Chaining.{is_chain}
 use Rattle.partial_lines.proofs.Places.{pushed, set_other, set_long, same_item}
 

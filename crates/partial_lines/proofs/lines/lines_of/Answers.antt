@@ -1,4 +1,4 @@
-use Rattle.std.proofs.Common.{◌≡◌, ℕ, ◌+◌, ◌*◌, ◌/◌, ◌≤◌, map, subst, arith}
+use Rattle.std.proofs.Common.{◌≡◌, ℕ, ◌+◌, ◌*◌, ◌/◌, map, subst, arith}
 use Rattle.rdf_values.specs.Cuts.{below}
 use Rattle.loop_pieces.specs.PartialLines.{ArePartialLines}
 use Rattle.partial_lines.specs.Chains.{set_before}

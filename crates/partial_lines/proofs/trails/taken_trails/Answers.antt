@@ -1,4 +1,4 @@
-use Rattle.std.proofs.Common.{arith, rules, get_or, length}
+use Rattle.std.proofs.Common.{arith, rules, get_or}
 use Rattle.std.proofs.lemmas.Option.{slice_get-get_or}
 use Rattle.partial_lines.proofs.Taking.{next_taken, all_taken}
 use Rattle.partial_lines.proofs.trails.taken_trails.Goals as goal
