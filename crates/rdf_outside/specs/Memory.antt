@@ -40,3 +40,7 @@ shelf_file s name = file_of s.items.items name
 -- what is not yet read of the shelf's file turned to
 abbrev pub shelf_left : MemoryShelf → List ℕ
 shelf_left s = left_at s.items.items s.turned
+
+-- the names that the shelf was turned to
+abbrev pub shelf_turns : MemoryShelf → List (List ℕ)
+shelf_turns s = s.turns.names

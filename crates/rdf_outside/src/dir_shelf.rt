@@ -1,8 +1,9 @@
 // The files of a folder.
-ghost use Rattle.std.specs.Prelude.{None};
+ghost use Rattle.std.specs.Prelude.{None, [], ◌≡◌};
 
 use crate::failed::Failed;
 use crate::shelf::{Shelf, TurnStop};
+use crate::turns::Turns;
 use std::fs;
 use std::io::{ErrorKind, Read};
 use std::rt::Files;
@@ -13,15 +14,20 @@ pub struct DirShelf<'a, R: Files> {
     rt: &'a R,
     file: Option<R::File>,
     faults: u64,
+    turns: Turns,
 }
 
 impl<'a, R: Files> DirShelf<'a, R> {
     /// The folder's files, none of them turned to.
-    pub fn new(rt: &'a R) -> DirShelf<'a, R> {
+    pub fn new(rt: &'a R) -> DirShelf<'a, R>
+        ensures faults { result.faults ≡ 0 }
+        ensures turns { result.turns.names ≡ [] }
+    {
         DirShelf {
             rt,
             file: None,
             faults: 0,
+            turns: Turns::new(),
         }
     }
 }
@@ -33,7 +39,10 @@ impl<R: Files> Shelf for DirShelf<'_, R> {
 
     ghost faults = { λ s. s.faults };
 
+    ghost turns = { λ s. s.turns.names };
+
     fn turn_to(&mut self, name: &str) -> Result<bool, TurnStop> {
+        self.turns = self.turns.and(name.as_bytes());
         self.file = None;
         match fs::open(self.rt, name) {
             Ok(file) => {

@@ -10,6 +10,7 @@ mod memory_sink;
 mod shelf;
 mod sink;
 mod std_sink;
+mod turns;
 mod whole;
 mod word_list;
 
@@ -21,6 +22,7 @@ pub use crate::memory_sink::MemorySink;
 pub use crate::shelf::{Shelf, TurnStop};
 pub use crate::sink::Sink;
 pub use crate::std_sink::StdSink;
+pub use crate::turns::Turns;
 pub use crate::whole::{ReadRefusal, read_whole, write_whole};
 pub use crate::word_list::WordList;
 

@@ -4,6 +4,7 @@ ghost use Rattle.rdf_outside.specs.Memory.{has_name, left_at, moved, same_bytes}
 
 use crate::failed::Failed;
 use crate::shelf::{Shelf, TurnStop};
+use crate::turns::Turns;
 use rdf_values::Memory;
 use std::alloc::Global;
 
@@ -26,19 +27,23 @@ pub struct MemoryShelf {
     alloc: Global,
     items: Vec<MemoryFile>,
     turned: Option<Place>,
+    turns: Turns,
 }
 
 impl MemoryShelf {
-    ghost use Rattle.rdf_outside.specs.Memory.{shelf_file, same_bytes};
+    ghost use Rattle.rdf_outside.specs.Memory.{shelf_file, shelf_left, shelf_turns, same_bytes};
 
     /// No files.
     pub fn new(alloc: Global) -> MemoryShelf
-        ensures { (n : List ℕ) → shelf_file result n ≡ None }
+        ensures files { (n : List ℕ) → shelf_file result n ≡ None }
+        ensures turned { shelf_left result ≡ [] }
+        ensures turns { shelf_turns result ≡ [] }
     {
         MemoryShelf {
             alloc,
             items: Vec::new(alloc),
             turned: None,
+            turns: Turns::new(),
         }
     }
 
@@ -46,6 +51,8 @@ impl MemoryShelf {
     pub fn add(&mut self, name: &str, bytes: &[u8]) -> Result<(), Memory>
         ensures ok { OnOk result ((n : List ℕ) → shelf_file self.new n ≡ (if same_bytes name.now n then Some bytes.now else shelf_file self.old n)) }
         ensures err { OnErr result ((n : List ℕ) → shelf_file self.new n ≡ shelf_file self.old n) }
+        ensures turned { shelf_left self.new ≡ [] }
+        ensures turns { shelf_turns self.new ≡ shelf_turns self.old }
     {
         self.turned = None;
         let file = make_file(self.alloc, name.as_bytes(), bytes)?;
@@ -113,7 +120,7 @@ fn further(place: Option<Place>, count: usize) -> Option<Place>
 }
 
 impl Shelf for MemoryShelf {
-    ghost use Rattle.rdf_outside.specs.Memory.{shelf_file, shelf_left};
+    ghost use Rattle.rdf_outside.specs.Memory.{shelf_file, shelf_left, shelf_turns};
 
     ghost files = { λ s. Some (shelf_file s) };
 
@@ -121,8 +128,12 @@ impl Shelf for MemoryShelf {
 
     ghost faults = { λ _. 0 };
 
+    ghost turns = { λ s. shelf_turns s };
+
     fn turn_to(&mut self, name: &str) -> Result<bool, TurnStop> {
-        match find(&self.items, name.as_bytes()) {
+        let name = name.as_bytes();
+        self.turns = self.turns.and(name);
+        match find(&self.items, name) {
             None => {
                 self.turned = None;
                 Ok(false)
