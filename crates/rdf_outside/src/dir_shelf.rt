@@ -3,9 +3,10 @@ ghost use Rattle.std.specs.Prelude.{None, [], ◌≡◌};
 
 use crate::failed::Failed;
 use crate::shelf::{Shelf, TurnStop};
+use crate::std_answers::{open_answer, read_answer};
 use crate::turns::Turns;
 use std::fs;
-use std::io::{ErrorKind, Read};
+use std::io::Read;
 use std::rt::Files;
 
 /// The files of the folder that the program runs in. It tells no bytes.
@@ -44,32 +45,15 @@ impl<R: Files> Shelf for DirShelf<'_, R> {
     fn turn_to(&mut self, name: &str) -> Result<bool, TurnStop> {
         self.turns = self.turns.and(name.as_bytes());
         self.file = None;
-        match fs::open(self.rt, name) {
-            Ok(file) => {
-                self.file = Some(file);
-                Ok(true)
-            }
-            Err(error) => match error.kind() {
-                ErrorKind::NotFound => Ok(false),
-                ErrorKind::OutOfMemory => Err(TurnStop::Memory),
-                _ => {
-                    self.faults = self.faults.saturating_add(1);
-                    Err(TurnStop::Failed)
-                }
-            },
-        }
+        let (file, answer) = open_answer(fs::open(self.rt, name), &mut self.faults);
+        self.file = file;
+        answer
     }
 
     fn read(&mut self, buf: &mut [u8]) -> Result<usize, Failed> {
         let Some(file) = &mut self.file else {
             return Ok(0);
         };
-        match file.read(buf) {
-            Ok(count) => Ok(count),
-            Err(_) => {
-                self.faults = self.faults.saturating_add(1);
-                Err(Failed)
-            }
-        }
+        read_answer(file.read(buf), &mut self.faults)
     }
 }

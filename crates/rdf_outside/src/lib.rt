@@ -9,6 +9,7 @@ mod memory_shelf;
 mod memory_sink;
 mod shelf;
 mod sink;
+mod std_answers;
 mod std_sink;
 mod turns;
 mod whole;

@@ -3,6 +3,7 @@ ghost use Rattle.std.specs.Prelude.{None, ◌≡◌};
 
 use crate::failed::Failed;
 use crate::sink::Sink;
+use crate::std_answers::write_answer;
 
 /// Standard output, written without a buffer of its own. It tells no bytes.
 #[derive(Drop)]
@@ -26,12 +27,6 @@ impl<R: Print> Sink for StdSink<'_, R> {
     ghost faults = { λ s. s.faults };
 
     fn write(&mut self, piece: &[u8]) -> Result<usize, Failed> {
-        match self.rt.write_some(piece) {
-            Ok(count) if count > 0 || piece.is_empty() => Ok(count),
-            _ => {
-                self.faults = self.faults.saturating_add(1);
-                Err(Failed)
-            }
-        }
+        write_answer(self.rt.write_some(piece), piece, &mut self.faults)
     }
 }
