@@ -2,6 +2,7 @@
 //! It stands on `rdf_values` alone; everything above reads and writes through its two traits.
 #![tactic(auto)]
 
+mod call_list;
 mod dir_shelf;
 mod failed;
 mod gate;

@@ -1,7 +1,7 @@
 // Whole reads and whole writes.
 ghost use Rattle.std.specs.Prelude.{◌≡◌, ◌<◌, ◌≤◌, ◌+◌, ◌^◌, ℕ, List, length, IfOk, OnOk, IsErrOf};
 ghost use Rattle.rdf_outside.specs.Outside.{Rose, HasCause, Appends, AppendsPart};
-ghost use Rattle.rdf_outside.specs.Whole.{Reads, IsTooLarge, Joins};
+ghost use Rattle.rdf_outside.specs.Whole.{Reads, IsTooLarge, TakesOneMore, Joins};
 
 use crate::failed::Failed;
 use crate::shelf::Shelf;
@@ -30,6 +30,7 @@ pub fn read_whole<S: Shelf>(alloc: Global, shelf: &mut S, max: usize) -> Result<
     ensures bytes { IfOk result (λ b. Reads (S.left shelf.old) (S.left shelf.new) b) }
     ensures few { IfOk result (λ b. length b ≤ max) }
     ensures too_large { IsErrOf result ReadRefusal.TooLarge → IsTooLarge max (S.left shelf.old) }
+    ensures taken { IsErrOf result ReadRefusal.TooLarge → TakesOneMore max (S.left shelf.old) (S.left shelf.new) }
 
     ensures failed { IsErrOf result ReadRefusal.Failed → Rose (S.faults shelf.old) (S.faults shelf.new) }
     ensures kept { (IsErrOf result ReadRefusal.Failed → ⊥) → S.faults shelf.new ≡ S.faults shelf.old }
