@@ -37,3 +37,8 @@ AnswersMiss kind result before now = Faults (Err Stop.Failed) result before now
 abbrev pub AnswersOpen : {T : Type 0} → Result T Error → Option T → Result Bool TurnStop → ℕ → ℕ → Type 0
 AnswersOpen (Ok file) kept result before now = (kept ≡ Some file) × Passes (Ok true) result before now
 AnswersOpen (Err error) kept result before now = (kept ≡ None) × AnswersMiss (error_kind error) result before now
+
+-- there is a file turned to exactly where one was found
+abbrev pub KeepsFound : {T : Type 0} → Option T → Result Bool TurnStop → Type 0
+KeepsFound (Some file) result = result ≡ Ok true
+KeepsFound None result = result ≡ Ok true → ⊥

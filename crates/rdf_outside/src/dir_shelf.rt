@@ -1,12 +1,11 @@
 // The files of a folder.
-ghost use Rattle.std.specs.Prelude.{None, [], ◌≡◌};
+ghost use Rattle.std.specs.Prelude.{None, [], ◌≡◌, ◌∷◌, ◌++◌};
 
 use crate::failed::Failed;
 use crate::shelf::{Shelf, TurnStop};
-use crate::std_answers::{open_answer, read_answer};
+use crate::std_answers::{open_answer, read_from};
 use crate::turns::Turns;
 use std::fs;
-use std::io::Read;
 use std::rt::Files;
 
 /// The files of the folder that the program runs in. It tells no bytes.
@@ -34,6 +33,9 @@ impl<'a, R: Files> DirShelf<'a, R> {
 }
 
 impl<R: Files> Shelf for DirShelf<'_, R> {
+    ghost use Rattle.rdf_outside.specs.Answers.{KeepsFound};
+    ghost use Rattle.rdf_outside.specs.Outside.{TurnHasCause};
+
     ghost files = { λ _. None };
 
     ghost left = { λ _. None };
@@ -42,7 +44,11 @@ impl<R: Files> Shelf for DirShelf<'_, R> {
 
     ghost turns = { λ s. s.turns.names };
 
-    fn turn_to(&mut self, name: &str) -> Result<bool, TurnStop> {
+    fn turn_to(&mut self, name: &str) -> Result<bool, TurnStop>
+        ensures turns { self.new.turns.names ≡ self.old.turns.names ++ name.now ∷ [] }
+        ensures cause { TurnHasCause self.old.faults self.new.faults result }
+        ensures kept { KeepsFound self.new.file result }
+    {
         self.turns = self.turns.and(name.as_bytes());
         self.file = None;
         let (file, answer) = open_answer(fs::open(self.rt, name), &mut self.faults);
@@ -54,6 +60,6 @@ impl<R: Files> Shelf for DirShelf<'_, R> {
         let Some(file) = &mut self.file else {
             return Ok(0);
         };
-        read_answer(file.read(buf), &mut self.faults)
+        read_from(file, buf, &mut self.faults)
     }
 }

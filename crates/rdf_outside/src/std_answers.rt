@@ -1,14 +1,29 @@
 // What a shelf and a sink answer to an answer of std.
 ghost use Rattle.std.specs.Prelude.{◌≡◌};
+ghost use Rattle.std.specs.Io.{ReadsAtMost};
+ghost use Rattle.std.specs.Io.KnownBytes.{ReadConsumes};
 ghost use Rattle.rdf_outside.specs.Answers.{AnswersMiss, AnswersOpen, AnswersRead, AnswersWrite};
 ghost use Rattle.rdf_outside.specs.Outside.{HasCause, TurnHasCause};
 
 use crate::failed::Failed;
 use crate::shelf::TurnStop;
 use std::io;
-use std::io::ErrorKind;
+use std::io::{ErrorKind, Read};
 
-pub(crate) fn read_answer(answer: io::Result<usize>, faults: &mut u64) -> Result<usize, Failed>
+// Reads on, whatever the reader is; its bytes are told where the reader tells them.
+pub(crate) fn read_from<T: Read>(
+    file: &mut T,
+    buf: &mut [u8],
+    faults: &mut u64,
+) -> Result<usize, Failed>
+    ensures bytes { ReadConsumes (T.remaining file.old) (T.remaining file.new) result buf.new }
+    ensures within { ReadsAtMost result buf.new }
+    ensures cause { HasCause faults.old faults.new result }
+{
+    read_answer(file.read(buf), faults)
+}
+
+fn read_answer(answer: io::Result<usize>, faults: &mut u64) -> Result<usize, Failed>
     ensures exact { AnswersRead answer result faults.old faults.new }
     ensures cause { HasCause faults.old faults.new result }
 {
