@@ -1,0 +1,105 @@
+// Slots that wait for one another.
+use super::*;
+use std::sync::atomic::{AtomicBool, AtomicU64, Ordering};
+
+// How often a hold looks again before it gives up.
+const TURNS: u32 = 10_000_000;
+
+const FIRST: u64 = 0;
+
+// It holds the first slot that comes until another one had a turn.
+struct FirstWaits {
+    // The slot that came first, plus 1.
+    first: AtomicU64,
+    other_came: AtomicBool,
+    released: AtomicBool,
+}
+
+impl Gate for FirstWaits {
+    fn turn(&self, slot: u32, _cluster: u32) {
+        let own = slot as u64 + 1;
+        let first = match self
+            .first
+            .compare_exchange(FIRST, own, Ordering::SeqCst, Ordering::SeqCst)
+        {
+            Ok(_) => own,
+            Err(first) => first,
+        };
+        if first != own {
+            self.other_came.store(true, Ordering::SeqCst);
+            return;
+        }
+        for _ in 0..TURNS {
+            if self.other_came.load(Ordering::SeqCst) {
+                self.released.store(true, Ordering::SeqCst);
+                return;
+            }
+        }
+    }
+}
+
+#[test]
+fn two_slots_at_once(rt: HostRuntime) -> Result<(), Fail> {
+    let case = Case {
+        script: COUNT,
+        table: TABLE,
+        options: &["--slots", "2", "--cluster", "1"],
+        output: "n = 4\n",
+        status: Status::Done,
+    };
+    let gate = FirstWaits {
+        first: AtomicU64::new(FIRST),
+        other_came: AtomicBool::new(false),
+        released: AtomicBool::new(false),
+    };
+    let functions = FnList::new(rt.alloc());
+    let (status, sink) = run(&rt, rt.alloc(), &case, &functions, &gate)?;
+    assert!(rt; status == case.status);
+    assert_eq!(rt; sink.bytes(), case.output.as_bytes());
+    assert!(rt; gate.released.load(Ordering::SeqCst));
+    Ok(())
+}
+
+// It holds the slot with cluster 0 until a slot comes with cluster 3.
+struct FirstClusterWaits {
+    last_came: AtomicBool,
+    released: AtomicBool,
+}
+
+impl Gate for FirstClusterWaits {
+    fn turn(&self, _slot: u32, cluster: u32) {
+        if cluster == 3 {
+            self.last_came.store(true, Ordering::SeqCst);
+        }
+        if cluster != 0 {
+            return;
+        }
+        for _ in 0..TURNS {
+            if self.last_came.load(Ordering::SeqCst) {
+                self.released.store(true, Ordering::SeqCst);
+                return;
+            }
+        }
+    }
+}
+
+#[test]
+fn held_cluster_comes_late(rt: HostRuntime) -> Result<(), Fail> {
+    let case = Case {
+        script: "n = df.Count()\nWatch(n)\nPrint(n)\n",
+        table: TABLE,
+        options: &["--slots", "2", "--cluster", "1", "--watch", "1"],
+        output: "partial n over 1 = 1\npartial n over 1-2 = 2\n",
+        status: Status::Done,
+    };
+    let gate = FirstClusterWaits {
+        last_came: AtomicBool::new(false),
+        released: AtomicBool::new(false),
+    };
+    let functions = FnList::new(rt.alloc());
+    let (status, sink) = run(&rt, rt.alloc(), &case, &functions, &gate)?;
+    assert!(rt; status == case.status);
+    assert!(rt; sink.bytes().starts_with(case.output.as_bytes()));
+    assert!(rt; gate.released.load(Ordering::SeqCst));
+    Ok(())
+}
