@@ -42,36 +42,55 @@ fn add(functions: &mut FnList, alloc: Global, name: &[u8], function: Stored) -> 
     }
 }
 
-fn main(rt: HostRuntime) -> Result<ExitCode, Memory> {
+// The status of a run that found no memory before it began.
+fn no_memory() -> ExitCode {
+    ExitCode::from(Status::Memory.code())
+}
+
+fn main(rt: HostRuntime) -> ExitCode {
     let alloc = rt.alloc();
-    let words = words_of(&rt)?;
-    let square: Closure = Box::new(
+    let Ok(words) = words_of(&rt) else {
+        return no_memory();
+    };
+    let Ok(square) = Box::new(
         alloc,
         |args: &[i64]| -> Option<i64>
             requires { length args.now ≡ 1 }
             ensures { result ≡ square_of args.now }
         { Square::answer(args) },
-    )?;
-    let hyp2: Closure = Box::new(
+    ) else {
+        return no_memory();
+    };
+    let Ok(hyp2) = Box::new(
         alloc,
         |args: &[i64]| -> Option<i64>
             requires { length args.now ≡ 2 }
             ensures { result ≡ hyp2_of args.now }
         { Hyp2::answer(args) },
-    )?;
-    let clampto: Closure = Box::new(
+    ) else {
+        return no_memory();
+    };
+    let Ok(clampto) = Box::new(
         alloc,
         |args: &[i64]| -> Option<i64>
             requires { length args.now ≡ 3 }
             ensures { result ≡ clampto_of args.now }
         { Clampto::answer(args) },
-    )?;
+    ) else {
+        return no_memory();
+    };
     let mut functions = FnList::new(alloc);
-    add(&mut functions, alloc, b"square", Stored::new::<Square>(square))?;
-    add(&mut functions, alloc, b"hyp2", Stored::new::<Hyp2>(hyp2))?;
-    add(&mut functions, alloc, b"clampto", Stored::new::<Clampto>(clampto))?;
+    for (name, function) in [
+        (b"square".as_slice(), Stored::new::<Square>(square)),
+        (b"hyp2".as_slice(), Stored::new::<Hyp2>(hyp2)),
+        (b"clampto".as_slice(), Stored::new::<Clampto>(clampto)),
+    ] {
+        if add(&mut functions, alloc, name, function).is_err() {
+            return no_memory();
+        }
+    }
     let mut shelf = DirShelf::new(&rt);
     let mut sink = StdSink::new(&rt);
     let status = rdf_top(&rt, alloc, &words, &mut shelf, &mut sink, &functions, &OpenGate);
-    Ok(ExitCode::from(status.code()))
+    ExitCode::from(status.code())
 }

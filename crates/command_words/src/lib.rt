@@ -1,0 +1,12 @@
+//! What the command's words ask for. Stands on `rdf_values`, `rdf_outside` for the list of words, and `clap`.
+#![tactic(auto)]
+
+mod arguments;
+pub mod command;
+mod read;
+
+pub use crate::command::{Command, Input};
+pub use crate::read::read_command;
+
+#[cfg(test)]
+mod tests;
