@@ -1,11 +1,11 @@
 // What a command asks for.
-use rdf_values::Text;
+use crate::file_name::FileName;
 
 /// Where the script and the table come from.
 #[derive(Debug, Drop)]
 pub enum Input {
     /// Two files, by their names.
-    Files { script: Text, table: Text },
+    Files { script: FileName, table: FileName },
     /// The generator, for so many entries from a seed.
     Generated { entries: u32, seed: u32 },
 }

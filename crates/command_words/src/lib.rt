@@ -3,9 +3,12 @@
 
 mod arguments;
 pub mod command;
+pub mod file_name;
+pub mod laws;
 mod read;
 
 pub use crate::command::{Command, Input};
+pub use crate::file_name::FileName;
 pub use crate::read::read_command;
 
 #[cfg(test)]

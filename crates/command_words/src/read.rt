@@ -5,10 +5,11 @@ ghost use Rattle.command_words.specs.Asked.{asked_in, asked_of, input_from, is_s
 
 use crate::arguments::arguments;
 use crate::command::{Command, Input};
+use crate::file_name::FileName;
 use clap::ArgMatches;
 use clap::error::ErrorKind;
 use rdf_outside::WordList;
-use rdf_values::{Memory, Text, read_integer};
+use rdf_values::{Memory, read_integer};
 use std::alloc::Global;
 
 const MAX_SLOTS: u32 = 16;
@@ -26,14 +27,6 @@ fn borrowed<'a>(alloc: Global, words: &'a WordList) -> Result<Vec<&'a str>, Memo
         list.push(words.word(i))?;
     }
     Ok(list)
-}
-
-fn text_of(alloc: Global, word: &str) -> Result<Text, Memory>
-    ensures { IfOk result (λ text. text ≡ word.now) }
-{
-    let mut text = Text::new(alloc);
-    text.extend(word.as_bytes())?;
-    Ok(text)
 }
 
 // The number that the text is canonical for, within the limits.
@@ -91,8 +84,8 @@ fn input(
     };
     if !is_made {
         return Ok(Some(Input::Files {
-            script: text_of(alloc, first)?,
-            table: text_of(alloc, second)?,
+            script: FileName::of(alloc, first)?,
+            table: FileName::of(alloc, second)?,
         }));
     }
     let Some(entries) = number(first, 1, MAX_ENTRIES) else {

@@ -24,8 +24,8 @@ fn takes_files(rt: HostRuntime) -> Result<(), Fail> {
     let Input::Files { script, table } = &command.input else {
         return Err(Fail);
     };
-    assert!(rt; script.as_bytes() == b"s.txt".as_slice());
-    assert!(rt; table.as_bytes() == b"a.csv".as_slice());
+    assert!(rt; script.as_str() == "s.txt");
+    assert!(rt; table.as_str() == "a.csv");
     Ok(())
 }
 
