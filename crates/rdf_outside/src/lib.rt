@@ -2,23 +2,29 @@
 //! It stands on `rdf_values` alone; everything above reads and writes through its two traits.
 #![tactic(auto)]
 
+mod call_list;
 mod dir_shelf;
 mod failed;
+mod gate;
 mod memory_shelf;
 mod memory_sink;
 mod shelf;
 mod sink;
+mod std_answers;
 mod std_sink;
+mod turns;
 mod whole;
 mod word_list;
 
 pub use crate::dir_shelf::DirShelf;
 pub use crate::failed::Failed;
+pub use crate::gate::{Gate, OpenGate};
 pub use crate::memory_shelf::MemoryShelf;
 pub use crate::memory_sink::MemorySink;
 pub use crate::shelf::{Shelf, TurnStop};
 pub use crate::sink::Sink;
 pub use crate::std_sink::StdSink;
+pub use crate::turns::Turns;
 pub use crate::whole::{ReadRefusal, read_whole, write_whole};
 pub use crate::word_list::WordList;
 
