@@ -1,13 +1,12 @@
 -- The numbers of a command are within their limits.
-use Rattle.std.proofs.Common.{◌≡◌, ◌≤◌, ℕ, ℤ, pos, negsuc, Bool, true, false, ◌&&◌, leb, List, Option, None, Some, if◌then◌else◌, refl, arith, ap, sym, subst}
+use Rattle.std.proofs.Common.{◌≡◌, ◌≤◌, ℕ, ℤ, pos, negsuc, Bool, true, false, ◌&&◌, leb, List, Option, None, Some, if◌then◌else◌, refl, arith, subst}
 use Rattle.rdf_values.specs.Integers.{integer_of}
-use Rattle.clap.specs.Words.{Row, Text, first_of, matches_of}
+use Rattle.clap.specs.Words.{Row, Text, matches_of}
 use Rattle.command_words.specs.Arguments.{is_taken, rdf_command}
 use Rattle.command_words.specs.Asked.{asked_by, asked_in, asked_of, generated_by, input_from, input_of, number_of, setting_of, within}
 use Rattle.command_words.specs.Limits.{AreWithinLimits, IsWithin}
 use Rattle.command_words.specs.declared.command.Command.{Command}
 use Rattle.command_words.specs.declared.command.Input.{Input}
-use Rattle.command_words.specs.declared.command.Input.TheVariants.{Files, Generated}
 
 -- a number that stands in an option
 abbrev Is : ℕ → ℕ → Option ℕ → Type 0
