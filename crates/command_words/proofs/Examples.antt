@@ -1,5 +1,5 @@
 -- What some words ask for, computed.
-use Rattle.std.proofs.Common.{◌≡◌, List, [], ◌∷◌, Option, None, Some, refl, codes, ℕ}
+use Rattle.std.proofs.Common.{◌≡◌, [], ◌∷◌, Option, None, Some, refl, codes, ℕ}
 use Rattle.clap.specs.Words.{fault_of}
 use Rattle.clap.specs.declared.error.kind.ErrorKind.TheVariants as kind
 use Rattle.clap.proofs.OnLiterals.{clap_on_literals}

@@ -12,40 +12,50 @@ fn asked(alloc: Global, words: &[&str]) -> Result<Option<Command>, Memory> {
     read_command(alloc, &list)
 }
 
+fn is_of_files(command: &Command, first: &[u8], second: &[u8]) -> bool {
+    match &command.input {
+        Input::Files { script, table } => script.as_bytes() == first && table.as_bytes() == second,
+        Input::Generated {
+            entries: _,
+            seed: _,
+        } => false,
+    }
+}
+
 #[test]
 fn takes_files(rt: HostRuntime) -> Result<(), Fail> {
     let words = &["s.txt", "a.csv", "--slots", "3", "--cluster=7"];
-    let Some(command) = asked(rt.alloc(), words)? else {
-        return Err(Fail);
-    };
-    assert_eq!(rt; command.slots, 3);
-    assert_eq!(rt; command.cluster, 7);
-    assert_eq!(rt; command.watch, 1);
-    let Input::Files { script, table } = &command.input else {
-        return Err(Fail);
-    };
-    assert!(rt; script.as_bytes() == b"s.txt".as_slice());
-    assert!(rt; table.as_bytes() == b"a.csv".as_slice());
+    match asked(rt.alloc(), words)? {
+        Some(command) => {
+            assert_eq!(rt; command.slots, 3);
+            assert_eq!(rt; command.cluster, 7);
+            assert_eq!(rt; command.watch, 1);
+            assert!(rt; is_of_files(&command, b"s.txt", b"a.csv"));
+        }
+        None => assert!(rt; false),
+    }
     Ok(())
 }
 
 #[test]
 fn takes_the_generator(rt: HostRuntime) -> Result<(), Fail> {
     let words = &["--make", "200000", "7", "--watch", "2"];
-    let Some(command) = asked(rt.alloc(), words)? else {
-        return Err(Fail);
-    };
-    assert_eq!(rt; command.slots, 1);
-    assert_eq!(rt; command.cluster, 10_000);
-    assert_eq!(rt; command.watch, 2);
-    let is_generated = matches!(
-        command.input,
-        Input::Generated {
-            entries: 200_000,
-            seed: 7
+    match asked(rt.alloc(), words)? {
+        Some(command) => {
+            assert_eq!(rt; command.slots, 1);
+            assert_eq!(rt; command.cluster, 10_000);
+            assert_eq!(rt; command.watch, 2);
+            let is_generated = matches!(
+                command.input,
+                Input::Generated {
+                    entries: 200_000,
+                    seed: 7
+                }
+            );
+            assert!(rt; is_generated);
         }
-    );
-    assert!(rt; is_generated);
+        None => assert!(rt; false),
+    }
     Ok(())
 }
 
