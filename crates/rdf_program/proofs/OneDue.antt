@@ -22,8 +22,8 @@ use Rattle.command_words.specs.Asked.{asked_of}
 use Rattle.command_words.specs.declared.command.Command.{Command}
 use Rattle.command_words.specs.declared.command.Input.{Input}
 use Rattle.command_words.specs.declared.command.Input.TheVariants.{Files, Generated}
-use Rattle.rdf_make.specs.MadeScript.{script_text}
-use Rattle.rdf_make.specs.MadeTable.{table_text}
+use Rattle.rdf_values.specs.Generator.{generated_script}
+use Rattle.rdf_values.specs.Generator.{generated_table}
 use Rattle.rdf_program.specs.Due.{Due, IsDue, IsDueOver, IsDueToBytes, IsDueToFiles, IsDueToInput, IsDueToMade, IsDueToScript, IsDueToTable, IsPrinted, ReadsScript, WithFile, WithScript, WithTable, dataset_of, due_of, max_script, max_table}
 use Rattle.rdf_program.specs.Statuses.{printed_status}
 use Rattle.rdf_program.specs.declared.status.Status.{Status}
@@ -102,7 +102,7 @@ module _ (d e : Due) where
 
     to_input : (files : List ℕ → Option (List ℕ)) (input : Input) → IsDueToInput fns size watch files input d → IsDueToInput fns size watch files input e → Agree d e
     to_input files (Files script table) h g = one_file script (files script) (λ bytes u. IsDueToBytes fns size watch bytes table files u) (λ bytes p q. to_bytes bytes table files p q) h g
-    to_input files (Generated entries seed) h g = reading script_text (λ s u. IsDueToTable fns size watch s (table_text entries seed) u) (λ s p q. to_table s (table_text entries seed) p q) h g
+    to_input files (Generated entries seed) h g = reading generated_script (λ s u. IsDueToTable fns size watch s (generated_table entries seed) u) (λ s p q. to_table s (generated_table entries seed) p q) h g
 
   to_asked : (fns : List Function) (asked : Option Command) (files : List ℕ → Option (List ℕ)) (line : Due)
       → MatchOption asked (d ≡ line) (λ command. IsDueToInput fns command.cluster command.watch files command.input d)

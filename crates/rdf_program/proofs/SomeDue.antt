@@ -19,8 +19,8 @@ use Rattle.command_words.specs.Asked.{asked_of}
 use Rattle.command_words.specs.declared.command.Command.{Command}
 use Rattle.command_words.specs.declared.command.Input.{Input}
 use Rattle.command_words.specs.declared.command.Input.TheVariants.{Files, Generated}
-use Rattle.rdf_make.specs.MadeScript.{script_text}
-use Rattle.rdf_make.specs.MadeTable.{table_text}
+use Rattle.rdf_values.specs.Generator.{generated_script}
+use Rattle.rdf_values.specs.Generator.{generated_table}
 use Rattle.rdf_program.specs.Due.{Due, IsDue, IsDueOver, IsDueToBytes, IsDueToInput, IsDueToScript, IsDueToTable, IsPrinted, ReadsScript, WithFile, WithScript, WithTable, dataset_of, due_of, max_script, max_table}
 use Rattle.rdf_program.specs.Statuses.{printed_status}
 use Rattle.rdf_program.specs.declared.status.Status.TheVariants.{NoFile, ScriptRefused, TableRefused, Words}
@@ -85,7 +85,7 @@ module _ (fns : List Function) (size watch : ℕ) where
 
   to_input : (files : List ℕ → Option (List ℕ)) (input : Input) → SomeDue (IsDueToInput fns size watch files input)
   to_input files (Files script table) = some_file script (files script) (λ bytes u. IsDueToBytes fns size watch bytes table files u) (λ bytes. to_bytes bytes table files)
-  to_input files (Generated entries seed) = some_script script_text (λ s u. IsDueToTable fns size watch s (table_text entries seed) u) (λ s. to_table s (table_text entries seed))
+  to_input files (Generated entries seed) = some_script generated_script (λ s u. IsDueToTable fns size watch s (generated_table entries seed) u) (λ s. to_table s (generated_table entries seed))
 
 to_asked : (fns : List Function) (asked : Option Command) (files : List ℕ → Option (List ℕ)) (line : Due)
     → SomeDue (λ d. MatchOption asked (d ≡ line) (λ command. IsDueToInput fns command.cluster command.watch files command.input d))

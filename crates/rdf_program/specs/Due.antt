@@ -18,8 +18,8 @@ use Rattle.command_words.specs.Asked.{asked_of}
 use Rattle.command_words.specs.declared.command.Command.{Command}
 use Rattle.command_words.specs.declared.command.Input.{Input}
 use Rattle.command_words.specs.declared.command.Input.TheVariants.{Files, Generated}
-use Rattle.rdf_make.specs.MadeTable.{table_text}
-use Rattle.rdf_make.specs.MadeScript.{script_text}
+use Rattle.rdf_values.specs.Generator.{generated_table}
+use Rattle.rdf_values.specs.Generator.{generated_script}
 use Rattle.rdf_program.specs.Statuses.{printed_status}
 use Rattle.rdf_program.specs.declared.status.Status.{Status}
 use Rattle.rdf_program.specs.declared.status.Status.TheVariants.{Words, NoFile, ScriptRefused, TableRefused}
@@ -95,7 +95,7 @@ module _ (fns : List Function) (size watch : ℕ) where
 
   -- to the generator's script over its table
   abbrev pub IsDueToMade : ℕ → ℕ → Due → Type 0
-  IsDueToMade entries seed due = WithScript script_text (λ script d. IsDueToTable script (table_text entries seed) d) due
+  IsDueToMade entries seed due = WithScript generated_script (λ script d. IsDueToTable script (generated_table entries seed) d) due
 
   -- to what the command names
   abbrev pub IsDueToInput : (List ℕ → Option (List ℕ)) → Input → Due → Type 0
