@@ -14,7 +14,7 @@ use Rattle.rdf_model.specs.PartialResults.{Course, IsChain, IsCourse}
 use Rattle.rdf_model.specs.Transcript.{transcript}
 use Rattle.script_read.proofs.Answered.{answered}
 use Rattle.table_csv.specs.Csv.{csv_records}
-use Rattle.transcripts.proofs.Chains.{even_chain, is_chain}
+use Rattle.transcripts.proofs.SomeChain.{first_sets, first_sets_are_a_chain}
 use Rattle.command_words.specs.Asked.{asked_of}
 use Rattle.command_words.specs.declared.command.Command.{Command}
 use Rattle.command_words.specs.declared.command.Input.{Input}
@@ -60,14 +60,14 @@ module _ (fns : List Function) (size watch : ℕ) where
   course_of : MarkedTable → Course
   course_of table =
       let spans = cut (length table.table.rows) size table.marks in
-      record { spans = spans; chains = λ l. even_chain (length spans) (stride (length spans) watch) }
+      record { spans = spans; chains = λ l. first_sets (length spans) (stride (length spans) watch) }
 
   some_print : (script : Script) (table : MarkedTable) → SomeDue (IsPrinted fns size watch script table)
   some_print script table =
       let t = transcript script (dataset_of fns size watch table.table) (course_of table) in
       (due_of (printed_status t.status) t.bytes, record {
         course = course_of table;
-        is_course = record { spans = refl; chains = λ l results _ _. is_chain _ _ };
+        is_course = record { spans = refl; chains = λ l results _ _. first_sets_are_a_chain _ _ };
         bytes = refl;
         status = refl;
       })
