@@ -16,3 +16,6 @@ mod words;
 pub use crate::one_due::one_status_is_due;
 pub use crate::status::Status;
 pub use crate::top::rdf_top;
+
+#[cfg(test)]
+mod tests;
