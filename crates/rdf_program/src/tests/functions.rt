@@ -9,7 +9,7 @@ use rdf_values::{Memory, Name};
 use std::sync::Arc;
 use std::sync::atomic::{AtomicU64, Ordering};
 
-fn name(alloc: Global, bytes: &[u8]) -> Result<Name, Memory> {
+pub(super) fn name(alloc: Global, bytes: &[u8]) -> Result<Name, Memory> {
     match Name::read(alloc, bytes)? {
         Some(name) => Ok(name),
         None => Err(Memory),
