@@ -64,7 +64,7 @@ def option_sets(text):
 
 
 def read_case_file(path):
-    with open(path, encoding="utf-8") as file:
+    with open(path, encoding="utf-8", newline="\n") as file:
         lines = file.read().split("\n")[:-1]
     tables, cases, usual = {}, [], [[]]
     at = 0
