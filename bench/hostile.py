@@ -127,12 +127,7 @@ def mutated(chance, text, other):
 
 def starting_points():
     """Pairs of a script and a table, none of them long: those that are accepted, and all."""
-    accepted, found = [], []
-    for name in sorted(os.listdir(os.path.join(TOP, "examples"))):
-        if name.endswith(".txt"):
-            path = os.path.join(TOP, "examples", name)
-            with open(path, "rb") as script, open(path[:-4] + ".csv", "rb") as table:
-                accepted.append((script.read(), table.read()))
+    accepted, found = [], []        # all_cases() has the examples too
     for case in all_cases():
         files = case.contents()
         if len(files) == 2 and sum(map(len, files.values())) < 20000:

@@ -109,6 +109,28 @@ def read_case_file(path):
     return cases
 
 
+def read_whole(path):
+    with open(path, "rb") as file:
+        return file.read()
+
+
+def example_cases():
+    """The analyses of examples/, whatever the slots; the clusters too where no partial line shows them."""
+    folder = os.path.join(TOP, "examples")
+    found = []
+    for name in sorted(n[:-4] for n in os.listdir(folder) if n.endswith(".txt")):
+        path = os.path.join(folder, name)
+        case = Case("examples", name, [])
+        case.files = {"s.txt": read_whole(path + ".txt"), "a.csv": read_whole(path + ".csv")}
+        case.output = read_whole(path + ".out")
+        case.options = option_sets("--slots 1|2|3|16")
+        if b"partial " not in case.output:
+            case.options += option_sets("--slots 1|2|3|16 --cluster 1|7|1000")
+        found.append(case)
+    return found
+
+
 def all_cases(folder=CASES):
     files = sorted(name for name in os.listdir(folder) if name.endswith(".case"))
-    return [case for name in files for case in read_case_file(os.path.join(folder, name))]
+    cases = [case for name in files for case in read_case_file(os.path.join(folder, name))]
+    return cases + example_cases()
