@@ -24,6 +24,9 @@ def real_files(name):
 
 if __name__ == "__main__":
     status, output = run([os.fsencode(word) for word in sys.argv[1:]], real_files)
-    sys.stdout.buffer.write(output)
-    sys.stdout.flush()
-    sys.exit(status)
+    try:
+        with open(1, "wb", closefd=False) as standard_output:
+            standard_output.write(output)
+    except OSError:
+        status = 4
+    os._exit(status)
