@@ -1,2 +1,5 @@
+pub mod Feedings
+pub mod Laws
 pub mod Stages
 pub mod Tallies
+pub mod Watchers
