@@ -1,5 +1,5 @@
 -- What a tally is told, and what it is when nothing was told.
-use Rattle.std.specs.Prelude.{◌≡◌, ⊤, ℕ, Bool, List, [], ◌∷◌, ◌++◌, None, Some, if◌then◌else◌, length, map, slice_get}
+use Rattle.std.specs.Prelude.{◌≡◌, ◌<◌, ⊤, ℕ, Bool, List, [], ◌∷◌, ◌++◌, ◌+◌, ◌≤◌, Option, None, Some, if◌then◌else◌, length, map, slice_get, slice_set}
 use Rattle.rdf_values.specs.Fold.{fold_items}
 use Rattle.rdf_values.specs.Spread.{feed_fault, spread}
 use Rattle.rdf_values.specs.declared.action.ActionKind.{ActionKind}
@@ -9,7 +9,8 @@ use Rattle.rdf_model.specs.PartialResults.{span_rows}
 use Rattle.rdf_model.specs.declared.loop_facts.LoopFacts.{LoopFacts}
 use Rattle.rdf_model.specs.declared.loop_facts.Reach.{Reach}
 use Rattle.rdf_model.specs.declared.loop_facts.Reach.TheVariants.{Failed, Passed}
-use Rattle.actions.specs.Accumulators.{Accumulator}
+use Rattle.actions.specs.Accumulators.{Accumulator, HasFed}
+use Rattle.actions.specs.Feeding.{Fed, from_cluster}
 use Rattle.actions.specs.Holding.{kept_of}
 use Rattle.actions.specs.Parts.{Suits, values_of}
 use Rattle.actions.specs.declared.items.Items.{Items}
@@ -40,6 +41,33 @@ pub record IsFresh (kinds : List ActionKind) (watched : List ℕ) (t : TallyView
 abbrev pub place_if : Bool → List ActionKind → List ℕ
 place_if is_watched kinds = if is_watched then length kinds ∷ [] else []
 
+-- the accumulator takes in what an entry of a cluster feeds
+pub record IsNowFed (cluster : ℕ) (items : Items) (old now : Accumulator) : Type 0 where
+  pub kind : now.kind ≡ old.kind
+  pub entries : now.entries ≡ old.entries + 1
+  pub last : now.last ≡ cluster
+  pub fed : (fed : List Fed) → HasFed old fed → HasFed now (fed ++ from_cluster cluster (spread old.kind (values_of items)))
+
+-- the accumulator can take in what an entry of a cluster feeds
+pub record CanTake (cluster : ℕ) (items : Items) (acc : Accumulator) : Type 0 where
+  pub suits : Suits acc.kind items
+  pub no_fault : feed_fault acc.kind (values_of items) ≡ None
+  pub rising : acc.last ≤ cluster
+  pub room : acc.entries < 1000000
+
+-- the accumulator at the place took in what an entry of a cluster feeds
+pub record AreFed (place cluster : ℕ) (items : Items) (old new : List Accumulator) : Type 0 where
+  pub acc : Accumulator
+  pub its_place : slice_get old place ≡ Some acc
+  pub now : Accumulator
+  pub is_fed : IsNowFed cluster items acc now
+  pub rest : new ≡ slice_set old place now
+
+-- likewise, where there is one at the place
+pub record AreFedIfThere (place cluster : ℕ) (items : Items) (old new : List (Option Accumulator)) : Type 0 where
+  pub none : slice_get old place ≡ Some None → new ≡ old
+  pub some : (acc : Accumulator) → slice_get old place ≡ Some (Some acc) → (now : Accumulator) × IsNowFed cluster items acc now × (new ≡ slice_set old place (Some now))
+
 -- the next entry feeds these values to the next action pass, which takes them
 pub record CanFeed (f : LoopFacts) (watched : List ℕ) (s : Stage) (t : TallyView) (pass cluster : ℕ) (items : Items) : Type 0 where
   pub holds : Holds f watched s t
@@ -62,6 +90,7 @@ after_pass s = record { done = s.done; cluster = s.cluster; entries = s.entries;
 pub record CanNote (f : LoopFacts) (watched : List ℕ) (s : Stage) (t : TallyView) (filter : ℕ) (passed : Bool) : Type 0 where
   pub holds : Holds f watched s t
   pub at_filter : s.filters ≡ filter
+  pub within : filter < f.filters
   pub spreads : List (List Item)
   pub reaches : List Reach
   pub next : IsNextEntry f s spreads reaches
