@@ -1,5 +1,5 @@
 -- How a tally that was told nothing comes to a later stage.
-use Rattle.std.specs.Prelude.{◌≡◌, ◌<◌, ℕ, List, [], All, Some, length, replicate, slice_get}
+use Rattle.std.specs.Prelude.{◌≡◌, ℕ, List, [], Some, length, replicate, slice_get}
 use Rattle.rdf_values.specs.declared.item.Item.{Item}
 use Rattle.rdf_model.specs.LoopFacts.{IsLoopFacts}
 use Rattle.rdf_model.specs.declared.loop_facts.LoopFacts.{LoopFacts}
@@ -33,9 +33,3 @@ abbrev pub EndsEntry : Type 0
 EndsEntry =
     (f : LoopFacts) (watched : List ℕ) (s : Stage) (t : TallyView)
     → s.passes ≡ length f.kinds → s.filters ≡ f.filters → Holds f watched s t → Holds f watched (after_entry s) t
-
--- before a cluster is begun, it can be any that is above those that are done
-abbrev pub BeginsAnywhere : Type 0
-BeginsAnywhere =
-    (f : LoopFacts) (watched done : List ℕ) (c d : ℕ) (t : TallyView)
-    → Holds f watched (at_begin done c) t → All (λ e. e < d) done → Holds f watched (at_begin done d) t

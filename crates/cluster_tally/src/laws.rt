@@ -1,5 +1,5 @@
 // Laws of stages. Each function does nothing; its contract is the law.
-ghost use Rattle.cluster_tally.specs.Laws.{BeginsAnywhere, EndsEntry, FreshHolds, SkipsFilter, SkipsPass};
+ghost use Rattle.cluster_tally.specs.Laws.{EndsEntry, FreshHolds, SkipsFilter, SkipsPass};
 
 /// A fresh tally of all passes holds what no cluster gives.
 pub fn fresh_holds()
@@ -19,9 +19,4 @@ pub fn skips_filter()
 /// Once all passes and filters are taken in, so is the entry.
 pub fn ends_entry()
     ensures { EndsEntry }
-{}
-
-/// Before a cluster is begun, it can be any that is above those that are done.
-pub fn begins_anywhere()
-    ensures { BeginsAnywhere }
 {}

@@ -1,17 +1,18 @@
 // Tallies.
-ghost use Rattle.std.specs.Prelude.{◌≡◌, ◌≢◌, ◌<◌, ◌++◌, ◌∷◌, [], ℕ, Bool, IsTrue, List, IfOk, OnErr, OnOk, replicate};
+ghost use Rattle.std.specs.Prelude.{◌≡◌, ◌≢◌, ◌<◌, ◌++◌, ◌∷◌, [], ℕ, Bool, IsTrue, List, IfOk, OnErr, OnOk, Some, length, replicate, slice_get};
 ghost use Rattle.rdf_values.specs.declared.action.ActionKind.{ActionKind};
 ghost use Rattle.rdf_model.specs.declared.loop_facts.LoopFacts.{LoopFacts};
+ghost use Rattle.actions.specs.Accumulators.{Accumulator};
 ghost use Rattle.actions.specs.Holding.{HasEdges, IsTake};
 ghost use Rattle.filters_report.specs.Flows.{nothing};
 ghost use Rattle.loop_pieces.specs.LoopPieces.{StandsFor};
 ghost use Rattle.loop_pieces.specs.Trails.{HaveTrails};
-ghost use Rattle.cluster_tally.specs.Feedings.{CanFeed, CanNote, CanWatch, IsAtEnd, IsFresh, after_filter, after_pass, place_if};
+ghost use Rattle.cluster_tally.specs.Feedings.{AreFed, AreFedIfThere, CanFeed, CanNote, CanTake, CanWatch, IsAtEnd, IsFresh, after_filter, after_pass, place_if};
 ghost use Rattle.cluster_tally.specs.Stages.{Stage, at_begin};
 ghost use Rattle.cluster_tally.specs.Tallies.{Holds};
 
 use crate::watcher::Watcher;
-use actions::{Acc, Items};
+use actions::{Acc, FeedStop, Items};
 use filters_report::Flow;
 use loop_pieces::{LoopPiece, WatchPiece};
 use merge_core::{Noted, Trail};
@@ -39,6 +40,37 @@ impl Model for Tally {
     ghost view = { λ t. record { accs = t.accs.items; watched = t.watched.items; flow = t.flow; trails = t.trails.items } };
 }
 
+// Feeds the accumulator of a pass.
+fn feed_acc(
+    accs: &mut [Acc],
+    pass: u32,
+    cluster: u32,
+    items: &Items<'_>,
+) -> Result<(), Memory>
+    requires within { pass < length accs.old }
+    requires can { (acc : Accumulator) → slice_get accs.old pass ≡ Some acc → CanTake cluster items.now acc }
+    ensures fed { OnOk result (AreFed pass cluster items.now accs.old accs.new) }
+    ensures memory { (acc : Accumulator) → slice_get accs.old pass ≡ Some acc → OnErr result (IsTake acc.kind) }
+{
+    let acc = &mut accs[pass as usize];
+    match acc.feed(cluster, items) {
+        Ok(()) => Ok(()),
+        Err(FeedStop::Memory) => Err(Memory),
+        Err(FeedStop::Fault(_)) => unreachable!(),
+    }
+}
+
+// Feeds the accumulator of a pass that is watched, if it is.
+fn feed_watched(watched: &mut [Option<Watcher>], pass: u32, cluster: u32, items: &Items<'_>)
+    requires within { pass < length watched.old }
+    requires can { (acc : Accumulator) → slice_get watched.old pass ≡ Some (Some acc) → CanTake cluster items.now acc }
+    ensures { AreFedIfThere pass cluster items.now watched.old watched.new }
+{
+    if let Some(watcher) = &mut watched[pass as usize] {
+        watcher.feed(cluster, items);
+    }
+}
+
 impl Tally {
     /// A tally of no action pass, to which nothing was told of so many named filters.
     pub fn new(alloc: Global, filters: u32) -> Result<Tally, Memory>
@@ -62,10 +94,15 @@ impl Tally {
             → OnOk result (IsFresh (kinds ++ kind.now ∷ []) (watched ++ place_if is_watched kinds) self.new) }
         ensures flow { self.new.flow ≡ self.old.flow }
     {
-        let _alloc = self.alloc;
-        let _kind = Acc::new(self.alloc, kind)?;
-        let _is_watched = is_watched;
-        Err(Memory)
+        let watcher = if is_watched {
+            self.trails.push(ListOf::new(self.alloc))?;
+            Some(Watcher::new(self.alloc, kind)?)
+        } else {
+            None
+        };
+        self.watched.push(watcher)?;
+        self.accs.push(Acc::new(self.alloc, kind)?)?;
+        Ok(())
     }
 
     /// Takes in what the next entry of a cluster feeds to the next action pass.
@@ -76,7 +113,9 @@ impl Tally {
         ensures memory { (f : LoopFacts) (watched : List ℕ) (s : Stage) → (can : CanFeed f watched s self.old pass cluster items.now)
             → OnErr result (IsTake can.kind) }
     {
-        unreachable!()
+        feed_acc(self.accs.as_mut_slice(), pass, cluster, items)?;
+        feed_watched(self.watched.as_mut_slice(), pass, cluster, items);
+        Ok(())
     }
 
     /// Takes in that the next entry reaches the next named filter, and passes it or not.
