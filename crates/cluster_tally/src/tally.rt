@@ -113,9 +113,8 @@ impl Tally {
         ensures memory { (f : LoopFacts) (watched : List ℕ) (s : Stage) → (can : CanFeed f watched s self.old pass cluster items.now)
             → OnErr result (IsTake can.kind) }
     {
-        feed_acc(self.accs.as_mut_slice(), pass, cluster, items)?;
         feed_watched(self.watched.as_mut_slice(), pass, cluster, items);
-        Ok(())
+        feed_acc(self.accs.as_mut_slice(), pass, cluster, items)
     }
 
     /// Takes in that the next entry reaches the next named filter, and passes it or not.
