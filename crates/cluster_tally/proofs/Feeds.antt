@@ -18,7 +18,7 @@ use Rattle.loop_pieces.specs.LoopPieces.{entries_over}
 use Rattle.cluster_tally.specs.Feedings.{AreFed, AreFedIfThere, CanFeed, CanTake, IsNowFed, after_pass}
 use Rattle.cluster_tally.specs.Laws as law
 use Rattle.cluster_tally.specs.Stages.{IsNextEntry, Stage, fed_to, taken_at}
-use Rattle.cluster_tally.specs.Tallies.{Holds, IsFedAlone, IsFedTo, TallyView, places_there}
+use Rattle.cluster_tally.specs.Tallies.{CanWatch, Holds, IsFedAlone, IsFedTo, TallyView, places_there}
 use Rattle.cluster_tally.proofs.ListPlaces.{at_set, map_set_same, mapped, of_mapped, places_kept, there}
 use Rattle.cluster_tally.proofs.Steps.{alone_next, alone_same, alone_to, entries_room, fed_next, fed_same, taken_before, taken_from, taken_same}
 
@@ -37,6 +37,7 @@ module _ (f : LoopFacts) (s : Stage) (i : ℕ) (ne : i ≡ s.passes → ⊥) whe
   alone_kept : (acc : Accumulator) → IsFedAlone f s i acc → IsFedAlone f (after_pass s) i acc
   alone_kept acc h = record {
     kind = h.kind;
+    watch = h.watch;
     fed = subst (HasFed acc) (sym (alone_same f s i ne)) h.fed;
     few = omega (arith, h.few, taken_same s.entries s.passes i ne);
     last = h.last;
@@ -60,6 +61,7 @@ module _ (f : LoopFacts) (s : Stage) (spreads : List (List Item)) (reaches : Lis
     alone_more : IsFedAlone f s s.passes acc → IsFedAlone f (after_pass s) s.passes now
     alone_more h = record {
       kind = h.kind ∙ ap Some (sym is_fed.kind);
+      watch = subst CanWatch (sym is_fed.kind) h.watch;
       fed = subst (HasFed now) (sym (alone_next f s spreads reaches next ∙ ap (λ l. alone_to f s s.passes ++ from_cluster s.cluster l) same)) (is_fed.fed (alone_to f s s.passes) h.fed);
       few = omega (arith, h.few, is_fed.entries, at_now, at_next);
       last = omega (arith, is_fed.last);
@@ -76,6 +78,7 @@ module _ (f : LoopFacts) (s : Stage) (spreads : List (List Item)) (reaches : Lis
   alone_nothing : list_at spreads s.passes ≡ [] → (acc : Accumulator) → IsFedAlone f s s.passes acc → IsFedAlone f (after_pass s) s.passes acc
   alone_nothing none acc h = record {
     kind = h.kind;
+    watch = h.watch;
     fed = subst (HasFed acc) (sym (alone_next f s spreads reaches next ∙ ap (λ l. alone_to f s s.passes ++ from_cluster s.cluster l) none ∙ append-nil (alone_to f s s.passes))) h.fed;
     few = omega (arith, h.few, at_now, at_next);
     last = h.last;

@@ -42,7 +42,7 @@ skips_filter f watched s t spreads reaches h next stopped = record {
   flow = h.flow ∙ map-below f.filters (counts_to f s) (counts_to f (after_filter s)) (λ i lt. counts_kept f s spreads reaches next stopped i);
   many = h.many;
   places = h.places;
-  alone = λ i acc at. (let one = h.alone i acc at in record { kind = one.kind; fed = one.fed; few = one.few; last = one.last });
+  alone = λ i acc at. (let one = h.alone i acc at in record { kind = one.kind; watch = one.watch; fed = one.fed; few = one.few; last = one.last });
   trails = h.trails;
 }
 
@@ -106,6 +106,6 @@ module _ (f : LoopFacts) (watched : List ℕ) (s : Stage) (t : TallyView) (filte
         flow = flow_now flow is;
         many = h.many;
         places = h.places;
-        alone = λ i acc at. (let one = h.alone i acc at in record { kind = one.kind; fed = one.fed; few = one.few; last = one.last });
+        alone = λ i acc at. (let one = h.alone i acc at in record { kind = one.kind; watch = one.watch; fed = one.fed; few = one.few; last = one.last });
         trails = h.trails;
       }

@@ -23,7 +23,7 @@ use Rattle.merge_core.specs.declared.noted.Noted.{Noted}
 use Rattle.cluster_tally.specs.Feedings.{IsFresh, fresh_acc}
 use Rattle.cluster_tally.specs.Laws as law
 use Rattle.cluster_tally.specs.Stages.{Stage, after_entry, at_begin, counted, counts_to, fed_to, first_items, first_reaches, taken_at}
-use Rattle.cluster_tally.specs.Tallies.{Holds, IsFedAlone, IsFedTo, TallyView}
+use Rattle.cluster_tally.specs.Tallies.{CanWatch, Holds, IsFedAlone, IsFedTo, TallyView}
 use Rattle.cluster_tally.proofs.Feeds.{kind_at}
 use Rattle.cluster_tally.proofs.ListPlaces.{mapped, of_mapped}
 use Rattle.cluster_tally.proofs.Steps.{alone_to, taken_before, taken_from}
@@ -62,7 +62,7 @@ module _ (f : LoopFacts) (watched : List ℕ) (s : Stage) (t : TallyView) (passe
     alone = λ i acc at. (
         let one = h.alone i acc at in
         let lt : i < s.passes = omega (arith, slice_get_within t.watched i (Some acc) at, kinds_many, h.many) in
-        record { kind = one.kind; fed = subst (HasFed acc) (alone_same i lt) one.fed; few = omega (arith, one.few, taken s.passes i lt); last = one.last });
+        record { kind = one.kind; watch = one.watch; fed = subst (HasFed acc) (alone_same i lt) one.fed; few = omega (arith, one.few, taken s.passes i lt); last = one.last });
     trails = h.trails;
   }
 
@@ -91,8 +91,8 @@ module _ (f : LoopFacts) (done : List ℕ) (c : ℕ) where
 fresh_fed : (k : ActionKind) → HasFed (fresh_acc k) []
 fresh_fed k = record { filled = refl; kept = refl; below = λ j x lt. absurd (omega arith) }
 
-pub fresh_alone : (f : LoopFacts) (done : List ℕ) (c i : ℕ) (k : ActionKind) → slice_get f.kinds i ≡ Some k → IsFedAlone f (at_begin done c) i (fresh_acc k)
-fresh_alone f done c i k at = record { kind = at; fed = subst (HasFed (fresh_acc k)) (sym (none_alone f done c i)) (fresh_fed k); few = omega arith; last = omega arith }
+pub fresh_alone : (f : LoopFacts) (done : List ℕ) (c i : ℕ) (k : ActionKind) → slice_get f.kinds i ≡ Some k → CanWatch k → IsFedAlone f (at_begin done c) i (fresh_acc k)
+fresh_alone f done c i k at watch = record { kind = at; watch = watch; fed = subst (HasFed (fresh_acc k)) (sym (none_alone f done c i)) (fresh_fed k); few = omega arith; last = omega arith }
 
 same_kinds : (kinds : List ActionKind) → map kind_at (map fresh_acc kinds) ≡ kinds
 same_kinds [] = refl
@@ -127,6 +127,6 @@ fresh_holds f watched t c facts fresh flow = record {
       ∙ map-below f.filters (λ i. nothing) (counts_to f (at_begin [] c)) (λ i lt. sym (counts_at_begin f [] c i));
   many = fresh.many ∙ sym (ap length fresh.accs ∙ length-map f.kinds fresh_acc);
   places = fresh.places;
-  alone = λ i acc at. (let of = fresh.alone i acc at in subst (IsFedAlone f (at_begin [] c) i) (sym of.2) (fresh_alone f [] c i of.0 of.1));
+  alone = λ i acc at. (let of = fresh.alone i acc at in subst (IsFedAlone f (at_begin [] c) i) (sym of.3) (fresh_alone f [] c i of.0 of.1 of.2));
   trails = no_trails f watched t.trails fresh.trails;
 }

@@ -1,9 +1,8 @@
 -- What a tally is told, and what it is when nothing was told.
-use Rattle.std.specs.Prelude.{◌≡◌, ◌<◌, ⊤, ℕ, Bool, List, [], ◌∷◌, ◌++◌, ◌+◌, ◌≤◌, Option, None, Some, if◌then◌else◌, length, map, slice_get, slice_set}
+use Rattle.std.specs.Prelude.{◌≡◌, ◌<◌, ℕ, Bool, List, [], ◌∷◌, ◌++◌, ◌+◌, ◌≤◌, Option, None, Some, if◌then◌else◌, length, map, slice_get, slice_set}
 use Rattle.rdf_values.specs.Fold.{fold_items}
 use Rattle.rdf_values.specs.Spread.{feed_fault, spread}
 use Rattle.rdf_values.specs.declared.action.ActionKind.{ActionKind}
-use Rattle.rdf_values.specs.declared.action.ActionKind.TheVariants as kind
 use Rattle.rdf_values.specs.declared.item.Item.{Item}
 use Rattle.rdf_model.specs.PartialResults.{span_rows}
 use Rattle.rdf_model.specs.declared.loop_facts.LoopFacts.{LoopFacts}
@@ -14,16 +13,10 @@ use Rattle.actions.specs.Feeding.{Fed, from_cluster}
 use Rattle.actions.specs.Holding.{kept_of}
 use Rattle.actions.specs.Parts.{Suits, values_of}
 use Rattle.actions.specs.declared.items.Items.{Items}
+use Rattle.merge_core.specs.declared.noted.Noted.{Noted}
+use Rattle.loop_pieces.specs.declared.watch_piece.WatchPiece.{WatchPiece}
 use Rattle.cluster_tally.specs.Stages.{IsNextEntry, Stage}
-use Rattle.cluster_tally.specs.Tallies.{Holds, TallyView, places_there}
-
--- an action whose result can be watched
-abbrev pub CanWatch : ActionKind → Type 0
-CanWatch kind.Count = ⊤
-CanWatch (kind.Sum c) = ⊤
-CanWatch (kind.Min c) = ⊤
-CanWatch (kind.Max c) = ⊤
-CanWatch k = ⊥
+use Rattle.cluster_tally.specs.Tallies.{CanWatch, Holds, TallyView, places_there}
 
 -- to which nothing was fed
 abbrev pub fresh_acc : ActionKind → Accumulator
@@ -34,7 +27,7 @@ pub record IsFresh (kinds : List ActionKind) (watched : List ℕ) (t : TallyView
   pub accs : t.accs ≡ map fresh_acc kinds
   pub many : length t.watched ≡ length kinds
   pub places : places_there 0 t.watched ≡ watched
-  pub alone : (i : ℕ) (acc : Accumulator) → slice_get t.watched i ≡ Some (Some acc) → (k : ActionKind) × (slice_get kinds i ≡ Some k) × (acc ≡ fresh_acc k)
+  pub alone : (i : ℕ) (acc : Accumulator) → slice_get t.watched i ≡ Some (Some acc) → (k : ActionKind) × (slice_get kinds i ≡ Some k) × CanWatch k × (acc ≡ fresh_acc k)
   pub trails : t.trails ≡ map (λ p. []) watched
 
 -- the place of the next pass, where it is watched
@@ -67,6 +60,14 @@ pub record AreFed (place cluster : ℕ) (items : Items) (old new : List Accumula
 pub record AreFedIfThere (place cluster : ℕ) (items : Items) (old new : List (Option Accumulator)) : Type 0 where
   pub none : slice_get old place ≡ Some None → new ≡ old
   pub some : (acc : Accumulator) → slice_get old place ≡ Some (Some acc) → (now : Accumulator) × IsNowFed cluster items acc now × (new ≡ slice_set old place (Some now))
+
+-- the accumulator of its own of a pass, where it is watched
+abbrev pub acc_if : Bool → ActionKind → Option Accumulator
+acc_if is_watched k = if is_watched then Some (fresh_acc k) else None
+
+-- one more empty trail, where it is watched
+abbrev pub with_trail : Bool → List (List (Noted WatchPiece)) → List (List (Noted WatchPiece))
+with_trail is_watched trails = if is_watched then trails ++ [] ∷ [] else trails
 
 -- the next entry feeds these values to the next action pass, which takes them
 pub record CanFeed (f : LoopFacts) (watched : List ℕ) (s : Stage) (t : TallyView) (pass cluster : ℕ) (items : Items) : Type 0 where

@@ -1,3 +1,4 @@
+pub mod Closings
 pub mod Feedings
 pub mod Laws
 pub mod Stages

@@ -2,7 +2,7 @@
 use Rattle.std.specs.Prelude.{◌≡◌}
 use Rattle.rdf_values.specs.declared.action.ActionKind.{ActionKind}
 use Rattle.actions.specs.Accumulators.{Accumulator}
-use Rattle.cluster_tally.specs.Feedings.{CanWatch}
+use Rattle.cluster_tally.specs.Tallies.{CanWatch}
 
 -- the accumulator is of the kind, which can be watched
 pub record IsWatcher (k : ActionKind) (acc : Accumulator) : Type 0 where

@@ -1,15 +1,17 @@
 // Tallies.
-ghost use Rattle.std.specs.Prelude.{◌≡◌, ◌≢◌, ◌<◌, ◌++◌, ◌∷◌, [], ℕ, Bool, IsTrue, List, IfOk, OnErr, OnOk, Some, length, replicate, slice_get};
+ghost use Rattle.std.specs.Prelude.{◌≡◌, ◌<◌, ◌+◌, ◌++◌, ◌∷◌, [], ℕ, Bool, IsTrue, List, IfOk, OnErr, OnOk, Some, length, map, replicate, slice_get};
 ghost use Rattle.rdf_values.specs.declared.action.ActionKind.{ActionKind};
 ghost use Rattle.rdf_model.specs.declared.loop_facts.LoopFacts.{LoopFacts};
-ghost use Rattle.actions.specs.Accumulators.{Accumulator};
+ghost use Rattle.actions.specs.Accumulators.{Accumulator, HasFed};
+ghost use Rattle.actions.specs.Feeding.{Fed};
 ghost use Rattle.actions.specs.Holding.{HasEdges, IsTake};
 ghost use Rattle.filters_report.specs.Flows.{nothing};
 ghost use Rattle.loop_pieces.specs.LoopPieces.{StandsFor};
 ghost use Rattle.loop_pieces.specs.Trails.{HaveTrails};
-ghost use Rattle.cluster_tally.specs.Feedings.{AreFed, AreFedIfThere, CanFeed, CanNote, CanTake, CanWatch, IsAtEnd, IsFresh, after_filter, after_pass, place_if};
+ghost use Rattle.cluster_tally.specs.Closings.{noted_all, noted_at, renewed, times_there};
+ghost use Rattle.cluster_tally.specs.Feedings.{AreFed, AreFedIfThere, CanFeed, CanNote, CanTake, IsAtEnd, IsFresh, acc_if, after_filter, after_pass, place_if, with_trail};
 ghost use Rattle.cluster_tally.specs.Stages.{Stage, at_begin};
-ghost use Rattle.cluster_tally.specs.Tallies.{Holds};
+ghost use Rattle.cluster_tally.specs.Tallies.{CanWatch, Holds, places_there};
 
 use crate::watcher::Watcher;
 use actions::{Acc, FeedStop, Items};
@@ -38,6 +40,24 @@ impl Model for Tally {
     ghost Value = { TallyView };
 
     ghost view = { λ t. record { accs = t.accs.items; watched = t.watched.items; flow = t.flow; trails = t.trails.items } };
+}
+
+// A watcher of the action, and an empty trail, where it is watched.
+fn watcher_if(
+    alloc: Global,
+    kind: &ActionKind,
+    is_watched: bool,
+    trails: &mut Vec<Trail<WatchPiece>>,
+) -> Result<Option<Watcher>, Memory>
+    requires { IsTrue is_watched → CanWatch kind.now }
+    ensures watcher { IfOk result (λ watcher. watcher ≡ acc_if is_watched kind.now) }
+    ensures trails { OnOk result (trails.new.items ≡ with_trail is_watched trails.old.items) }
+{
+    if !is_watched {
+        return Ok(None);
+    }
+    trails.push(ListOf::new(alloc))?;
+    Ok(Some(Watcher::new(alloc, kind)?))
 }
 
 // Feeds the accumulator of a pass.
@@ -71,6 +91,50 @@ fn feed_watched(watched: &mut [Option<Watcher>], pass: u32, cluster: u32, items:
     }
 }
 
+// Notes what a watcher holds, if it is there, and begins it anew; tells the number of the next trail.
+fn close_one(
+    alloc: Global,
+    cluster: u32,
+    watcher: &mut Option<Watcher>,
+    trails: &mut [Trail<WatchPiece>],
+    trail: usize,
+) -> Result<usize, Memory>
+    requires { (acc : Accumulator) → watcher.old ≡ Some acc → (trail < length trails.old) × (fed : List Fed) × HasFed acc fed }
+    ensures watcher { OnOk result (watcher.new ≡ renewed watcher.old) }
+    ensures trails { OnOk result (trails.new ≡ noted_at cluster watcher.old trails.old trail) }
+    ensures next { IfOk result (λ next. next ≡ trail + times_there watcher.old) }
+    ensures memory { OnErr result (0 < length trails.old) }
+{
+    match watcher {
+        None => Ok(trail),
+        Some(watcher) => {
+            let piece = watcher.close(alloc)?;
+            trails[trail].push(Noted { cluster, piece })?;
+            Ok(trail + 1)
+        }
+    }
+}
+
+// Notes what each watcher holds in its trail, and begins it anew.
+fn close_all(
+    alloc: Global,
+    cluster: u32,
+    watched: &mut [Option<Watcher>],
+    trails: &mut [Trail<WatchPiece>],
+) -> Result<(), Memory>
+    requires trails { length trails.old ≡ length (places_there 0 watched.old) }
+    requires fed { (i : ℕ) (acc : Accumulator) → slice_get watched.old i ≡ Some (Some acc) → (fed : List Fed) × HasFed acc fed }
+    ensures watched { OnOk result (watched.new ≡ map renewed watched.old) }
+    ensures trails { OnOk result (trails.new ≡ noted_all cluster watched.old trails.old) }
+    ensures memory { OnErr result (0 < length trails.old) }
+{
+    let mut trail = 0;
+    for i in 0..watched.len() {
+        trail = close_one(alloc, cluster, &mut watched[i], trails, trail)?;
+    }
+    Ok(())
+}
+
 impl Tally {
     /// A tally of no action pass, to which nothing was told of so many named filters.
     pub fn new(alloc: Global, filters: u32) -> Result<Tally, Memory>
@@ -94,12 +158,7 @@ impl Tally {
             → OnOk result (IsFresh (kinds ++ kind.now ∷ []) (watched ++ place_if is_watched kinds) self.new) }
         ensures flow { self.new.flow ≡ self.old.flow }
     {
-        let watcher = if is_watched {
-            self.trails.push(ListOf::new(self.alloc))?;
-            Some(Watcher::new(self.alloc, kind)?)
-        } else {
-            None
-        };
+        let watcher = watcher_if(self.alloc, kind, is_watched, &mut self.trails)?;
         self.watched.push(watcher)?;
         self.accs.push(Acc::new(self.alloc, kind)?)?;
         Ok(())
@@ -130,9 +189,14 @@ impl Tally {
         requires { (f : LoopFacts) × (watched : List ℕ) × (s : Stage) × Holds f watched s self.old × IsAtEnd f s cluster }
         ensures holds { (f : LoopFacts) (watched : List ℕ) (s : Stage) (next : ℕ) → Holds f watched s self.old → IsAtEnd f s cluster → cluster < next
             → OnOk result (Holds f watched (at_begin (s.done ++ cluster ∷ []) next) self.new) }
-        ensures memory { OnErr result (self.old.trails ≢ []) }
+        ensures memory { OnErr result (0 < length self.old.trails) }
     {
-        unreachable!()
+        close_all(
+            self.alloc,
+            cluster,
+            self.watched.as_mut_slice(),
+            self.trails.as_mut_slice(),
+        )
     }
 
     /// What the clusters that are done come to.

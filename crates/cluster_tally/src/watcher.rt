@@ -6,7 +6,8 @@ ghost use Rattle.actions.specs.Accumulators.{HasFed};
 ghost use Rattle.actions.specs.Feeding.{Fed, from_cluster};
 ghost use Rattle.actions.specs.Parts.{Suits, values_of};
 ghost use Rattle.loop_pieces.specs.Watching.{IsOfKind, watch_filled};
-ghost use Rattle.cluster_tally.specs.Feedings.{CanWatch, fresh_acc};
+ghost use Rattle.cluster_tally.specs.Feedings.{fresh_acc};
+ghost use Rattle.cluster_tally.specs.Tallies.{CanWatch};
 
 use actions::{Acc, Filled, Items};
 use loop_pieces::WatchPiece;

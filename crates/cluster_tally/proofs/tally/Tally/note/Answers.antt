@@ -1,6 +1,8 @@
 use Rattle.std.proofs.Common.{◌≡◌, ◌<◌, length, subst, sym, ap}
 use Rattle.filters_report.specs.Flows.{HasRoom}
+use Rattle.cluster_tally.specs.Feedings.{CanNote}
 use Rattle.cluster_tally.specs.Tallies.{TallyView}
+use Rattle.cluster_tally.specs.contracts.tally.Tally.{the_view}
 use Rattle.cluster_tally.proofs.Notings.{has_room, holds_noted, within}
 use Rattle.cluster_tally.proofs.tally.Tally.note.Goals as goal
 
@@ -15,4 +17,5 @@ note-requires-clause-room c =
     subst (λ (t : TallyView). HasRoom t.flow c.args.filter) (sym c.self.view_is) (has_room r.0 r.1 r.2 c.args.self.now c.args.filter c.args.passed r.3)
 
 pub returns : goal.returns
-returns c = ?
+returns c = λ f watched s can.
+    holds_noted f watched s (the_view c.self.inside) c.args.filter c.args.passed (subst (λ (t : TallyView). CanNote f watched s t c.args.filter c.args.passed) (sym c.self.view_is) can) c.note.new.self c.note.ensures
