@@ -1,6 +1,6 @@
 -- The end of a cluster.
 use Rattle.std.proofs.Common.{◌≡◌, ℕ, zero, suc, ◌+◌, ◌<◌, ◌≤◌, ℤ, List, [], ◌∷◌, ◌++◌, length, map, take, drop, set, get_or, Option, None, Some, ◌⊎◌, inl, inr, refl, sym, ap, ap₂, ◌∙◌, subst, arith, add-zero, append_assoc, append-nil}
-use Rattle.std.specs.Prelude.{All, flat_map, slice_get}
+use Rattle.std.specs.Prelude.{All, Err, Ok, OnOk, Result, flat_map, slice_get}
 use Rattle.std.specs.List.Sorted.{IsStrictlyIncreasing}
 use Rattle.std.proofs.lemmas.List.{drop-drop, drop-set-lt, drop_all, drop_more, get_or_default, length-map, length-set, map-append, map_more, take_all, take_more, take_more_set}
 use Rattle.std.proofs.lemmas.List.Concat.{flat_map-append}
@@ -98,7 +98,7 @@ module _ (c : ℕ) (old : List (Option Accumulator)) (first : List (List (Noted 
         length-set trails next more,
       )
 
-  pub closed_next : AreClosedTo c old first (i + 1) (next + times_there (get_or watched i d)) (set watched i (renewed (get_or watched i d))) (noted_at c (get_or watched i d) trails next)
+  closed_next : AreClosedTo c old first (i + 1) (next + times_there (get_or watched i d)) (set watched i (renewed (get_or watched i d))) (noted_at c (get_or watched i d) trails next)
   closed_next =
       let w = get_or watched i d in
       let within : i < length watched = omega (arith, b.same) in
@@ -111,6 +111,13 @@ module _ (c : ℕ) (old : List (Option Accumulator)) (first : List (List (Noted 
         left = by.1;
         all = by.2 ∙ b.all;
       }
+
+  pub closed_by : (n : ℕ) (v : Option Accumulator) (ts : List (List (Noted WatchPiece))) → n ≡ next + times_there (get_or watched i d) → v ≡ renewed (get_or watched i d) → ts ≡ noted_at c (get_or watched i d) trails next
+      → AreClosedTo c old first (i + 1) n (set watched i v) ts
+  closed_by n v ts n_is v_is ts_is =
+      subst (λ k. AreClosedTo c old first (i + 1) k (set watched i v) ts) (sym n_is)
+      (subst (λ o. AreClosedTo c old first (i + 1) (next + times_there (get_or watched i d)) (set watched i o) ts) (sym v_is)
+      (subst (λ l. AreClosedTo c old first (i + 1) (next + times_there (get_or watched i d)) (set watched i (renewed (get_or watched i d))) l) (sym ts_is) closed_next))
 
 pub all_closed : (c : ℕ) (old : List (Option Accumulator)) (first : List (List (Noted WatchPiece))) (i next : ℕ) (watched : List (Option Accumulator)) (trails : List (List (Noted WatchPiece)))
     → AreClosedTo c old first i next watched trails → length old ≤ i → (watched ≡ map renewed old) × (trails ≡ noted_all c old first)
@@ -277,3 +284,7 @@ module _ (f : LoopFacts) (watched : List ℕ) (s : Stage) (t : TallyView) (clust
 
   pub holds_closed : Holds f watched (at_begin (s.done ++ cluster ∷ []) next) (record { accs = t.accs; watched = map renewed t.watched; flow = t.flow; trails = noted_all cluster t.watched t.trails })
   holds_closed = subst (λ c. Holds f watched (at_begin (s.done ++ c ∷ []) next) (record { accs = t.accs; watched = map renewed t.watched; flow = t.flow; trails = noted_all c t.watched t.trails })) end.at_cluster at_own
+
+pub on_both_ok : {A E : Type 0} (r : Result A E) {P Q R : Type 0} → (P → Q → R) → OnOk r P → OnOk r Q → OnOk r R
+on_both_ok (Ok x) h p q = h p q
+on_both_ok (Err e) h p q = tt

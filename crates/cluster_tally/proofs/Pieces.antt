@@ -51,6 +51,19 @@ module _ (kinds : List ActionKind) (watched : List ℕ) (t : TallyView) (k : Act
     trails = trails_now b;
   }
 
+  pub fresh_from : (b : Bool) → (b ≡ true → CanWatch k) → (u : TallyView) (acc : Accumulator) (w : Option Accumulator) → u.accs ≡ t.accs ++ acc ∷ [] → acc ≡ fresh_acc k → u.watched ≡ t.watched ++ w ∷ [] → w ≡ acc_if b k
+      → u.trails ≡ with_trail b t.trails → IsFresh (kinds ++ k ∷ []) (watched ++ place_if b kinds) u
+  fresh_from b can u acc w accs acc_is alone w_is trails =
+      let r = fresh_more b can in
+      let same = alone ∙ ap (λ o. t.watched ++ o ∷ []) w_is in
+      record {
+        accs = accs ∙ ap (λ a. t.accs ++ a ∷ []) acc_is ∙ r.accs;
+        many = ap length same ∙ r.many;
+        places = ap (places_there 0) same ∙ r.places;
+        alone = λ i a at. r.alone i a (ap (λ l. slice_get l i) (sym same) ∙ at);
+        trails = trails ∙ r.trails;
+      }
+
 -- ---- the last
 
 pub stands : (f : LoopFacts) (watched done : List ℕ) (c : ℕ) (t : TallyView) (p : LoopPiece) → p.accs.items ≡ t.accs → p.flow ≡ t.flow → Holds f watched (at_begin done c) t → StandsFor f done p
