@@ -1,16 +1,20 @@
 // One entry of a loop.
-ghost use Rattle.std.specs.Prelude.{◌≡◌, ◌≢◌, ◌<◌, ◌≤◌, ◌+◌, ◌*◌, ℕ, All, List, Ok, Err, length};
+ghost use Rattle.std.specs.Prelude.{◌≡◌, ◌≢◌, ◌≤◌, ◌+◌, ◌*◌, ℕ, All, List, Err, OnOk};
+ghost use Rattle.rdf_model.specs.LoopFacts.{kinds_in};
 ghost use Rattle.cluster_tally.specs.Stages.{Stage, after_entry};
 ghost use Rattle.cluster_tally.specs.Tallies.{Holds};
 ghost use Rattle.entry_cache.specs.Caches.{IsPlainLoop, IsSized};
 ghost use Rattle.entry_cache.specs.Jobs.{Fits, job_of, passes_in};
 ghost use Rattle.entry_passes.specs.Entries.{IsBefore, IsEntryAnswer, IsNoTake, entry_demands, facts_in};
 ghost use Rattle.entry_passes.specs.Plans.{covered_in};
-ghost use Rattle.rdf_model.specs.LoopFacts.{kinds_in};
 
+use crate::noting::note_filters;
+use crate::passes::try_passes;
 use crate::plan::EntryPlan;
 use crate::stop::EntryStop;
+use crate::turn::Turn;
 use cluster_tally::Tally;
+use cluster_tally::laws::ends_entry;
 use entry_cache::{EntryCache, Job};
 use expr_eval::Steps;
 use std::alloc::Global;
@@ -32,10 +36,21 @@ pub fn try_entry<L: Ledger>(
     requires sized { IsSized (job_of job.now) cache.old }
     requires before { (watched : List ℕ) × (s : Stage) × IsBefore (job_of job.now) watched s cluster entry tally.old }
     ensures answer { IsEntryAnswer (job_of job.now) entry result }
-    ensures holds { (watched : List ℕ) (s : Stage) → IsBefore (job_of job.now) watched s cluster entry tally.old → result ≡ Ok _ → Holds (facts_in (job_of job.now)) watched (after_entry s) tally.new }
+    ensures holds { (watched : List ℕ) (s : Stage) → IsBefore (job_of job.now) watched s cluster entry tally.old → OnOk result (Holds (facts_in (job_of job.now)) watched (after_entry s) tally.new) }
     ensures sized { IsSized (job_of job.now) cache.new }
     ensures bound { steps.new ≤ steps.old + 2 * entry_demands (job_of job.now) entry }
     ensures plain { IsPlainLoop (job_of job.now) → All IsNoTake (kinds_in (passes_in (job_of job.now))) → result ≢ Err EntryStop.Memory }
 {
-    unreachable!()
+    ends_entry();
+    cache.begin(entry);
+    let at = Turn {
+        alloc,
+        job,
+        cluster,
+        entry,
+    };
+    match try_passes(&at, cache, tally, steps) {
+        Ok(()) => note_filters(&at, plan, cache, tally, steps),
+        Err(stop) => Err(stop),
+    }
 }

@@ -3,8 +3,12 @@
 #![tactic(auto)]
 
 pub mod entry;
+mod noting;
+mod passes;
 pub mod plan;
+mod reports;
 pub mod stop;
+mod turn;
 
 pub use crate::entry::try_entry;
 pub use crate::plan::EntryPlan;
