@@ -1,37 +1,35 @@
 -- The end of a cluster.
-use Rattle.std.proofs.Common.{◌≡◌, ℕ, zero, suc, ◌+◌, ◌<◌, ◌≤◌, ℤ, List, [], ◌∷◌, ◌++◌, length, map, take, drop, set, get_or, Option, None, Some, ◌⊎◌, inl, inr, refl, sym, ap, ap₂, ◌∙◌, subst, arith, add-zero, append_assoc, append-nil}
+use Rattle.std.proofs.Common.{◌≡◌, ℕ, zero, suc, ◌+◌, ◌<◌, ◌≤◌, List, [], ◌∷◌, ◌++◌, length, map, take, drop, set, get_or, Option, None, Some, refl, sym, ap, ap₂, ◌∙◌, subst, arith, append_assoc, append-nil}
 use Rattle.std.specs.Prelude.{All, Err, Ok, OnOk, Result, flat_map, slice_get}
 use Rattle.std.specs.List.Sorted.{IsStrictlyIncreasing}
-use Rattle.std.proofs.lemmas.List.{drop-drop, drop-set-lt, drop_all, drop_more, get_or_default, length-map, length-set, map-append, map_more, take_all, take_more, take_more_set}
+use Rattle.std.proofs.lemmas.List.{drop-drop, drop-set-lt, drop_all, drop_more, length-map, length-set, map-append, map_more, take_all, take_more_set}
 use Rattle.std.proofs.lemmas.List.Concat.{flat_map-append}
-use Rattle.std.proofs.lemmas.List.Elements.{All-cons, All-nil, All-push, All-weaker}
-use Rattle.std.proofs.lemmas.Option.{same_Some, slice_get-get_or, slice_get_within}
+use Rattle.std.proofs.lemmas.List.Elements.{All-push, All-weaker}
+use Rattle.std.proofs.lemmas.Option.{same_Some, slice_get-get_or}
 use Rattle.rdf_values.proofs.Below.{map-below}
 use Rattle.rdf_values.proofs.DrawCounts.{rises_push}
-use Rattle.rdf_values.specs.Cuts.{below}
-use Rattle.rdf_values.specs.Fold as fold
 use Rattle.rdf_values.specs.Fold.{fold_items}
 use Rattle.rdf_values.specs.declared.action.ActionKind.{ActionKind}
 use Rattle.rdf_values.specs.declared.action.ActionKind.TheVariants as kind
 use Rattle.rdf_values.specs.declared.item.Item.{Item}
 use Rattle.rdf_values.specs.declared.span.Span.{Span}
-use Rattle.rdf_model.specs.LoopFacts.{if_there, list_at, reaches_over, result_over}
+use Rattle.rdf_model.specs.LoopFacts.{if_there, list_at, reaches_over}
 use Rattle.rdf_model.specs.PartialResults.{rows_in, span_rows}
 use Rattle.rdf_model.specs.declared.loop_facts.LoopFacts.{LoopFacts}
 use Rattle.rdf_model.specs.declared.loop_facts.Reach.{Reach}
 use Rattle.actions.specs.Accumulators.{Accumulator, HasFed}
-use Rattle.actions.specs.Feeding.{Fed, from_cluster, in_file_order}
+use Rattle.actions.specs.Feeding.{from_cluster, in_file_order}
 use Rattle.filters_report.specs.Flows.{both}
 use Rattle.merge_core.specs.declared.noted.Noted.{Noted}
-use Rattle.loop_pieces.specs.LoopPieces.{cluster_items, counts_at, entries_over, fed_over}
-use Rattle.loop_pieces.specs.Trails.{HaveTrails, IsTrail, watch_facts}
+use Rattle.loop_pieces.specs.LoopPieces.{cluster_items, counts_at, fed_over}
+use Rattle.loop_pieces.specs.Trails.{IsTrail, watch_facts}
 use Rattle.loop_pieces.specs.Watching.{IsOfKind, WatchStandsFor, watch_filled}
 use Rattle.loop_pieces.specs.declared.watch_piece.WatchPiece.{WatchPiece}
 use Rattle.loop_pieces.proofs.FedOver.{items_in_order}
 use Rattle.cluster_tally.specs.Closings.{note_of, noted_all, noted_at, piece_for, renewed, times_there}
 use Rattle.cluster_tally.specs.Feedings.{IsAtEnd, fresh_acc}
 use Rattle.cluster_tally.specs.Stages.{Stage, at_begin, counted, counts_to, fed_to, first_items, first_reaches, taken_at}
-use Rattle.cluster_tally.specs.Tallies.{CanWatch, Holds, IsFedAlone, IsFedTo, TallyView, places_there}
+use Rattle.cluster_tally.specs.Tallies.{CanWatch, Holds, IsFedAlone, TallyView, places_there}
 use Rattle.cluster_tally.proofs.ListPlaces.{of_mapped, ranges_same}
 use Rattle.cluster_tally.proofs.Stagings.{counts_at_begin, fed_at_begin, fresh_alone}
 use Rattle.cluster_tally.proofs.Steps.{alone_to, counted_both, entries_with, taken_from}
@@ -91,9 +89,9 @@ module _ (c : ℕ) (old : List (Option Accumulator)) (first : List (List (Noted 
       let t = get_or trails next [] in
       let more = t ++ note_of c a ∷ [] in (
         b.noted
-        ∙ ap₂ (λ l r. take next trails ++ noted_all c l r) e (drop_more trails next [] few)
-        ∙ sym (append_assoc (take next trails) (more ∷ []) (noted_all c rest (drop (next + 1) trails)))
-        ∙ ap₂ (λ x y. x ++ noted_all c rest y) (sym (take_more_set trails next more few)) (sym (drop-set-lt (next + 1) trails next more (omega arith))),
+            ∙ ap₂ (λ l r. take next trails ++ noted_all c l r) e (drop_more trails next [] few)
+            ∙ sym (append_assoc (take next trails) (more ∷ []) (noted_all c rest (drop (next + 1) trails)))
+            ∙ ap₂ (λ x y. x ++ noted_all c rest y) (sym (take_more_set trails next more few)) (sym (drop-set-lt (next + 1) trails next more (omega arith))),
         length-set trails next more ∙ omega (arith, b.left, ap (λ l. length (places_there 0 l)) e, places_many rest (0 + 1) 0),
         length-set trails next more,
       )

@@ -1,5 +1,5 @@
 -- A tally after an entry fed a pass.
-use Rattle.std.proofs.Common.{◌≡◌, ℕ, ◌+◌, ◌<◌, ◌≤◌, List, [], ◌++◌, length, map, set, Option, None, Some, inl, inr, refl, sym, ap, ◌∙◌, subst, ⊎_elim, arith, append-nil}
+use Rattle.std.proofs.Common.{◌≡◌, ℕ, ◌+◌, ◌<◌, List, [], ◌++◌, length, map, Option, None, Some, inl, inr, sym, ap, ◌∙◌, subst, ⊎_elim, arith, append-nil}
 use Rattle.std.specs.Prelude.{slice_get}
 use Rattle.std.proofs.lemmas.List.{length-set}
 use Rattle.std.proofs.lemmas.Option.{same_Some, slice_get_within}
@@ -11,7 +11,7 @@ use Rattle.rdf_model.specs.LoopFacts.{list_at}
 use Rattle.rdf_model.specs.declared.loop_facts.LoopFacts.{LoopFacts}
 use Rattle.rdf_model.specs.declared.loop_facts.Reach.{Reach}
 use Rattle.actions.specs.Accumulators.{Accumulator, HasFed}
-use Rattle.actions.specs.Feeding.{Fed, from_cluster}
+use Rattle.actions.specs.Feeding.{from_cluster}
 use Rattle.actions.specs.Parts.{Suits, values_of}
 use Rattle.actions.specs.declared.items.Items.{Items}
 use Rattle.loop_pieces.specs.LoopPieces.{entries_over}
@@ -207,7 +207,7 @@ module _ (f : LoopFacts) (watched : List ℕ) (s : Stage) (t : TallyView) (pass 
           places = ap (places_there 0) is.2 ∙ places_kept t.watched 0 pass is.0 old here;
           each = λ i acc at. elim (at_set t.watched pass (Some is.0) i (Some acc) (ap (λ l. slice_get l i) (sym is.2) ∙ at)) [
             | inl p ↦ (let same : acc ≡ is.0 = same_Some acc is.0 p.1 in
-              subst (λ k. IsFedAlone f (after_pass s) k acc) (sym p.0) (subst (IsFedAlone f (after_pass s) pass) (sym same) (alone_at old is.0 is.1 (alone_kind old here) (can.holds.alone pass old here))))
+                subst (λ k. IsFedAlone f (after_pass s) k acc) (sym p.0) (subst (IsFedAlone f (after_pass s) pass) (sym same) (alone_at old is.0 is.1 (alone_kind old here) (can.holds.alone pass old here))))
             | inr p ↦ alone_kept f s i (other i p.0) acc (can.holds.alone i acc p.1)
           ];
         }

@@ -1,17 +1,16 @@
 -- A tally's first and last moments.
-use Rattle.std.proofs.Common.{◌≡◌, ℕ, ◌+◌, ◌<◌, ◌≤◌, List, [], ◌∷◌, ◌++◌, length, map, Bool, true, false, Option, None, Some, inl, inr, refl, sym, ap, ap₂, ◌∙◌, subst, arith, add-zero, append-nil}
-use Rattle.std.specs.Prelude.{IsTrue, slice_get}
-use Rattle.std.proofs.lemmas.List.{length-map, length_push, map-append}
+use Rattle.std.proofs.Common.{◌≡◌, ℕ, ◌+◌, List, [], ◌∷◌, ◌++◌, length, map, Bool, true, false, Option, Some, inl, inr, refl, sym, ap, ap₂, ◌∙◌, subst, arith, append-nil}
+use Rattle.std.specs.Prelude.{slice_get}
+use Rattle.std.proofs.lemmas.List.{length_push, map-append}
 use Rattle.std.proofs.lemmas.Option.{same_Some, slice_get-get_or}
 use Rattle.rdf_values.proofs.Below.{map-below}
-use Rattle.rdf_values.specs.Cuts.{below}
 use Rattle.rdf_values.specs.declared.action.ActionKind.{ActionKind}
 use Rattle.rdf_model.specs.declared.loop_facts.LoopFacts.{LoopFacts}
 use Rattle.actions.specs.Accumulators.{Accumulator, HasFed}
-use Rattle.loop_pieces.specs.LoopPieces.{StandsFor, counts_at, entries_over}
+use Rattle.loop_pieces.specs.LoopPieces.{StandsFor, counts_at}
 use Rattle.loop_pieces.specs.declared.loop_piece.LoopPiece.{LoopPiece}
 use Rattle.cluster_tally.specs.Feedings.{IsFresh, acc_if, fresh_acc, place_if, with_trail}
-use Rattle.cluster_tally.specs.Stages.{at_begin, counts_to, taken_at}
+use Rattle.cluster_tally.specs.Stages.{at_begin, counts_to}
 use Rattle.cluster_tally.specs.Tallies.{CanWatch, Holds, TallyView, places_there}
 use Rattle.cluster_tally.proofs.ListPlaces.{at_push, kept_at, last_at, places_more}
 use Rattle.cluster_tally.proofs.Stagings.{counts_at_begin, fed_at_begin}

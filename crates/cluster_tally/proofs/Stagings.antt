@@ -1,31 +1,28 @@
 -- The beginning of clusters and the end of entries.
-use Rattle.std.proofs.Common.{◌≡◌, ℕ, zero, suc, ◌+◌, ◌<◌, ◌≤◌, List, [], ◌∷◌, ◌++◌, length, map, take, replicate, Option, None, Some, refl, sym, ap, ap₂, ◌∙◌, subst, arith, add-zero, append-nil}
-use Rattle.std.specs.Prelude.{◌^◌, All, slice_get}
-use Rattle.std.proofs.lemmas.List.{length-map, length-replicate}
+use Rattle.std.proofs.Common.{◌≡◌, ℕ, ◌+◌, ◌<◌, List, [], ◌∷◌, ◌++◌, length, map, replicate, Some, refl, sym, ap, ap₂, ◌∙◌, subst, arith, add-zero, append-nil}
+use Rattle.std.specs.Prelude.{slice_get}
+use Rattle.std.proofs.lemmas.List.{length-map}
 use Rattle.std.proofs.lemmas.List.Elements.{All-nil}
 use Rattle.std.proofs.lemmas.Option.{slice_get_within}
 use Rattle.rdf_values.proofs.Below.{length-below, map-below}
 use Rattle.rdf_values.proofs.UnionLemmas.{none_rises}
 use Rattle.rdf_values.specs.Cuts.{below}
 use Rattle.rdf_values.specs.declared.action.ActionKind.{ActionKind}
-use Rattle.rdf_values.specs.declared.item.Item.{Item}
-use Rattle.rdf_model.specs.LoopFacts.{list_at}
 use Rattle.rdf_model.specs.declared.loop_facts.LoopFacts.{LoopFacts}
-use Rattle.actions.specs.Accumulators.{Accumulator, HasFed}
-use Rattle.actions.specs.Feeding.{Fed, from_cluster}
+use Rattle.actions.specs.Accumulators.{HasFed}
+use Rattle.actions.specs.Feeding.{from_cluster}
 use Rattle.filters_report.specs.Flows.{both, nothing}
-use Rattle.filters_report.specs.declared.flow.Counts.{Counts}
 use Rattle.loop_pieces.specs.LoopPieces.{counts_at, fed_over}
 use Rattle.loop_pieces.specs.Trails.{HaveTrails, IsTrail, watch_facts}
 use Rattle.loop_pieces.specs.Watching.{WatchStandsFor}
 use Rattle.loop_pieces.specs.declared.watch_piece.WatchPiece.{WatchPiece}
 use Rattle.merge_core.specs.declared.noted.Noted.{Noted}
-use Rattle.cluster_tally.specs.Feedings.{IsFresh, fresh_acc}
+use Rattle.cluster_tally.specs.Feedings.{fresh_acc}
 use Rattle.cluster_tally.specs.Laws as law
 use Rattle.cluster_tally.specs.Stages.{Stage, after_entry, at_begin, counted, counts_to, fed_to, first_items, first_reaches, taken_at}
 use Rattle.cluster_tally.specs.Tallies.{CanWatch, Holds, IsFedAlone, IsFedTo, TallyView}
 use Rattle.cluster_tally.proofs.Feeds.{kind_at}
-use Rattle.cluster_tally.proofs.ListPlaces.{mapped, of_mapped}
+use Rattle.cluster_tally.proofs.ListPlaces.{of_mapped}
 use Rattle.cluster_tally.proofs.Steps.{alone_to, taken_before, taken_from}
 
 -- ---- the end of an entry

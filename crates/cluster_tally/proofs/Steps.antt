@@ -1,10 +1,10 @@
 -- What one more pass, filter or entry adds.
-use Rattle.std.proofs.Common.{◌≡◌, ℕ, ◌+◌, ◌<◌, ◌≤◌, List, [], ◌∷◌, ◌++◌, length, map, take, drop, cond, true, false, Option, None, Some, refl, sym, ap, ap₂, ◌∙◌, ⊎_elim, arith, append_assoc, append-nil, add_assoc, length-append}
-use Rattle.std.specs.Prelude.{◌-◌, Bool, count_by, flat_map, nat_lt, slice_get}
+use Rattle.std.proofs.Common.{◌≡◌, ℕ, ◌+◌, ◌<◌, ◌≤◌, List, [], ◌∷◌, ◌++◌, length, take, drop, cond, true, false, Option, None, Some, sym, ap, ap₂, ◌∙◌, ⊎_elim, arith, append_assoc, append-nil, add_assoc, length-append}
+use Rattle.std.specs.Prelude.{◌-◌, count_by, flat_map, nat_lt, slice_get}
 use Rattle.std.proofs.lemmas.Bool.{cases_lt, cond-false, cond-true, le-ltb, lt-ltb}
 use Rattle.std.proofs.lemmas.List.{length-drop, length-take, map-append}
 use Rattle.std.proofs.lemmas.List.Concat.{flat_map-append}
-use Rattle.std.proofs.lemmas.List.Sums.{sum_by-append, sum_by-cons}
+use Rattle.std.proofs.lemmas.List.Sums.{sum_by-append}
 use Rattle.std.proofs.lemmas.Option.{slice_get_within}
 use Rattle.rdf_values.proofs.DrawCounts.{rises_push}
 use Rattle.rdf_values.specs.declared.item.Item.{Item}

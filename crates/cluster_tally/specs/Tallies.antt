@@ -1,6 +1,5 @@
 -- What a tally holds.
 use Rattle.std.specs.Prelude.{◌≡◌, ◌≤◌, ◌<◌, ◌+◌, ⊤, ℕ, List, [], ◌∷◌, All, Option, None, Some, length, map, slice_get}
-use Rattle.std.specs.List.{Contains}
 use Rattle.std.specs.List.Sorted.{IsStrictlyIncreasing}
 use Rattle.rdf_values.specs.Cuts.{below}
 use Rattle.rdf_values.specs.declared.action.ActionKind.{ActionKind}

@@ -61,12 +61,7 @@ fn watcher_if(
 }
 
 // Feeds the accumulator of a pass.
-fn feed_acc(
-    accs: &mut [Acc],
-    pass: u32,
-    cluster: u32,
-    items: &Items<'_>,
-) -> Result<(), Memory>
+fn feed_acc(accs: &mut [Acc], pass: u32, cluster: u32, items: &Items<'_>) -> Result<(), Memory>
     requires within { pass < length accs.old }
     requires can { (acc : Accumulator) → slice_get accs.old pass ≡ Some acc → CanTake cluster items.now acc }
     ensures fed { OnOk result (AreFed pass cluster items.now accs.old accs.new) }

@@ -1,5 +1,4 @@
-use Rattle.std.proofs.Common.{◌≡◌, ◌∙◌, length, None, Some, refl, sym, ap, subst}
-use Rattle.std.specs.Prelude.{slice_get}
+use Rattle.std.proofs.Common.{◌∙◌, length, Some, refl, sym, ap, subst}
 use Rattle.std.proofs.lemmas.List.{set-get_or}
 use Rattle.std.proofs.lemmas.Option.{same_Some, slice_get_read}
 use Rattle.actions.specs.Accumulators.{Accumulator}
@@ -26,7 +25,7 @@ returns-in-Some c =
           let same = same_Some c.in-Some.watcher acc (same_Some (Some c.in-Some.watcher) (Some acc) (sym its ∙ here)) in (
             c.feed.new.self,
             subst (λ (a : Accumulator). IsNowFed c.args.cluster c.args.items.now a c.feed.new.self) same
-            (record { kind = c.feed.ensures.kind; entries = c.feed.ensures.entries; last = c.feed.ensures.last; fed = c.feed.ensures.fed }),
+                (record { kind = c.feed.ensures.kind; entries = c.feed.ensures.entries; last = c.feed.ensures.last; fed = c.feed.ensures.fed }),
             refl,
           ));
     }

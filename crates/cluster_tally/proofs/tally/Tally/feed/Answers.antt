@@ -1,4 +1,4 @@
-use Rattle.std.proofs.Common.{◌≡◌, ◌∙◌, ◌<◌, length, Some, ap, arith, subst, sym}
+use Rattle.std.proofs.Common.{◌∙◌, length, ap, arith, subst, sym}
 use Rattle.std.specs.Prelude.{slice_get}
 use Rattle.std.specs.Vec.{with_items}
 use Rattle.std.proofs.lemmas.List.{with_items_is}
@@ -42,13 +42,13 @@ returns-clause-holds c = λ f watched s can.
     let accs = with_items_is c.self.inside.accs c.feed_acc.new.accs (let k = c.self.inside.accs.ok.0 in omega (arith, c.feed_acc.auto.accs, ap length c.as_mut_slice-2.ensures.value)) in
     let alone = with_items_is c.self.inside.watched c.feed_watched.new.watched (let k = c.self.inside.watched.ok.0 in omega (arith, c.feed_watched.auto.watched, ap length c.as_mut_slice.ensures.value)) in
     let also = subst (AreFedIfThere c.args.pass c.args.cluster c.args.items.now c.self.inside.watched.items) (sym alone)
-            (subst (λ l. AreFedIfThere c.args.pass c.args.cluster c.args.items.now l c.feed_watched.new.watched) c.as_mut_slice.ensures.value c.feed_watched.ensures) in
+    (subst (λ l. AreFedIfThere c.args.pass c.args.cluster c.args.items.now l c.feed_watched.new.watched) c.as_mut_slice.ensures.value c.feed_watched.ensures) in
     on_ok_weaker c.feed_acc.result
     (λ (are : AreFed c.args.pass c.args.cluster c.args.items.now c.as_mut_slice-2.result.now c.feed_acc.new.accs).
     holds_fed f watched s (the_view c.self.inside) c.args.pass c.args.cluster c.args.items.now here
-        (with_items c.self.inside.accs c.feed_acc.new.accs).items (with_items c.self.inside.watched c.feed_watched.new.watched).items
-        (subst (AreFed c.args.pass c.args.cluster c.args.items.now c.self.inside.accs.items) (sym accs) (subst (λ l. AreFed c.args.pass c.args.cluster c.args.items.now l c.feed_acc.new.accs) c.as_mut_slice-2.ensures.value are))
-        also)
+    (with_items c.self.inside.accs c.feed_acc.new.accs).items (with_items c.self.inside.watched c.feed_watched.new.watched).items
+    (subst (AreFed c.args.pass c.args.cluster c.args.items.now c.self.inside.accs.items) (sym accs) (subst (λ l. AreFed c.args.pass c.args.cluster c.args.items.now l c.feed_acc.new.accs) c.as_mut_slice-2.ensures.value are))
+    also)
     c.feed_acc.ensures.fed
 
 pub returns-clause-memory : goal.returns-clause-memory

@@ -1,4 +1,4 @@
-use Rattle.std.proofs.Common.{◌≡◌, ◌<◌, length, subst, sym, ap}
+use Rattle.std.proofs.Common.{◌<◌, length, subst, sym}
 use Rattle.filters_report.specs.Flows.{HasRoom}
 use Rattle.cluster_tally.specs.Feedings.{CanNote}
 use Rattle.cluster_tally.specs.Tallies.{TallyView}
