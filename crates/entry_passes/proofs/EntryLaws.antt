@@ -1,0 +1,232 @@
+-- One pass of an entry, and one named filter, over plain values.
+use Rattle.std.proofs.Common.{◌≡◌, ◌≢◌, ◌⊎◌, inl, inr, ℕ, zero, suc, ◌+◌, ◌<◌, ◌≤◌, Bool, true, false, List, [], ◌∷◌, ◌++◌, length, map, take, Option, Some, None, Result, Ok, Err, option_map, refl, sym, ◌∙◌, ap, subst, arith, get_or, slice_get, if◌then◌else◌}
+use Rattle.std.specs.Prelude.{All, MatchOption}
+use Rattle.std.proofs.lemmas.List.Elements.{All-get_or}
+use Rattle.std.proofs.lemmas.Option.{slice_get-get_or, slice_get_within}
+use Rattle.rdf_values.specs.Bookings.{ActionAt, Booking, Pass, ReportOn}
+use Rattle.rdf_values.specs.Path.{Path, history}
+use Rattle.rdf_values.specs.declared.action.ActionKind.{ActionKind}
+use Rattle.rdf_values.specs.declared.action.ActionKind.TheVariants as kind
+use Rattle.rdf_values.specs.declared.fault.EntryFault.{EntryFault}
+use Rattle.rdf_values.specs.declared.value.Value.{Value}
+use Rattle.rdf_model.specs.EntryOutcomes.{Feed, Skip}
+use Rattle.rdf_model.specs.Evaluation.{Gives}
+use Rattle.rdf_model.specs.LoopFacts.{filter_reach, is_covered, kind_in, kinds_in}
+use Rattle.rdf_model.specs.Results.{fault_in}
+use Rattle.rdf_model.specs.declared.loop_facts.Reach.{Reach}
+use Rattle.rdf_model.specs.declared.loop_facts.Reach.TheVariants.{Failed, Passed, Stopped}
+use Rattle.actions.specs.Holding.{IsTake}
+use Rattle.actions.specs.Parts.{Suits, values_of}
+use Rattle.actions.specs.declared.items.Items.{Items}
+use Rattle.graph_numbers.specs.Graphs.{graph_filters, graph_results, graph_under}
+use Rattle.graph_numbers.specs.Results.{FilterAt, ResultAt, kind_of_booking}
+use Rattle.graph_numbers.specs.declared.pass.Pass.{Pass as NumberedPass}
+use Rattle.graph_numbers.specs.declared.result_kind.ResultKind.{ResultKind}
+use Rattle.graph_numbers.specs.declared.result_kind.ResultKind.TheVariants as what
+use Rattle.cluster_tally.specs.Feedings.{CanFeed, CanNote, after_filter, after_pass}
+use Rattle.cluster_tally.specs.Laws as law
+use Rattle.cluster_tally.specs.Stages.{Stage, after_entry}
+use Rattle.cluster_tally.specs.Tallies.{Holds, TallyView}
+use Rattle.entry_cache.specs.Caches.{CacheView, IsActionBooking, IsActionPass, IsCovered, IsOfAction, IsReach, numbered_in}
+use Rattle.entry_cache.specs.Jobs.{JobView, IsJob, job_graph, pass_outcome, passes_in}
+use Rattle.entry_cache.proofs.PassNumbers.{result_there, some_same}
+use Rattle.entry_cache.proofs.PassTies.{pass_of}
+use Rattle.entry_cache.proofs.TableLaws.{row_there}
+use Rattle.entry_passes.specs.Entries.{IsBefore, IsNoTake, facts_in}
+use Rattle.entry_passes.specs.Plans.{covered_in}
+use Rattle.entry_passes.specs.Turns.{IsAmid, IsAtEntry, IsPassAnswer, IsReportAnswer, IsReportPass, Moves, actions_before, at_places, pass_fault}
+use Rattle.entry_passes.specs.declared.stop.EntryStop.{EntryStop}
+use Rattle.entry_passes.specs.declared.stop.EntryStop.TheVariants as stop
+use Rattle.entry_passes.proofs.Covered.{cover_at, cover_is, covered_count, covered_there}
+use Rattle.entry_passes.proofs.ReportTies.{filter_there, report_fault, tried}
+use Rattle.entry_passes.proofs.Taken.{covered_reach, fed_clear, fed_items, filter_at, its_kind, next_entry, own_reaches, own_spreads, place_next, place_same, skipped_items, uncovered_reach}
+
+-- ---- the entry's row
+
+pub row_at : (j : JobView) (entry : ℕ) (c : CacheView) → IsAtEntry j entry c → (row : List Value) × (slice_get j.dataset.rows entry ≡ Some row)
+row_at j entry c at = row_there j.dataset.rows entry (subst (λ (n : ℕ). n < length j.dataset.rows) (some_same at.begun.entry entry (sym at.begun.is ∙ at.is)) at.begun.within)
+
+-- ---- the kinds of passes
+
+pub record IsOf (j : JobView) (n : ℕ) : Type 0 where
+  pub pass : Pass
+  pub its_pass : slice_get (passes_in j) n ≡ Some pass
+  pub kind : ActionKind
+  pub at : Path
+  pub booking : pass.result.booking ≡ ActionAt kind at
+
+pub action_of : (j : JobView) (n : ℕ) → IsActionPass j n → IsOf j n
+action_of j n h = go (slice_get (passes_in j) n) refl h
+  where
+    booked : (p : Pass) → slice_get (passes_in j) n ≡ Some p → (b : Booking) → p.result.booking ≡ b → IsActionBooking b → IsOf j n
+    booked p q (ActionAt k at) e i = record { pass = p; its_pass = q; kind = k; at = at; booking = e }
+    booked p q (ReportOn fs) e i = elim i [ ]
+
+    go : (o : Option Pass) → slice_get (passes_in j) n ≡ o → MatchOption o ⊥ (λ (p : Pass). IsActionBooking p.result.booking) → IsOf j n
+    go None q i = elim i [ ]
+    go (Some p) q i = booked p q p.result.booking refl i
+
+pub of_action : (j : JobView) (n : ℕ) (a : IsOf j n) → IsOfAction j n a.kind
+of_action j n a = subst (λ (o : Option Pass). MatchOption o ⊥ (λ (p : Pass). (at : Path) × (p.result.booking ≡ ActionAt a.kind at))) (sym a.its_pass) (a.at, a.booking)
+
+module _ (j : JobView) (n : ℕ) (m : NumberedPass) (its : numbered_in j n ≡ Some m) (found : ResultKind) (q : option_map (λ (x : ResultAt). kind_of_booking x.booked.booking) (slice_get (graph_results (job_graph j)) m.result) ≡ Some found) where
+  abbrev own : ResultAt
+  own = (result_there j n m its).0
+
+  found_is : found ≡ kind_of_booking own.booked.booking
+  found_is = some_same found (kind_of_booking own.booked.booking) (sym q ∙ ap (option_map (λ (x : ResultAt). kind_of_booking x.booked.booking)) (result_there j n m its).1)
+
+  pub found_action : (k : ActionKind) → found ≡ what.Action k → IsActionPass j n
+  found_action k e = go own.booked.booking refl (sym found_is ∙ e)
+    where
+      go : (b : Booking) → own.booked.booking ≡ b → kind_of_booking b ≡ what.Action k → IsActionPass j n
+      go (ActionAt l at) s h =
+          subst (λ (o : Option Pass). MatchOption o ⊥ (λ (p : Pass). IsActionBooking p.result.booking)) (sym (pass_of j n m its own (result_there j n m its).1)) (subst IsActionBooking (sym s) tt)
+      go (ReportOn fs) s h = cc h
+
+  pub found_report : found ≡ what.Report → IsReportPass j n m.result
+  found_report e = go own.booked.booking refl (sym found_is ∙ e)
+    where
+      go : (b : Booking) → own.booked.booking ≡ b → kind_of_booking b ≡ what.Report → IsReportPass j n m.result
+      go (ActionAt l at) s h = cc h
+      go (ReportOn fs) s h = record { numbered = m; its_pass = its; its_result = refl; result = own; there_is = (result_there j n m its).1; filters = fs; report = s }
+
+-- ---- places
+
+pub actions_few : (n : ℕ) (ps : List Pass) → length (kinds_in (take n ps)) ≤ n
+actions_few zero [] = omega arith
+actions_few zero (p ∷ ps) = omega arith
+actions_few (suc n) [] = omega arith
+actions_few (suc n) (p ∷ ps) = go p.result.booking (actions_few n ps)
+  where
+    go : (b : Booking) → length (kinds_in (take n ps)) ≤ n → length (kind_in b ++ kinds_in (take n ps)) ≤ suc n
+    go (ActionAt k at) h = omega (arith, h)
+    go (ReportOn fs) h = omega (arith, h)
+
+pub action_next : (j : JobView) (n place : ℕ) → IsActionPass j n → place ≡ actions_before j n → place + 1 ≡ actions_before j (n + 1)
+action_next j n place h e = let a = action_of j n h in ap (λ m. m + 1) e ∙ place_next j n a.pass a.kind a.at a.its_pass a.booking
+
+pub report_next : (j : JobView) (n own place : ℕ) → IsReportPass j n own → place ≡ actions_before j n → place ≡ actions_before j (n + 1)
+report_next j n own place p e =
+    e ∙ place_same j n _ p.filters (pass_of j n p.numbered p.its_pass p.result (ap (slice_get (graph_results (job_graph j))) p.its_result ∙ p.there_is)) p.report
+
+-- ---- an action's pass
+
+module _ (j : JobView) (entry : ℕ) (row : List Value) (here : slice_get j.dataset.rows entry ≡ Some row) (n place : ℕ) (action : IsActionPass j n) (e : place ≡ actions_before j n) (cluster : ℕ) (t : TallyView) where
+  -- nothing is fed where the entry is skipped
+  pub skip_moves : law.SkipsPass → pass_outcome j entry n ≡ Gives Skip → Moves j cluster entry t place 0 t (place + 1) 0
+  skip_moves skips h watched s amid =
+      let a = action_of j n action in
+      record {
+        holds = skips (facts_in j) watched (at_places s place 0) t (own_spreads j entry row here) (own_reaches j entry row here) amid.holds (next_entry j entry row here watched (at_places s place 0) cluster t amid)
+        (ap (slice_get (own_spreads j entry row here)) e ∙ skipped_items j entry row here n a.pass a.its_pass a.kind a.at a.booking h);
+        its_cluster = amid.its_cluster;
+        next = amid.next;
+      }
+
+  module _ (items : Items) (vs : List Value) (feeds : pass_outcome j entry n ≡ Gives (Feed vs)) (values : values_of items ≡ vs) (suits : (k : ActionKind) → IsOfAction j n k → Suits k items) where
+    pub can_feed : (watched : List ℕ) (s : Stage) → IsAmid j watched (at_places s place 0) cluster entry t → CanFeed (facts_in j) watched (at_places s place 0) t place cluster items
+    can_feed watched s amid =
+        let a = action_of j n action in
+        record {
+          holds = amid.holds;
+          at_pass = refl;
+          at_cluster = amid.its_cluster;
+          spreads = own_spreads j entry row here;
+          reaches = own_reaches j entry row here;
+          next = next_entry j entry row here watched (at_places s place 0) cluster t amid;
+          kind = a.kind;
+          its_kind = ap (slice_get (facts_in j).kinds) e ∙ its_kind j entry row here n a.pass a.its_pass a.kind a.at a.booking;
+          suits = suits a.kind (of_action j n a);
+          no_fault = ap (λ ws. _) values ∙ fed_clear j entry row here n a.pass a.its_pass a.kind a.at a.booking vs feeds;
+          fed = ap (slice_get (own_spreads j entry row here)) e ∙ fed_items j entry row here n a.pass a.its_pass a.kind a.at a.booking vs feeds ∙ ap (λ ws. Some _) (sym values);
+        }
+
+    pub feed_moves : (new : TallyView)
+        → ((watched : List ℕ) (s : Stage) → CanFeed (facts_in j) watched (at_places s place 0) t place cluster items → Holds (facts_in j) watched (after_pass (at_places s place 0)) new)
+        → Moves j cluster entry t place 0 new (place + 1) 0
+    feed_moves new h watched s amid = record { holds = h watched s (can_feed watched s amid); its_cluster = amid.its_cluster; next = amid.next }
+
+    -- no Take wants memory
+    pub never_takes : All IsNoTake (kinds_in (passes_in j)) → (watched : List ℕ) (s : Stage) (amid : IsAmid j watched (at_places s place 0) cluster entry t) → IsTake (can_feed watched s amid).kind → ⊥
+    never_takes none watched s amid =
+        let a = action_of j n action in
+        not_both a.kind (at_number (kinds_in (passes_in j)) place a.kind none (ap (slice_get (facts_in j).kinds) e ∙ its_kind j entry row here n a.pass a.its_pass a.kind a.at a.booking))
+      where
+        not_both : (k : ActionKind) → IsNoTake k → IsTake k → ⊥
+        not_both (kind.Take c) h i = h
+        not_both k h i = i
+
+        at_number : (ks : List ActionKind) (i : ℕ) (k : ActionKind) → All IsNoTake ks → slice_get ks i ≡ Some k → IsNoTake k
+        at_number ks i k h q =
+            let l = slice_get_within ks i k q in let g = some_same (get_or ks i k) k (sym (slice_get-get_or ks i k l) ∙ q) in subst IsNoTake g (All-get_or IsNoTake ks i k l h)
+
+-- ---- a report's pass
+
+pub report_answer : (j : JobView) (job : IsJob j) (entry : ℕ) (row : List Value) (here : slice_get j.dataset.rows entry ≡ Some row) (pass own : ℕ) (p : IsReportPass j pass own) (ns : List ℕ) → p.result.covers ≡ ns
+    → (r : Result (Unit {0}) EntryStop) → IsReportAnswer j entry pass ns r → IsPassAnswer j entry pass r
+report_answer j job entry row here pass own p ns e (Ok u) h = report_fault j job entry row here pass own p ns e ∙ h
+report_answer j job entry row here pass own p ns e (Err (stop.Fault n kind)) h = (h.0, report_fault j job entry row here pass own p ns e ∙ h.1)
+report_answer j job entry row here pass own p ns e (Err stop.Memory) h = tt
+
+pub own_covers : (j : JobView) (pass own : ℕ) (p : IsReportPass j pass own) (ns : List ℕ) → option_map (λ (x : ResultAt). x.covers) (slice_get (graph_results (job_graph j)) own) ≡ Some ns → p.result.covers ≡ ns
+own_covers j pass own p ns q = some_same p.result.covers ns (sym (ap (option_map (λ (x : ResultAt). x.covers)) p.there_is) ∙ q)
+
+-- ---- a named filter
+
+module _ (j : JobView) (job : IsJob j) (entry : ℕ) (row : List Value) (here : slice_get j.dataset.rows entry ≡ Some row) (f passes cluster : ℕ) (t : TallyView) where
+  pub uncovered_moves : law.SkipsFilter → slice_get (covered_in j) f ≡ Some false → (x : FilterAt) → slice_get (graph_filters (job_graph j)) f ≡ Some x → Moves j cluster entry t passes f t passes (f + 1)
+  uncovered_moves skips h x q watched s amid =
+      record {
+        holds = skips (facts_in j) watched (at_places s passes f) t (own_spreads j entry row here) (own_reaches j entry row here) amid.holds (next_entry j entry row here watched (at_places s passes f) cluster t amid)
+        (uncovered_reach j entry row here f x q (some_same _ _ (sym (cover_at j job f x q) ∙ h)));
+        its_cluster = amid.its_cluster;
+        next = amid.next;
+      }
+
+  module _ (h : slice_get (covered_in j) f ≡ Some true) (x : FilterAt) (q : slice_get (graph_filters (job_graph j)) f ≡ Some x) where
+    covers : is_covered (passes_in j) x.at ≡ true
+    covers = some_same _ _ (sym (cover_at j job f x q) ∙ h)
+
+    pub is_covered_by : IsCovered j f
+    is_covered_by = covered_there j f (cover_is j job f x q ∙ covers)
+
+    pub stopped_moves : law.SkipsFilter → filter_reach j.dataset row x.at ≡ Stopped → Moves j cluster entry t passes f t passes (f + 1)
+    stopped_moves skips e watched s amid =
+        record {
+          holds = skips (facts_in j) watched (at_places s passes f) t (own_spreads j entry row here) (own_reaches j entry row here) amid.holds (next_entry j entry row here watched (at_places s passes f) cluster t amid)
+          (covered_reach j entry row here f x q covers Stopped e);
+          its_cluster = amid.its_cluster;
+          next = amid.next;
+        }
+
+    pub can_note : (passed : Bool) → filter_reach j.dataset row x.at ≡ (if passed then Passed else Failed) → (watched : List ℕ) (s : Stage) → IsAmid j watched (at_places s passes f) cluster entry t
+        → CanNote (facts_in j) watched (at_places s passes f) t f passed
+    can_note passed e watched s amid = record {
+      holds = amid.holds;
+      at_filter = refl;
+      within = filters_within;
+      spreads = own_spreads j entry row here;
+      reaches = own_reaches j entry row here;
+      next = next_entry j entry row here watched (at_places s passes f) cluster t amid;
+      reached = covered_reach j entry row here f x q covers (if passed then Passed else Failed) e;
+    }
+      where
+        filters_within : f < (facts_in j).filters
+        filters_within = slice_get_within _ f x.at (filter_at j entry row here f x q)
+
+    pub note_moves : (passed : Bool) → filter_reach j.dataset row x.at ≡ (if passed then Passed else Failed) → (new : TallyView)
+        → ((watched : List ℕ) (s : Stage) → CanNote (facts_in j) watched (at_places s passes f) t f passed → Holds (facts_in j) watched (after_filter (at_places s passes f)) new)
+        → Moves j cluster entry t passes f new passes (f + 1)
+    note_moves passed e new h watched s amid = record { holds = h watched s (can_note passed e watched s amid); its_cluster = amid.its_cluster; next = amid.next }
+
+-- ---- the whole entry
+
+-- a stage before the entry is at the places 0
+pub before_amid : (j : JobView) (watched : List ℕ) (s : Stage) (cluster entry : ℕ) (t : TallyView) → IsBefore j watched s cluster entry t → IsAmid j watched (at_places s 0 0) cluster entry t
+before_amid j watched s cluster entry t h =
+    record {
+      holds = subst (λ (x : Stage). Holds (facts_in j) watched x t) (λ i. record { done = s.done; cluster = s.cluster; entries = s.entries; passes = h.no_pass i; filters = h.no_filter i }) h.holds;
+      its_cluster = h.its_cluster;
+      next = h.next;
+    }
