@@ -1,3 +1,3 @@
+pub mod Clusters
 pub mod Jobs
 pub mod Slots
-pub mod Stub
