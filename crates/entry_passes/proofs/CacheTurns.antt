@@ -72,9 +72,9 @@ then_turn j entry a b c first mid last (Err (stop.Fault n kind)) h k = then_on j
 then_turn j entry a b c first mid last (Err stop.Memory) h k = then_up j entry a b c first mid last h k
 
 -- a stop of one type of answer is one of another
-pub turn_as : {A B : Type 0} (j : JobView) (entry : ℕ) (a b : CacheView) (first last : ℕ) (s : EntryStop) → IsTurn {A = A} j entry a b first last (Err s) → IsTurn {A = B} j entry a b first last (Err s)
-turn_as j entry a b first last (stop.Fault n kind) h = h
-turn_as j entry a b first last stop.Memory h = h
+pub turn_as : (A B : Type 0) (j : JobView) (entry : ℕ) (a b : CacheView) (first last : ℕ) (s : EntryStop) → IsTurn {A = A} j entry a b first last (Err s) → IsTurn {A = B} j entry a b first last (Err s)
+turn_as A B j entry a b first last (stop.Fault n kind) h = h
+turn_as A B j entry a b first last stop.Memory h = h
 
 -- ---- at the end
 

@@ -82,13 +82,13 @@ in_flat f (z ∷ xs) zero x y h k = let e : z ≡ x = cc h in in_left (f z) (fla
 in_flat f (z ∷ xs) (suc n) x y h k = in_right (f z) (flat_map f xs) (in_flat f xs n x y h k)
 
 -- each demand is among those that are kept once
-kept_once : (ds : List Demand) (d : Demand) → In d ds → In d (distinct ds)
-kept_once ds d (here {xs = ps}) = go (list_any (same_demand d) (distinct ps)) refl
+kept_once : (d : Demand) (ds : List Demand) → In d ds → In d (distinct ds)
+kept_once d ds (here {xs = ps}) = go (list_any (same_demand d) (distinct ps)) refl
   where
     go : (b : Bool) → list_any (same_demand d) (distinct ps) ≡ b → In d (if b then distinct ps else d ∷ distinct ps)
     go true e = let w = any_in (same_demand d) (distinct ps) e in subst (λ (x : Demand). In x (distinct ps)) (sym (demand_is d w.0 w.2)) w.1
     go false e = here
-kept_once ds d (there {y = p} {xs = ps} h) = go (list_any (same_demand p) (distinct ps)) (kept_once ps d h)
+kept_once d ds (there {y = p} {xs = ps} h) = go (list_any (same_demand p) (distinct ps)) (kept_once d ps h)
   where
     go : (b : Bool) → In d (distinct ps) → In d (if b then distinct ps else p ∷ distinct ps)
     go true k = k
@@ -104,12 +104,12 @@ module _ (j : JobView) (entry : ℕ) where
   keys_of_all k = list_any (λ d. nat_eq k (demand_key (job_graph j) d)) all_demands
 
   pub has_all : HasAllDemands j entry keys_of_all
-  has_all pass row p here its =
-      let same_row : row_of j entry ≡ row = ap (λ o. unwrap_or o []) here in
+  has_all pass row p its_row its =
+      let same_row : row_of j entry ≡ row = ap (λ o. unwrap_or o []) its_row in
       All-from_recursion (λ (d : Demand). keys_of_all (demand_key (job_graph j) d) ≡ true) (pass_demands j.dataset.fns j.dataset.columns row p)
       (each_in (λ (d : Demand). keys_of_all (demand_key (job_graph j) d) ≡ true) (pass_demands j.dataset.fns j.dataset.columns row p) (λ d k.
       in_any (λ e. nat_eq (demand_key (job_graph j) d) (demand_key (job_graph j) e)) d all_demands
-      (kept_once (flat_map (pass_demands j.dataset.fns j.dataset.columns (row_of j entry)) (passes_in j)) d
+      (kept_once d (flat_map (pass_demands j.dataset.fns j.dataset.columns (row_of j entry)) (passes_in j))
       (in_flat (pass_demands j.dataset.fns j.dataset.columns (row_of j entry)) (passes_in j) pass p d its
       (subst (λ (r : List Value). In d (pass_demands j.dataset.fns j.dataset.columns r p)) (sym same_row) k)))
       ((Decides-eqb (demand_key (job_graph j) d) (demand_key (job_graph j) d)).1 refl)))
