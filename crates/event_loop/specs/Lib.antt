@@ -1,1 +1,4 @@
 pub mod Ends
+pub mod Gathered
+pub mod Parts
+pub mod Workers

@@ -3,7 +3,9 @@
 #![tactic(auto)]
 
 pub mod end;
+pub mod gather;
 pub mod one_loop;
+pub mod workers;
 
 pub use crate::end::{FilledLoop, LoopEnd};
 pub use crate::one_loop::run_loop;

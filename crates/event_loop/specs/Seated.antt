@@ -1,0 +1,25 @@
+-- What the slots of a loop begin with.
+use Rattle.std.specs.Prelude.{◌≡◌, ◌<◌, ◌≤◌, ℕ, List, [], Option, Some, None, All, length}
+use Rattle.partial_watch.specs.Shares.{BookSeen, ShareSeen}
+use Rattle.partial_watch.specs.Shares as book
+use Rattle.slot_state.specs.Jobs.{JobFacts}
+use Rattle.slot_state.specs.Slots.{SlotView, fresh_slot}
+
+-- states for the job that finished no cluster
+abbrev pub AreFreshStates : JobFacts → List SlotView → Type 0
+AreFreshStates job states = All (λ s. s ≡ fresh_slot job) states
+
+-- a share of this book that noted nothing
+pub record IsBlank (b : BookSeen) (s : ShareSeen) : Type 0 where
+  pub of : book.IsOf b s
+  pub unnoted : s.numbers ≡ []
+
+-- where there is a book, so many shares of it that noted nothing, and else none
+abbrev pub AreBlank : Option BookSeen → ℕ → List ShareSeen → Type 0
+AreBlank None n shares = shares ≡ []
+AreBlank (Some b) n shares = (length shares ≡ n) × All (IsBlank b) shares
+
+-- there is a book, for so many slots and clusters, where a result is watched
+abbrev pub IsOpened : ℕ → ℕ → ℕ → Option BookSeen → Type 0
+IsOpened watched slots clusters None = watched ≡ 0
+IsOpened watched slots clusters (Some b) = (b.slots ≡ slots) × (b.clusters ≡ clusters)

@@ -1,0 +1,79 @@
+-- What a worker is given, and what it gives back.
+use Rattle.std.specs.Prelude.{◌≡◌, ◌<◌, ◌≤◌, ◌⊎◌, ⊤, ℕ, List, [], ◌∷◌, ◌++◌, Option, Some, None, IsSomeAnd, length, slice_get}
+use Rattle.rdf_values.specs.Times.{times}
+use Rattle.rdf_values.specs.declared.fault.Fault.{Fault}
+use Rattle.cluster_claims.specs.Seats.{ClaimsSeen, SeatSeen}
+use Rattle.cluster_claims.specs.Seats as claims
+use Rattle.partial_watch.specs.Shares.{BookSeen, ShareSeen}
+use Rattle.partial_watch.specs.Shares as book
+use Rattle.slot_state.specs.Jobs.{JobFacts}
+use Rattle.slot_state.specs.Slots.{SlotView, fresh_slot}
+use Rattle.slot_state.specs.declared.progress.Phase.TheVariants as phase
+use Rattle.event_loop.specs.declared.workers.Slot.{Slot}
+use Rattle.event_loop.specs.declared.workers.End.{End}
+use Rattle.event_loop.specs.declared.workers.End.TheVariants.{Over, Faulted, NoMemory}
+
+-- none of the clusters has a fault
+abbrev pub AreSound : List (Option Fault) → List ℕ → Type 0
+AreSound faults clusters = (c : ℕ) → 0 < times c clusters → slice_get faults c ≡ Some None
+
+-- where there is a book, the share is one of it that noted n clusters
+abbrev pub HasNoted : Option BookSeen → ℕ → Option ShareSeen → Type 0
+HasNoted None n None = ⊤
+HasNoted (Some b) n (Some s) = book.IsOf b s × (length s.numbers ≡ n)
+HasNoted b n s = ⊥
+
+-- where there is a book, its shares have room for so many clusters
+abbrev pub HasRoom : ℕ → Option BookSeen → Type 0
+HasRoom n None = ⊤
+HasRoom n (Some b) = n ≤ b.clusters
+
+-- a seat of these claims that did nothing
+pub record IsReady (c : ClaimsSeen) (s : SeatSeen) : Type 0 where
+  pub of : claims.IsOf c s
+  pub undrawn : s.drawn ≡ []
+  pub unkept : s.kept ≡ None
+  pub unpassed : s.passed ≡ None
+  pub unlowered : s.lowered ≡ None
+
+-- the slot has a seat of these claims, a share of the book and a state for the job, and none has begun
+pub record IsFresh (c : ClaimsSeen) (b : Option BookSeen) (job : JobFacts) (s : Slot) : Type 0 where
+  pub seat : IsReady c s.seat
+  pub share : HasNoted b 0 s.share
+  pub state : s.state ≡ fresh_slot job
+
+-- the slot finished these clusters, each of them sound and noted
+pub record HasWorked (b : Option BookSeen) (job : JobFacts) (s : Slot) : Type 0 where
+  pub sound : AreSound job.faults s.state.done
+  pub noted : HasNoted b (length s.state.done) s.share
+
+-- no number is left that is a cluster, and the slot finished all that it drew
+pub record RanOut (c : ClaimsSeen) (seat : SeatSeen) (done : List ℕ) : Type 0 where
+  pub all : seat.drawn ≡ done
+  pub past : IsSomeAnd seat.kept (λ k. c.clusters ≤ k)
+
+-- the slot passed the last cluster over that it drew, and finished all others
+pub record MetBar (c : ClaimsSeen) (seat : SeatSeen) (done : List ℕ) : Type 0 where
+  pub last : ℕ
+  pub cluster : last < c.clusters
+  pub others : seat.drawn ≡ done ++ last ∷ []
+  pub passed : seat.passed ≡ Some last
+
+-- the last cluster that the slot drew has that fault, and the bar was lowered to it
+pub record MetFault (job : JobFacts) (seat : SeatSeen) (done : List ℕ) (fault : Fault) : Type 0 where
+  pub last : ℕ
+  pub others : seat.drawn ≡ done ++ last ∷ []
+  pub its_fault : slice_get job.faults last ≡ Some (Some fault)
+  pub lowered : seat.lowered ≡ Some last
+
+-- how the slot stopped
+abbrev pub Stopped : ClaimsSeen → Option BookSeen → JobFacts → End → Slot → Type 0
+Stopped c b job Over s = HasWorked b job s × (RanOut c s.seat s.state.done ⊎ MetBar c s.seat s.state.done) × (s.seat.lowered ≡ None) × (s.state.phase ≡ phase.Going)
+Stopped c b job (Faulted f) s = HasWorked b job s × MetFault job s.seat s.state.done f
+Stopped c b job NoMemory s = ⊤
+
+-- the slot stopped in that way
+pub record HasRun (c : ClaimsSeen) (b : Option BookSeen) (job : JobFacts) (end : End) (s : Slot) : Type 0 where
+  pub seat_of : claims.IsOf c s.seat
+  pub same : s.state.job ≡ job
+  pub stopped : Stopped c b job end s

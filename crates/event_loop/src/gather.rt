@@ -1,0 +1,94 @@
+// What the slots of a loop give back.
+ghost use Rattle.std.specs.Prelude.{◌≡◌, ◌<◌, All, map, IfOk, vec_len, Option};
+ghost use Rattle.rdf_values.specs.Machine.{least_fault, lesser_fault};
+ghost use Rattle.cluster_claims.specs.Seats.{IsOf};
+ghost use Rattle.partial_watch.specs.Shares.{BookSeen};
+ghost use Rattle.slot_state.specs.Jobs.{JobFacts};
+ghost use Rattle.event_loop.specs.Gathered.{AreFacts, HasMemory, HasStopped, IsOutcome, done_in, end_faults, seat_in};
+
+use crate::workers::{End, Finished, Slot};
+use cluster_claims::{Claims, SeatList};
+use partial_watch::Share;
+use rdf_values::{Fault, Memory};
+use slot_state::SlotState;
+use std::alloc::Global;
+
+/// A slot whose clusters are all processed: its state, and its right to note, where a result is watched.
+#[derive(Drop)]
+pub struct Done {
+    pub state: SlotState,
+    pub share: Option<Share>,
+}
+
+// The fault at the lower entry.
+fn lesser(fault: Fault, least: Option<Fault>) -> Fault
+    ensures { result ≡ lesser_fault fault least }
+{
+    match least {
+        Some(other) if other.entry < fault.entry => other,
+        _ => fault,
+    }
+}
+
+/// The fault at the least entry among those with which slots stopped, or want of memory where a slot met it.
+pub fn least_of(finished: &[Finished]) -> Result<Option<Fault>, Memory>
+    ensures least { IfOk result (λ least. least ≡ least_fault (end_faults finished.now)) }
+    ensures memory { IfOk result (λ _. All HasMemory finished.now) }
+{
+    let mut least = None;
+    for one in finished.iter().rev() {
+        match one.end {
+            End::Over => {}
+            End::Faulted(fault) => least = Some(lesser(fault, least)),
+            End::NoMemory => return Err(Memory),
+        }
+    }
+    Ok(least)
+}
+
+/// The seats of the slots, and what is left of them, in their order.
+pub fn taken_apart(
+    alloc: Global,
+    finished: Vec<Finished>,
+) -> Result<(SeatList, Vec<Done>), Memory>
+    ensures seats { IfOk result (λ r. r.0 ≡ map seat_in finished.items) }
+    ensures rest { IfOk result (λ r. r.1.items ≡ map done_in finished.items) }
+{
+    let mut left = finished;
+    let mut seats = SeatList::new(alloc);
+    let mut rest = Vec::new(alloc);
+    while !left.is_empty() {
+        let Finished { end: _, slot } = left.remove(0);
+        let Slot { seat, state, share } = slot;
+        seats.push(seat)?;
+        rest.push(Done { state, share })?;
+    }
+    Ok((seats, rest))
+}
+
+/// What the slots of a loop came to: all clusters are processed, or there is a first fault.
+#[derive(Drop)]
+pub enum Outcome {
+    Processed(Vec<Done>),
+    Faulted(Fault),
+}
+
+/// The outcome of a loop of which all slots stopped.
+pub fn gathered(
+    alloc: Global,
+    claims: Claims,
+    finished: Vec<Finished>,
+) -> Result<Outcome, Memory>
+    requires some { 0 < vec_len finished }
+    requires many { vec_len finished ≡ claims.slots }
+    requires of { All (λ f. IsOf claims f.slot.seat) finished.items }
+    ensures { (b : Option BookSeen) (job : JobFacts) → AreFacts claims.clusters job → All (HasStopped claims b job) finished.items → IfOk result (IsOutcome b job (vec_len finished)) }
+{
+    let least = least_of(finished.as_slice())?;
+    let (seats, slots) = taken_apart(alloc, finished)?;
+    claims.finish(seats);
+    match least {
+        Some(fault) => Ok(Outcome::Faulted(fault)),
+        None => Ok(Outcome::Processed(slots)),
+    }
+}

@@ -1,0 +1,157 @@
+// The work of one slot, and the slots side by side.
+ghost use Rattle.std.specs.Prelude.{◌≡◌, ℕ, ◌<◌, ◌+◌, List, length, IfOk, vec_len, slice_index_or};
+ghost use Rattle.std.specs.List.{All};
+ghost use Rattle.entry_fns.specs.Lists.{functions_in};
+ghost use Rattle.entry_cache.specs.Jobs.{Fits, IsJob, job_graph, job_of};
+ghost use Rattle.slot_state.specs.Jobs.{job_facts};
+ghost use Rattle.event_loop.specs.Parts.{job_with};
+ghost use Rattle.event_loop.specs.Workers.{HasNoted, HasRoom, HasRun, IsFresh};
+ghost use Rattle.event_loop.specs.declared.workers.Slot.{Slot};
+ghost use Rattle.event_loop.specs.declared.workers.Finished.{Finished};
+
+use cluster_claims::{ClaimSeat, Claims};
+use entry_cache::Job;
+use expr_eval::Steps;
+use partial_watch::{Book, Share};
+use rdf_outside::Gate;
+use rdf_values::{Fault, Memory};
+use slot_state::{Progress, SlotState, SlotStop};
+use std::alloc::Global;
+use std::marker::Brand;
+use std::sync::ledger::{Blank, Ledger};
+use std::thread::{Threads, map_vec};
+
+/// What one slot of a loop owns: its right to draw clusters, its state, and its right to note them, where a result is watched.
+#[derive(Drop)]
+pub struct Slot {
+    pub seat: ClaimSeat,
+    pub state: SlotState,
+    pub share: Option<Share>,
+}
+
+/// Why a slot stopped: no cluster is left for it, its first fault, or want of memory.
+#[derive(Clone, Copy, Debug, PartialEq, Eq)]
+pub enum End {
+    Over,
+    Faulted(Fault),
+    NoMemory,
+}
+
+/// A slot that stopped.
+#[derive(Drop)]
+pub struct Finished {
+    pub end: End,
+    pub slot: Slot,
+}
+
+// Notes a cluster, where a result is watched.
+fn note(book: &Option<Book>, share: &mut Option<Share>)
+    requires { (n : ℕ) × HasNoted book.now n share.old × HasRoom (n + 1) book.now }
+    ensures { (n : ℕ) → HasNoted book.now n share.old → HasNoted book.now (n + 1) share.new }
+{
+    if let (Some(book), Some(share)) = (book, share) {
+        book.note(share);
+    }
+}
+
+// Processes each cluster that the slot draws, up to the slot's first fault.
+fn work<L: Ledger, G: Gate>(
+    blank: Blank,
+    alloc: Global,
+    job: &Job<'_>,
+    claims: &Claims,
+    book: &Option<Book>,
+    slot: &mut Slot,
+    gate: &G,
+) -> End
+    requires name { blank.name ≡ L.name }
+    requires parts { blank.parts ≡ L.parts }
+    requires some { 0 < L.parts }
+    requires job { Fits job.now }
+    requires fresh { IsFresh claims.now book.now (job_facts (job_of job.now)) slot.old }
+    requires clusters { claims.now.clusters ≡ length (job_facts (job_of job.now)).faults }
+    requires room { HasRoom claims.now.clusters book.now }
+    ensures { HasRun claims.now book.now (job_facts (job_of job.now)) result slot.new }
+{
+    let mut steps: Steps<L> = Steps::open(blank);
+    while let Some(cluster) = claims.claim(&mut slot.seat) {
+        gate.turn(slot.seat.slot(), cluster);
+        match slot.state.process(alloc, job, cluster, &mut steps) {
+            Ok(Progress::Done) => note(book, &mut slot.share),
+            Ok(Progress::Faulted(fault)) => {
+                claims.lower(&mut slot.seat, cluster);
+                return End::Faulted(fault);
+            }
+            Err(SlotStop::Memory) => return End::NoMemory,
+        }
+    }
+    End::Over
+}
+
+// Runs one slot. Its evaluations are counted in a ledger of its own.
+fn run_slot<G: Gate>(
+    alloc: Global,
+    job: &Job<'_>,
+    claims: &Claims,
+    book: &Option<Book>,
+    slot: Slot,
+    gate: &G,
+) -> Finished
+    requires job { Fits job.now }
+    requires fresh { IsFresh claims.now book.now (job_facts (job_of job.now)) slot }
+    requires clusters { claims.now.clusters ≡ length (job_facts (job_of job.now)).faults }
+    requires room { HasRoom claims.now.clusters book.now }
+    ensures { HasRun claims.now book.now (job_facts (job_of job.now)) result.end result.slot }
+{
+    let mut slot = slot;
+    let end = work::<Brand, G>(Blank::new(1), alloc, job, claims, book, &mut slot, gate);
+    Finished { end, slot }
+}
+
+/// Runs each slot, in a thread of its own where one can be made.
+pub fn run_slots<R: Threads + Sync, G: Gate>(
+    rt: &R,
+    alloc: Global,
+    job: &Job<'_>,
+    claims: &Claims,
+    book: &Option<Book>,
+    slots: Vec<Slot>,
+    gate: &G,
+) -> Result<Vec<Finished>, Memory>
+    requires job { Fits job.now }
+    requires fresh { All (IsFresh claims.now book.now (job_facts (job_of job.now))) slots.items }
+    requires clusters { claims.now.clusters ≡ length (job_facts (job_of job.now)).faults }
+    requires room { HasRoom claims.now.clusters book.now }
+    ensures len { IfOk result (λ v. vec_len v ≡ vec_len slots) }
+    ensures each { IfOk result (λ v. (i : ℕ) (f : Finished) → i < vec_len slots → HasRun claims.now book.now (job_facts (job_of job.now)) (slice_index_or v.items i f).end (slice_index_or v.items i f).slot) }
+{
+    let Job {
+        graph,
+        loop_index,
+        columns,
+        cuts,
+        functions,
+    } = *job;
+    let finished = map_vec(
+        rt,
+        slots,
+        &|slot: Slot| -> Finished
+            requires { (graph.now ≡ job_graph (job_with graph.now loop_index columns.now cuts.now (functions_in functions.now)))
+                × IsJob (job_with graph.now loop_index columns.now cuts.now (functions_in functions.now))
+                × IsFresh claims.now book.now (job_facts (job_with graph.now loop_index columns.now cuts.now (functions_in functions.now))) slot
+                × (claims.now.clusters ≡ length (job_facts (job_with graph.now loop_index columns.now cuts.now (functions_in functions.now))).faults)
+                × HasRoom claims.now.clusters book.now }
+            ensures { HasRun claims.entry.now book.entry.now (job_facts (job_with graph.entry.now loop_index columns.entry.now cuts.entry.now (functions_in functions.entry.now))) result.end result.slot }
+        {
+            let job = Job {
+                graph,
+                loop_index,
+                columns,
+                cuts,
+                functions,
+            };
+            run_slot(alloc, &job, claims, book, slot, gate)
+        },
+    )?;
+    Ok(finished)
+}
