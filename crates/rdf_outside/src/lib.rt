@@ -4,6 +4,7 @@
 
 mod dir_shelf;
 mod failed;
+mod gate;
 mod memory_shelf;
 mod memory_sink;
 mod shelf;
@@ -14,6 +15,7 @@ mod word_list;
 
 pub use crate::dir_shelf::DirShelf;
 pub use crate::failed::Failed;
+pub use crate::gate::{Gate, OpenGate};
 pub use crate::memory_shelf::MemoryShelf;
 pub use crate::memory_sink::MemorySink;
 pub use crate::shelf::{Shelf, TurnStop};
