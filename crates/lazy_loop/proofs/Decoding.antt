@@ -1,9 +1,9 @@
 -- The passes of a loop by numbers and by names.
-use Rattle.std.proofs.Common.{◌≡◌, ℕ, zero, suc, ◌+◌, ◌<◌, ◌≤◌, Bool, true, false, ◌&&◌, List, [], ◌∷◌, ◌++◌, map, take, drop, length, Option, None, Some, refl, sym, ap, ◌∙◌, subst, arith, length-append, append_assoc, add-one, if◌then◌else◌}
-use Rattle.std.specs.Prelude.{flat_map, is_none, option_map, slice_get}
+use Rattle.std.proofs.Common.{◌≡◌, ℕ, zero, suc, ◌+◌, ◌<◌, Bool, true, false, ◌&&◌, List, [], ◌∷◌, ◌++◌, map, take, length, Option, None, Some, refl, sym, ap, ◌∙◌, arith, length-append, append_assoc, add-one, if◌then◌else◌}
+use Rattle.std.specs.Prelude.{is_none, option_map, slice_get}
 use Rattle.std.proofs.lemmas.List.{length-map}
 use Rattle.std.proofs.lemmas.List.Concat.{flat_map-append}
-use Rattle.std.proofs.lemmas.Option.{slice_get-map, slice_get_within}
+use Rattle.std.proofs.lemmas.Option.{slice_get-map}
 use Rattle.rdf_values.specs.Bookings.{Booked, Booking, ActionAt, ReportOn, Pass, bookings, is_watched}
 use Rattle.rdf_values.specs.Path.{Under}
 use Rattle.rdf_values.specs.declared.statement.Statement.{Statement}
@@ -169,10 +169,10 @@ next_counts g ps i p actions watched_ones a w at each own own_watched qs e =
 
 pub decoded : (g : GraphView) (l : ℕ) (ps : List NumberedPass) (results : List Booked) → slice_get (graph_loops g) l ≡ Some ps → slice_get (loop_results (booked_statements g)) l ≡ Some results → AreDecoded (booked_statements g) ps (loop_passes (booked_statements g) results)
 decoded g l ps results at there = same_some (
-      sym (ap (option_map (map (pass_at (booked_statements g)))) at) ∙ sym (slice_get-map (map (pass_at (booked_statements g))) (graph_loops g) l)
-      ∙ ap (λ ls. slice_get ls l) (loops_are (booked_statements g) (booked_statements g) itself)
-      ∙ slice_get-map (λ rs. map (λ (q : Pass). Some q) (loop_passes (booked_statements g) rs)) (loop_results (booked_statements g)) l
-      ∙ ap (option_map (λ rs. map (λ (q : Pass). Some q) (loop_passes (booked_statements g) rs))) there
+    sym (ap (option_map (map (pass_at (booked_statements g)))) at) ∙ sym (slice_get-map (map (pass_at (booked_statements g))) (graph_loops g) l)
+    ∙ ap (λ ls. slice_get ls l) (loops_are (booked_statements g) (booked_statements g) itself)
+    ∙ slice_get-map (λ rs. map (λ (q : Pass). Some q) (loop_passes (booked_statements g) rs)) (loop_results (booked_statements g)) l
+    ∙ ap (option_map (λ rs. map (λ (q : Pass). Some q) (loop_passes (booked_statements g) rs))) there
     )
 
 pub decoded_front : (script : List Statement) (ps rest : List NumberedPass) (qs more : List Pass) → AreDecoded script (ps ++ rest) (qs ++ more) → length ps ≡ length qs → AreDecoded script ps qs

@@ -10,7 +10,7 @@ use Rattle.rdf_values.specs.declared.statement.Statement.{Statement}
 use Rattle.rdf_values.specs.declared.statement.Statement.TheVariants.{Print}
 use Rattle.rdf_model.specs.Loops.{Access, accesses, filled_by, loop_passes, loop_results}
 use Rattle.rdf_model.proofs.Accepted.{itself, names_equal}
-use Rattle.graph_numbers.specs.Results.{loops, own_loop, pass_at, passes_from, result_passes}
+use Rattle.graph_numbers.specs.Results.{loops, pass_at, passes_from, result_passes}
 use Rattle.graph_numbers.specs.declared.pass.Pass.{Pass as NumberedPass}
 use Rattle.graph_numbers.proofs.Extending.{Extends, itself as all_of_it, further}
 use Rattle.graph_numbers.proofs.Listed.{kept_at, of_joined}
@@ -19,7 +19,7 @@ use Rattle.graph_numbers.proofs.Passing.{shorter}
 use Rattle.node_graph.specs.LoopRows.{AreNamedInTurn}
 use Rattle.node_graph.proofs.Filled.{later_named}
 use Rattle.lazy_loop.specs.Places.{fills}
-use Rattle.lazy_loop.proofs.Splits.{NoneOf, IsSplit, is_of, none_both, refused_none, split_at}
+use Rattle.lazy_loop.proofs.Splits.{NoneOf, refused_none, split_at}
 
 same_some : {A : Type 0} {a b : A} → ◌≡◌ {A = Option A} (Some a) (Some b) → a ≡ b
 same_some q = cc

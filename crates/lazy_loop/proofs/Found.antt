@@ -1,18 +1,18 @@
 -- The place of a result in a loop, as it is found among the loop's passes.
-use Rattle.std.proofs.Common.{◌≡◌, ◌⊎◌, inl, inr, ℕ, zero, suc, ◌+◌, ◌*◌, ◌<◌, ◌≤◌, ◌^◌, Bool, true, false, cond, List, [], ◌∷◌, ◌++◌, map, take, length, reverse, Option, Some, None, refl, sym, ◌∙◌, ap, ap₂, subst, arith, length-append, if◌then◌else◌}
-use Rattle.std.specs.Prelude.{⊤, MatchOption, count_by, filter, nat_lt, option_map, slice_get}
+use Rattle.std.proofs.Common.{◌≡◌, ◌⊎◌, inl, inr, ℕ, zero, suc, ◌+◌, ◌*◌, ◌<◌, ◌≤◌, Bool, true, false, cond, List, [], ◌∷◌, ◌++◌, map, take, length, Option, Some, None, refl, sym, ◌∙◌, ap, ap₂, arith, length-append, if◌then◌else◌}
+use Rattle.std.specs.Prelude.{⊤, count_by, filter, nat_lt, option_map, slice_get}
 use Rattle.std.specs.List.{position, position_or_len}
 use Rattle.std.proofs.lemmas.Bool.Decides.{nat_tests}
 use Rattle.std.proofs.lemmas.List.{length-map, length-reverse}
 use Rattle.std.proofs.lemmas.Option.{cond_some, slice_get_within}
-use native.Mathlib.Nat.{mul-le-mul_left, mul-le-mul_right}
-use Rattle.rdf_values.specs.Bookings.{Booked, Pass, bookings, has_variations, passes_of, result_depends, varied_passes}
+use native.Mathlib.Nat.{mul-le-mul_right}
+use Rattle.rdf_values.specs.Bookings.{Booked, Pass, has_variations, passes_of, result_depends, varied_passes}
 use Rattle.rdf_values.specs.Kinds.{scope_of}
-use Rattle.rdf_values.specs.Path.{Variation, history, variations}
+use Rattle.rdf_values.specs.Path.{Variation, variations}
 use Rattle.rdf_values.specs.declared.script.Line.{Line}
 use Rattle.rdf_values.specs.declared.statement.Statement.{Statement}
 use Rattle.rdf_model.specs.LoopFacts.{kind_in, kinds_in}
-use Rattle.rdf_model.specs.Loops.{loop_passes, loop_results}
+use Rattle.rdf_model.specs.Loops.{loop_results}
 use Rattle.rdf_model.proofs.Verdicts.{verdict_is_the_first_refusal}
 use Rattle.graph_numbers.specs.Graphs.{GraphView, IsGraph, booked_statements, graph_loops, graph_results, graph_variations}
 use Rattle.graph_numbers.specs.Results.{ResultAt, pass_at, result_passes}
@@ -24,8 +24,7 @@ use Rattle.node_graph.proofs.Filled.{all_in_turn, take_whole}
 use Rattle.result_text.proofs.Passes.{is_pass_at, result_within}
 use Rattle.result_text.proofs.Within.{is_in_for, variation_within}
 use Rattle.lazy_loop.specs.Places.{IsFilledPlace, IsPassOf, fills}
-use Rattle.lazy_loop.specs.declared.place.Place.{Place}
-use Rattle.lazy_loop.proofs.Decoding.{AreDecoded, booked_row, decoded, decoded_front, of_row, row_is}
+use Rattle.lazy_loop.proofs.Decoding.{AreDecoded, booked_row, decoded, decoded_front, of_row}
 use Rattle.lazy_loop.proofs.Filling.{IsFound, IsMissed, found_or_missed, many}
 use Rattle.lazy_loop.proofs.Sizes.{passes_few}
 use Rattle.lazy_loop.proofs.Splits.{AllOf, NoneOf, count_own, is_of, own_all, passes_many, position_first, position_none}

@@ -1,5 +1,5 @@
 -- Each result that is printed is filled by a loop.
-use Rattle.std.proofs.Common.{◌≡◌, ◌⊎◌, inl, inr, ℕ, zero, suc, ◌+◌, ◌<◌, ◌≤◌, Bool, true, false, not, ◌||◌, List, [], ◌∷◌, ◌++◌, take, length, Option, Some, None, option_map, refl, sym, ◌∙◌, ap, subst, arith, slice_get, if◌then◌else◌, filter, filter_map}
+use Rattle.std.proofs.Common.{◌≡◌, ◌⊎◌, inl, inr, ℕ, zero, suc, ◌+◌, ◌<◌, Bool, true, false, not, ◌||◌, List, [], ◌∷◌, ◌++◌, take, length, Option, Some, None, option_map, refl, sym, ◌∙◌, ap, subst, arith, slice_get, if◌then◌else◌, filter}
 use Rattle.std.specs.List.{cons_option}
 use Rattle.std.proofs.lemmas.List.{append-nil}
 use Rattle.rdf_values.specs.Bookings.{Booked, bookings, filled, names_of, waiting}
@@ -77,8 +77,8 @@ filled_is_booked before name h = among_taken name (filled_count before) (booking
 
 -- what is booked and not filled waits
 waits_too : (name : List ℕ) (full : List (List ℕ)) (bs : List Booked) → among name full ≡ false → among name (names_of bs) ≡ true → among name (names_of (filter (λ (b : Booked). not (among b.name full)) bs)) ≡ true
-waits_too name full [] no h = h
-waits_too name full (b ∷ bs) no h = go (among b.name full) (same name b.name) refl refl h (λ q. waits_too name full bs no q)
+waits_too name full [] out h = h
+waits_too name full (b ∷ bs) out h = go (among b.name full) (same name b.name) refl refl h (λ q. waits_too name full bs out q)
   where
     kept : List Booked
     kept = filter (λ (x : Booked). not (among x.name full)) bs

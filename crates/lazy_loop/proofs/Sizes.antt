@@ -1,8 +1,8 @@
 -- A loop has few passes.
-use Rattle.std.proofs.Common.{◌≡◌, ℕ, suc, ◌+◌, ◌*◌, ◌<◌, ◌≤◌, Bool, true, false, List, [], ◌∷◌, ◌++◌, map, length, Some, refl, sym, ◌∙◌, ap, subst, arith, slice_get, if◌then◌else◌, filter, length-append}
+use Rattle.std.proofs.Common.{◌≡◌, ℕ, suc, ◌+◌, ◌*◌, ◌≤◌, Bool, true, false, List, [], ◌∷◌, ◌++◌, map, length, Some, ap, arith, slice_get, if◌then◌else◌, filter, length-append}
 use Rattle.std.proofs.lemmas.List.{length-map}
 use Rattle.std.proofs.lemmas.List.Sums.{count_by-le-length, length-filter}
-use native.Mathlib.Nat.{mul-le-mul_left, mul-le-mul_right}
+use native.Mathlib.Nat.{mul-le-mul_right}
 use Rattle.rdf_values.specs.Bookings.{Booked, Pass, bookings, has_variations, passes_of, result_depends, varied_passes}
 use Rattle.rdf_values.specs.Path.{Variation, variations}
 use Rattle.rdf_values.specs.declared.statement.Statement.{Statement}

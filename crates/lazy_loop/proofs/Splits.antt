@@ -1,7 +1,7 @@
 -- The passes of a result in a loop, by the numbers of results and by names.
-use Rattle.std.proofs.Common.{◌≡◌, ◌≢◌, ◌⊎◌, inl, inr, ℕ, zero, suc, ◌+◌, ◌<◌, ◌≤◌, Bool, true, false, cond, not, List, [], ◌∷◌, ◌++◌, map, length, Option, Some, None, refl, sym, ◌∙◌, ap, ap₂, subst, arith, slice_get, if◌then◌else◌, length-append, append_assoc}
+use Rattle.std.proofs.Common.{◌≡◌, ◌≢◌, ℕ, zero, suc, ◌+◌, ◌<◌, Bool, true, false, cond, List, [], ◌∷◌, ◌++◌, map, length, Some, refl, sym, ◌∙◌, ap, ap₂, arith, slice_get, if◌then◌else◌, length-append, append_assoc}
 use Rattle.std.specs.Prelude.{⊤, count_by, filter, nat_eq}
-use Rattle.std.specs.List.{position, position_or_len, prefix_len}
+use Rattle.std.specs.List.{position_or_len}
 use Rattle.std.proofs.lemmas.Bool.{eq-eqb, ne_eqb}
 use Rattle.std.proofs.lemmas.List.{length-map}
 use Rattle.std.proofs.lemmas.List.Sums.{sum_by-cons}
@@ -9,7 +9,7 @@ use Rattle.rdf_values.specs.Bookings.{Booked, Pass, has_variations, result_depen
 use Rattle.rdf_values.specs.Path.{Variation, variations}
 use Rattle.rdf_values.specs.declared.statement.Statement.{Statement}
 use Rattle.rdf_model.specs.Loops.{loop_passes}
-use Rattle.graph_numbers.specs.Results.{numbered_pass, pass_at, passes_from, places_from, result_passes}
+use Rattle.graph_numbers.specs.Results.{numbered_pass, passes_from, places_from, result_passes}
 use Rattle.graph_numbers.specs.declared.pass.Pass.{Pass as NumberedPass}
 
 -- the pass is of the result of that number

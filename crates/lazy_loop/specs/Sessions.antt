@@ -1,5 +1,5 @@
 -- What a contract sees of a session.
-use Rattle.std.specs.Prelude.{◌≡◌, ℕ, ◌+◌, ◌<◌, ◌≤◌, ◌⊎◌, List, [], Option, None, Some, IfSome, length, slice_get, unwrap_or}
+use Rattle.std.specs.Prelude.{◌≡◌, ℕ, ◌+◌, ◌<◌, ◌≤◌, ◌⊎◌, List, [], ◌∷◌, Option, None, Some, IfSome, length, slice_get, unwrap_or}
 use Rattle.rdf_values.specs.Functions.{Function}
 use Rattle.rdf_values.specs.Bookings.{Booked, Pass}
 use Rattle.rdf_values.specs.Path.{history}
@@ -109,6 +109,12 @@ pub record IsFilledIn (s : SessionView) (name : List ℕ) : Type 0 where
 -- none does
 abbrev pub IsUnfilled : SessionView → List ℕ → Type 0
 IsUnfilled s name = (l : ℕ) → loop_filling (history s.graph.script) name ≡ Some l → length s.loops ≤ l
+
+-- the loop of that number is completed and fills the result, whose passes stand in that place of it
+pub record IsFoundAt (s : SessionView) (b : Booked) (number : ℕ) (place : Place) : Type 0 where
+  pub its_number : loop_filling (history s.graph.script) b.name ≡ Some number
+  pub completed : number < length s.loops
+  pub placed : IsPlaced (history s.graph.script) (passes_in (session_job s number)) b place
 
 -- the result's passes stand in that place of the completed loop that fills it
 pub record IsFilledAt (s : SessionView) (b : Booked) (l : FilledLoop) (place : Place) : Type 0 where

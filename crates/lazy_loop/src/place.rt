@@ -1,5 +1,5 @@
 // Where the passes of a result stand in a loop.
-ghost use Rattle.std.specs.Prelude.{◌≡◌, ◌<◌, ◌≤◌, ◌^◌, ℕ, List, MatchOption, Some, count_by, false, length, map, nat_eq, option_map, slice_get};
+ghost use Rattle.std.specs.Prelude.{◌≡◌, ◌<◌, ◌≤◌, ◌^◌, ◌∷◌, [], ℕ, List, MatchOption, None, Some, if◌then◌else◌, count_by, false, length, map, nat_eq, option_map, slice_get};
 ghost use Rattle.std.specs.List.{position};
 ghost use Rattle.rdf_values.specs.Bookings.{Booked, Pass as NamedPass};
 ghost use Rattle.rdf_model.specs.LoopFacts.{kind_in, kinds_in};
@@ -110,4 +110,16 @@ pub fn place_in(graph: &Graph, loop_index: u32, r: u32) -> Option<Place>
         passes: own * accumulators(graph, r),
         watched: before.watched,
     })
+}
+
+/// Whether a result's partial results are noted: it is a watched action.
+pub fn is_noted(graph: &Graph, r: u32) -> bool
+    requires { r < length (graph_results graph.now) }
+    ensures { (x : ResultAt) (n : ℕ) → slice_get (graph_results graph.now) r ≡ Some x
+        → place_if_watched (booked_statements graph.now) n (record { result = x.booked; under = None }) ≡ (if result then n ∷ [] else []) }
+{
+    match graph.kind(r) {
+        ResultKind::Action(_) => graph.watched(r),
+        ResultKind::Report => false,
+    }
 }

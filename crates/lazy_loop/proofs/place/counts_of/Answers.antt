@@ -1,4 +1,4 @@
-use Rattle.std.proofs.Common.{◌<◌, length, arith}
+use Rattle.std.proofs.Common.{arith}
 use Rattle.std.proofs.lemmas.Option.{slice_get-get_or}
 use Rattle.lazy_loop.proofs.Decoding.{next_counts}
 use Rattle.lazy_loop.proofs.place.counts_of.Goals as goal

@@ -1,4 +1,4 @@
-use Rattle.std.proofs.Common.{◌≤◌, ◌<◌, ◌*◌, length, take, arith, sym, ◌∙◌}
+use Rattle.std.proofs.Common.{◌≤◌, ◌*◌, arith, sym}
 use native.Mathlib.Nat.{mul-le-mul_left}
 use Rattle.lazy_loop.proofs.Found.{loop_few, none_found, pass_of, place_is, taken_at, taken_few}
 use Rattle.lazy_loop.proofs.place.place_in.Goals as goal
