@@ -70,14 +70,6 @@ impl SlotState {
         self.watched
     }
 
-    /// How many results of the loop are watched.
-    pub fn watched(&self) -> u32
-        ensures { result ≡ length self.now.job.watched }
-    {
-        let _nothing = self.nothing;
-        unreachable!()
-    }
-
     /// Processes a cluster above all that the slot finished.
     pub fn process<L: Ledger>(
         &mut self,
