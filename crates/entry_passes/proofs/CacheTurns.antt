@@ -1,5 +1,5 @@
 -- How the cache goes on, and what its evaluations are paid with.
-use Rattle.std.proofs.Common.{◌≡◌, ◌⊎◌, inl, inr, ℕ, zero, suc, ◌+◌, ◌*◌, ◌≤◌, Bool, true, false, List, length, replicate, Option, Some, None, Result, Ok, Err, refl, sym, ◌∙◌, ap, arith}
+use Rattle.std.proofs.Common.{◌≡◌, ◌⊎◌, inl, inr, ℕ, zero, suc, ◌+◌, ◌*◌, ◌≤◌, Bool, true, false, List, length, replicate, Option, Some, None, Result, Ok, Err, refl, sym, ◌∙◌, ap, subst, arith}
 use Rattle.entry_cache.specs.Caches.{CacheView, IsBegun, IsServed, IsSized}
 use Rattle.entry_cache.specs.Jobs.{JobView}
 use Rattle.entry_cache.specs.Store.{HasHeld, held_count, held_in, is_held, keys_in}
@@ -75,6 +75,10 @@ then_turn j entry a b c first mid last (Err stop.Memory) h k = then_up j entry a
 pub turn_as : (A B : Type 0) (j : JobView) (entry : ℕ) (a b : CacheView) (first last : ℕ) (s : EntryStop) → IsTurn {A = A} j entry a b first last (Err s) → IsTurn {A = B} j entry a b first last (Err s)
 turn_as A B j entry a b first last (stop.Fault n kind) h = h
 turn_as A B j entry a b first last stop.Memory h = h
+
+-- the same by other names
+pub goes_at : (j : JobView) (entry : ℕ) (a b c : CacheView) (first mid last : ℕ) → c ≡ b → last ≡ mid → GoesOn j entry a b first mid → GoesOn j entry a c first last
+goes_at j entry a b c first mid last e f h = subst (λ (n : ℕ). GoesOn j entry a c first n) (sym f) (subst (λ (x : CacheView). GoesOn j entry a x first mid) (sym e) h)
 
 -- ---- at the end
 

@@ -1,10 +1,11 @@
 -- One pass of an entry, over plain values.
 use Rattle.std.proofs.Common.{◌≡◌, ◌≢◌, ◌⊎◌, inl, inr, ℕ, zero, suc, ◌+◌, ◌<◌, ◌≤◌, Bool, true, false, List, [], ◌∷◌, ◌++◌, length, map, take, Option, Some, None, Result, Ok, Err, option_map, refl, sym, ◌∙◌, ap, subst, arith, get_or, slice_get, if◌then◌else◌}
-use Rattle.std.specs.Prelude.{All, MatchOption}
+use Rattle.std.specs.Prelude.{All, MatchOption, OnOk}
 use Rattle.std.proofs.lemmas.List.Elements.{All-get_or}
 use Rattle.std.proofs.lemmas.Option.{slice_get-get_or, slice_get_within}
 use Rattle.rdf_values.specs.Bookings.{ActionAt, Booking, Pass, ReportOn, named_before}
 use Rattle.rdf_values.specs.Path.{Path, history}
+use Rattle.rdf_values.specs.Spread.{feed_fault, spread}
 use Rattle.rdf_values.specs.declared.action.ActionKind.{ActionKind}
 use Rattle.rdf_values.specs.declared.action.ActionKind.TheVariants as kind
 use Rattle.rdf_values.specs.declared.fault.EntryFault.{EntryFault}
@@ -74,26 +75,26 @@ pub of_action : (j : JobView) (n : ℕ) (a : IsOf j n) → IsOfAction j n a.kind
 of_action j n a = subst (λ (o : Option Pass). MatchOption o ⊥ (λ (p : Pass). (at : Path) × (p.result.booking ≡ ActionAt a.kind at))) (sym a.its_pass) (a.at, a.booking)
 
 module _ (j : JobView) (n : ℕ) (m : NumberedPass) (its : numbered_in j n ≡ Some m) (found : ResultKind) (q : option_map (λ (x : ResultAt). kind_of_booking x.booked.booking) (slice_get (graph_results (job_graph j)) m.result) ≡ Some found) where
-  abbrev own : ResultAt
-  own = (result_there j n m its).0
+  abbrev its_result : ResultAt
+  its_result = (result_there j n m its).0
 
-  found_is : found ≡ kind_of_booking own.booked.booking
-  found_is = some_same found (kind_of_booking own.booked.booking) (sym q ∙ ap (option_map (λ (x : ResultAt). kind_of_booking x.booked.booking)) (result_there j n m its).1)
+  found_is : found ≡ kind_of_booking its_result.booked.booking
+  found_is = some_same found (kind_of_booking its_result.booked.booking) (sym q ∙ ap (option_map (λ (x : ResultAt). kind_of_booking x.booked.booking)) (result_there j n m its).1)
 
   pub found_action : (k : ActionKind) → found ≡ what.Action k → IsActionPass j n
-  found_action k e = go own.booked.booking refl (sym found_is ∙ e)
+  found_action k e = go its_result.booked.booking refl (sym found_is ∙ e)
     where
-      go : (b : Booking) → own.booked.booking ≡ b → kind_of_booking b ≡ what.Action k → IsActionPass j n
+      go : (b : Booking) → its_result.booked.booking ≡ b → kind_of_booking b ≡ what.Action k → IsActionPass j n
       go (ActionAt l at) s h =
-          subst (λ (o : Option Pass). MatchOption o ⊥ (λ (p : Pass). IsActionBooking p.result.booking)) (sym (pass_of j n m its own (result_there j n m its).1)) (subst IsActionBooking (sym s) tt)
+          subst (λ (o : Option Pass). MatchOption o ⊥ (λ (p : Pass). IsActionBooking p.result.booking)) (sym (pass_of j n m its its_result (result_there j n m its).1)) (subst IsActionBooking (sym s) tt)
       go (ReportOn fs) s h = cc h
 
   pub found_report : found ≡ what.Report → IsReportPass j n m.result
-  found_report e = go own.booked.booking refl (sym found_is ∙ e)
+  found_report e = go its_result.booked.booking refl (sym found_is ∙ e)
     where
-      go : (b : Booking) → own.booked.booking ≡ b → kind_of_booking b ≡ what.Report → IsReportPass j n m.result
+      go : (b : Booking) → its_result.booked.booking ≡ b → kind_of_booking b ≡ what.Report → IsReportPass j n m.result
       go (ActionAt l at) s h = cc h
-      go (ReportOn fs) s h = record { numbered = m; its_pass = its; its_result = refl; result = own; there_is = (result_there j n m its).1; filters = fs; report = s }
+      go (ReportOn fs) s h = record { numbered = m; its_pass = its; its_result = refl; result = its_result; there_is = (result_there j n m its).1; filters = fs; report = s }
 
 -- ---- places
 
@@ -142,28 +143,14 @@ module _ (j : JobView) (entry : ℕ) (row : List Value) (here : slice_get j.data
           kind = a.kind;
           its_kind = ap (slice_get (facts_in j).kinds) e ∙ its_kind j entry row here n a.pass a.its_pass a.kind a.at a.booking;
           suits = suits a.kind (of_action j n a);
-          no_fault = ap (λ ws. _) values ∙ fed_clear j entry row here n a.pass a.its_pass a.kind a.at a.booking vs feeds;
-          fed = ap (slice_get (own_spreads j entry row here)) e ∙ fed_items j entry row here n a.pass a.its_pass a.kind a.at a.booking vs feeds ∙ ap (λ ws. Some _) (sym values);
+          no_fault = ap (feed_fault a.kind) values ∙ fed_clear j entry row here n a.pass a.its_pass a.kind a.at a.booking vs feeds;
+          fed = ap (slice_get (own_spreads j entry row here)) e ∙ fed_items j entry row here n a.pass a.its_pass a.kind a.at a.booking vs feeds ∙ ap (λ (ws : List Value). Some (spread a.kind ws)) (sym values);
         }
 
     pub feed_moves : (new : TallyView)
         → ((watched : List ℕ) (s : Stage) → CanFeed (facts_in j) watched (at_places s place 0) t place cluster items → Holds (facts_in j) watched (after_pass (at_places s place 0)) new)
         → Moves j cluster entry t place 0 new (place + 1) 0
     feed_moves new h watched s amid = record { holds = h watched s (can_feed watched s amid); its_cluster = amid.its_cluster; next = amid.next }
-
-    -- no Take wants memory
-    pub never_takes : All IsNoTake (kinds_in (passes_in j)) → (watched : List ℕ) (s : Stage) (amid : IsAmid j watched (at_places s place 0) cluster entry t) → IsTake (can_feed watched s amid).kind → ⊥
-    never_takes none watched s amid =
-        let a = action_of j n action in
-        not_both a.kind (at_number (kinds_in (passes_in j)) place a.kind none (ap (slice_get (facts_in j).kinds) e ∙ its_kind j entry row here n a.pass a.its_pass a.kind a.at a.booking))
-      where
-        not_both : (k : ActionKind) → IsNoTake k → IsTake k → ⊥
-        not_both (kind.Take c) h i = h
-        not_both k h i = i
-
-        at_number : (ks : List ActionKind) (i : ℕ) (k : ActionKind) → All IsNoTake ks → slice_get ks i ≡ Some k → IsNoTake k
-        at_number ks i k h q =
-            let l = slice_get_within ks i k q in let g = some_same (get_or ks i k) k (sym (slice_get-get_or ks i k l) ∙ q) in subst IsNoTake g (All-get_or IsNoTake ks i k l h)
 
 -- ---- a report's pass
 
@@ -187,6 +174,16 @@ before_amid j watched s cluster entry t h =
       next = h.next;
     }
 
+-- ---- memory
+
+no_take : (k : ActionKind) → IsNoTake k → IsTake k → ⊥
+no_take (kind.Take c) h i = h
+no_take k h i = i
+
+never_takes : (ks : List ActionKind) (i : ℕ) (k : ActionKind) → All IsNoTake ks → slice_get ks i ≡ Some k → IsTake k → ⊥
+never_takes ks i k h q take =
+    let l = slice_get_within ks i k q in let g = some_same (get_or ks i k) k (sym (slice_get-get_or ks i k l) ∙ q) in no_take k (subst IsNoTake g (All-get_or IsNoTake ks i k l h)) take
+
 -- ---- an action's pass, by what the cache answers
 
 module _ (j : JobView) (entry : ℕ) (old : CacheView) (at : IsAtEntry j entry old) (n place : ℕ) (action : IsActionPass j n) (e : place ≡ actions_before j n) (cluster : ℕ) (t : TallyView) where
@@ -209,19 +206,18 @@ module _ (j : JobView) (entry : ℕ) (old : CacheView) (at : IsAtEntry j entry o
     pub feed_plain : All IsNoTake (kinds_in (passes_in j)) → CanTake j cluster entry t place 0
         → ((f : LoopFacts) (watched : List ℕ) (s : Stage) → (fits : CanFeed f watched s t place cluster items) → IsTake fits.kind) → ⊥
     feed_plain none take h =
-        let row = row_at j entry old at in
-        never_takes j entry row.0 row.1 n place action e cluster t items feeds.0 feeds.1 (values entry feeds.0 here.is feeds.1) suits none take.0 take.1 take.2
-        (h (facts_in j) take.0 (at_places take.1 place 0) (can take.0 take.1 take.2))
+        let fits = can take.0 take.1 take.2 in
+        never_takes (kinds_in (passes_in j)) place fits.kind none fits.its_kind (h (facts_in j) take.0 (at_places take.1 place 0) fits)
 
 -- ---- all passes
 
 -- the pass that stops is the first that faults
-pub stop_answer : {A : Type 0} (j : JobView) (entry : ℕ) (row : List Value) (here : slice_get j.dataset.rows entry ≡ Some row) (n : ℕ) (m : NumberedPass) → numbered_in j n ≡ Some m → ((i : ℕ) → i < n → pass_fault j entry i ≡ None)
+pub stop_answer : (A : Type 0) (j : JobView) (entry : ℕ) (row : List Value) (here : slice_get j.dataset.rows entry ≡ Some row) (n : ℕ) (m : NumberedPass) → numbered_in j n ≡ Some m → ((i : ℕ) → i < n → pass_fault j entry i ≡ None)
     → (s : EntryStop) → IsPassAnswer {A = A} j entry n (Err s) → IsEntryAnswer j entry (Err s)
-stop_answer j entry row here n m its clear (stop.Fault k kind) h =
+stop_answer A j entry row here n m its clear (stop.Fault k kind) h =
     let p = pass_is j n m its in
     fault_first j entry row here n p.0 kind p.1 h.1 clear ∙ ap (λ x. Some (record { entry = entry; pass = x; kind = kind })) (sym h.0)
-stop_answer j entry row here n m its clear stop.Memory h = tt
+stop_answer A j entry row here n m its clear stop.Memory h = tt
 
 pub all_taken : (ps : List Pass) → take (length ps) ps ≡ ps
 all_taken [] = refl
@@ -239,3 +235,11 @@ pub ends : (j : JobView) → law.EndsEntry → (watched : List ℕ) (s : Stage) 
     → IsAmid j watched (at_places s passes filters) cluster entry t → Holds (facts_in j) watched (after_entry s) t
 ends j law watched s cluster entry passes filters t e f h =
     law (facts_in j) watched (at_places s passes filters) t e (f ∙ length-map (named_before (history j.script)) (is_covered (passes_in j))) h.holds
+
+pub ok_then : {A E : Type 0} (P Q : Type 0) (r : Result A E) → OnOk r P → (P → Q) → OnOk r Q
+ok_then P Q (Ok a) h f = f h
+ok_then P Q (Err e) h f = h
+
+-- the tally by another name
+pub moves_at : (j : JobView) (cluster entry : ℕ) (a : TallyView) (p f : ℕ) (b c : TallyView) (q h : ℕ) → c ≡ b → Moves j cluster entry a p f b q h → Moves j cluster entry a p f c q h
+moves_at j cluster entry a p f b c q h e says watched s amid = subst (λ (t : TallyView). IsAmid j watched (at_places s q h) cluster entry t) (sym e) (says watched s amid)

@@ -1,8 +1,10 @@
 -- One named filter of an entry, by what the plan and the cache answer.
-use Rattle.std.proofs.Common.{◌≡◌, ◌⊎◌, ℕ, suc, zero, ◌+◌, ◌*◌, ◌<◌, ◌≤◌, Bool, true, false, List, [], ◌∷◌, length, drop, Option, Some, None, Result, Ok, Err, refl, sym, ◌∙◌, ap, arith, slice_get, if◌then◌else◌}
+use Rattle.std.proofs.Common.{◌≡◌, ◌⊎◌, ℕ, suc, zero, ◌+◌, ◌*◌, ◌<◌, ◌≤◌, Bool, true, false, List, [], ◌∷◌, length, drop, Option, Some, None, Result, Ok, Err, refl, sym, ◌∙◌, ap, subst, arith, slice_get, if◌then◌else◌}
 use Rattle.std.proofs.lemmas.Option.{slice_get_within}
 use Rattle.rdf_values.specs.declared.fault.EntryFault.{EntryFault}
 use Rattle.rdf_values.specs.declared.value.Value.{Value}
+use Rattle.rdf_model.specs.EntryOutcomes.{Entry}
+use Rattle.rdf_model.specs.Evaluation.{Outcome}
 use Rattle.rdf_model.specs.LoopFacts.{filter_reach, is_covered}
 use Rattle.rdf_model.specs.Results.{fault_in}
 use Rattle.rdf_model.specs.declared.loop_facts.LoopFacts.{LoopFacts}
@@ -14,9 +16,11 @@ use Rattle.cluster_tally.specs.Feedings.{CanNote, after_filter}
 use Rattle.cluster_tally.specs.Laws as law
 use Rattle.cluster_tally.specs.Stages.{Stage}
 use Rattle.cluster_tally.specs.Tallies.{Holds, TallyView}
-use Rattle.entry_cache.specs.Caches.{CacheView, HasDemands, HasFilterDemands, IsBegun, IsCovered, IsReach, IsServed, IsSized}
+use Rattle.entry_cache.specs.Caches.{CacheView, HasDemands, HasFilterDemands, IsBegun, IsCovered, IsReach, IsServed, IsSized, UnlessMemory}
 use Rattle.entry_cache.specs.Jobs.{JobView, IsJob, job_graph, passes_in}
 use Rattle.entry_cache.specs.Store.{HasHeld, held_count, held_in, is_held, keys_in}
+use Rattle.entry_cache.specs.declared.outcome.Outcome.{Outcome as Answered}
+use Rattle.entry_cache.specs.declared.outcome.OutcomeStop.{OutcomeStop}
 use Rattle.entry_cache.specs.declared.outcome.OutcomeStop.TheVariants as answer
 use Rattle.entry_cache.proofs.FillLaws.{there}
 use Rattle.entry_cache.proofs.PassNumbers.{some_same}
@@ -93,34 +97,57 @@ module _ (j : JobView) (job : IsJob j) (entry : ℕ) (old : CacheView) (at : IsA
 
 -- ---- how the cache goes on
 
-module _ (j : JobView) (entry : ℕ) (old new : CacheView) (at : IsAtEntry j entry old) (first last : ℕ) where
-  module _ (Has : ℕ → (ℕ → Bool) → Type 0) (sized : IsSized j new) where
-    pub answer_goes : ((T : ℕ → Bool) → HasAllDemands j entry T → Has entry T) → IsBegun j new → IsServed old new
-        → ((T : ℕ → Bool) (x : ℕ) → old.entry ≡ Some x → Has x T → (k : ℕ) → is_held (held_in new.cells k) ≡ true → (is_held (held_in old.cells k) ≡ true) ⊎ (T k ≡ true))
-        → last + 2 * held_count old.cells ≤ first + 2 * held_count new.cells → GoesOn j entry old new first last
-    answer_goes has begun served only cost = goes_on j entry old new first last (Has entry) has at sized begun served (λ T h. only T entry at.is h) cost
+module _ (j : JobView) (entry : ℕ) (old new : CacheView) (at : IsAtEntry j entry old) (first last : ℕ) (Has : ℕ → (ℕ → Bool) → Type 0) (has : (T : ℕ → Bool) → HasAllDemands j entry T → Has entry T)
+    {A : Type 0} (r : Result A OutcomeStop) (sized : IsSized j new) (begun : UnlessMemory r (IsBegun j new)) (served : UnlessMemory r (IsServed old new))
+    (only : (T : ℕ → Bool) (x : ℕ) → old.entry ≡ Some x → Has x T → UnlessMemory r ((k : ℕ) → is_held (held_in new.cells k) ≡ true → (is_held (held_in old.cells k) ≡ true) ⊎ (T k ≡ true)))
+    (cost : UnlessMemory r (last + 2 * held_count old.cells ≤ first + 2 * held_count new.cells))
+    (bound : (T : ℕ → Bool) (x : ℕ) → old.entry ≡ Some x → Has x T → HasHeld old.cells T → last + 2 * held_count old.cells ≤ first + 2 * keys_in T 0 (length old.cells)) where
+  answer_ok : (a : A) → r ≡ Ok a → GoesOn j entry old new first last
+  answer_ok a e =
+      goes_on j entry old new first last (Has entry) has at sized
+      (subst (λ (x : Result A OutcomeStop). UnlessMemory x (IsBegun j new)) e begun) (subst (λ (x : Result A OutcomeStop). UnlessMemory x (IsServed old new)) e served)
+      (λ T h. subst (λ (x : Result A OutcomeStop). UnlessMemory x ((k : ℕ) → is_held (held_in new.cells k) ≡ true → (is_held (held_in old.cells k) ≡ true) ⊎ (T k ≡ true))) e (only T entry at.is h))
+      (subst (λ (x : Result A OutcomeStop). UnlessMemory x (last + 2 * held_count old.cells ≤ first + 2 * held_count new.cells)) e cost)
 
-    pub answer_ups : ((T : ℕ → Bool) → HasAllDemands j entry T → Has entry T)
-        → ((T : ℕ → Bool) (x : ℕ) → old.entry ≡ Some x → Has x T → HasHeld old.cells T → last + 2 * held_count old.cells ≤ first + 2 * keys_in T 0 (length old.cells)) → GivesUp j entry old new first last
-    answer_ups has bound = gives_up j entry old new first last (Has entry) has sized (λ T h. bound T entry at.is h)
+  answer_fault : (k : EntryFault) → r ≡ Err (answer.Fault k) → GoesOn j entry old new first last
+  answer_fault k e =
+      goes_on j entry old new first last (Has entry) has at sized
+      (subst (λ (x : Result A OutcomeStop). UnlessMemory x (IsBegun j new)) e begun) (subst (λ (x : Result A OutcomeStop). UnlessMemory x (IsServed old new)) e served)
+      (λ T h. subst (λ (x : Result A OutcomeStop). UnlessMemory x ((k : ℕ) → is_held (held_in new.cells k) ≡ true → (is_held (held_in old.cells k) ≡ true) ⊎ (T k ≡ true))) e (only T entry at.is h))
+      (subst (λ (x : Result A OutcomeStop). UnlessMemory x (last + 2 * held_count old.cells ≤ first + 2 * held_count new.cells)) e cost)
 
-  pub filter_goes : IsJob j → (f : ℕ) → IsCovered j f → IsSized j new → IsBegun j new → IsServed old new
-      → ((T : ℕ → Bool) (x : ℕ) → old.entry ≡ Some x → HasFilterDemands j x f T → (k : ℕ) → is_held (held_in new.cells k) ≡ true → (is_held (held_in old.cells k) ≡ true) ⊎ (T k ≡ true))
-      → last + 2 * held_count old.cells ≤ first + 2 * held_count new.cells → GoesOn j entry old new first last
-  filter_goes job f c sized = answer_goes (λ x T. HasFilterDemands j x f T) sized (has_filter j job entry f c)
+  answer_memory : GivesUp j entry old new first last
+  answer_memory = gives_up j entry old new first last (Has entry) has sized (λ T h. bound T entry at.is h)
 
-  pub filter_ups : IsJob j → (f : ℕ) → IsCovered j f → IsSized j new
-      → ((T : ℕ → Bool) (x : ℕ) → old.entry ≡ Some x → HasFilterDemands j x f T → HasHeld old.cells T → last + 2 * held_count old.cells ≤ first + 2 * keys_in T 0 (length old.cells)) → GivesUp j entry old new first last
-  filter_ups job f c sized = answer_ups (λ x T. HasFilterDemands j x f T) sized (has_filter j job entry f c)
+-- of a pass
+module _ (j : JobView) (entry : ℕ) (old new : CacheView) (at : IsAtEntry j entry old) (first last n : ℕ) (r : Result Answered OutcomeStop)
+    (sized : IsSized j new) (begun : UnlessMemory r (IsBegun j new)) (served : UnlessMemory r (IsServed old new))
+    (only : (T : ℕ → Bool) (x : ℕ) → old.entry ≡ Some x → HasDemands j x n T → UnlessMemory r ((k : ℕ) → is_held (held_in new.cells k) ≡ true → (is_held (held_in old.cells k) ≡ true) ⊎ (T k ≡ true)))
+    (cost : UnlessMemory r (last + 2 * held_count old.cells ≤ first + 2 * held_count new.cells))
+    (bound : (T : ℕ → Bool) (x : ℕ) → old.entry ≡ Some x → HasDemands j x n T → HasHeld old.cells T → last + 2 * held_count old.cells ≤ first + 2 * keys_in T 0 (length old.cells)) where
+  pub pass_ok : (a : Answered) → r ≡ Ok a → GoesOn j entry old new first last
+  pass_ok = answer_ok j entry old new at first last (λ x T. HasDemands j x n T) (λ T h. h n) r sized begun served only cost bound
 
-  pub pass_goes : (n : ℕ) → IsSized j new → IsBegun j new → IsServed old new
-      → ((T : ℕ → Bool) (x : ℕ) → old.entry ≡ Some x → HasDemands j x n T → (k : ℕ) → is_held (held_in new.cells k) ≡ true → (is_held (held_in old.cells k) ≡ true) ⊎ (T k ≡ true))
-      → last + 2 * held_count old.cells ≤ first + 2 * held_count new.cells → GoesOn j entry old new first last
-  pass_goes n sized = answer_goes (λ x T. HasDemands j x n T) sized (λ T h. h n)
+  pub pass_stop : (k : EntryFault) → r ≡ Err (answer.Fault k) → GoesOn j entry old new first last
+  pass_stop = answer_fault j entry old new at first last (λ x T. HasDemands j x n T) (λ T h. h n) r sized begun served only cost bound
 
-  pub pass_ups : (n : ℕ) → IsSized j new
-      → ((T : ℕ → Bool) (x : ℕ) → old.entry ≡ Some x → HasDemands j x n T → HasHeld old.cells T → last + 2 * held_count old.cells ≤ first + 2 * keys_in T 0 (length old.cells)) → GivesUp j entry old new first last
-  pass_ups n sized = answer_ups (λ x T. HasDemands j x n T) sized (λ T h. h n)
+  pub pass_memory : GivesUp j entry old new first last
+  pass_memory = answer_memory j entry old new at first last (λ x T. HasDemands j x n T) (λ T h. h n) r sized begun served only cost bound
+
+-- of a named filter
+module _ (j : JobView) (job : IsJob j) (entry : ℕ) (old new : CacheView) (at : IsAtEntry j entry old) (first last f : ℕ) (c : IsCovered j f) (r : Result Reach OutcomeStop)
+    (sized : IsSized j new) (begun : UnlessMemory r (IsBegun j new)) (served : UnlessMemory r (IsServed old new))
+    (only : (T : ℕ → Bool) (x : ℕ) → old.entry ≡ Some x → HasFilterDemands j x f T → UnlessMemory r ((k : ℕ) → is_held (held_in new.cells k) ≡ true → (is_held (held_in old.cells k) ≡ true) ⊎ (T k ≡ true)))
+    (cost : UnlessMemory r (last + 2 * held_count old.cells ≤ first + 2 * held_count new.cells))
+    (bound : (T : ℕ → Bool) (x : ℕ) → old.entry ≡ Some x → HasFilterDemands j x f T → HasHeld old.cells T → last + 2 * held_count old.cells ≤ first + 2 * keys_in T 0 (length old.cells)) where
+  pub filter_ok : (a : Reach) → r ≡ Ok a → GoesOn j entry old new first last
+  filter_ok = answer_ok j entry old new at first last (λ x T. HasFilterDemands j x f T) (has_filter j job entry f c) r sized begun served only cost bound
+
+  pub filter_stop : (k : EntryFault) → r ≡ Err (answer.Fault k) → GoesOn j entry old new first last
+  filter_stop = answer_fault j entry old new at first last (λ x T. HasFilterDemands j x f T) (has_filter j job entry f c) r sized begun served only cost bound
+
+  pub filter_memory : GivesUp j entry old new first last
+  filter_memory = answer_memory j entry old new at first last (λ x T. HasFilterDemands j x f T) (has_filter j job entry f c) r sized begun served only cost bound
 
 -- ---- the filters of a report in order
 
@@ -130,7 +157,7 @@ drop_at (n ∷ ns) zero f q = let e : n ≡ f = cc q in ap (λ m. m ∷ ns) e
 drop_at (n ∷ ns) (suc i) f q = drop_at ns i f q
 
 module _ (j : JobView) (job : IsJob j) (entry : ℕ) (old : CacheView) (at : IsAtEntry j entry old) (ns : List ℕ) (i f : ℕ) (q : slice_get ns i ≡ Some f) (c : IsCovered j f) where
-  abbrev all : List ℕ → _
+  abbrev all : List ℕ → Outcome ⊥ Entry
   all ms = tried j job entry (row_at j entry old at).0 (row_at j entry old at).1 ms
 
   pub filters_next : (r : Reach) → IsReach j entry f (Ok r) → all ns ≡ all (drop i ns) → all ns ≡ all (drop (i + 1) ns)

@@ -5,5 +5,6 @@ pub mod EntryLaws
 pub mod Faults
 pub mod FilterLaws
 pub mod PassCounts
+pub mod PlanLaws
 pub mod ReportTies
 pub mod Taken

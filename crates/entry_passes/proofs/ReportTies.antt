@@ -125,7 +125,7 @@ module _ (j : JobView) (job : IsJob j) where
         → through j.dataset.fns j.dataset.columns row {M = ⊥} x.at None ≡ Faults kind → ⊥
     none_of [] k f x kind h q is e = cc q
     none_of (n ∷ ns) zero f x kind h q is e =
-        let i : n ≡ f = cc q in cc (sym h ∙ ap (λ m. fault_in (tried (m ∷ ns))) i ∙ ap fault_in (tried_fault f ns x kind there e))
+        let i : n ≡ f = cc q in cc (sym h ∙ ap (λ m. fault_in (tried (m ∷ ns))) i ∙ ap fault_in (tried_fault f ns x kind is e))
     none_of (n ∷ ns) (suc k) f x kind h q is e = go (through_filter (site_in j entry None) (slice_get (graph_filters (job_graph j)) n)) refl (λ r. none_of ns k f x kind r q is e)
       where
         go : (o : Outcome ⊥ Bool) → through_filter (site_in j entry None) (slice_get (graph_filters (job_graph j)) n) ≡ o → (fault_in (tried ns) ≡ None → ⊥) → ⊥

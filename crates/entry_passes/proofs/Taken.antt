@@ -9,6 +9,7 @@ use Rattle.rdf_values.specs.declared.fault.EntryFault.{EntryFault}
 use Rattle.rdf_values.specs.declared.item.Item.{Item}
 use Rattle.rdf_values.specs.declared.span.Span.{Span}
 use Rattle.rdf_values.specs.declared.value.Value.{Value}
+use Rattle.rdf_model.specs.ColumnValues.{column_value}
 use Rattle.rdf_model.specs.EntryOutcomes.{Entry, Feed, Skip, action_outcome, feed_outcome, through, unless_fault}
 use Rattle.rdf_model.specs.Evaluation.{Outcome, Faults, Gives, Needs, ◌>>=◌, for_all}
 use Rattle.rdf_model.specs.LoopFacts.{filter_reach, is_covered, kind_in, kinds_in, reaches_of, spread_in, spreads_of}
@@ -152,7 +153,7 @@ module _ (j : JobView) (entry : ℕ) (row : List Value) (here : slice_get j.data
 
   pub fed_clear : (vs : List Value) → pass_outcome j entry n ≡ Gives (Feed vs) → feed_fault k vs ≡ None
   fed_clear vs h =
-      fed_whole k (for_all (λ c. _) (columns_of k)) vs
+      fed_whole k (for_all (column_value j.dataset.fns j.dataset.columns row at p.under) (columns_of k)) vs
       (through_fed (through j.dataset.fns j.dataset.columns row at p.under) _ vs (sym outcome_by ∙ h))
 
 -- ---- what named filters do
