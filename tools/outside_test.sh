@@ -1,6 +1,7 @@
 #!/bin/sh
 # The built program over real files, pipes and outputs: what no contract says and no fake shows.
-# The program is RDF_PROGRAM, or crates/rdf/out/rdf. Ends with 1 where a test fails.
+# The program is RDF_PROGRAM, or crates/rdf/out/rdf. Ends with 1 where a test fails. With
+# OUTSIDE_SMALL=1 tables of a million entries are left out.
 set -u
 
 top=$(cd "$(dirname "$0")/.." && pwd -P) || exit 1
@@ -128,6 +129,40 @@ else
     run s.txt closed.csv
     judge "a table without read permission" 3 "read failed: closed.csv"
 fi
+
+# ---- a million entries
+
+large() {
+    awk 'BEGIN { print "x:int"; for (i = 0; i < 1000000; i++) print i }' >million.csv
+    run sum.txt million.csv --slots 4
+    judge "1,000,000 entries" 0 "n = 1000000
+s = 499999500000
+l = 999999"
+    { cat million.csv; echo x; } >more.csv
+    run sum.txt more.csv
+    judge "1,000,001 entries, the last with a bad cell" 7 "table refused at entry 1000000: B5 TooMany"
+    { cat million.csv; echo 1,2; } >more.csv
+    run sum.txt more.csv
+    judge "1,000,001 entries, the last with a field too many" 7 "table refused at entry 1000000: B5 TooMany"
+    printf 'n = df.Count()\nWatch(n)\nPrint(n)\n' >watch.txt
+    run watch.txt million.csv --cluster 1
+    judge "1,000,000 clusters, one slot: 1,000 partial lines" 0 "$(awk 'BEGIN {
+        for (j = 1; j <= 1000; j++) print "partial n over 0-" 1000 * j - 1 " = " 1000 * j
+        print "n = 1000000" }')"
+    run watch.txt million.csv --cluster 1 --slots 4
+    # Each line must name as many clusters as its value says, 1,000 more than the line before.
+    awk '$1 == "partial" {
+            named = 0
+            parts = split($4, part, ",")
+            for (i = 1; i <= parts; i++) { ends = split(part[i], end, "-"); named += ends == 2 ? end[2] - end[1] + 1 : 1 }
+            lines++
+            if (named != 1000 * lines || $6 != named) bad++
+        }
+        END { print lines + 0 " lines, " bad + 0 " bad; " $0 }' out >counted && mv counted out
+    judge "1,000,000 clusters, four slots: 1,000 partial lines" 0 "1000 lines, 0 bad; n = 1000000"
+    rm -f million.csv more.csv
+}
+if [ "${OUTSIDE_SMALL:-0}" = 1 ]; then skip "tables of a million entries"; else large; fi
 
 # ---- pipes
 
