@@ -124,7 +124,7 @@ module _ (s : SessionView) (is : IsSession s) where
         filled = f.0;
         place = place;
         filled_at = filled_at b l place f.0 h f.1;
-        watched = noted place.first;
+        watched = noted;
         its_lines = own f.0 f.1;
       }
 

@@ -4,15 +4,16 @@ use Rattle.std.specs.Prelude.{⊤, count_by, filter, nat_lt, option_map, slice_g
 use Rattle.std.specs.List.{position, position_or_len}
 use Rattle.std.proofs.lemmas.Bool.Decides.{nat_tests}
 use Rattle.std.proofs.lemmas.List.{length-map, length-reverse}
+use Rattle.std.proofs.lemmas.List.Concat.{flat_map-append}
 use Rattle.std.proofs.lemmas.Option.{cond_some, slice_get_within}
 use native.Mathlib.Nat.{mul-le-mul_right}
-use Rattle.rdf_values.specs.Bookings.{Booked, Pass, has_variations, passes_of, result_depends, varied_passes}
+use Rattle.rdf_values.specs.Bookings.{Booked, Booking, ActionAt, ReportOn, Pass, has_variations, passes_of, result_depends, varied_passes}
 use Rattle.rdf_values.specs.Kinds.{scope_of}
 use Rattle.rdf_values.specs.Path.{Variation, variations}
 use Rattle.rdf_values.specs.declared.script.Line.{Line}
 use Rattle.rdf_values.specs.declared.statement.Statement.{Statement}
 use Rattle.rdf_model.specs.LoopFacts.{kind_in, kinds_in}
-use Rattle.rdf_model.specs.Loops.{loop_results}
+use Rattle.rdf_model.specs.Loops.{loop_passes, loop_results}
 use Rattle.rdf_model.proofs.Verdicts.{verdict_is_the_first_refusal}
 use Rattle.graph_numbers.specs.Graphs.{GraphView, IsGraph, booked_statements, graph_loops, graph_results, graph_variations}
 use Rattle.graph_numbers.specs.Results.{ResultAt, pass_at, result_passes}
@@ -92,6 +93,21 @@ own_kinds b (p ∷ own) h =
     let rest = own_kinds b own h.1 in
     omega (arith, both, one, rest)
 
+pub kinds-append : (ps qs : List Pass) → kinds_in (ps ++ qs) ≡ kinds_in ps ++ kinds_in qs
+kinds-append ps qs = flat_map-append (λ (p : Pass). kind_in p.result.booking) ps qs
+
+kinds_few : (ps : List Pass) → length (kinds_in ps) ≤ length ps
+kinds_few [] = omega arith
+kinds_few (p ∷ ps) =
+    let both = length-append (kind_in p.result.booking) (kinds_in ps) in
+    let rest = kinds_few ps in
+    let own = at_most_one p.result.booking in
+    omega (arith, both, rest, own)
+  where
+    at_most_one : (b : Booking) → length (kind_in b) ≤ 1
+    at_most_one (ActionAt k at) = omega arith
+    at_most_one (ReportOn filters) = omega arith
+
 -- ---- a graph
 
 pub in_turn : (g : GraphView) → IsGraph g → AreNamedInTurn (booked_statements g)
@@ -168,13 +184,23 @@ module _ (g : GraphView) (is : IsGraph g) (l : ℕ) (ps : List NumberedPass) (lo
         pub own_many : count_by (is_of r) ps ≡ length (passes_of (booked_statements g) x.booked)
         own_many = ap (count_by (is_of r)) its_place.numbered ∙ count_own r its_place.start (result_passes (booked_statements g) r x.booked) its_place.rest its_place.none_before (own_all (booked_statements g) r x.booked) its_place.none_after ∙ passes_many (booked_statements g) r x.booked
 
-        pub place_is : (first watched own accumulators : ℕ)
+        pub place_is : length ps ≤ 33024 → (first watched own accumulators : ℕ)
             → ((qs : List Pass) → AreDecoded (booked_statements g) (take n ps) qs → (first ≡ length (kinds_in qs)) × (watched ≡ length (watched_places (booked_statements g) qs)))
             → own ≡ count_by (is_of r) ps → option_map (λ (y : ResultAt). length (kind_in y.booked.booking)) (slice_get (graph_results g) r) ≡ Some accumulators
             → IsFilledPlace (booked_statements g) x.booked results (record { first = first; passes = own * accumulators; watched = watched })
-        place_is first watched own accumulators counts own_is accumulators_is =
+        place_is few first watched own accumulators counts own_is accumulators_is =
             let both = counts its_place.before front_decoded in
             let many : accumulators ≡ length (kind_in x.booked.booking) = of_row (λ (b : Booked). length (kind_in b.booking)) (slice_get (graph_results g) r) x.booked accumulators (ap (option_map (λ (y : ResultAt). y.booked)) its) accumulators_is in
+            let first_is = both.0 in
+            let passes_is = ap₂ (λ (m k : ℕ). m * k) (own_is ∙ own_many) many ∙ sym (own_kinds x.booked (passes_of (booked_statements g) x.booked) (passes_are_of (booked_statements g) x.booked)) in
+            let all = ap (λ (l : List Pass). length (kinds_in l)) its_place.named in
+            let front = ap (λ (l : List _). length l) (kinds-append its_place.before (passes_of (booked_statements g) x.booked ++ its_place.after)) in
+            let back = ap (λ (l : List _). length l) (kinds-append (passes_of (booked_statements g) x.booked) its_place.after) in
+            let front_count = length-append (kinds_in its_place.before) (kinds_in (passes_of (booked_statements g) x.booked ++ its_place.after)) in
+            let back_count = length-append (kinds_in (passes_of (booked_statements g) x.booked)) (kinds_in its_place.after) in
+            let few_kinds = kinds_few (loop_passes (booked_statements g) results) in
+            let same_length : length ps ≡ length (loop_passes (booked_statements g) results) =
+            sym (length-map ps (pass_at (booked_statements g))) ∙ ap (λ (l : List _). length l) (decoded g l ps results loop there) ∙ length-map (loop_passes (booked_statements g) results) (λ (q : Pass). Some q) in
             record {
               filled = its_place.filled;
               placed = record {
@@ -182,8 +208,9 @@ module _ (g : GraphView) (is : IsGraph g) (l : ℕ) (ps : List NumberedPass) (lo
                 after = its_place.after;
                 passes_are = its_place.named;
                 first = both.0;
-                passes = ap₂ (λ (m k : ℕ). m * k) (own_is ∙ own_many) many ∙ sym (own_kinds x.booked (passes_of (booked_statements g) x.booked) (passes_are_of (booked_statements g) x.booked));
+                passes = passes_is;
                 watched = both.1;
+                few = omega (arith, few, first_is, passes_is, all, front, back, front_count, back_count, few_kinds, same_length);
               };
             }
 

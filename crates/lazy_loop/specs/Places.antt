@@ -1,5 +1,5 @@
 -- Which loop fills a result, and where the result's passes stand in it.
-use Rattle.std.specs.Prelude.{◌≡◌, ℕ, ◌<◌, Bool, true, List, ◌++◌, Option, length}
+use Rattle.std.specs.Prelude.{◌≡◌, ℕ, ◌<◌, Bool, true, List, ◌++◌, Option, length, ◌+◌, ◌≤◌, ◌^◌}
 use Rattle.std.specs.Option.{ForSome}
 use Rattle.rdf_values.specs.Names.{among, place}
 use Rattle.rdf_values.specs.Bookings.{Booked, Pass, names_of, passes_of}
@@ -32,6 +32,7 @@ pub record IsPlaced (script : List Statement) (ps : List Pass) (b : Booked) (p :
   pub first : p.first ≡ length (kinds_in before)
   pub passes : p.passes ≡ length (kinds_in (passes_of script b))
   pub watched : p.watched ≡ length (watched_places script before)
+  pub few : p.first + p.passes ≤ 2 ^ 32
 
 -- it is among the results that the loop fills, in that place
 pub record IsFilledPlace (script : List Statement) (b : Booked) (results : List Booked) (p : Place) : Type 0 where

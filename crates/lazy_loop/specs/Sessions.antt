@@ -137,7 +137,7 @@ pub record ArePartials (s : SessionView) (b : Booked) (lines : List PartialLine)
   pub filled : FilledLoop
   pub place : Place
   pub filled_at : IsFilledAt s b filled place
-  pub watched : place_if_watched (history s.graph.script) place.first (record { result = b; under = None }) ≡ place.first ∷ []
+  pub watched : (n : ℕ) → place_if_watched (history s.graph.script) n (record { result = b; under = None }) ≡ n ∷ []
   pub its_lines : slice_get filled.partials place.watched ≡ Some lines
 
 -- the result isn't watched, or isn't filled

@@ -19,30 +19,12 @@ use Rattle.loop_pieces.specs.LoopPieces.{StandsFor}
 use Rattle.loop_pieces.specs.declared.loop_piece.LoopPiece.{LoopPiece}
 use Rattle.loop_pieces.proofs.WholeLoops.{piece_holds_results}
 use Rattle.result_text.specs.FilledLines.{acc_lines, lines_from}
+use Rattle.lazy_loop.proofs.Found.{AreOf, kinds-append}
 
 something_at : {A : Type 0} (xs : List A) (k : ℕ) → k < length xs → (x : A) × (slice_get xs k ≡ Some x)
 something_at [] k lt = absurd (omega arith)
 something_at (x ∷ xs) zero lt = (x, refl)
 something_at (x ∷ xs) (suc k) lt = something_at xs k (omega arith)
-
--- each pass is of the result
-abbrev pub AreOf : Booked → List Pass → Type 0
-AreOf b [] = ⊤
-AreOf b (p ∷ ps) = (p.result ≡ b) × AreOf b ps
-
-pub passes_are_of : (script : List Statement) (b : Booked) → AreOf b (passes_of script b)
-passes_are_of script b = (refl, go (has_variations script b.name))
-  where
-    varied : (vs : List Variation) → AreOf b (map (λ v. record { result = b; under = Some v }) vs)
-    varied [] = tt
-    varied (v ∷ vs) = (refl, varied vs)
-
-    go : (t : Bool) → AreOf b (if t then varied_passes script b else [])
-    go true = varied (filter (λ v. result_depends v b.booking) (variations script))
-    go false = tt
-
-pub kinds-append : (ps qs : List Pass) → kinds_in (ps ++ qs) ≡ kinds_in ps ++ kinds_in qs
-kinds-append ps qs = flat_map-append (λ (p : Pass). kind_in p.result.booking) ps qs
 
 module _ (b : Booked) (k : ActionKind) (at : Path) (action : b.booking ≡ ActionAt k at) where
   its_kinds : (p : Pass) → p.result ≡ b → kind_in p.result.booking ≡ k ∷ []

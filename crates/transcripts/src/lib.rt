@@ -3,6 +3,7 @@
 #![tactic(auto)]
 
 pub mod prints;
+pub mod results;
 pub mod transcript;
 
 pub use crate::prints::run_prints;

@@ -32,5 +32,6 @@ overflow_mul-result c =
 
 pub returns : goal.returns
 returns c = λ x results its there.
-    place_is c.args.graph.now c.is_booked.ensures c.args.loop_index c.passes-passes.result.now c.passes-passes.ensures results there c.args.r x its c.in-Some.start (sym c.in-Some.ensures)
+    let few = loop_few c.args.graph.now c.is_booked.ensures c.args.loop_index c.passes-passes.result.now c.passes-passes.ensures _ _ c.variations.ensures c.len-variations.ensures.count c.len-variations.ensures.few in
+    place_is c.args.graph.now c.is_booked.ensures c.args.loop_index c.passes-passes.result.now c.passes-passes.ensures results there c.args.r x its c.in-Some.start (sym c.in-Some.ensures) few
     c.counts_of-before.result.actions c.counts_of-before.result.watched c.pass_count-own.result c.accumulators.result c.counts_of-before.ensures c.pass_count-own.ensures.count c.accumulators.ensures.value

@@ -1,0 +1,6 @@
+pub mod ActionLines
+pub mod ReportLines
+pub mod SessionLines
+pub mod SomeChain
+pub mod Turning
+pub mod WatchLines
