@@ -37,9 +37,9 @@ module _ (script : List Statement) (d : Dataset) (one other : Course) where
   status_of_access a (Some f) rest rest' e = refl
   status_of_access a None rest rest' e = e
 
-  pub status_is_one : (as : List Access) → (printed script d one as).status ≡ (printed script d other as).status
+  pub status_is_one : (accs : List Access) → (printed script d one accs).status ≡ (printed script d other accs).status
   status_is_one [] = refl
-  status_is_one (a ∷ as) = status_of_access a (first_fault d (access_passes script d one a)) (printed script d one as) (printed script d other as) (status_is_one as)
+  status_is_one (a ∷ accs) = status_of_access a (first_fault d (access_passes script d one a)) (printed script d one accs) (printed script d other accs) (status_is_one accs)
 
 -- ---- each stage gives one status where the next does
 

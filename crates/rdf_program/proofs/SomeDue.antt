@@ -57,7 +57,7 @@ some_verdict (Some refused) P some = (due_of ScriptRefused (graph_cause_line ref
 
 module _ (fns : List Function) (size watch : ℕ) where
   -- the course in which each loop notes its clusters in file order
-  course_of : MarkedTable → Course
+  abbrev course_of : MarkedTable → Course
   course_of table =
       let spans = cut (length table.table.rows) size table.marks in
       record { spans = spans; chains = λ l. first_sets (length spans) (stride (length spans) watch) }

@@ -1,5 +1,5 @@
 -- What the top call leaves written where a read or a write failed, and the files that it turned to.
-use Rattle.std.specs.Prelude.{◌≡◌, ◌⊎◌, ℕ, List, ◌++◌, Option, IfSome, MatchOption, Unit}
+use Rattle.std.specs.Prelude.{◌≡◌, ◌⊎◌, ℕ, List, ◌++◌, Option, IfSome, MatchOption}
 use Rattle.rdf_outside.specs.Outside.{Rose, Appends, AppendsPart}
 use Rattle.rdf_values.specs.Functions.{Function}
 use Rattle.rdf_values.specs.RefusalLines.{read_failed_line}

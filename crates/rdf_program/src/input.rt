@@ -156,10 +156,11 @@ pub(crate) fn answer_made<R: Threads + Sync, G: Gate>(
     ensures { IfOk result (Answers (IsDueToMade (functions_in functions.now) settings.cluster settings.watch entries seed)) }
 {
     let text = make_script(alloc)?;
-    if text.as_slice().len() > MAX_SCRIPT {
+    let bytes = text.as_slice();
+    if bytes.len() > MAX_SCRIPT {
         return Answer::refused(alloc, Status::ScriptRefused, &Refusal::ScriptLong);
     }
-    match read_script(alloc, text.as_slice()) {
+    match read_script(alloc, bytes) {
         Ok(script) => {
             scripts_have_words();
             scripts_are_bookable();
