@@ -96,7 +96,15 @@ impl SlotState {
         if self.phase == Phase::NoMemory {
             return Err(SlotStop::Memory);
         }
-        match try_cluster(alloc, job, &self.plan, &mut self.cache, &mut self.tally, cluster, steps) {
+        match try_cluster(
+            alloc,
+            job,
+            &self.plan,
+            &mut self.cache,
+            &mut self.tally,
+            cluster,
+            steps,
+        ) {
             Ok(()) => match self.tally.close(cluster) {
                 Ok(()) => {
                     self.done.push_reserved(cluster);
