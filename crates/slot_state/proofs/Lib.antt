@@ -1,1 +1,2 @@
 pub mod ClusterTurns
+pub mod SlotLemmas

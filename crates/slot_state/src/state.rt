@@ -93,7 +93,7 @@ impl SlotState {
         ensures plain { IsPlainSlot (job_of job.now) → self.old.phase ≡ Phase.Going → result ≢ Err SlotStop.Memory }
         ensures bound { steps.new ≤ steps.old + 2 * cluster_demands (job_of job.now) cluster }
     {
-        if self.phase == Phase::NoMemory {
+        if let Phase::NoMemory = self.phase {
             return Err(SlotStop::Memory);
         }
         match try_cluster(
