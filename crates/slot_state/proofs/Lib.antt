@@ -1,2 +1,4 @@
+pub mod Accepting
+pub mod Adding
 pub mod ClusterTurns
 pub mod SlotLemmas
