@@ -1,10 +1,9 @@
 -- How many keys the passes of an entry demand: at most as many as there are demands, each counted once.
-use Rattle.std.proofs.Common.{◌≡◌, ℕ, zero, suc, ◌+◌, ◌*◌, ◌≤◌, Bool, true, false, ◌||◌, ◌&&◌, List, [], ◌∷◌, ◌++◌, length, Option, Some, None, refl, sym, ◌∙◌, ap, subst, arith, nat_eq, slice_get, unwrap_or, if◌then◌else◌}
-use Rattle.std.specs.Prelude.{All, flat_map}
+use Rattle.std.proofs.Common.{◌≡◌, ℕ, zero, suc, ◌+◌, ◌*◌, ◌≤◌, Bool, true, false, ◌||◌, ◌&&◌, List, [], ◌∷◌, length, Some, None, refl, sym, ◌∙◌, ap, subst, arith, nat_eq, slice_get, unwrap_or, if◌then◌else◌}
+use Rattle.std.specs.Prelude.{flat_map}
 use Rattle.std.specs.List.{list_any, AllByRecursion}
 use Rattle.std.proofs.lemmas.Bool.Decides.{Decides-eqb}
 use Rattle.std.proofs.lemmas.List.Elements.{All-from_recursion}
-use Rattle.rdf_values.specs.Bookings.{Pass}
 use Rattle.rdf_values.specs.Names.{same}
 use Rattle.rdf_values.specs.Path.{Under, Variation, same_variation}
 use Rattle.rdf_values.specs.declared.value.Value.{Value}
@@ -14,7 +13,7 @@ use Rattle.graph_numbers.proofs.Meeting.{In, here, there, in_left, in_right}
 use Rattle.entry_cache.specs.Caches.{CacheView}
 use Rattle.entry_cache.specs.Jobs.{JobView, job_graph, passes_in}
 use Rattle.entry_cache.specs.Keys.{demand_key}
-use Rattle.entry_cache.specs.Store.{HasHeld, held_count, held_in, is_held, keys_in, row_of}
+use Rattle.entry_cache.specs.Store.{keys_in, row_of}
 use Rattle.entry_cache.proofs.DemandSets.{keys_few}
 use Rattle.entry_cache.proofs.FillLaws.{held_within}
 use Rattle.entry_passes.specs.Entries.{entry_demands}
@@ -82,13 +81,13 @@ in_flat f (z ∷ xs) zero x y h k = let e : z ≡ x = cc h in in_left (f z) (fla
 in_flat f (z ∷ xs) (suc n) x y h k = in_right (f z) (flat_map f xs) (in_flat f xs n x y h k)
 
 -- each demand is among those that are kept once
-kept_once : (ds : List Demand) (d : Demand) → In d ds → In d (distinct ds)
-kept_once ds d (here {xs = ps}) = go (list_any (same_demand d) (distinct ps)) refl
+kept_once : (d : Demand) (ds : List Demand) → In d ds → In d (distinct ds)
+kept_once d ds (here {xs = ps}) = go (list_any (same_demand d) (distinct ps)) refl
   where
     go : (b : Bool) → list_any (same_demand d) (distinct ps) ≡ b → In d (if b then distinct ps else d ∷ distinct ps)
     go true e = let w = any_in (same_demand d) (distinct ps) e in subst (λ (x : Demand). In x (distinct ps)) (sym (demand_is d w.0 w.2)) w.1
     go false e = here
-kept_once ds d (there {y = p} {xs = ps} h) = go (list_any (same_demand p) (distinct ps)) (kept_once ps d h)
+kept_once d ds (there {y = p} {xs = ps} h) = go (list_any (same_demand p) (distinct ps)) (kept_once d ps h)
   where
     go : (b : Bool) → In d (distinct ps) → In d (if b then distinct ps else p ∷ distinct ps)
     go true k = k
@@ -104,12 +103,12 @@ module _ (j : JobView) (entry : ℕ) where
   keys_of_all k = list_any (λ d. nat_eq k (demand_key (job_graph j) d)) all_demands
 
   pub has_all : HasAllDemands j entry keys_of_all
-  has_all pass row p here its =
-      let same_row : row_of j entry ≡ row = ap (λ o. unwrap_or o []) here in
+  has_all pass row p its_row its =
+      let same_row : row_of j entry ≡ row = ap (λ o. unwrap_or o []) its_row in
       All-from_recursion (λ (d : Demand). keys_of_all (demand_key (job_graph j) d) ≡ true) (pass_demands j.dataset.fns j.dataset.columns row p)
       (each_in (λ (d : Demand). keys_of_all (demand_key (job_graph j) d) ≡ true) (pass_demands j.dataset.fns j.dataset.columns row p) (λ d k.
       in_any (λ e. nat_eq (demand_key (job_graph j) d) (demand_key (job_graph j) e)) d all_demands
-      (kept_once (flat_map (pass_demands j.dataset.fns j.dataset.columns (row_of j entry)) (passes_in j)) d
+      (kept_once d (flat_map (pass_demands j.dataset.fns j.dataset.columns (row_of j entry)) (passes_in j))
       (in_flat (pass_demands j.dataset.fns j.dataset.columns (row_of j entry)) (passes_in j) pass p d its
       (subst (λ (r : List Value). In d (pass_demands j.dataset.fns j.dataset.columns r p)) (sym same_row) k)))
       ((Decides-eqb (demand_key (job_graph j) d) (demand_key (job_graph j) d)).1 refl)))

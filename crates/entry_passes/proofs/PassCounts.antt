@@ -1,10 +1,10 @@
 -- How many passes a loop has.
-use Rattle.std.proofs.Common.{◌≡◌, ◌⊎◌, inl, inr, ℕ, zero, suc, ◌+◌, ◌*◌, ◌<◌, ◌≤◌, ◌^◌, Bool, true, false, not, List, [], ◌∷◌, ◌++◌, length, map, Option, Some, None, refl, sym, ◌∙◌, ap, arith, slice_get, unwrap_or, if◌then◌else◌, length-append}
-use Rattle.std.proofs.Math.Nat.{mul-le-mul}
+use Rattle.std.proofs.Common.{◌≡◌, ◌⊎◌, inl, inr, ℕ, zero, suc, ◌+◌, ◌*◌, ◌<◌, ◌≤◌, ◌^◌, Bool, true, false, not, List, [], ◌∷◌, ◌++◌, length, map, Option, Some, None, refl, ap, arith, slice_get, unwrap_or, if◌then◌else◌, length-append}
+use Rattle.std.proofs.Math.Nat.{mul-le-mul, mul-le-mul_right}
 use Rattle.std.proofs.lemmas.List.{length-map, length-reverse}
 use Rattle.rdf_values.specs.Bookings.{Booked, booked_by, bookings, filled, has_variations, result_depends}
 use Rattle.rdf_values.specs.Names.{among}
-use Rattle.rdf_values.specs.Path.{Variation, history, variations}
+use Rattle.rdf_values.specs.Path.{history, variations}
 use Rattle.rdf_values.specs.declared.script.Line.{Line}
 use Rattle.rdf_values.specs.declared.script.Script.{Script}
 use Rattle.rdf_values.specs.declared.statement.Statement.{Statement}
@@ -64,7 +64,7 @@ module _ (script : List Statement) where
           let e : passes_from script (λ (b : Booked). not (among b.name (filled before))) 0 (bookings before) ≡ ps = cc q in
           let l : length (passes_from script (λ (b : Booked). not (among b.name (filled before))) 0 (bookings before)) ≡ length ps = ap length e in
           let a = passes_few (λ (b : Booked). not (among b.name (filled before))) 0 (bookings before) in
-          let b = mul-le-mul {n₁ = length (bookings before)} {n₂ = suc (length before)} (let c = bookings_few before in omega (arith, c)) (omega arith) in
+          let b = mul-le-mul_right {m = length (bookings before)} {n = suc (length before)} (suc (length (variations script))) (let c = bookings_few before in omega (arith, c)) in
           omega (arith, l, a, b)
 
       own : (s : Statement) (i : ℕ) → slice_get (own_loop script before s) i ≡ Some ps → length ps ≤ suc (length before) * suc (length (variations script))
@@ -89,4 +89,4 @@ few_passes j job few = go (slice_get (graph_loops (job_graph j)) j.number) refl
     go (Some ps) q =
         let a = loops_few (history j.script) (history j.script) j.number ps q in
         let b : length (history j.script) * suc (length (graph_variations (job_graph j))) ≤ 256 * 129 =
-        mul-le-mul (lines_few j.script job.graph.bookable.few) (omega (arith, few)) in omega (arith, a, b)
+        mul-le-mul {n₁ = length (history j.script)} {m₁ = suc (length (graph_variations (job_graph j)))} {n₂ = 256} {m₂ = 129} (lines_few j.script job.graph.bookable.few) (omega (arith, few)) in omega (arith, a, b)

@@ -1,10 +1,10 @@
 -- Reports: what their filters come to and demand, by their numbers.
-use Rattle.std.proofs.Common.{◌≡◌, ◌⊎◌, inl, inr, ℕ, zero, suc, ◌+◌, ◌<◌, Bool, true, false, List, [], ◌∷◌, ◌++◌, length, Option, Some, None, Result, Ok, Err, refl, sym, ◌∙◌, ap, subst, arith, get_or, slice_get}
+use Rattle.std.proofs.Common.{◌≡◌, ℕ, zero, suc, Bool, true, List, [], ◌∷◌, Option, Some, None, Err, refl, sym, ◌∙◌, ap, subst, get_or, slice_get}
 use Rattle.std.specs.Prelude.{All, Contains, flat_map}
 use Rattle.std.specs.List.{AllByRecursion}
 use Rattle.std.proofs.lemmas.List.Elements.{All-from_get_or, All-from_recursion, Contains-get_or, recursion_from_All}
 use Rattle.std.proofs.lemmas.Option.{slice_get-get_or}
-use Rattle.rdf_values.specs.Bookings.{ActionAt, Booking, Pass, ReportOn}
+use Rattle.rdf_values.specs.Bookings.{ActionAt, Booking, ReportOn}
 use Rattle.rdf_values.specs.Path.{Path, history}
 use Rattle.rdf_values.specs.declared.fault.EntryFault.{EntryFault}
 use Rattle.rdf_values.specs.declared.value.Value.{Value}
@@ -12,19 +12,18 @@ use Rattle.rdf_model.specs.Demanded.{Demand, booking_demands, filter_demands}
 use Rattle.rdf_model.specs.EntryOutcomes.{Entry, through}
 use Rattle.rdf_model.specs.Evaluation.{Outcome, Faults, Gives, Needs, ◌>>=◌}
 use Rattle.rdf_model.specs.Results.{fault_in}
-use Rattle.rdf_model.specs.declared.loop_facts.Reach.{Reach}
 use Rattle.graph_numbers.specs.Graphs.{graph_filters, graph_results, graph_under}
 use Rattle.graph_numbers.specs.Outcomes.{booking_numbers, report_numbers, through_filter}
-use Rattle.graph_numbers.specs.Results.{FilterAt, ResultAt}
+use Rattle.graph_numbers.specs.Results.{FilterAt}
 use Rattle.graph_numbers.proofs.Covering.{AreNumbersOf}
 use Rattle.graph_numbers.proofs.Extending.{itself}
 use Rattle.graph_numbers.proofs.Meeting.{In, here, there}
 use Rattle.entry_cache.specs.Caches.{HasFilterDemands, IsCovered, IsReach}
-use Rattle.entry_cache.specs.Jobs.{JobView, IsJob, job_graph, passes_in}
+use Rattle.entry_cache.specs.Jobs.{JobView, IsJob, job_graph}
 use Rattle.entry_cache.specs.Keys.{demand_key}
 use Rattle.entry_cache.specs.Store.{site_in, version_in}
 use Rattle.entry_cache.specs.declared.outcome.OutcomeStop.TheVariants as answer
-use Rattle.entry_cache.proofs.NamedFilters.{filter_answer}
+use Rattle.entry_cache.proofs.FilterTies.{filter_answer}
 use Rattle.entry_cache.proofs.PassTies.{pass_answer, pass_of}
 use Rattle.entry_passes.specs.Entries.{entry_fault}
 use Rattle.entry_passes.specs.Turns.{HasAllDemands, IsReportPass, pass_fault}
@@ -47,9 +46,6 @@ no_fault_gives : {A : Type 0} (o : Outcome ⊥ A) → fault_in o ≡ None → (a
 no_fault_gives (Gives a) h = (a, refl)
 no_fault_gives (Faults k) h = cc h
 no_fault_gives (Needs m) h = elim m [ ]
-
-fault_faults : {A : Type 0} (o : Outcome ⊥ A) (k : EntryFault) → o ≡ Faults k → fault_in o ≡ Some k
-fault_faults o k h = ap fault_in h
 
 -- ---- a filter that a report covers
 
@@ -88,13 +84,13 @@ module _ (j : JobView) (job : IsJob j) where
 
   -- what it demands, its report demands
   pub has_filter : (entry f : ℕ) → IsCovered j f → (T : ℕ → Bool) → HasAllDemands j entry T → HasFilterDemands j entry f T
-  has_filter entry f c T h row x here its =
+  has_filter entry f c T h row x its_row its =
       let r = of_report f c in
       let same : r.filter ≡ x = (let e : ◌≡◌ {A = Option FilterAt} (Some r.filter) (Some x) = sym r.there_is ∙ its in cc e) in
       let P : Demand → Type 0 = λ d. T (demand_key (job_graph j) d) ≡ true in
       let all : All P (booking_demands j.dataset.fns j.dataset.columns row (ReportOn r.filters) (graph_under (job_graph j) c.numbered.variation)) =
       subst (λ (b : Booking). All (λ (d : Demand). T (demand_key (job_graph j) d) ≡ true) (booking_demands j.dataset.fns j.dataset.columns row b (graph_under (job_graph j) c.numbered.variation))) r.booking
-      (h c.pass row _ here (pass_of j c.pass c.numbered c.its_pass c.result c.its_result)) in
+      (h c.pass row _ its_row (pass_of j c.pass c.numbered c.its_pass c.result c.its_result)) in
       subst (λ (y : FilterAt). All (λ (d : Demand). T (demand_key (job_graph j) d) ≡ true) (filter_demands j.dataset.fns j.dataset.columns row y.at None)) same
       (All-from_recursion P (filter_demands j.dataset.fns j.dataset.columns row r.filter.at None)
       (each_in P (filter_demands j.dataset.fns j.dataset.columns row r.filter.at None) (λ d k.
@@ -123,10 +119,10 @@ module _ (j : JobView) (job : IsJob j) where
     -- of filters of which none faults no one does
     none_of : (ns : List ℕ) (k f : ℕ) (x : FilterAt) (kind : EntryFault) → fault_in (tried ns) ≡ None → slice_get ns k ≡ Some f → slice_get (graph_filters (job_graph j)) f ≡ Some x
         → through j.dataset.fns j.dataset.columns row {M = ⊥} x.at None ≡ Faults kind → ⊥
-    none_of [] k f x kind h q there e = cc q
-    none_of (n ∷ ns) zero f x kind h q there e =
-        let i : n ≡ f = cc q in cc (sym h ∙ ap (λ m. fault_in (tried (m ∷ ns))) i ∙ ap fault_in (tried_fault f ns x kind there e))
-    none_of (n ∷ ns) (suc k) f x kind h q there e = go (through_filter (site_in j entry None) (slice_get (graph_filters (job_graph j)) n)) refl (λ r. none_of ns k f x kind r q there e)
+    none_of [] k f x kind h q is e = cc q
+    none_of (n ∷ ns) zero f x kind h q is e =
+        let i : n ≡ f = cc q in cc (sym h ∙ ap (λ m. fault_in (tried (m ∷ ns))) i ∙ ap fault_in (tried_fault f ns x kind is e))
+    none_of (n ∷ ns) (suc k) f x kind h q is e = go (through_filter (site_in j entry None) (slice_get (graph_filters (job_graph j)) n)) refl (λ r. none_of ns k f x kind r q is e)
       where
         go : (o : Outcome ⊥ Bool) → through_filter (site_in j entry None) (slice_get (graph_filters (job_graph j)) n) ≡ o → (fault_in (tried ns) ≡ None → ⊥) → ⊥
         go (Gives b) s next = next (sym (ap (λ (o : Outcome ⊥ Bool). fault_in (o >>= λ passed. tried ns)) s) ∙ h)

@@ -1,14 +1,15 @@
 -- What the next entry gives to a tally, by the passes of a job's loop.
-use Rattle.std.proofs.Common.{◌≡◌, ◌⊎◌, inl, inr, ℕ, zero, suc, ◌+◌, ◌-◌, ◌<◌, ◌≤◌, Bool, true, false, List, [], ◌∷◌, ◌++◌, length, map, take, drop, Option, Some, None, refl, sym, ◌∙◌, ap, subst, arith, slice_get, if◌then◌else◌}
-use Rattle.std.specs.Prelude.{flat_map, slice_range}
+use Rattle.std.proofs.Common.{◌≡◌, ℕ, zero, suc, ◌+◌, ◌-◌, ◌<◌, Bool, true, false, List, [], ◌∷◌, ◌++◌, length, map, take, drop, Option, Some, None, refl, sym, ◌∙◌, ap, arith, slice_get, if◌then◌else◌}
+use Rattle.std.specs.Prelude.{slice_range}
 use Rattle.rdf_values.specs.Bookings.{ActionAt, Booking, Pass, ReportOn, columns_of, named_before}
-use Rattle.rdf_values.specs.Path.{Path, Under, history}
+use Rattle.rdf_values.specs.Path.{Path, history}
 use Rattle.rdf_values.specs.Spread.{feed_fault, spread}
 use Rattle.rdf_values.specs.declared.action.ActionKind.{ActionKind}
 use Rattle.rdf_values.specs.declared.fault.EntryFault.{EntryFault}
 use Rattle.rdf_values.specs.declared.item.Item.{Item}
 use Rattle.rdf_values.specs.declared.span.Span.{Span}
 use Rattle.rdf_values.specs.declared.value.Value.{Value}
+use Rattle.rdf_model.specs.ColumnValues.{column_value}
 use Rattle.rdf_model.specs.EntryOutcomes.{Entry, Feed, Skip, action_outcome, feed_outcome, through, unless_fault}
 use Rattle.rdf_model.specs.Evaluation.{Outcome, Faults, Gives, Needs, ◌>>=◌, for_all}
 use Rattle.rdf_model.specs.LoopFacts.{filter_reach, is_covered, kind_in, kinds_in, reaches_of, spread_in, spreads_of}
@@ -22,7 +23,7 @@ use Rattle.cluster_tally.specs.Stages.{IsNextEntry, Stage}
 use Rattle.cluster_tally.specs.Tallies.{TallyView}
 use Rattle.entry_cache.specs.Jobs.{JobView, job_graph, outcome_of, pass_outcome, passes_in}
 use Rattle.entry_cache.proofs.PassTies.{get_mapped}
-use Rattle.entry_passes.specs.Entries.{IsEntryOf, facts_in}
+use Rattle.entry_passes.specs.Entries.{facts_in}
 use Rattle.entry_passes.specs.Turns.{IsAmid, actions_before}
 use Rattle.entry_passes.proofs.Covered.{filters_are}
 
@@ -67,7 +68,7 @@ module _ (j : JobView) (entry : ℕ) (row : List Value) (here : slice_get j.data
 
 -- ---- the places of action passes
 
-actions_next : (n : ℕ) (ps : List Pass) (p : Pass) → slice_get ps n ≡ Some p → length (kinds_in (take (n + 1) ps)) ≡ length (kinds_in (take n ps)) + length (kind_in p.result.booking)
+actions_next : (n : ℕ) (ps : List Pass) (p : Pass) → slice_get ps n ≡ Some p → length (kinds_in (take (suc n) ps)) ≡ length (kinds_in (take n ps)) + length (kind_in p.result.booking)
 actions_next n [] p q = cc q
 actions_next zero (x ∷ ps) p q =
     let e : x ≡ p = cc q in go x.result.booking (ap (λ (y : Pass). y.result.booking) e)
@@ -77,18 +78,22 @@ actions_next zero (x ∷ ps) p q =
     go (ReportOn fs) e = ap (λ (c : Booking). 0 + length (kind_in c)) e
 actions_next (suc n) (x ∷ ps) p q = go x.result.booking (actions_next n ps p q)
   where
-    go : (b : Booking) → length (kinds_in (take (n + 1) ps)) ≡ length (kinds_in (take n ps)) + length (kind_in p.result.booking)
-        → length (kind_in b ++ kinds_in (take (n + 1) ps)) ≡ length (kind_in b ++ kinds_in (take n ps)) + length (kind_in p.result.booking)
+    go : (b : Booking) → length (kinds_in (take (suc n) ps)) ≡ length (kinds_in (take n ps)) + length (kind_in p.result.booking)
+        → length (kind_in b ++ kinds_in (take (suc n) ps)) ≡ length (kind_in b ++ kinds_in (take n ps)) + length (kind_in p.result.booking)
     go (ActionAt k at) h = let e : suc (length (kinds_in (take n ps)) + length (kind_in p.result.booking)) ≡ suc (length (kinds_in (take n ps))) + length (kind_in p.result.booking) = omega arith in ap suc h ∙ e
     go (ReportOn fs) h = h
 
 -- after an action's pass there is one more, and after a report's none
+after_pass : (j : JobView) (n : ℕ) (p : Pass) (c : Booking) → slice_get (passes_in j) n ≡ Some p → p.result.booking ≡ c → actions_before j (n + 1) ≡ actions_before j n + length (kind_in c)
+after_pass j n p c q b =
+    let e : n + 1 ≡ suc n = omega arith in
+    ap (actions_before j) e ∙ actions_next n (passes_in j) p q ∙ ap (λ (x : Booking). actions_before j n + length (kind_in x)) b
+
 pub place_next : (j : JobView) (n : ℕ) (p : Pass) (k : ActionKind) (at : Path) → slice_get (passes_in j) n ≡ Some p → p.result.booking ≡ ActionAt k at → actions_before j n + 1 ≡ actions_before j (n + 1)
-place_next j n p k at q b = sym (actions_next n (passes_in j) p q ∙ ap (λ (c : Booking). actions_before j n + length (kind_in c)) b)
+place_next j n p k at q b = sym (after_pass j n p (ActionAt k at) q b)
 
 pub place_same : (j : JobView) (n : ℕ) (p : Pass) (fs : List Path) → slice_get (passes_in j) n ≡ Some p → p.result.booking ≡ ReportOn fs → actions_before j n ≡ actions_before j (n + 1)
-place_same j n p fs q b =
-    let e : actions_before j (n + 1) ≡ actions_before j n + 0 = actions_next n (passes_in j) p q ∙ ap (λ (c : Booking). actions_before j n + length (kind_in c)) b in sym (omega (arith, e))
+place_same j n p fs q b = let e = after_pass j n p (ReportOn fs) q b in omega (arith, e)
 
 module _ (d : Dataset) (row : List Value) where
   -- the kind of an action's pass, and what the row feeds to it, at its place
@@ -148,7 +153,7 @@ module _ (j : JobView) (entry : ℕ) (row : List Value) (here : slice_get j.data
 
   pub fed_clear : (vs : List Value) → pass_outcome j entry n ≡ Gives (Feed vs) → feed_fault k vs ≡ None
   fed_clear vs h =
-      fed_whole k (for_all (λ c. _) (columns_of k)) vs
+      fed_whole k (for_all (column_value j.dataset.fns j.dataset.columns row at p.under) (columns_of k)) vs
       (through_fed (through j.dataset.fns j.dataset.columns row at p.under) _ vs (sym outcome_by ∙ h))
 
 -- ---- what named filters do

@@ -6,4 +6,4 @@ use Rattle.entry_passes.specs.Turns.{is_covering}
 use Rattle.entry_passes.proofs.plan.is_covered.Given as goal
 
 abbrev pub invariant-loop-pass : goal.invariant-loop-pass
-invariant-loop-pass l = list_any (is_covering (graph_results (job_graph (job_of l.job))) l.filter) (take l.pass-index l.passes) ≡ false
+invariant-loop-pass g l = list_any (is_covering (graph_results (job_graph (job_of l.job))) l.filter) (take l.pass-index l.passes) ≡ false
