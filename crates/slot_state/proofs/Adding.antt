@@ -1,9 +1,11 @@
 -- One more pass.
-use Rattle.std.proofs.Common.{◌≡◌, inl, inr, ℕ, zero, suc, ◌+◌, ◌*◌, ◌<◌, ◌≤◌, Bool, true, false, not, ◌&&◌, List, [], ◌∷◌, ◌++◌, length, map, take, Option, None, Some, refl, sym, ◌∙◌, ap, ap₂, subst, arith, slice_get, unwrap_or, option_map, if◌then◌else◌, append-nil, append_assoc, length-append}
+use Rattle.std.proofs.Common.{◌≡◌, inl, inr, ℕ, zero, suc, ◌+◌, ◌*◌, ◌<◌, ◌≤◌, ◌^◌, Bool, true, false, not, ◌&&◌, List, [], ◌∷◌, ◌++◌, length, map, take, get_or, Option, None, Some, refl, sym, ◌∙◌, ap, ap₂, subst, arith, slice_get, unwrap_or, option_map, if◌then◌else◌, append-nil, append_assoc, length-append}
+use mir.Val.{bool_byte}
 use Rattle.std.specs.Prelude.{⊤, MatchOption, is_none}
 use Rattle.std.proofs.lemmas.List.Concat.{flat_map-append}
+use Rattle.std.proofs.lemmas.List.{length-map, length-take}
 use Rattle.std.proofs.lemmas.Option.{same_Some, slice_get_within}
-use Rattle.rdf_values.specs.Bookings.{ActionAt, Booked, Booking, Pass, ReportOn, bookings, filled, has_variations, is_watched, result_depends}
+use Rattle.rdf_values.specs.Bookings.{ActionAt, Booked, Booking, Pass, ReportOn, bookings, filled, has_variations, is_watched, named_before, result_depends}
 use Rattle.rdf_values.specs.Functions.{fn_names}
 use Rattle.rdf_values.specs.Kinds.{scope_of}
 use Rattle.rdf_values.specs.Names.{among}
@@ -11,8 +13,8 @@ use Rattle.rdf_values.specs.Path.{Path, Variation, history, variations}
 use Rattle.rdf_values.specs.declared.action.ActionKind.{ActionKind}
 use Rattle.rdf_values.specs.declared.statement.Statement.{Statement}
 use Rattle.rdf_values.specs.declared.statement.Statement.TheVariants.{Print}
-use Rattle.rdf_model.specs.LoopFacts.{kind_in, kinds_in}
-use Rattle.graph_numbers.specs.Graphs.{graph_loops, graph_results, graph_under}
+use Rattle.rdf_model.specs.LoopFacts.{is_covered, kind_in, kinds_in}
+use Rattle.graph_numbers.specs.Graphs.{GraphView, graph_filters, graph_loops, graph_results, graph_under, graph_variations}
 use Rattle.graph_numbers.specs.Results.{ResultAt, kind_of_booking, loops, numbered_pass, own_loop, passes_from, places_from, result_passes, under_at}
 use Rattle.graph_numbers.specs.declared.pass.Pass.{Pass as NumberedPass}
 use Rattle.graph_numbers.specs.declared.result_kind.ResultKind.{ResultKind}
@@ -22,8 +24,12 @@ use Rattle.graph_numbers.proofs.Resulting.{booked_are}
 use Rattle.entry_cache.specs.Caches.{numbered_in}
 use Rattle.entry_cache.specs.Jobs.{IsJob, JobView, job_graph, passes_in}
 use Rattle.entry_cache.proofs.EvaluateLaws.{accepted_of}
-use Rattle.entry_cache.proofs.PassNumbers.{result_there}
+use Rattle.entry_cache.proofs.PassNumbers.{result_inside, result_there}
 use Rattle.entry_cache.proofs.PassTies.{get_mapped, of_chosen, of_mapped, of_option, pass_of}
+use Rattle.entry_passes.specs.Turns.{numbered_passes}
+use Rattle.entry_passes.proofs.Covered.{covered_count, passes_count}
+use Rattle.entry_passes.proofs.EntryLaws.{read_pass}
+use Rattle.entry_passes.proofs.PassCounts.{few_passes}
 use Rattle.actions.specs.Holding.{HasEdges}
 use Rattle.cluster_tally.specs.Feedings.{IsFresh, place_if}
 use Rattle.cluster_tally.specs.Tallies.{CanWatch, TallyView}
@@ -101,6 +107,23 @@ module _ (script : List Statement) where
       step (x ∷ xs) zero lt = refl
       step (x ∷ xs) (suc k) lt = step xs k (omega arith)
 
+-- ---- the passes of a job by numbers
+
+pub read : (j : JobView) (g : GraphView) (ps : List NumberedPass) → g ≡ job_graph j → slice_get (graph_loops g) j.number ≡ Some ps → ps ≡ numbered_passes j
+read j g ps e q = sym (ap (λ (h : GraphView). unwrap_or (slice_get (graph_loops h) j.number) []) (sym e) ∙ ap (λ o. unwrap_or o []) q)
+
+pub counted : (j : JobView) (ps : List NumberedPass) → ps ≡ numbered_passes j → length ps ≡ length (passes_in j)
+counted j ps e = ap length e ∙ passes_count j
+
+pub fewer : (j : JobView) → IsJob j → (g : GraphView) → g ≡ job_graph j → (n : ℕ) → n ≡ length (graph_variations g) → n ≤ 128 → (ps : List NumberedPass) → ps ≡ numbered_passes j → length ps < 2 ^ 32
+fewer j job g e n q le ps is =
+    let l : length (graph_variations g) ≡ length (graph_variations (job_graph j)) = ap (λ (h : GraphView). length (graph_variations h)) e in
+    let h = few_passes j job (omega (arith, l, q, le)) in
+    omega (arith, ap length is, h)
+
+pub numbered_at : (j : JobView) (g : GraphView) (ps : List NumberedPass) → g ≡ job_graph j → slice_get (graph_loops g) j.number ≡ Some ps → (n : ℕ) → n < length (passes_in j) → (d : NumberedPass) → numbered_in j n ≡ Some (get_or ps n d)
+numbered_at j g ps e q n lt d = let is = read j g ps e q in read_pass j ps is n (omega (arith, lt, counted j ps is)) d
+
 -- ---- a pass by its number
 
 module _ (j : JobView) (n : ℕ) (m : NumberedPass) (its : numbered_in j n ≡ Some m) where
@@ -109,7 +132,7 @@ module _ (j : JobView) (n : ℕ) (m : NumberedPass) (its : numbered_in j n ≡ S
       let ps = of_chosen (slice_get (graph_loops (job_graph j)) j.number) n m its in
       under_there (history j.script) m.variation (of_loops (history j.script) (history j.script) j.number ps.0 ps.1 n m ps.2)
 
-  pub its_result : ResultAt
+  abbrev pub its_result : ResultAt
   its_result = (result_there j n m its).0
 
   pub result_is : slice_get (graph_results (job_graph j)) m.result ≡ Some its_result
@@ -118,39 +141,45 @@ module _ (j : JobView) (n : ℕ) (m : NumberedPass) (its : numbered_in j n ≡ S
   pub its_pass : slice_get (passes_in j) n ≡ Some (record { result = its_result.booked; under = graph_under (job_graph j) m.variation })
   its_pass = pass_of j n m its its_result result_is
 
+  pub result_within : (g : GraphView) → g ≡ job_graph j → m.result < length (graph_results g)
+  result_within g same = let lt = result_inside j n m its in let e = ap (λ (h : GraphView). length (graph_results h)) same in omega (arith, lt, e)
+
   booked_is : slice_get (bookings (history j.script)) m.result ≡ Some its_result.booked
   booked_is =
       ap (λ bs. slice_get bs m.result) (sym (booked_are j.dataset.columns (fn_names j.dataset.fns) (history j.script)))
       ∙ get_mapped (λ (x : ResultAt). x.booked) (graph_results (job_graph j)) m.result its_result result_is
 
   -- the pass is the nominal one of a watched result
-  pub flag_is : (p : Pass) → slice_get (passes_in j) n ≡ Some p → (w : Bool) → option_map (λ (x : ResultAt). is_watched (history j.script) x.booked.name) (slice_get (graph_results (job_graph j)) m.result) ≡ Some w
-      → (is_none m.variation && w) ≡ is_watched_pass (history j.script) p
-  flag_is p here w is =
+  pub flag_is : (p : Pass) → slice_get (passes_in j) n ≡ Some p → m.variation ≡ None → (w : Bool) (g : GraphView) → g ≡ job_graph j
+      → option_map (λ (x : ResultAt). is_watched (history g.script) x.booked.name) (slice_get (graph_results g) m.result) ≡ Some w → w ≡ is_watched_pass (history j.script) p
+  flag_is p here nominal w g of at =
+      let is = ap (λ (h : GraphView). option_map (λ (x : ResultAt). is_watched (history h.script) x.booked.name) (slice_get (graph_results h) m.result)) (sym of) ∙ at in
+      let on : is_none m.variation ≡ true = ap is_none nominal in
       let same : record { result = its_result.booked; under = graph_under (job_graph j) m.variation } ≡ p = same_Some _ p (sym its_pass ∙ here) in
       let told : is_watched (history j.script) its_result.booked.name ≡ w = same_Some _ w (sym (ap (option_map (λ (x : ResultAt). is_watched (history j.script) x.booked.name)) result_is) ∙ is) in
-      ap₂ (λ a b. a && b) (sym under_same) (sym told) ∙ ap (is_watched_pass (history j.script)) same
+      ap (λ b. b && w) (sym on) ∙ ap₂ (λ a b. a && b) (sym under_same) (sym told) ∙ ap (is_watched_pass (history j.script)) same
 
-  pub not_nominal : (p : Pass) → slice_get (passes_in j) n ≡ Some p → is_none m.variation ≡ false → is_watched_pass (history j.script) p ≡ false
-  not_nominal p here no =
+  pub not_nominal : (p : Pass) (v : ℕ) → slice_get (passes_in j) n ≡ Some p → m.variation ≡ Some v → is_watched_pass (history j.script) p ≡ false
+  not_nominal p v here under =
       let same : record { result = its_result.booked; under = graph_under (job_graph j) m.variation } ≡ p = same_Some _ p (sym its_pass ∙ here) in
-      sym (ap (is_watched_pass (history j.script)) same) ∙ ap (λ b. b && is_watched (history j.script) its_result.booked.name) (under_same ∙ no)
+      sym (ap (is_watched_pass (history j.script)) same) ∙ ap (λ b. b && is_watched (history j.script) its_result.booked.name) (under_same ∙ ap is_none under)
 
   -- ---- what it is
 
-  kind_is : (k : ResultKind) → option_map (λ (x : ResultAt). kind_of_booking x.booked.booking) (slice_get (graph_results (job_graph j)) m.result) ≡ Some k → kind_of_booking its_result.booked.booking ≡ k
-  kind_is k is = same_Some _ k (sym (ap (option_map (λ (x : ResultAt). kind_of_booking x.booked.booking)) result_is) ∙ is)
+  module _ (kind : ResultKind) (g : GraphView) (same : g ≡ job_graph j) (is : option_map (λ (x : ResultAt). kind_of_booking x.booked.booking) (slice_get (graph_results g) m.result) ≡ Some kind) where
+    kind_is : kind_of_booking its_result.booked.booking ≡ kind
+    kind_is = same_Some _ kind (sym (ap (option_map (λ (x : ResultAt). kind_of_booking x.booked.booking)) result_is)
+        ∙ ap (λ (h : GraphView). option_map (λ (x : ResultAt). kind_of_booking x.booked.booking) (slice_get (graph_results h) m.result)) (sym same) ∙ is)
 
-  module _ (kind : ResultKind) (is : option_map (λ (x : ResultAt). kind_of_booking x.booked.booking) (slice_get (graph_results (job_graph j)) m.result) ≡ Some kind) where
-    of_action : (k : ActionKind) → kind ≡ what.Action k → (at : Path) × (its_result.booked.booking ≡ ActionAt k at)
-    of_action k e = go its_result.booked.booking refl (kind_is kind is ∙ e)
+    pub of_action : (k : ActionKind) → kind ≡ what.Action k → (at : Path) × (its_result.booked.booking ≡ ActionAt k at)
+    of_action k e = go its_result.booked.booking refl (kind_is ∙ e)
       where
         go : (b : Booking) → its_result.booked.booking ≡ b → kind_of_booking b ≡ what.Action k → (at : Path) × (its_result.booked.booking ≡ ActionAt k at)
         go (ActionAt l at) q h = (at, q ∙ ap (λ x. ActionAt x at) (cc h))
         go (ReportOn fs) q h = cc h
 
-    of_report : kind ≡ what.Report → kind_in its_result.booked.booking ≡ []
-    of_report e = go its_result.booked.booking (kind_is kind is ∙ e)
+    pub of_report : kind ≡ what.Report → kind_in its_result.booked.booking ≡ []
+    of_report e = go its_result.booked.booking (kind_is ∙ e)
       where
         go : (b : Booking) → kind_of_booking b ≡ what.Report → kind_in b ≡ []
         go (ActionAt l at) h = cc h
@@ -232,12 +261,38 @@ module _ (j : JobView) (n : ℕ) (p : Pass) (here : slice_get (passes_in j) n �
         subst (λ ks. IsFresh ks (places_before j (n + 1)) t) (sym more_kinds)
         (subst (λ ws. IsFresh (kinds_in (take n (passes_in j)) ++ k ∷ []) ws t) (sym more_places) h)
 
-    pub one_more : (b : Bool) → b ≡ is_watched_pass (history j.script) p → watched_before j (n + 1) ≡ watched_before j n + (if b then 1 else 0)
+    pub one_more : (b : Bool) → b ≡ is_watched_pass (history j.script) p → watched_before j (n + 1) ≡ watched_before j n + bool_byte b
     one_more b is =
         ap length more_places ∙ length-append (places_before j n) (place_if (is_watched_pass (history j.script) p) (kinds_in (take n (passes_in j))))
         ∙ ap (λ c. watched_before j n + length (place_if c (kinds_in (take n (passes_in j))))) (sym is)
         ∙ ap (λ l. watched_before j n + l) (go b)
       where
-        go : (c : Bool) → length (place_if c (kinds_in (take n (passes_in j)))) ≡ (if c then 1 else 0)
+        go : (c : Bool) → length (place_if c (kinds_in (take n (passes_in j)))) ≡ bool_byte c
         go true = refl
         go false = refl
+
+-- ---- how many are watched
+
+few_if : (script : List Statement) (n : ℕ) (p : Pass) → length (place_if_watched script n p) ≤ 1
+few_if script n p = go (is_watched_pass script p) p.result.booking
+  where
+    go : (b : Bool) (k : Booking) → length (if b then map (λ _. n) (kind_in k) else []) ≤ 1
+    go true (ActionAt k at) = omega arith
+    go true (ReportOn fs) = omega arith
+    go false k = omega arith
+
+few_watched : (script : List Statement) (n : ℕ) (ps : List Pass) → length (watched_from script n ps) ≤ length ps
+few_watched script n [] = omega arith
+few_watched script n (p ∷ ps) =
+    let one = few_if script n p in
+    let rest = few_watched script (n + length (kind_in p.result.booking)) ps in
+    omega (arith, length-append (place_if_watched script n p) (watched_from script (n + length (kind_in p.result.booking)) ps))
+
+pub watched_few : (j : JobView) (n : ℕ) → watched_before j n ≤ n
+watched_few j n = let few = few_watched (history j.script) 0 (take n (passes_in j)) in omega (arith, length-take n (passes_in j))
+
+-- ---- named filters
+
+pub filters_same : (j : JobView) (g : GraphView) → g ≡ job_graph j → length (graph_filters g) ≡ length (named_before (history j.script))
+filters_same j g e =
+    ap (λ (h : GraphView). length (graph_filters h)) e ∙ sym (covered_count j) ∙ length-map (named_before (history j.script)) (is_covered (passes_in j))

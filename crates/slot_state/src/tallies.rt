@@ -21,7 +21,10 @@ fn is_watched(job: &Job<'_>, pass: Pass) -> bool
     ensures { (n : ℕ) (p : bookings.Pass) → numbered_in (job_of job.now) n ≡ Some pass → slice_get (passes_in (job_of job.now)) n ≡ Some p
         → result ≡ is_watched_pass (history (job_of job.now).script) p }
 {
-    pass.variation.is_none() && job.graph.watched(pass.result)
+    match pass.variation {
+        None => job.graph.watched(pass.result),
+        Some(_) => false,
+    }
 }
 
 /// Adds the pass of that number to the tally, where it is one of an action; says how many results more are watched.
