@@ -49,6 +49,7 @@ impl SlotState {
         requires words { StatementsHaveWords (history (job_of job.now).script) }
         ensures { IfOk result (λ s. IsFreshSlot (job_facts (job_of job.now)) s) }
     {
+        job.functions.answers_have_64_bits();
         let cache = EntryCache::new(alloc, job)?;
         let plan = EntryPlan::new(alloc, job)?;
         let (tally, watched) = tally_of(alloc, job)?;

@@ -18,5 +18,6 @@ overflow_add-watched g c =
     let few = watched_few (job_of c.args.job.now) (c.loop-number.number + 1) in
     let so_far = c.loop-number.invariant.2 in
     let lt = c.loop-number-test.true in
-    let fits = c.ranges in
-    omega (arith, more, few, so_far, lt)
+    let end = c.loop-number.invariant.3 in
+    let fits = c.pass_count-number-end.type_inv in
+    omega (arith, more, few, so_far, lt, end, fits)
