@@ -1,12 +1,11 @@
 -- What an accepted script says of its actions: their edges are those of an axis, and only numbers are watched.
-use Rattle.std.proofs.Common.{◌≡◌, ◌⊎◌, inl, inr, ℕ, zero, suc, ◌+◌, ◌<◌, ◌≤◌, ◌^◌, ◌-◌, Bool, true, false, ◌||◌, ◌&&◌, List, [], ◌∷◌, ◌++◌, length, map, reverse, Option, None, Some, refl, sym, ◌∙◌, ap, subst, arith, slice_get, append-nil, if◌then◌else◌}
-use Rattle.std.specs.Prelude.{⊤}
-use Rattle.std.specs.List.{AllByRecursion, filter, list_any}
-use Rattle.std.proofs.lemmas.Bool.{and_parts, or_cases, or_from, or_left, or_parts, or_right}
+use Rattle.std.proofs.Common.{◌≡◌, inl, inr, ℕ, zero, suc, ◌≤◌, Bool, true, false, ◌&&◌, List, [], ◌∷◌, ◌++◌, length, map, reverse, Option, None, Some, refl, sym, ◌∙◌, ap, subst, arith, slice_get, append-nil, if◌then◌else◌}
+use Rattle.std.specs.List.{AllByRecursion, list_any}
+use Rattle.std.proofs.lemmas.Bool.{and_parts, or_cases, or_left, or_parts, or_right}
 use Rattle.std.proofs.lemmas.List.{reverse-append}
 use Rattle.std.proofs.lemmas.List.Elements.{recursion_from_All}
 use Rattle.rdf_values.specs.Bookable.{IsBookable, IsShort}
-use Rattle.rdf_values.specs.Bookings.{ActionAt, Booked, Booking, ReportOn, booked_by, bookings, covered, is_watched, names_of, results_named}
+use Rattle.rdf_values.specs.Bookings.{ActionAt, Booked, ReportOn, booked_by, bookings, covered, is_watched, names_of, results_named}
 use Rattle.rdf_values.specs.Edges.{are_edges}
 use Rattle.rdf_values.specs.Kinds.{FunctionNames, Scope}
 use Rattle.rdf_values.specs.Names.{among, same}
@@ -178,11 +177,11 @@ module _ (names : FunctionNames) (header : Scope) where
       let here : slice_get (bookings before) n ≡ Some b = ap (λ l. slice_get l n) (sym (append-nil (bookings before))) ∙ is in
       elim (or_cases (same r b.name) (is_watched before b.name) h) [
         | inl p ↦ (
-          let known = (both_none (refuse_unless (is_result before r) cause.UnknownName) _ acc.0).1 in
-          let can = unless_holds (result_is can_watch before r) cause.WrongKind (both_none (refuse_unless (result_is can_watch before r) cause.WrongKind) _ known).0 in
-          let c = any_named (bookings before) r can in
-          let one = unique before acc.1 c.place n c.booked b c.there_is here (c.named ∙ names_equal r b.name p) in
-          subst (λ (x : Booked). can_watch x.booking ≡ true) one c.can)
+            let known = (both_none (refuse_unless (is_result before r) cause.UnknownName) _ acc.0).1 in
+            let can = unless_holds (result_is can_watch before r) cause.WrongKind (both_none (refuse_unless (result_is can_watch before r) cause.WrongKind) _ known).0 in
+            let c = any_named (bookings before) r can in
+            let one = unique before acc.1 c.place n c.booked b c.there_is here (c.named ∙ names_equal r b.name p) in
+            subst (λ (x : Booked). can_watch x.booking ≡ true) one c.can)
         | inr p ↦ watched_can before acc.1 n b here p
       ]
   watched_can (s ∷ before) acc n b is h = elim (of_joined (bookings before) (booked_by before s) n b is) [

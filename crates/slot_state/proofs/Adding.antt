@@ -1,10 +1,10 @@
 -- One more pass.
-use Rattle.std.proofs.Common.{◌≡◌, inl, inr, ℕ, zero, suc, ◌+◌, ◌*◌, ◌<◌, ◌≤◌, ◌^◌, Bool, true, false, not, ◌&&◌, List, [], ◌∷◌, ◌++◌, length, map, take, get_or, Option, None, Some, refl, sym, ◌∙◌, ap, ap₂, subst, arith, slice_get, unwrap_or, option_map, if◌then◌else◌, append-nil, append_assoc, length-append}
+use Rattle.std.proofs.Common.{◌≡◌, inl, inr, ℕ, zero, suc, ◌+◌, ◌<◌, ◌≤◌, ◌^◌, Bool, true, false, not, ◌&&◌, List, [], ◌∷◌, ◌++◌, length, map, take, get_or, Option, None, Some, refl, sym, ◌∙◌, ap, ap₂, subst, arith, slice_get, unwrap_or, option_map, if◌then◌else◌, append-nil, append_assoc, length-append}
 use mir.Val.{bool_byte}
 use Rattle.std.specs.Prelude.{⊤, MatchOption, is_none}
 use Rattle.std.proofs.lemmas.List.Concat.{flat_map-append}
 use Rattle.std.proofs.lemmas.List.{length-map, length-take}
-use Rattle.std.proofs.lemmas.Option.{same_Some, slice_get_within}
+use Rattle.std.proofs.lemmas.Option.{same_Some}
 use Rattle.rdf_values.specs.Bookings.{ActionAt, Booked, Booking, Pass, ReportOn, bookings, filled, has_variations, is_watched, named_before, result_depends}
 use Rattle.rdf_values.specs.Functions.{fn_names}
 use Rattle.rdf_values.specs.Kinds.{scope_of}
@@ -25,7 +25,7 @@ use Rattle.entry_cache.specs.Caches.{numbered_in}
 use Rattle.entry_cache.specs.Jobs.{IsJob, JobView, job_graph, passes_in}
 use Rattle.entry_cache.proofs.EvaluateLaws.{accepted_of}
 use Rattle.entry_cache.proofs.PassNumbers.{result_inside, result_there}
-use Rattle.entry_cache.proofs.PassTies.{get_mapped, of_chosen, of_mapped, of_option, pass_of}
+use Rattle.entry_cache.proofs.PassTies.{get_mapped, of_chosen, of_mapped, pass_of}
 use Rattle.entry_passes.specs.Turns.{numbered_passes}
 use Rattle.entry_passes.proofs.Covered.{covered_count, passes_count}
 use Rattle.entry_passes.proofs.EntryLaws.{read_pass}
@@ -194,7 +194,7 @@ module _ (j : JobView) (n : ℕ) (m : NumberedPass) (its : numbered_in j n ≡ S
     can_watch job k e on =
         let b = of_action k e in
         can_be_watched (fn_names j.dataset.fns) (scope_of j.dataset.columns) (history j.script) (accepted_of j job) m.result its_result.booked k b.0 booked_is b.1
-            (second (is_none (graph_under (job_graph j) m.variation)) (is_watched (history j.script) its_result.booked.name) on)
+        (second (is_none (graph_under (job_graph j) m.variation)) (is_watched (history j.script) its_result.booked.name) on)
       where
         second : (a b : Bool) → (a && b) ≡ true → b ≡ true
         second true b h = h

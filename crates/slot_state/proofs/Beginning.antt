@@ -1,6 +1,5 @@
 -- A slot that finished no cluster.
-use Rattle.std.proofs.Common.{◌≡◌, ℕ, ◌<◌, ◌≤◌, List, [], length, map, replicate, take, Option, None, Some, refl, sym, ◌∙◌, ap, subst, arith, slice_get, unwrap_or}
-use Rattle.std.specs.Prelude.{All}
+use Rattle.std.proofs.Common.{◌≡◌, ◌≤◌, List, [], length, map, replicate, Some, sym, ◌∙◌, ap, subst, arith, slice_get, unwrap_or}
 use Rattle.std.proofs.lemmas.List.{length-map}
 use Rattle.rdf_values.proofs.Below.{length-below}
 use Rattle.rdf_values.specs.Bookings.{Booked, Pass, named_before}
@@ -22,14 +21,14 @@ use Rattle.entry_passes.specs.Plans.{covered_in}
 use Rattle.entry_passes.proofs.EntryLaws.{all_taken}
 use Rattle.cluster_tally.specs.Feedings.{IsFresh}
 use Rattle.cluster_tally.specs.Stages.{at_begin}
-use Rattle.cluster_tally.specs.Tallies.{Holds, TallyView}
+use Rattle.cluster_tally.specs.Tallies.{Holds}
 use Rattle.cluster_tally.proofs.ListPlaces.{there}
 use Rattle.cluster_tally.proofs.Stagings.{fresh_holds}
 use Rattle.loop_pieces.specs.Trails.{watched_places}
 use Rattle.loop_pieces.specs.Whole.{cluster_fault}
 use Rattle.slot_state.specs.Jobs.{job_facts}
-use Rattle.slot_state.specs.Passes.{IsOfPasses, places_before, watched_before}
-use Rattle.slot_state.specs.Slots.{IsFreshSlot, IsSlotOf, SlotView}
+use Rattle.slot_state.specs.Passes.{IsOfPasses, watched_before}
+use Rattle.slot_state.specs.Slots.{IsFreshSlot, SlotView}
 use Rattle.slot_state.specs.declared.progress.Phase.TheVariants.{Going}
 
 module _ (j : JobView) (job : IsJob j) where
@@ -37,7 +36,7 @@ module _ (j : JobView) (job : IsJob j) where
   loop_there =
       let all = loops_are (history j.script) (history j.script) itself in
       let many = sym (length-map (graph_loops (job_graph j)) (map (pass_at (history j.script)))) ∙ ap length all
-              ∙ length-map (loop_results (history j.script)) (λ results. map (λ (p : Pass). Some p) (loop_passes (history j.script) results)) in
+      ∙ length-map (loop_results (history j.script)) (λ results. map (λ (p : Pass). Some p) (loop_passes (history j.script) results)) in
       there (loop_results (history j.script)) j.number (let lt = job.loop in omega (arith, lt, many))
 
   pub is_loop_facts : AnswerIn64Bits j.dataset.fns → StatementsHaveWords (history j.script) → IsLoopFacts (facts_in j)

@@ -1,6 +1,6 @@
 -- A slot before and after a cluster.
-use Rattle.std.proofs.Common.{◌≡◌, ℕ, zero, suc, ◌+◌, ◌<◌, ◌≤◌, List, [], ◌∷◌, ◌++◌, length, map, Option, None, Some, refl, sym, ap, ◌∙◌, subst, arith, slice_get}
-use Rattle.std.specs.Prelude.{All, Result, Ok, Err}
+use Rattle.std.proofs.Common.{◌≡◌, ℕ, ◌+◌, ◌<◌, ◌≤◌, List, [], ◌∷◌, ◌++◌, length, Option, Some, refl, sym, ap, ◌∙◌, subst, arith, slice_get}
+use Rattle.std.specs.Prelude.{All}
 use Rattle.std.specs.List.Sorted.{IsStrictlyIncreasing}
 use Rattle.std.proofs.lemmas.List.{length-map}
 use Rattle.std.proofs.lemmas.List.Elements.{All-cons, All-contains, All-head, All-nil, All-tail, All-weaker, Contains-push}
@@ -13,7 +13,7 @@ use Rattle.entry_cache.specs.Jobs.{JobView, passes_in}
 use Rattle.entry_passes.specs.Entries.{facts_in, job_spans}
 use Rattle.cluster_tally.specs.Feedings.{IsAtEnd}
 use Rattle.cluster_tally.specs.Stages.{at_begin}
-use Rattle.cluster_tally.specs.Tallies.{Holds, TallyView}
+use Rattle.cluster_tally.specs.Tallies.{Holds}
 use Rattle.cluster_tally.proofs.ListPlaces.{mapped}
 use Rattle.loop_pieces.specs.Whole.{cluster_fault}
 use Rattle.slot_state.specs.Clusters.{at_end}

@@ -1,4 +1,4 @@
-use Rattle.std.proofs.Common.{◌≡◌, ◌≤◌, ◌∙◌, Err, Ok, ap, arith, subst, sym}
+use Rattle.std.proofs.Common.{◌≡◌, ◌∙◌, Err, ap, arith, subst, sym}
 use Rattle.std.specs.Prelude.{Result}
 use Rattle.entry_cache.specs.Jobs.{job_of}
 use Rattle.entry_passes.specs.Entries.{IsEntryAnswer}

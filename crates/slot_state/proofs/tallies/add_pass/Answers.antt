@@ -1,4 +1,4 @@
-use Rattle.std.proofs.Common.{◌≡◌, ◌<◌, ◌+◌, ◌++◌, ◌∷◌, [], ◌∙◌, None, Some, ap, arith, get_or, length, option_map, slice_get, subst, sym, take, true}
+use Rattle.std.proofs.Common.{◌+◌, ◌++◌, ◌∷◌, [], ◌∙◌, None, ap, arith, subst, sym, take}
 use Rattle.rdf_model.specs.LoopFacts.{kinds_in}
 use Rattle.entry_cache.specs.Jobs.{job_of, passes_in}
 use Rattle.cluster_tally.specs.Feedings.{IsFresh, place_if}
@@ -24,28 +24,28 @@ pub add_pass-requires-clause-edges : goal.add_pass-requires-clause-edges
 add_pass-requires-clause-edges g c =
     let its = numbered_at (job_of c.args.job.now) c.args.job.now.graph.now c.passes.result.now c.requires.job.graph c.passes.ensures c.args.number c.requires.number (record { result = 0; variation = None }) in
     edges (job_of c.args.job.now) c.args.number _ its c.kind.result.now c.args.job.now.graph.now c.requires.job.graph c.kind.ensures
-        c.requires.job.job c.in-Action.kind c.in-Action.is
+    c.requires.job.job c.in-Action.kind c.in-Action.is
 
 pub add_pass-requires-clause-watched : goal.add_pass-requires-clause-watched
 add_pass-requires-clause-watched g c = λ on.
     let its = numbered_at (job_of c.args.job.now) c.args.job.now.graph.now c.passes.result.now c.requires.job.graph c.passes.ensures c.args.number c.requires.number (record { result = 0; variation = None }) in
     can_watch (job_of c.args.job.now) c.args.number _ its c.kind.result.now c.args.job.now.graph.now c.requires.job.graph c.kind.ensures
-        c.requires.job.job c.in-Action.kind c.in-Action.is
-        (sym (c.is_watched-is_watched.ensures c.args.number _ its (its_pass (job_of c.args.job.now) c.args.number _ its)) ∙ on)
+    c.requires.job.job c.in-Action.kind c.in-Action.is
+    (sym (c.is_watched-is_watched.ensures c.args.number _ its (its_pass (job_of c.args.job.now) c.args.number _ its)) ∙ on)
 
 pub returns-in-Report-clause-fresh : goal.returns-in-Report-clause-fresh
 returns-in-Report-clause-fresh g c =
     let its = numbered_at (job_of c.args.job.now) c.args.job.now.graph.now c.passes.result.now c.requires.job.graph c.passes.ensures c.args.number c.requires.number (record { result = 0; variation = None }) in
     kept (job_of c.args.job.now) c.args.number _ (its_pass (job_of c.args.job.now) c.args.number _ its)
-        (of_report (job_of c.args.job.now) c.args.number _ its c.kind.result.now c.args.job.now.graph.now c.requires.job.graph c.kind.ensures
-        c.in-Report.is) c.args.tally.now c.requires.fresh
+    (of_report (job_of c.args.job.now) c.args.number _ its c.kind.result.now c.args.job.now.graph.now c.requires.job.graph c.kind.ensures
+    c.in-Report.is) c.args.tally.now c.requires.fresh
 
 pub returns-in-Report-clause-watched : goal.returns-in-Report-clause-watched
 returns-in-Report-clause-watched g c =
     let its = numbered_at (job_of c.args.job.now) c.args.job.now.graph.now c.passes.result.now c.requires.job.graph c.passes.ensures c.args.number c.requires.number (record { result = 0; variation = None }) in
     none_more (job_of c.args.job.now) c.args.number _ (its_pass (job_of c.args.job.now) c.args.number _ its)
-        (of_report (job_of c.args.job.now) c.args.number _ its c.kind.result.now c.args.job.now.graph.now c.requires.job.graph c.kind.ensures
-        c.in-Report.is)
+    (of_report (job_of c.args.job.now) c.args.number _ its c.kind.result.now c.args.job.now.graph.now c.requires.job.graph c.kind.ensures
+    c.in-Report.is)
 
 pub returns-in_ok-add_pass-in-Action-clause-fresh : goal.returns-in_ok-add_pass-in-Action-clause-fresh
 returns-in_ok-add_pass-in-Action-clause-fresh g c =
@@ -54,10 +54,10 @@ returns-in_ok-add_pass-in-Action-clause-fresh g c =
     let here = its_pass j c.args.number _ its in
     let told = c.is_watched-is_watched.ensures c.args.number _ its here in
     let b = of_action j c.args.number _ its c.kind.result.now c.args.job.now.graph.now c.requires.job.graph c.kind.ensures
-            c.in-Action.kind c.in-Action.is in
+    c.in-Action.kind c.in-Action.is in
     added j c.args.number _ here c.in-Action.kind b.0 b.1 c.add_pass.new.self
-        (subst (λ w. IsFresh (kinds_in (take c.args.number (passes_in j)) ++ c.in-Action.kind ∷ []) (places_before j c.args.number ++ place_if w (kinds_in (take c.args.number (passes_in j)))) c.add_pass.new.self) told
-        (c.in_ok-add_pass-in-Action.ensures.fresh (kinds_in (take c.args.number (passes_in j))) (places_before j c.args.number) c.requires.fresh))
+    (subst (λ w. IsFresh (kinds_in (take c.args.number (passes_in j)) ++ c.in-Action.kind ∷ []) (places_before j c.args.number ++ place_if w (kinds_in (take c.args.number (passes_in j)))) c.add_pass.new.self) told
+    (c.in_ok-add_pass-in-Action.ensures.fresh (kinds_in (take c.args.number (passes_in j))) (places_before j c.args.number) c.requires.fresh))
 
 pub returns-in_ok-add_pass-in-Action-clause-watched : goal.returns-in_ok-add_pass-in-Action-clause-watched
 returns-in_ok-add_pass-in-Action-clause-watched g c =
@@ -66,5 +66,5 @@ returns-in_ok-add_pass-in-Action-clause-watched g c =
     let here = its_pass j c.args.number _ its in
     let told = c.is_watched-is_watched.ensures c.args.number _ its here in
     let b = of_action j c.args.number _ its c.kind.result.now c.args.job.now.graph.now c.requires.job.graph c.kind.ensures
-            c.in-Action.kind c.in-Action.is in
+    c.in-Action.kind c.in-Action.is in
     one_more j c.args.number _ here c.in-Action.kind b.0 b.1 c.is_watched-is_watched.result told ∙ ap (λ m. watched_before j c.args.number + m) (sym c.from.ensures)
