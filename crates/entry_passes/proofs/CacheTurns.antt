@@ -1,5 +1,5 @@
 -- How the cache goes on, and what its evaluations are paid with.
-use Rattle.std.proofs.Common.{◌≡◌, ◌⊎◌, inl, inr, ℕ, zero, suc, ◌+◌, ◌*◌, ◌≤◌, Bool, true, false, List, length, replicate, Option, Some, None, Result, Ok, Err, refl, sym, ◌∙◌, ap, subst, arith}
+use Rattle.std.proofs.Common.{◌≡◌, ◌⊎◌, inl, inr, ℕ, zero, suc, ◌+◌, ◌*◌, ◌≤◌, Bool, true, false, List, length, replicate, Result, Ok, Err, refl, sym, ◌∙◌, ap, subst, arith}
 use Rattle.entry_cache.specs.Caches.{CacheView, IsBegun, IsServed, IsSized}
 use Rattle.entry_cache.specs.Jobs.{JobView}
 use Rattle.entry_cache.specs.Store.{HasHeld, held_count, held_in, is_held, keys_in}
@@ -22,7 +22,7 @@ nothing_at (suc n) (suc k) = nothing_at n k
 pub fresh_paid : (j : JobView) (entry steps n : ℕ) (c : CacheView) → c.cells ≡ replicate n Nothing → IsPaidFrom j entry steps c steps
 fresh_paid j entry steps n c e = record {
   held = λ T h k q.
-  let z : is_held (held_in c.cells k) ≡ false = ap (λ (hs : List Held). is_held (held_in hs k)) e ∙ ap is_held (nothing_at n k) in absurd (cc (sym q ∙ z));
+      let z : is_held (held_in c.cells k) ≡ false = ap (λ (hs : List Held). is_held (held_in hs k)) e ∙ ap is_held (nothing_at n k) in absurd (cc (sym q ∙ z));
   cost = omega arith;
 }
 
@@ -48,17 +48,14 @@ module _ (j : JobView) (entry : ℕ) (old new : CacheView) (first last : ℕ) (H
   gives_up sized bound = record {
     sized = sized;
     few = λ start p.
-    let b = bound (keys_of_all j entry) (has (keys_of_all j entry) (has_all j entry)) (p.held (keys_of_all j entry) (has_all j entry)) in
-    let f = few_keys j entry (length old.cells) in let a = p.cost in omega (arith, a, b, f);
+        let b = bound (keys_of_all j entry) (has (keys_of_all j entry) (has_all j entry)) (p.held (keys_of_all j entry) (has_all j entry)) in
+        let f = few_keys j entry (length old.cells) in let a = p.cost in omega (arith, a, b, f);
   }
 
 -- ---- one after another
 
 pub given_up : (j : JobView) (entry : ℕ) (a b : CacheView) (first last : ℕ) → GoesOn j entry a b first last → GivesUp j entry a b first last
 given_up j entry a b first last h = record { sized = h.at_entry.sized; few = λ start p. paid_few j entry start b last (h.paid start p) }
-
-pub same_turn : (j : JobView) (entry : ℕ) (a : CacheView) (steps : ℕ) → IsAtEntry j entry a → GoesOn j entry a a steps steps
-same_turn j entry a steps at = record { at_entry = at; paid = λ start p. p }
 
 pub then_on : (j : JobView) (entry : ℕ) (a b c : CacheView) (first mid last : ℕ) → GoesOn j entry a b first mid → GoesOn j entry b c mid last → GoesOn j entry a c first last
 then_on j entry a b c first mid last h k = record { at_entry = k.at_entry; paid = λ start p. k.paid start (h.paid start p) }

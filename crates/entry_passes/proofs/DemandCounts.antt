@@ -1,10 +1,9 @@
 -- How many keys the passes of an entry demand: at most as many as there are demands, each counted once.
-use Rattle.std.proofs.Common.{◌≡◌, ℕ, zero, suc, ◌+◌, ◌*◌, ◌≤◌, Bool, true, false, ◌||◌, ◌&&◌, List, [], ◌∷◌, ◌++◌, length, Option, Some, None, refl, sym, ◌∙◌, ap, subst, arith, nat_eq, slice_get, unwrap_or, if◌then◌else◌}
-use Rattle.std.specs.Prelude.{All, flat_map}
+use Rattle.std.proofs.Common.{◌≡◌, ℕ, zero, suc, ◌+◌, ◌*◌, ◌≤◌, Bool, true, false, ◌||◌, ◌&&◌, List, [], ◌∷◌, length, Some, None, refl, sym, ◌∙◌, ap, subst, arith, nat_eq, slice_get, unwrap_or, if◌then◌else◌}
+use Rattle.std.specs.Prelude.{flat_map}
 use Rattle.std.specs.List.{list_any, AllByRecursion}
 use Rattle.std.proofs.lemmas.Bool.Decides.{Decides-eqb}
 use Rattle.std.proofs.lemmas.List.Elements.{All-from_recursion}
-use Rattle.rdf_values.specs.Bookings.{Pass}
 use Rattle.rdf_values.specs.Names.{same}
 use Rattle.rdf_values.specs.Path.{Under, Variation, same_variation}
 use Rattle.rdf_values.specs.declared.value.Value.{Value}
@@ -14,7 +13,7 @@ use Rattle.graph_numbers.proofs.Meeting.{In, here, there, in_left, in_right}
 use Rattle.entry_cache.specs.Caches.{CacheView}
 use Rattle.entry_cache.specs.Jobs.{JobView, job_graph, passes_in}
 use Rattle.entry_cache.specs.Keys.{demand_key}
-use Rattle.entry_cache.specs.Store.{HasHeld, held_count, held_in, is_held, keys_in, row_of}
+use Rattle.entry_cache.specs.Store.{keys_in, row_of}
 use Rattle.entry_cache.proofs.DemandSets.{keys_few}
 use Rattle.entry_cache.proofs.FillLaws.{held_within}
 use Rattle.entry_passes.specs.Entries.{entry_demands}

@@ -1,5 +1,5 @@
 -- One pass of an entry, over plain values.
-use Rattle.std.proofs.Common.{◌≡◌, ◌≢◌, ◌⊎◌, inl, inr, ℕ, zero, suc, ◌+◌, ◌<◌, ◌≤◌, Bool, true, false, List, [], ◌∷◌, ◌++◌, length, map, take, Option, Some, None, Result, Ok, Err, option_map, refl, sym, ◌∙◌, ap, subst, arith, get_or, slice_get, if◌then◌else◌}
+use Rattle.std.proofs.Common.{◌≡◌, ℕ, zero, suc, ◌+◌, ◌<◌, ◌≤◌, List, [], ◌∷◌, ◌++◌, length, take, Option, Some, None, Result, Ok, Err, option_map, refl, sym, ◌∙◌, ap, subst, arith, get_or, slice_get}
 use Rattle.std.specs.Prelude.{All, MatchOption, OnOk}
 use Rattle.std.proofs.lemmas.List.Elements.{All-get_or}
 use Rattle.std.proofs.lemmas.Option.{slice_get-get_or, slice_get_within}
@@ -8,27 +8,23 @@ use Rattle.rdf_values.specs.Path.{Path, history}
 use Rattle.rdf_values.specs.Spread.{feed_fault, spread}
 use Rattle.rdf_values.specs.declared.action.ActionKind.{ActionKind}
 use Rattle.rdf_values.specs.declared.action.ActionKind.TheVariants as kind
-use Rattle.rdf_values.specs.declared.fault.EntryFault.{EntryFault}
 use Rattle.rdf_values.specs.declared.value.Value.{Value}
 use Rattle.rdf_model.specs.EntryOutcomes.{Feed, Skip}
 use Rattle.rdf_model.specs.Evaluation.{Gives}
-use Rattle.rdf_model.specs.LoopFacts.{filter_reach, is_covered, kind_in, kinds_in}
-use Rattle.rdf_model.specs.Results.{fault_in}
-use Rattle.rdf_model.specs.declared.loop_facts.Reach.{Reach}
-use Rattle.rdf_model.specs.declared.loop_facts.Reach.TheVariants.{Failed, Passed, Stopped}
+use Rattle.rdf_model.specs.LoopFacts.{is_covered, kind_in, kinds_in}
 use Rattle.actions.specs.Holding.{IsTake}
 use Rattle.actions.specs.Parts.{Suits, values_of}
 use Rattle.actions.specs.declared.items.Items.{Items}
-use Rattle.graph_numbers.specs.Graphs.{graph_filters, graph_results, graph_under}
-use Rattle.graph_numbers.specs.Results.{FilterAt, ResultAt, kind_of_booking}
+use Rattle.graph_numbers.specs.Graphs.{graph_results}
+use Rattle.graph_numbers.specs.Results.{ResultAt, kind_of_booking}
 use Rattle.graph_numbers.specs.declared.pass.Pass.{Pass as NumberedPass}
 use Rattle.graph_numbers.specs.declared.result_kind.ResultKind.{ResultKind}
 use Rattle.graph_numbers.specs.declared.result_kind.ResultKind.TheVariants as what
-use Rattle.cluster_tally.specs.Feedings.{CanFeed, CanNote, after_filter, after_pass}
+use Rattle.cluster_tally.specs.Feedings.{CanFeed, after_pass}
 use Rattle.cluster_tally.specs.Laws as law
 use Rattle.cluster_tally.specs.Stages.{Stage, after_entry}
 use Rattle.cluster_tally.specs.Tallies.{Holds, TallyView}
-use Rattle.entry_cache.specs.Caches.{CacheView, IsActionBooking, IsActionPass, IsCovered, IsOfAction, IsReach, numbered_in, IsOutcome}
+use Rattle.entry_cache.specs.Caches.{CacheView, IsActionBooking, IsActionPass, IsOfAction, numbered_in, IsOutcome}
 use Rattle.entry_cache.specs.Jobs.{JobView, IsJob, job_graph, pass_outcome, passes_in}
 use Rattle.entry_cache.proofs.PassNumbers.{result_there, some_same}
 use Rattle.entry_cache.proofs.PassTies.{pass_of, pass_is}
@@ -39,9 +35,8 @@ use Rattle.entry_passes.specs.Turns.{IsAmid, IsAtEntry, IsPassAnswer, IsReportAn
 use Rattle.entry_cache.specs.declared.outcome.Outcome.TheVariants as answer
 use Rattle.entry_passes.specs.declared.stop.EntryStop.{EntryStop}
 use Rattle.entry_passes.specs.declared.stop.EntryStop.TheVariants as stop
-use Rattle.entry_passes.proofs.Covered.{cover_at, cover_is, covered_count, covered_there}
-use Rattle.entry_passes.proofs.ReportTies.{filter_there, report_fault, tried}
-use Rattle.entry_passes.proofs.Taken.{covered_reach, fed_clear, fed_items, filter_at, its_kind, next_entry, own_reaches, own_spreads, place_next, place_same, skipped_items, uncovered_reach}
+use Rattle.entry_passes.proofs.ReportTies.{report_fault}
+use Rattle.entry_passes.proofs.Taken.{fed_clear, fed_items, its_kind, next_entry, own_reaches, own_spreads, place_next, place_same, skipped_items}
 use Rattle.entry_passes.proofs.Faults.{fault_first}
 use Rattle.rdf_model.specs.declared.loop_facts.LoopFacts.{LoopFacts}
 use Rattle.std.proofs.lemmas.List.{length-map}
@@ -124,7 +119,7 @@ module _ (j : JobView) (entry : ℕ) (row : List Value) (here : slice_get j.data
       let a = action_of j n action in
       record {
         holds = skips (facts_in j) watched (at_places s place 0) t (own_spreads j entry row here) (own_reaches j entry row here) amid.holds (next_entry j entry row here watched (at_places s place 0) cluster t amid)
-        (ap (slice_get (own_spreads j entry row here)) e ∙ skipped_items j entry row here n a.pass a.its_pass a.kind a.at a.booking h);
+            (ap (slice_get (own_spreads j entry row here)) e ∙ skipped_items j entry row here n a.pass a.its_pass a.kind a.at a.booking h);
         its_cluster = amid.its_cluster;
         next = amid.next;
       }
@@ -146,11 +141,6 @@ module _ (j : JobView) (entry : ℕ) (row : List Value) (here : slice_get j.data
           no_fault = ap (feed_fault a.kind) values ∙ fed_clear j entry row here n a.pass a.its_pass a.kind a.at a.booking vs feeds;
           fed = ap (slice_get (own_spreads j entry row here)) e ∙ fed_items j entry row here n a.pass a.its_pass a.kind a.at a.booking vs feeds ∙ ap (λ (ws : List Value). Some (spread a.kind ws)) (sym values);
         }
-
-    pub feed_moves : (new : TallyView)
-        → ((watched : List ℕ) (s : Stage) → CanFeed (facts_in j) watched (at_places s place 0) t place cluster items → Holds (facts_in j) watched (after_pass (at_places s place 0)) new)
-        → Moves j cluster entry t place 0 new (place + 1) 0
-    feed_moves new h watched s amid = record { holds = h watched s (can_feed watched s amid); its_cluster = amid.its_cluster; next = amid.next }
 
 -- ---- a report's pass
 

@@ -3,9 +3,8 @@ use Rattle.std.proofs.Common.{◌≡◌, ℕ, zero, suc, ◌+◌, ◌<◌, List,
 use Rattle.rdf_values.specs.Bookings.{Pass}
 use Rattle.rdf_values.specs.declared.value.Value.{Value}
 use Rattle.rdf_values.specs.declared.fault.EntryFault.{EntryFault}
-use Rattle.rdf_values.specs.declared.fault.Fault.{Fault}
 use Rattle.rdf_model.specs.Results.{Dataset, fault_at, fault_in, fault_or, first_fault_in}
-use Rattle.entry_cache.specs.Jobs.{JobView, outcome_of, pass_outcome, passes_in}
+use Rattle.entry_cache.specs.Jobs.{JobView, outcome_of, passes_in}
 use Rattle.entry_cache.specs.Store.{row_of}
 use Rattle.entry_passes.specs.Entries.{entry_fault}
 use Rattle.entry_passes.specs.Turns.{pass_fault}

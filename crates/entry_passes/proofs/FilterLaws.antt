@@ -1,11 +1,10 @@
 -- One named filter of an entry, by what the plan and the cache answer.
-use Rattle.std.proofs.Common.{◌≡◌, ◌⊎◌, ℕ, suc, zero, ◌+◌, ◌*◌, ◌<◌, ◌≤◌, Bool, true, false, List, [], ◌∷◌, length, drop, Option, Some, None, Result, Ok, Err, refl, sym, ◌∙◌, ap, subst, arith, slice_get, if◌then◌else◌}
+use Rattle.std.proofs.Common.{◌≡◌, ◌⊎◌, ℕ, suc, zero, ◌+◌, ◌*◌, ◌≤◌, Bool, true, false, List, [], ◌∷◌, length, drop, Some, Result, Ok, Err, refl, sym, ◌∙◌, ap, subst, arith, slice_get, if◌then◌else◌}
 use Rattle.std.proofs.lemmas.Option.{slice_get_within}
 use Rattle.rdf_values.specs.declared.fault.EntryFault.{EntryFault}
-use Rattle.rdf_values.specs.declared.value.Value.{Value}
 use Rattle.rdf_model.specs.EntryOutcomes.{Entry}
 use Rattle.rdf_model.specs.Evaluation.{Outcome}
-use Rattle.rdf_model.specs.LoopFacts.{filter_reach, is_covered}
+use Rattle.rdf_model.specs.LoopFacts.{is_covered}
 use Rattle.rdf_model.specs.Results.{fault_in}
 use Rattle.rdf_model.specs.declared.loop_facts.LoopFacts.{LoopFacts}
 use Rattle.rdf_model.specs.declared.loop_facts.Reach.{Reach}
@@ -24,13 +23,13 @@ use Rattle.entry_cache.specs.declared.outcome.OutcomeStop.{OutcomeStop}
 use Rattle.entry_cache.specs.declared.outcome.OutcomeStop.TheVariants as answer
 use Rattle.entry_cache.proofs.FillLaws.{there}
 use Rattle.entry_cache.proofs.PassNumbers.{some_same}
-use Rattle.entry_passes.specs.Entries.{entry_fault, facts_in}
+use Rattle.entry_passes.specs.Entries.{facts_in}
 use Rattle.entry_passes.specs.Plans.{covered_in}
 use Rattle.entry_passes.specs.Turns.{CanTake, GivesUp, GoesOn, HasAllDemands, IsAmid, IsAtEntry, Moves, at_places}
 use Rattle.entry_passes.proofs.CacheTurns.{gives_up, goes_on}
 use Rattle.entry_passes.proofs.Covered.{cover_at, cover_is, covered_count, covered_there}
 use Rattle.entry_passes.proofs.EntryLaws.{row_at}
-use Rattle.entry_passes.proofs.ReportTies.{covered_clear, filter_there, has_filter, tried, tried_fault, tried_next}
+use Rattle.entry_passes.proofs.ReportTies.{filter_there, has_filter, tried, tried_fault, tried_next}
 use Rattle.entry_passes.proofs.Taken.{covered_reach, filter_at, next_entry, own_reaches, own_spreads, uncovered_reach}
 
 -- ---- the plan's answer
@@ -54,7 +53,7 @@ module _ (j : JobView) (job : IsJob j) (entry : ℕ) (old : CacheView) (at : IsA
       let row = row_at j entry old at in let x = plan_filter j f false h in
       record {
         holds = skips (facts_in j) watched (at_places s passes f) t (own_spreads j entry row.0 row.1) (own_reaches j entry row.0 row.1) amid.holds (next_entry j entry row.0 row.1 watched (at_places s passes f) cluster t amid)
-        (uncovered_reach j entry row.0 row.1 f x.0 x.1 (cover_says j job f false h));
+            (uncovered_reach j entry row.0 row.1 f x.0 x.1 (cover_says j job f false h));
         its_cluster = amid.its_cluster;
         next = amid.next;
       }

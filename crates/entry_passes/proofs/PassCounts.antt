@@ -1,10 +1,10 @@
 -- How many passes a loop has.
-use Rattle.std.proofs.Common.{◌≡◌, ◌⊎◌, inl, inr, ℕ, zero, suc, ◌+◌, ◌*◌, ◌<◌, ◌≤◌, ◌^◌, Bool, true, false, not, List, [], ◌∷◌, ◌++◌, length, map, Option, Some, None, refl, sym, ◌∙◌, ap, arith, slice_get, unwrap_or, if◌then◌else◌, length-append}
+use Rattle.std.proofs.Common.{◌≡◌, ◌⊎◌, inl, inr, ℕ, zero, suc, ◌+◌, ◌*◌, ◌<◌, ◌≤◌, ◌^◌, Bool, true, false, not, List, [], ◌∷◌, ◌++◌, length, map, Option, Some, None, refl, ap, arith, slice_get, unwrap_or, if◌then◌else◌, length-append}
 use Rattle.std.proofs.Math.Nat.{mul-le-mul, mul-le-mul_right}
 use Rattle.std.proofs.lemmas.List.{length-map, length-reverse}
 use Rattle.rdf_values.specs.Bookings.{Booked, booked_by, bookings, filled, has_variations, result_depends}
 use Rattle.rdf_values.specs.Names.{among}
-use Rattle.rdf_values.specs.Path.{Variation, history, variations}
+use Rattle.rdf_values.specs.Path.{history, variations}
 use Rattle.rdf_values.specs.declared.script.Line.{Line}
 use Rattle.rdf_values.specs.declared.script.Script.{Script}
 use Rattle.rdf_values.specs.declared.statement.Statement.{Statement}

@@ -1,10 +1,10 @@
 -- Reports: what their filters come to and demand, by their numbers.
-use Rattle.std.proofs.Common.{◌≡◌, ◌⊎◌, inl, inr, ℕ, zero, suc, ◌+◌, ◌<◌, Bool, true, false, List, [], ◌∷◌, ◌++◌, length, Option, Some, None, Result, Ok, Err, refl, sym, ◌∙◌, ap, subst, arith, get_or, slice_get}
+use Rattle.std.proofs.Common.{◌≡◌, ℕ, zero, suc, Bool, true, List, [], ◌∷◌, Option, Some, None, Err, refl, sym, ◌∙◌, ap, subst, get_or, slice_get}
 use Rattle.std.specs.Prelude.{All, Contains, flat_map}
 use Rattle.std.specs.List.{AllByRecursion}
 use Rattle.std.proofs.lemmas.List.Elements.{All-from_get_or, All-from_recursion, Contains-get_or, recursion_from_All}
 use Rattle.std.proofs.lemmas.Option.{slice_get-get_or}
-use Rattle.rdf_values.specs.Bookings.{ActionAt, Booking, Pass, ReportOn}
+use Rattle.rdf_values.specs.Bookings.{ActionAt, Booking, ReportOn}
 use Rattle.rdf_values.specs.Path.{Path, history}
 use Rattle.rdf_values.specs.declared.fault.EntryFault.{EntryFault}
 use Rattle.rdf_values.specs.declared.value.Value.{Value}
@@ -12,15 +12,14 @@ use Rattle.rdf_model.specs.Demanded.{Demand, booking_demands, filter_demands}
 use Rattle.rdf_model.specs.EntryOutcomes.{Entry, through}
 use Rattle.rdf_model.specs.Evaluation.{Outcome, Faults, Gives, Needs, ◌>>=◌}
 use Rattle.rdf_model.specs.Results.{fault_in}
-use Rattle.rdf_model.specs.declared.loop_facts.Reach.{Reach}
 use Rattle.graph_numbers.specs.Graphs.{graph_filters, graph_results, graph_under}
 use Rattle.graph_numbers.specs.Outcomes.{booking_numbers, report_numbers, through_filter}
-use Rattle.graph_numbers.specs.Results.{FilterAt, ResultAt}
+use Rattle.graph_numbers.specs.Results.{FilterAt}
 use Rattle.graph_numbers.proofs.Covering.{AreNumbersOf}
 use Rattle.graph_numbers.proofs.Extending.{itself}
 use Rattle.graph_numbers.proofs.Meeting.{In, here, there}
 use Rattle.entry_cache.specs.Caches.{HasFilterDemands, IsCovered, IsReach}
-use Rattle.entry_cache.specs.Jobs.{JobView, IsJob, job_graph, passes_in}
+use Rattle.entry_cache.specs.Jobs.{JobView, IsJob, job_graph}
 use Rattle.entry_cache.specs.Keys.{demand_key}
 use Rattle.entry_cache.specs.Store.{site_in, version_in}
 use Rattle.entry_cache.specs.declared.outcome.OutcomeStop.TheVariants as answer
@@ -47,9 +46,6 @@ no_fault_gives : {A : Type 0} (o : Outcome ⊥ A) → fault_in o ≡ None → (a
 no_fault_gives (Gives a) h = (a, refl)
 no_fault_gives (Faults k) h = cc h
 no_fault_gives (Needs m) h = elim m [ ]
-
-fault_faults : {A : Type 0} (o : Outcome ⊥ A) (k : EntryFault) → o ≡ Faults k → fault_in o ≡ Some k
-fault_faults o k h = ap fault_in h
 
 -- ---- a filter that a report covers
 

@@ -1,8 +1,8 @@
 -- What the next entry gives to a tally, by the passes of a job's loop.
-use Rattle.std.proofs.Common.{◌≡◌, ◌⊎◌, inl, inr, ℕ, zero, suc, ◌+◌, ◌-◌, ◌<◌, ◌≤◌, Bool, true, false, List, [], ◌∷◌, ◌++◌, length, map, take, drop, Option, Some, None, refl, sym, ◌∙◌, ap, subst, arith, slice_get, if◌then◌else◌}
-use Rattle.std.specs.Prelude.{flat_map, slice_range}
+use Rattle.std.proofs.Common.{◌≡◌, ℕ, zero, suc, ◌+◌, ◌-◌, ◌<◌, Bool, true, false, List, [], ◌∷◌, ◌++◌, length, map, take, drop, Option, Some, None, refl, sym, ◌∙◌, ap, arith, slice_get, if◌then◌else◌}
+use Rattle.std.specs.Prelude.{slice_range}
 use Rattle.rdf_values.specs.Bookings.{ActionAt, Booking, Pass, ReportOn, columns_of, named_before}
-use Rattle.rdf_values.specs.Path.{Path, Under, history}
+use Rattle.rdf_values.specs.Path.{Path, history}
 use Rattle.rdf_values.specs.Spread.{feed_fault, spread}
 use Rattle.rdf_values.specs.declared.action.ActionKind.{ActionKind}
 use Rattle.rdf_values.specs.declared.fault.EntryFault.{EntryFault}
@@ -23,7 +23,7 @@ use Rattle.cluster_tally.specs.Stages.{IsNextEntry, Stage}
 use Rattle.cluster_tally.specs.Tallies.{TallyView}
 use Rattle.entry_cache.specs.Jobs.{JobView, job_graph, outcome_of, pass_outcome, passes_in}
 use Rattle.entry_cache.proofs.PassTies.{get_mapped}
-use Rattle.entry_passes.specs.Entries.{IsEntryOf, facts_in}
+use Rattle.entry_passes.specs.Entries.{facts_in}
 use Rattle.entry_passes.specs.Turns.{IsAmid, actions_before}
 use Rattle.entry_passes.proofs.Covered.{filters_are}
 

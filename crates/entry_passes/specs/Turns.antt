@@ -1,5 +1,5 @@
 -- What trying a pass of an entry does.
-use Rattle.std.specs.Prelude.{◌≡◌, ◌≤◌, ◌+◌, ◌*◌, ⊤, ℕ, Bool, true, List, [], Option, None, Some, Result, Ok, Err, length, slice_get, take, unwrap_or, nat_eq}
+use Rattle.std.specs.Prelude.{◌≡◌, ◌≤◌, ◌+◌, ◌*◌, ⊤, ℕ, Bool, List, [], Option, None, Some, Result, Ok, Err, length, slice_get, take, unwrap_or, nat_eq}
 use Rattle.std.specs.List.{list_any}
 use Rattle.rdf_values.specs.Bookings.{ReportOn}
 use Rattle.rdf_values.specs.Path.{Path}
@@ -62,7 +62,6 @@ abbrev pub IsPassAnswer : {A : Type 0} → JobView → ℕ → ℕ → Result A 
 IsPassAnswer j entry pass (Ok a) = pass_fault j entry pass ≡ None
 IsPassAnswer j entry pass (Err (stop.Fault n kind)) = (n ≡ pass) × (pass_fault j entry pass ≡ Some kind)
 IsPassAnswer j entry pass (Err stop.Memory) = ⊤
-
 
 -- ---- reports
 

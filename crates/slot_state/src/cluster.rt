@@ -7,7 +7,7 @@ ghost use Rattle.entry_passes.specs.Entries.{IsNoTake, facts_in, job_spans};
 ghost use Rattle.entry_passes.specs.Plans.{covered_in};
 ghost use Rattle.cluster_tally.specs.Stages.{at_begin};
 ghost use Rattle.cluster_tally.specs.Tallies.{Holds};
-ghost use Rattle.slot_state.specs.Clusters.{IsClusterAnswer, at_end};
+ghost use Rattle.slot_state.specs.Clusters.{IsClusterAnswer, at_end, stop_from};
 ghost use Rattle.slot_state.specs.Slots.{cluster_demands};
 
 use cluster_tally::Tally;
@@ -23,6 +23,16 @@ use std::sync::ledger::Ledger;
 pub(crate) enum ClusterStop {
     Fault(Fault),
     Memory,
+}
+
+// What stops a cluster at an entry.
+fn stop_at(entry: u32, stop: EntryStop) -> ClusterStop
+    ensures { result ≡ stop_from entry stop }
+{
+    match stop {
+        EntryStop::Fault { pass, kind } => ClusterStop::Fault(Fault { entry, pass, kind }),
+        EntryStop::Memory => ClusterStop::Memory,
+    }
 }
 
 /// Takes the entries of a cluster into the tally, in order, up to the first in which a pass faults.
@@ -51,10 +61,7 @@ pub(crate) fn try_cluster<L: Ledger>(
     for entry in span.lo..span.hi {
         match try_entry(alloc, job, plan, cache, tally, cluster, entry, steps) {
             Ok(()) => {}
-            Err(EntryStop::Fault { pass, kind }) => {
-                return Err(ClusterStop::Fault(Fault { entry, pass, kind }));
-            }
-            Err(EntryStop::Memory) => return Err(ClusterStop::Memory),
+            Err(stop) => return Err(stop_at(entry, stop)),
         }
     }
     Ok(())

@@ -49,6 +49,7 @@ impl SlotState {
         requires words { StatementsHaveWords (history (job_of job.now).script) }
         ensures { IfOk result (λ s. IsFreshSlot (job_facts (job_of job.now)) s) }
     {
+        job.functions.answers_have_64_bits();
         let cache = EntryCache::new(alloc, job)?;
         let plan = EntryPlan::new(alloc, job)?;
         let (tally, watched) = tally_of(alloc, job)?;
@@ -93,10 +94,18 @@ impl SlotState {
         ensures plain { IsPlainSlot (job_of job.now) → self.old.phase ≡ Phase.Going → result ≢ Err SlotStop.Memory }
         ensures bound { steps.new ≤ steps.old + 2 * cluster_demands (job_of job.now) cluster }
     {
-        if self.phase == Phase::NoMemory {
+        if let Phase::NoMemory = self.phase {
             return Err(SlotStop::Memory);
         }
-        match try_cluster(alloc, job, &self.plan, &mut self.cache, &mut self.tally, cluster, steps) {
+        match try_cluster(
+            alloc,
+            job,
+            &self.plan,
+            &mut self.cache,
+            &mut self.tally,
+            cluster,
+            steps,
+        ) {
             Ok(()) => match self.tally.close(cluster) {
                 Ok(()) => {
                     self.done.push_reserved(cluster);

@@ -1,4 +1,4 @@
-use Rattle.std.proofs.Common.{◌≡◌, Err, length, refl, ap, ◌∙◌}
+use Rattle.std.proofs.Common.{length, refl, ap}
 use Rattle.rdf_model.specs.LoopFacts.{kinds_in}
 use Rattle.cluster_tally.specs.Stages.{after_entry}
 use Rattle.cluster_tally.specs.Tallies.{Holds}

@@ -1,4 +1,4 @@
-use Rattle.std.proofs.Common.{Bool, true, false, Ok, Err, ◌∙◌, ap, subst, length}
+use Rattle.std.proofs.Common.{true, false, Err, ◌∙◌, ap, subst, length}
 use Rattle.rdf_model.specs.LoopFacts.{kinds_in}
 use Rattle.entry_cache.specs.Caches.{IsReach}
 use Rattle.entry_cache.specs.Jobs.{job_of, passes_in}

@@ -1,4 +1,4 @@
-use Rattle.std.proofs.Common.{◌≡◌, ℕ, ◌+◌, ◌<◌, ◌≤◌, true, false, Err, length, sym, ◌∙◌, ap, subst, arith}
+use Rattle.std.proofs.Common.{◌≡◌, ℕ, ◌+◌, true, false, Err, length, ◌∙◌, ap, subst, arith}
 use Rattle.rdf_model.specs.LoopFacts.{kinds_in}
 use Rattle.entry_cache.specs.Jobs.{job_of, passes_in}
 use Rattle.entry_passes.specs.Turns.{IsAmid, at_places}
@@ -25,22 +25,22 @@ returns-in-Err-clause-turn g c =
 pub loop-filter-preserved : goal.loop-filter-preserved
 loop-filter-preserved g c =
     elim c.if-covered-filter.branch [
-    | then-covered-filter+in-Ok w ↦
-    record {
-      turn = goes_at (job_of c.args.at.now.job.now) c.args.at.now.entry c.args.cache.now w.note_filter.new.cache c.if-covered-filter.cache c.args.steps.now w.note_filter.new.steps c.if-covered-filter.steps w.cache-is w.steps-is
-      (then_on (job_of c.args.at.now.job.now) c.args.at.now.entry c.args.cache.now c.loop-filter.cache w.note_filter.new.cache c.args.steps.now c.loop-filter.steps w.note_filter.new.steps c.loop-filter.invariant.turn w.in-Ok.ensures.turn);
-      taken = moves_at (job_of c.args.at.now.job.now) c.args.at.now.cluster c.args.at.now.entry c.args.tally.now (length (kinds_in (passes_in (job_of c.args.at.now.job.now)))) 0 w.note_filter.new.tally c.if-covered-filter.tally (length (kinds_in (passes_in (job_of c.args.at.now.job.now)))) (c.loop-filter.filter + 1) w.tally-is
-      (λ watched s amid. w.in-Ok.ensures.taken watched s (c.loop-filter.invariant.taken watched s amid));
-    }
-    | else-covered-filter w ↦
-    record {
-      turn = goes_at (job_of c.args.at.now.job.now) c.args.at.now.entry c.args.cache.now c.loop-filter.cache c.if-covered-filter.cache c.args.steps.now c.loop-filter.steps c.if-covered-filter.steps w.cache-is w.steps-is c.loop-filter.invariant.turn;
-      taken = moves_at (job_of c.args.at.now.job.now) c.args.at.now.cluster c.args.at.now.entry c.args.tally.now (length (kinds_in (passes_in (job_of c.args.at.now.job.now)))) 0 c.loop-filter.tally c.if-covered-filter.tally (length (kinds_in (passes_in (job_of c.args.at.now.job.now)))) (c.loop-filter.filter + 1) w.tally-is
-      (λ watched s amid.
-      uncovered_goes (job_of c.args.at.now.job.now) c.requires.job.job c.args.at.now.entry c.args.cache.now c.requires.at_entry c.loop-filter.filter (length (kinds_in (passes_in (job_of c.args.at.now.job.now)))) c.args.at.now.cluster c.loop-filter.tally c.skips_filter.ensures
-      (plan_at (job_of c.args.at.now.job.now) c.requires.job.job c.args.at.now.job.now.graph.now c.requires.job.graph c.filters-filter-end.result c.filters-filter-end.ensures c.covered-covered.result.now (c.covered-covered.ensures ∙ c.requires.plan) c.loop-filter.filter false c.loop-filter-test.true w.if-covered-filter.false)
-      watched s (c.loop-filter.invariant.taken watched s amid));
-    }
+      | then-covered-filter+in-Ok w ↦
+          record {
+            turn = goes_at (job_of c.args.at.now.job.now) c.args.at.now.entry c.args.cache.now w.note_filter.new.cache c.if-covered-filter.cache c.args.steps.now w.note_filter.new.steps c.if-covered-filter.steps w.cache-is w.steps-is
+                (then_on (job_of c.args.at.now.job.now) c.args.at.now.entry c.args.cache.now c.loop-filter.cache w.note_filter.new.cache c.args.steps.now c.loop-filter.steps w.note_filter.new.steps c.loop-filter.invariant.turn w.in-Ok.ensures.turn);
+            taken = moves_at (job_of c.args.at.now.job.now) c.args.at.now.cluster c.args.at.now.entry c.args.tally.now (length (kinds_in (passes_in (job_of c.args.at.now.job.now)))) 0 w.note_filter.new.tally c.if-covered-filter.tally (length (kinds_in (passes_in (job_of c.args.at.now.job.now)))) (c.loop-filter.filter + 1) w.tally-is
+                (λ watched s amid. w.in-Ok.ensures.taken watched s (c.loop-filter.invariant.taken watched s amid));
+          }
+      | else-covered-filter w ↦
+          record {
+            turn = goes_at (job_of c.args.at.now.job.now) c.args.at.now.entry c.args.cache.now c.loop-filter.cache c.if-covered-filter.cache c.args.steps.now c.loop-filter.steps c.if-covered-filter.steps w.cache-is w.steps-is c.loop-filter.invariant.turn;
+            taken = moves_at (job_of c.args.at.now.job.now) c.args.at.now.cluster c.args.at.now.entry c.args.tally.now (length (kinds_in (passes_in (job_of c.args.at.now.job.now)))) 0 c.loop-filter.tally c.if-covered-filter.tally (length (kinds_in (passes_in (job_of c.args.at.now.job.now)))) (c.loop-filter.filter + 1) w.tally-is
+                (λ watched s amid.
+                uncovered_goes (job_of c.args.at.now.job.now) c.requires.job.job c.args.at.now.entry c.args.cache.now c.requires.at_entry c.loop-filter.filter (length (kinds_in (passes_in (job_of c.args.at.now.job.now)))) c.args.at.now.cluster c.loop-filter.tally c.skips_filter.ensures
+                (plan_at (job_of c.args.at.now.job.now) c.requires.job.job c.args.at.now.job.now.graph.now c.requires.job.graph c.filters-filter-end.result c.filters-filter-end.ensures c.covered-covered.result.now (c.covered-covered.ensures ∙ c.requires.plan) c.loop-filter.filter false c.loop-filter-test.true w.if-covered-filter.false)
+                watched s (c.loop-filter.invariant.taken watched s amid));
+          }
     ]
 
 pub returns-clause-taken : goal.returns-clause-taken

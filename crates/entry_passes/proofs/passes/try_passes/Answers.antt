@@ -1,5 +1,4 @@
-use Rattle.std.proofs.Common.{◌≡◌, ℕ, ◌<◌, ◌≤◌, None, Err, length, ◌∙◌, subst, arith, below_more}
-use Rattle.cluster_tally.specs.Stages.{Stage}
+use Rattle.std.proofs.Common.{◌≡◌, ℕ, None, Err, length, ◌∙◌, subst, arith, below_more}
 use Rattle.entry_cache.specs.Jobs.{job_of, passes_in}
 use Rattle.entry_passes.specs.Turns.{IsAmid, at_places, pass_fault}
 use Rattle.entry_passes.proofs.CacheTurns.{then_on, then_turn, turn_as}

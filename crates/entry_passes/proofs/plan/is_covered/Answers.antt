@@ -1,4 +1,4 @@
-use Rattle.std.proofs.Common.{◌≡◌, None, refl, ◌∙◌, get_or}
+use Rattle.std.proofs.Common.{None, refl, ◌∙◌, get_or}
 use Rattle.entry_cache.specs.Jobs.{job_of}
 use Rattle.entry_passes.proofs.PlanLaws.{cover_found, cover_next, cover_none, covering_is, result_below}
 use Rattle.entry_passes.proofs.plan.is_covered.Goals as goal

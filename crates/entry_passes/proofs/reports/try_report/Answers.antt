@@ -3,7 +3,6 @@ use Rattle.graph_numbers.specs.Graphs.{GraphView, graph_results}
 use Rattle.graph_numbers.specs.Results.{ResultAt}
 use Rattle.entry_cache.specs.Jobs.{job_of}
 use Rattle.entry_passes.proofs.EntryLaws.{own_covers, report_answer, row_at}
-use Rattle.entry_passes.proofs.ReportTies.{all_covered}
 use Rattle.entry_passes.proofs.reports.try_report.Goals as goal
 
 pub returns-clause-answer : goal.returns-clause-answer

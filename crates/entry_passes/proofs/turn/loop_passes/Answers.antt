@@ -1,4 +1,4 @@
-use Rattle.std.proofs.Common.{◌≡◌, ◌<◌, ◌≤◌, ◌^◌, ℕ, List, [], length, Some, sym, ◌∙◌, ap, subst, slice_get, unwrap_or, arith}
+use Rattle.std.proofs.Common.{◌≡◌, ◌≤◌, ℕ, List, [], length, Some, sym, ◌∙◌, ap, slice_get, unwrap_or, arith}
 use Rattle.graph_numbers.specs.Graphs.{GraphView, graph_loops, graph_variations}
 use Rattle.graph_numbers.specs.declared.pass.Pass.{Pass as NumberedPass}
 use Rattle.entry_cache.specs.Jobs.{JobView, IsJob, job_graph, job_of}

@@ -1,4 +1,3 @@
-use Rattle.std.proofs.Common.{◌≡◌}
 use Rattle.entry_cache.specs.Jobs.{job_of}
 use Rattle.entry_passes.proofs.PlanLaws.{plan_next, plan_whole}
 use Rattle.entry_passes.proofs.plan.EntryPlan.new.Goals as goal
