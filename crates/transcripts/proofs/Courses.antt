@@ -1,5 +1,5 @@
 -- The course of a run, and its whole text.
-use Rattle.std.proofs.Common.{◌≡◌, ℕ, zero, suc, ◌+◌, ◌<◌, ◌≤◌, Bool, true, false, List, [], ◌∷◌, ◌++◌, drop, length, Option, Some, None, refl, sym, ◌∙◌, ap, ap₂, subst, arith, append-nil, add-one, if◌then◌else◌}
+use Rattle.std.proofs.Common.{◌≡◌, ℕ, zero, suc, ◌+◌, ◌<◌, ◌≤◌, Bool, true, false, List, [], ◌∷◌, drop, length, Option, Some, None, refl, sym, ◌∙◌, ap, ap₂, subst, arith, append-nil, add-one, if◌then◌else◌}
 use Rattle.std.specs.Prelude.{slice_get}
 use Rattle.std.proofs.lemmas.List.{length-map}
 use Rattle.std.proofs.lemmas.Option.{slice_get_within}
@@ -9,7 +9,7 @@ use Rattle.rdf_values.specs.declared.span.Span.{Span}
 use Rattle.rdf_model.specs.Loops.{Access, accesses}
 use Rattle.rdf_model.specs.PartialResults.{Course, IsChain, IsCourse}
 use Rattle.rdf_model.specs.Results.{Dataset, first_fault}
-use Rattle.rdf_model.specs.Transcript.{Printed, access_passes, access_printed, in_front_of, printed, transcript}
+use Rattle.rdf_model.specs.Transcript.{Printed, access_passes, access_printed, in_front_of, printed}
 use Rattle.clusters.specs.CutsView.{CutsView}
 use Rattle.graph_numbers.specs.Graphs.{GraphView, graph_prints}
 use Rattle.graph_numbers.specs.Results.{result_number}
@@ -20,7 +20,6 @@ use Rattle.event_loop.specs.declared.end.FilledLoop.{FilledLoop}
 use Rattle.lazy_loop.specs.Sessions.{HasSameParts, IsSession, SessionView, session_job}
 use Rattle.transcripts.specs.Transcripts.{IsTranscript}
 use Rattle.transcripts.specs.Turns.{EndsAt, FitsCourse, GoesOn, print_gives}
-use Rattle.transcripts.specs.declared.transcript.Transcript.{Transcript}
 use Rattle.transcripts.proofs.SomeChain.{first_sets, first_sets_are_a_chain}
 use Rattle.transcripts.proofs.Turning.{fits_before}
 

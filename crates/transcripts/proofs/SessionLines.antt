@@ -2,7 +2,6 @@
 use Rattle.std.proofs.Common.{◌≡◌, ◌⊎◌, inl, inr, ℕ, zero, suc, ◌+◌, ◌<◌, ◌≤◌, ◌^◌, Bool, true, false, List, [], ◌∷◌, ◌++◌, length, map, Option, Some, None, refl, sym, ◌∙◌, ap, ap₂, subst, arith, if◌then◌else◌, append-nil, append_assoc}
 use Rattle.std.specs.Prelude.{Result, Ok, Err, OnOk, All, flat_map, option_map, slice_get, unwrap_or}
 use Rattle.std.proofs.lemmas.List.{length-map}
-use Rattle.std.proofs.lemmas.Option.{slice_get_within}
 use Rattle.rdf_values.specs.Bookings.{Booked, Booking, ActionAt, ReportOn, Pass, is_watched, named_before, passes_of, varied_passes, has_variations}
 use Rattle.rdf_values.specs.Cuts.{Lead, below, cut}
 use Rattle.rdf_values.specs.Path.{Path, history}
@@ -15,14 +14,13 @@ use Rattle.rdf_model.specs.Laws.{action_pass}
 use Rattle.rdf_model.specs.LoopFacts.{kind_in, kinds_in, loop_facts}
 use Rattle.rdf_model.specs.Loops.{loop_of}
 use Rattle.rdf_model.specs.PartialResults.{Course, over_clusters, partial_line, partial_result}
-use Rattle.rdf_model.specs.ResultLines.{booking_lines, flow_lines, pass_lines, report_lines}
-use Rattle.rdf_model.specs.Results.{Dataset, first_fault}
+use Rattle.rdf_model.specs.ResultLines.{booking_lines, flow_lines, pass_lines}
+use Rattle.rdf_model.specs.Results.{first_fault}
 use Rattle.rdf_model.specs.Transcript.{partial_lines}
 use Rattle.graph_numbers.specs.Graphs.{graph_filters, graph_results}
-use Rattle.graph_numbers.specs.Results.{ResultAt, results}
+use Rattle.graph_numbers.specs.Results.{ResultAt}
 use Rattle.graph_numbers.proofs.Listed.{next_at}
 use Rattle.rdf_values.specs.Functions.{fn_names}
-use Rattle.actions.specs.Accumulators.{Accumulator}
 use Rattle.entry_cache.specs.Jobs.{passes_in}
 use Rattle.loop_pieces.specs.LoopPieces.{StandsFor}
 use Rattle.loop_pieces.specs.PartialLines.{ArePartialLines}
@@ -30,15 +28,12 @@ use Rattle.loop_pieces.specs.Trails.{place_if_watched}
 use Rattle.loop_pieces.specs.Whole.{cluster_fault}
 use Rattle.loop_pieces.specs.declared.filled_result.FilledResult.{FilledResult}
 use Rattle.loop_pieces.specs.declared.filled_result.PartialLine.{PartialLine}
-use Rattle.loop_pieces.specs.declared.loop_piece.LoopPiece.{LoopPiece}
 use Rattle.loop_pieces.proofs.WholeLoops.{all_clusters_are_the_table}
 use Rattle.result_text.specs.FilledLines.{FitsBooking, FitsResult, booking_text, filled_text}
 use Rattle.result_text.specs.PartialText.{AreRuns, watch_lines}
-use Rattle.slot_state.specs.Jobs.{job_facts, job_spans}
-use Rattle.event_loop.specs.declared.end.FilledLoop.{FilledLoop}
+use Rattle.slot_state.specs.Jobs.{job_facts}
 use Rattle.lazy_loop.specs.Places.{IsPlaced, loop_filling}
-use Rattle.lazy_loop.specs.Sessions.{ArePartials, HasNoPartials, IsFilledAt, IsFilledIn, IsResult, IsSession, IsUnfilled, SessionView, session_job}
-use Rattle.lazy_loop.specs.declared.place.Place.{Place}
+use Rattle.lazy_loop.specs.Sessions.{ArePartials, HasNoPartials, IsFilledIn, IsResult, IsSession, IsUnfilled, SessionView, session_job}
 use Rattle.lazy_loop.proofs.Accesses.{job_fault}
 use Rattle.lazy_loop.proofs.Finding.{noted_at}
 use Rattle.lazy_loop.proofs.Found.{passes_are_of}

@@ -1,10 +1,8 @@
-use Rattle.std.proofs.Common.{◌≡◌, ◌<◌, ◌++◌, List, ℕ, length, refl, sym, ap, subst, ◌∙◌}
+use Rattle.std.proofs.Common.{◌<◌, length, refl, sym, ap, subst, ◌∙◌}
 use Rattle.std.specs.Prelude.{slice_get}
-use Rattle.rdf_model.specs.ResultLines.{fault_line}
 use Rattle.graph_numbers.specs.Graphs.{GraphView, graph_loops}
-use Rattle.result_text.specs.FilledLines.{passes_at}
 use Rattle.lazy_loop.specs.Sessions.{session_of}
-use Rattle.transcripts.proofs.Turning.{ends_at, fault_loop, fault_pass, goes_on, row_filled, row_within}
+use Rattle.transcripts.proofs.Turning.{fault_loop, fault_pass, goes_on, row_filled, row_within}
 use Rattle.transcripts.proofs.prints.put_print.Goals as goal
 
 pub put_result-requires-clause-result : goal.put_result-requires-clause-result

@@ -1,4 +1,4 @@
-use Rattle.std.proofs.Common.{◌≡◌, ◌<◌, ◌≤◌, ◌+◌, ℕ, Ok, true, false, length, arith, ap, subst, sym, ◌∙◌}
+use Rattle.std.proofs.Common.{◌<◌, ◌≤◌, ◌+◌, ℕ, Ok, true, false, length, arith, ap, subst, ◌∙◌}
 use Rattle.rdf_values.specs.Path.{history}
 use Rattle.rdf_model.specs.Loops.{accesses}
 use Rattle.lazy_loop.specs.Sessions.{SessionView, session_of}

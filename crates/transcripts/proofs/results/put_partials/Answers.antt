@@ -1,4 +1,4 @@
-use Rattle.std.proofs.Common.{Some, sym, ap, ◌∙◌}
+use Rattle.std.proofs.Common.{sym, ap, ◌∙◌}
 use Rattle.std.specs.Prelude.{option_map, slice_get}
 use Rattle.rdf_values.specs.Bookings.{is_watched}
 use Rattle.graph_numbers.specs.Graphs.{GraphView, booked_statements, graph_results}
