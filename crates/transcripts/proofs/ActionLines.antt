@@ -1,20 +1,18 @@
 -- The lines of an action's accumulators are those of its passes by themselves.
-use Rattle.std.proofs.Common.{◌≡◌, ℕ, zero, suc, ◌+◌, ◌<◌, ◌≤◌, Bool, true, false, List, [], ◌∷◌, ◌++◌, length, map, Option, Some, None, refl, sym, ◌∙◌, ap, ap₂, subst, arith, append_assoc, length-append, if◌then◌else◌}
-use Rattle.std.specs.Prelude.{⊤, filter, flat_map, slice_get}
+use Rattle.std.proofs.Common.{◌≡◌, ℕ, zero, suc, ◌+◌, ◌<◌, List, [], ◌∷◌, ◌++◌, length, Some, refl, sym, ◌∙◌, ap, ap₂, subst, arith, append_assoc, length-append}
+use Rattle.std.specs.Prelude.{flat_map, slice_get}
 use Rattle.std.proofs.lemmas.List.{length-map}
-use Rattle.std.proofs.lemmas.List.Concat.{flat_map-append}
-use Rattle.rdf_values.specs.Path.{Path, Variation, variations}
-use Rattle.rdf_values.specs.Bookings.{Booked, Booking, ActionAt, Pass, has_variations, passes_of, result_depends, varied_passes}
+use Rattle.rdf_values.specs.Path.{Path}
+use Rattle.rdf_values.specs.Bookings.{Booked, Booking, ActionAt, Pass}
 use Rattle.rdf_values.specs.declared.action.ActionKind.{ActionKind}
 use Rattle.rdf_values.specs.declared.span.Span.{Span}
-use Rattle.rdf_values.specs.declared.statement.Statement.{Statement}
 use Rattle.rdf_model.specs.Laws.{action_pass}
 use Rattle.rdf_model.specs.LoopFacts.{kind_in, kinds_in, loop_facts}
 use Rattle.rdf_model.specs.PartialResults.{over_clusters}
 use Rattle.rdf_model.specs.ResultLines.{booking_lines, filled_lines, label, pass_lines}
 use Rattle.rdf_model.specs.Results.{Dataset, pass_result}
 use Rattle.actions.specs.Accumulators.{Accumulator}
-use Rattle.graph_numbers.proofs.Listed.{kept_at, next_at}
+use Rattle.graph_numbers.proofs.Listed.{next_at}
 use Rattle.loop_pieces.specs.LoopPieces.{StandsFor}
 use Rattle.loop_pieces.specs.declared.loop_piece.LoopPiece.{LoopPiece}
 use Rattle.loop_pieces.proofs.WholeLoops.{piece_holds_results}

@@ -1,4 +1,5 @@
 pub mod ActionLines
+pub mod Courses
 pub mod ReportLines
 pub mod SessionLines
 pub mod SomeChain

@@ -1,8 +1,8 @@
 -- The lines of a report's counts are those of its filters by themselves.
-use Rattle.std.proofs.Common.{◌≡◌, ◌⊎◌, inl, inr, ℕ, zero, suc, ◌+◌, ◌<◌, ◌≤◌, Bool, true, false, List, [], ◌∷◌, ◌++◌, length, map, Option, Some, None, refl, sym, ◌∙◌, ap, ap₂, subst, arith, append_assoc, length-append, if◌then◌else◌}
-use Rattle.std.specs.Prelude.{⊤, filter, flat_map, option_map, slice_get, unwrap_or}
+use Rattle.std.proofs.Common.{◌≡◌, ◌⊎◌, inl, inr, ℕ, zero, suc, ◌+◌, Bool, true, false, List, [], ◌∷◌, ◌++◌, length, map, Option, Some, None, refl, sym, ◌∙◌, ap, ap₂, subst, arith, append_assoc, if◌then◌else◌}
+use Rattle.std.specs.Prelude.{filter, option_map, slice_get, unwrap_or}
 use Rattle.std.proofs.lemmas.List.{append-nil, length-map, map-append}
-use Rattle.std.proofs.lemmas.Option.{slice_get-map, slice_get_within}
+use Rattle.std.proofs.lemmas.Option.{slice_get-map}
 use Rattle.rdf_values.specs.Cuts.{below}
 use Rattle.rdf_values.proofs.Below.{length-below}
 use Rattle.rdf_values.specs.Functions.{Function, fn_names}
@@ -15,14 +15,13 @@ use Rattle.rdf_values.specs.declared.statement.Statement.{Statement}
 use Rattle.rdf_values.specs.declared.statement.Statement.TheVariants.{Action, Filter, Report}
 use Rattle.rdf_model.specs.LoopFacts.{loop_facts}
 use Rattle.rdf_model.specs.PartialResults.{over_clusters}
-use Rattle.rdf_model.specs.ResultLines.{booking_lines, filter_label, flow_lines, pass_lines, report_lines}
-use Rattle.rdf_model.specs.Results.{Dataset, FilterCounts, cutflow, first_fault}
+use Rattle.rdf_model.specs.ResultLines.{filter_label}
+use Rattle.rdf_model.specs.Results.{Dataset, cutflow, first_fault}
 use Rattle.filters_report.specs.declared.flow.Counts.{Counts}
-use Rattle.graph_numbers.specs.Graphs.{GraphView, booked_statements, graph_filters, graph_results}
-use Rattle.graph_numbers.specs.Laws.{graph_of}
+use Rattle.graph_numbers.specs.Graphs.{GraphView, graph_filters}
 use Rattle.graph_numbers.specs.Results.{FilterAt, ResultAt, covered_at, filters, own_filters, own_results, results}
-use Rattle.graph_numbers.proofs.Covering.{AreNumbersOf, IsNumberOf, covered_numbers, numbers_later}
-use Rattle.graph_numbers.proofs.Extending.{Extends, itself, further}
+use Rattle.graph_numbers.proofs.Covering.{AreNumbersOf, covered_numbers, numbers_later}
+use Rattle.graph_numbers.proofs.Extending.{Extends, itself}
 use Rattle.graph_numbers.proofs.Listed.{next_at, of_joined}
 use Rattle.graph_numbers.proofs.Passing.{shorter}
 use Rattle.loop_pieces.specs.LoopPieces.{StandsFor, counts_at}
@@ -76,8 +75,8 @@ module _ (header : List Column) (names : FunctionNames) where
 
   pub its_label : (before : List Statement) (n : ℕ) (f : FilterAt) → slice_get (filters header names before) n ≡ Some f → f.label ≡ filter_label f.at
   its_label before n f at = same_some (
-        sym (ap (option_map (λ (x : FilterAt). x.label)) at) ∙ sym (slice_get-map (λ (x : FilterAt). x.label) (filters header names before) n)
-        ∙ ap (λ l. slice_get l n) (labels_are before) ∙ slice_get-map (λ (x : FilterAt). filter_label x.at) (filters header names before) n ∙ ap (option_map (λ (x : FilterAt). filter_label x.at)) at
+      sym (ap (option_map (λ (x : FilterAt). x.label)) at) ∙ sym (slice_get-map (λ (x : FilterAt). x.label) (filters header names before) n)
+      ∙ ap (λ l. slice_get l n) (labels_are before) ∙ slice_get-map (λ (x : FilterAt). filter_label x.at) (filters header names before) n ∙ ap (option_map (λ (x : FilterAt). filter_label x.at)) at
       )
 
   pub filter_count : (before : List Statement) → length (filters header names before) ≡ length (named_before before)

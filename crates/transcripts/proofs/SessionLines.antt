@@ -1,8 +1,7 @@
 -- The lines of what a session filled.
-use Rattle.std.proofs.Common.{◌≡◌, ◌⊎◌, inl, inr, ℕ, zero, suc, ◌+◌, ◌<◌, ◌≤◌, ◌^◌, Bool, true, false, List, [], ◌∷◌, ◌++◌, length, map, Option, Some, None, refl, sym, ◌∙◌, ap, ap₂, subst, arith, if◌then◌else◌, append-nil}
-use Rattle.std.specs.Prelude.{All, flat_map, is_none, slice_get, unwrap_or}
+use Rattle.std.proofs.Common.{◌≡◌, ◌⊎◌, inl, inr, ℕ, zero, suc, ◌+◌, ◌<◌, ◌≤◌, ◌^◌, Bool, true, false, List, [], ◌∷◌, ◌++◌, length, map, Option, Some, None, refl, sym, ◌∙◌, ap, ap₂, subst, arith, if◌then◌else◌, append-nil, append_assoc}
+use Rattle.std.specs.Prelude.{Result, Ok, Err, OnOk, All, flat_map, option_map, slice_get, unwrap_or}
 use Rattle.std.proofs.lemmas.List.{length-map}
-use Rattle.std.proofs.lemmas.Option.{slice_get_within}
 use Rattle.rdf_values.specs.Bookings.{Booked, Booking, ActionAt, ReportOn, Pass, is_watched, named_before, passes_of, varied_passes, has_variations}
 use Rattle.rdf_values.specs.Cuts.{Lead, below, cut}
 use Rattle.rdf_values.specs.Path.{Path, history}
@@ -15,14 +14,13 @@ use Rattle.rdf_model.specs.Laws.{action_pass}
 use Rattle.rdf_model.specs.LoopFacts.{kind_in, kinds_in, loop_facts}
 use Rattle.rdf_model.specs.Loops.{loop_of}
 use Rattle.rdf_model.specs.PartialResults.{Course, over_clusters, partial_line, partial_result}
-use Rattle.rdf_model.specs.ResultLines.{booking_lines, flow_lines, pass_lines, report_lines}
-use Rattle.rdf_model.specs.Results.{Dataset, first_fault}
+use Rattle.rdf_model.specs.ResultLines.{booking_lines, flow_lines, pass_lines}
+use Rattle.rdf_model.specs.Results.{first_fault}
 use Rattle.rdf_model.specs.Transcript.{partial_lines}
 use Rattle.graph_numbers.specs.Graphs.{graph_filters, graph_results}
-use Rattle.graph_numbers.specs.Results.{ResultAt, results}
+use Rattle.graph_numbers.specs.Results.{ResultAt}
 use Rattle.graph_numbers.proofs.Listed.{next_at}
 use Rattle.rdf_values.specs.Functions.{fn_names}
-use Rattle.actions.specs.Accumulators.{Accumulator}
 use Rattle.entry_cache.specs.Jobs.{passes_in}
 use Rattle.loop_pieces.specs.LoopPieces.{StandsFor}
 use Rattle.loop_pieces.specs.PartialLines.{ArePartialLines}
@@ -30,15 +28,12 @@ use Rattle.loop_pieces.specs.Trails.{place_if_watched}
 use Rattle.loop_pieces.specs.Whole.{cluster_fault}
 use Rattle.loop_pieces.specs.declared.filled_result.FilledResult.{FilledResult}
 use Rattle.loop_pieces.specs.declared.filled_result.PartialLine.{PartialLine}
-use Rattle.loop_pieces.specs.declared.loop_piece.LoopPiece.{LoopPiece}
 use Rattle.loop_pieces.proofs.WholeLoops.{all_clusters_are_the_table}
 use Rattle.result_text.specs.FilledLines.{FitsBooking, FitsResult, booking_text, filled_text}
 use Rattle.result_text.specs.PartialText.{AreRuns, watch_lines}
-use Rattle.slot_state.specs.Jobs.{job_facts, job_spans}
-use Rattle.event_loop.specs.declared.end.FilledLoop.{FilledLoop}
+use Rattle.slot_state.specs.Jobs.{job_facts}
 use Rattle.lazy_loop.specs.Places.{IsPlaced, loop_filling}
-use Rattle.lazy_loop.specs.Sessions.{ArePartials, HasNoPartials, IsFilledAt, IsFilledIn, IsResult, IsSession, IsUnfilled, SessionView, session_job}
-use Rattle.lazy_loop.specs.declared.place.Place.{Place}
+use Rattle.lazy_loop.specs.Sessions.{ArePartials, HasNoPartials, IsFilledIn, IsResult, IsSession, IsUnfilled, SessionView, session_job}
 use Rattle.lazy_loop.proofs.Accesses.{job_fault}
 use Rattle.lazy_loop.proofs.Finding.{noted_at}
 use Rattle.lazy_loop.proofs.Found.{passes_are_of}
@@ -205,3 +200,51 @@ module _ (s : SessionView) (is : IsSession s) where
         go : (bk : Booking) → x.booked.booking ≡ bk → booking_text s.graph x f x.booked.booking ≡ flat_map (pass_lines s.dataset) (passes_of script_of x.booked)
         go (ActionAt k at) q = ap (booking_text s.graph x f) q ∙ action_text k at q
         go (ReportOn fs) q = ap (booking_text s.graph x f) q ∙ report_text fs q
+
+-- ---- by the result's number
+
+something_at : {A : Type 0} (xs : List A) (k : ℕ) → k < length xs → (x : A) × (slice_get xs k ≡ Some x)
+something_at [] k lt = absurd (omega arith)
+something_at (x ∷ xs) zero lt = (x, refl)
+something_at (x ∷ xs) (suc k) lt = something_at xs k (omega arith)
+
+module _ (s : SessionView) (is : IsSession s) (r : ℕ) where
+  pub runs_at : r < length (graph_results s.graph) → (lines : List PartialLine) → ((x : ResultAt) → slice_get (graph_results s.graph) r ≡ Some x → ArePartials s x.booked lines ⊎ ((lines ≡ []) × HasNoPartials s x.booked))
+      → All (λ (l : PartialLine). AreRuns l.runs) lines
+  runs_at lt lines h = let x = something_at (graph_results s.graph) r lt in partials_have_runs s is x.0.booked lines (h x.0 x.1)
+
+  pub never_unfilled : r < length (graph_results s.graph) → ((x : ResultAt) → slice_get (graph_results s.graph) r ≡ Some x → IsFilledIn s x.booked.name) → ((x : ResultAt) → slice_get (graph_results s.graph) r ≡ Some x → IsUnfilled s x.booked.name) → ⊥
+  never_unfilled lt filled unfilled =
+      let x = something_at (graph_results s.graph) r lt in
+      let f = filled x.0 x.1 in
+      let completed = f.completed in
+      let le = unfilled x.0 x.1 f.number f.its_number in
+      omega arith
+
+  its_watch : (x : ResultAt) (t : Bool) → slice_get (graph_results s.graph) r ≡ Some x → option_map (λ (y : ResultAt). is_watched (history s.graph.script) y.booked.name) (slice_get (graph_results s.graph) r) ≡ Some t → is_watched (history s.graph.script) x.booked.name ≡ t
+  its_watch x t at watched = same_some (sym (ap (option_map (λ (y : ResultAt). is_watched (history s.graph.script) y.booked.name)) at) ∙ watched)
+    where
+      same_some : {a b : Bool} → ◌≡◌ {A = Option Bool} (Some a) (Some b) → a ≡ b
+      same_some q = cc
+
+  -- the lines that are put before those of the passes
+  abbrev front_of : Course → ResultAt → List ℕ
+  front_of course x = if is_watched (history s.graph.script) x.booked.name then partial_lines (history s.graph.script) s.dataset course x.booked.name x.booked.booking else []
+
+  pub unwatched_put : (x : ResultAt) (course : Course) (t : Bool) (text : List ℕ) → slice_get (graph_results s.graph) r ≡ Some x → option_map (λ (y : ResultAt). is_watched (history s.graph.script) y.booked.name) (slice_get (graph_results s.graph) r) ≡ Some t → t ≡ false
+      → text ≡ text ++ front_of course x
+  unwatched_put x course t text at watched e =
+      sym (append-nil text) ∙ ap (λ (b : Bool). text ++ (if b then partial_lines (history s.graph.script) s.dataset course x.booked.name x.booked.booking else [])) (sym (its_watch x t at watched ∙ e))
+
+  pub watched_put : (x : ResultAt) (course : Course) (lines : List PartialLine) (t : Bool) (text now bytes put : List ℕ) → slice_get (graph_results s.graph) r ≡ Some x → FitsCourse s course → IsFilledIn s x.booked.name
+      → ArePartials s x.booked lines ⊎ ((lines ≡ []) × HasNoPartials s x.booked) → option_map (λ (y : ResultAt). is_watched (history s.graph.script) y.booked.name) (slice_get (graph_results s.graph) r) ≡ Some t → t ≡ true
+      → put ≡ watch_lines x.booked.name lines → bytes ≡ put → now ≡ text ++ bytes → now ≡ text ++ front_of course x
+  watched_put x course lines t text now bytes put at fits_course filled are watched e put_is same_bytes added =
+      let is_one = its_watch x t at watched ∙ e in
+      added ∙ ap (λ (l : List ℕ). text ++ l) (same_bytes ∙ put_is ∙ watched_lines s is x.booked lines course fits_course is_one filled are)
+      ∙ ap (λ (b : Bool). text ++ (if b then partial_lines (history s.graph.script) s.dataset course x.booked.name x.booked.booking else [])) (sym is_one)
+
+-- both parts of a result's lines, put one after the other
+pub both_put : {E : Type 0} (r : Result (Unit {0}) E) (text middle now front back : List ℕ) → middle ≡ text ++ front → OnOk r (now ≡ middle ++ back) → OnOk r (now ≡ text ++ (front ++ back))
+both_put (Ok u) text middle now front back e h = h ∙ ap (λ (l : List ℕ). l ++ back) e ∙ append_assoc text front back
+both_put (Err x) text middle now front back e h = tt

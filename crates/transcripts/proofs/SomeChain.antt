@@ -1,11 +1,11 @@
 -- Each loop can note some chain of sets.
-use Rattle.std.proofs.Common.{◌≡◌, ℕ, zero, suc, ◌+◌, ◌*◌, ◌/◌, ◌%◌, ◌<◌, ◌≤◌, List, map, length, get_or, Option, Some, None, refl, sym, ◌∙◌, ap, subst, arith}
+use Rattle.std.proofs.Common.{◌≡◌, ℕ, ◌+◌, ◌*◌, ◌/◌, ◌%◌, ◌<◌, ◌≤◌, List, map, length, get_or, Option, Some, sym, ◌∙◌, ap, subst, arith}
 use Rattle.std.specs.Prelude.{All, Contains, option_map, slice_get}
 use Rattle.std.specs.List.Sorted.{IsStrictlyIncreasing}
 use Rattle.std.proofs.lemmas.List.{length-map}
 use Rattle.std.proofs.lemmas.Option.{get_or_from_slice_get, slice_get-map, slice_get_within}
-use native.Mathlib.Nat.{div-add-mod', le-max_left, le_trans, mul-le-mul_right}
-use Rattle.rdf_values.specs.Cuts.{below, stride}
+use native.Mathlib.Nat.{div-add-mod', mul-le-mul_right}
+use Rattle.rdf_values.specs.Cuts.{below}
 use Rattle.rdf_values.proofs.Below.{length-below, slice_get-below}
 use Rattle.rdf_values.proofs.UnionLemmas.{below_rises}
 use Rattle.rdf_model.specs.PartialResults.{IsChain}
@@ -49,13 +49,13 @@ first_sets_are_a_chain c g = record {
   sizes = λ j set at. ap length (sym (its_set c g j set at).1) ∙ length-below ((j + 1) * g);
   rising = λ j set at. subst IsStrictlyIncreasing (its_set c g j set at).1 (below_rises ((j + 1) * g));
   clusters = λ j set at. (
-    let lt = (its_set c g j set at).0 in
-    let parts : c / g * g + c % g ≡ c = div-add-mod' c g in
-    let more : (j + 1) * g ≤ c / g * g = mul-le-mul_right g (omega (arith, lt)) in
-    subst (All (λ x. x < c)) (its_set c g j set at).1 (below_more ((j + 1) * g) c (omega (arith, parts, more)))
-  );
+      let lt = (its_set c g j set at).0 in
+      let parts : c / g * g + c % g ≡ c = div-add-mod' c g in
+      let more : (j + 1) * g ≤ c / g * g = mul-le-mul_right g (omega (arith, lt)) in
+      subst (All (λ x. x < c)) (its_set c g j set at).1 (below_more ((j + 1) * g) c (omega (arith, parts, more)))
+      );
   nested = λ j set next at after. (
-    let more : (j + 1) * g ≤ (j + 1 + 1) * g = mul-le-mul_right g (omega arith) in
-    subst (λ (s : List ℕ). All (Contains next) s) (its_set c g j set at).1 (subst (λ (s : List ℕ). All (Contains s) (below ((j + 1) * g))) (its_set c g (j + 1) next after).1 (below_within ((j + 1) * g) ((j + 1 + 1) * g) more))
-  );
+      let more : (j + 1) * g ≤ (j + 1 + 1) * g = mul-le-mul_right g (omega arith) in
+      subst (λ (s : List ℕ). All (Contains next) s) (its_set c g j set at).1 (subst (λ (s : List ℕ). All (Contains s) (below ((j + 1) * g))) (its_set c g (j + 1) next after).1 (below_within ((j + 1) * g) ((j + 1 + 1) * g) more))
+      );
 }

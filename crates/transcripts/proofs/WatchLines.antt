@@ -1,11 +1,11 @@
 -- The lines of a watched result are those of its partial results by themselves.
-use Rattle.std.proofs.Common.{◌≡◌, ℕ, zero, suc, ◌+◌, ◌-◌, ◌<◌, ◌≤◌, Bool, true, false, List, [], ◌∷◌, ◌++◌, length, map, Option, Some, None, refl, sym, ◌∙◌, ap, ap₂, subst, arith, if◌then◌else◌}
-use Rattle.std.specs.Prelude.{⊤, All, codes, flat_map, nat_eq, slice_get}
+use Rattle.std.proofs.Common.{◌≡◌, ℕ, ◌+◌, ◌-◌, ◌<◌, ◌≤◌, Bool, true, false, List, [], ◌∷◌, ◌++◌, length, map, None, refl, sym, ◌∙◌, ap, ap₂, subst, arith, if◌then◌else◌}
+use Rattle.std.specs.Prelude.{All, codes, flat_map, nat_eq}
 use Rattle.std.specs.List.{AllByRecursion, join_with_byte}
 use Rattle.std.proofs.lemmas.Bool.{eqb-true}
 use Rattle.std.proofs.lemmas.List.Elements.{All-from_recursion}
 use Rattle.rdf_values.specs.Path.{Path}
-use Rattle.rdf_values.specs.Bookings.{Booked, Booking, ActionAt, Pass}
+use Rattle.rdf_values.specs.Bookings.{Pass}
 use Rattle.rdf_values.specs.RefusalLines.{line}
 use Rattle.rdf_values.specs.declared.action.ActionKind.{ActionKind}
 use Rattle.rdf_values.specs.declared.span.Span.{Span}
@@ -15,7 +15,6 @@ use Rattle.rdf_model.specs.PartialResults.{Run, in_front, maximal_runs, partial_
 use Rattle.rdf_model.specs.Results.{Dataset}
 use Rattle.rdf_values.specs.Fold.{Filled}
 use Rattle.loop_pieces.specs.PartialLines.{ArePartialLines, IsPartialLine, span_of}
-use Rattle.loop_pieces.specs.Watching.{watch_filled}
 use Rattle.loop_pieces.specs.declared.filled_result.PartialLine.{PartialLine}
 use Rattle.loop_pieces.proofs.WholeLoops.{watch_piece_is_partial_result}
 use Rattle.result_text.specs.PartialText.{AreRuns, run_of, runs_text, watch_line, watch_lines}

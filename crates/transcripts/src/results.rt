@@ -16,12 +16,7 @@ use result_text::{partial_lines, result_lines};
 use std::alloc::Global;
 
 // Appends the partial lines of a result, where it is watched.
-fn put_partials(
-    alloc: Global,
-    text: &mut Text,
-    session: &Session<'_>,
-    r: u32,
-) -> Result<(), Memory>
+fn put_partials(alloc: Global, text: &mut Text, session: &Session<'_>, r: u32) -> Result<(), Memory>
     requires session { IsSession (session_of session.now) }
     requires result { r < length (graph_results (session_of session.now).graph) }
     requires filled { (x : ResultAt) → slice_get (graph_results (session_of session.now).graph) r ≡ Some x → IsFilledIn (session_of session.now) x.booked.name }
@@ -37,12 +32,7 @@ fn put_partials(
 }
 
 // Appends the lines of the passes of a result.
-fn put_passes(
-    alloc: Global,
-    text: &mut Text,
-    session: &Session<'_>,
-    r: u32,
-) -> Result<(), Memory>
+fn put_passes(alloc: Global, text: &mut Text, session: &Session<'_>, r: u32) -> Result<(), Memory>
     requires session { IsSession (session_of session.now) }
     requires result { r < length (graph_results (session_of session.now).graph) }
     requires filled { (x : ResultAt) → slice_get (graph_results (session_of session.now).graph) r ≡ Some x → IsFilledIn (session_of session.now) x.booked.name }
