@@ -37,7 +37,9 @@ pub fn run(table: &Table, threads: usize, cluster: usize) -> Totals {
     };
     thread::scope(|scope| {
         let workers: Vec<_> = (0..threads).map(|_| scope.spawn(work)).collect();
-        let parts = workers.into_iter().map(|worker| worker.join().expect("a worker failed"));
+        let parts = workers
+            .into_iter()
+            .map(|worker| worker.join().expect("a worker failed"));
         parts.reduce(Totals::joined).unwrap_or_default()
     })
 }
@@ -87,11 +89,17 @@ impl Totals {
             // each weight is 1, and so is its square
             writeln!(text, "  {cell} {count} {count}").unwrap();
         }
-        let greatest = self.greatest.map_or("none".to_string(), |value| value.to_string());
+        let greatest = self
+            .greatest
+            .map_or("none".to_string(), |value| value.to_string());
         writeln!(text, "m = {greatest}").unwrap();
         let (pass, all) = (self.counts[0], self.entries);
         let share = share(pass, all);
-        writeln!(text, "r: high pass={pass} all={all} eff={share} cumulative={share}").unwrap();
+        writeln!(
+            text,
+            "r: high pass={pass} all={all} eff={share} cumulative={share}"
+        )
+        .unwrap();
         text
     }
 }
