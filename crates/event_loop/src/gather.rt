@@ -36,8 +36,10 @@ pub fn least_of(finished: &[Finished]) -> Result<Option<Fault>, Memory>
     ensures memory { IfOk result (λ _. All HasMemory finished.now) }
 {
     let mut least = None;
-    for one in finished.iter().rev() {
-        match one.end {
+    let mut i = finished.len();
+    while i > 0 {
+        i -= 1;
+        match finished[i].end {
             End::Over => {}
             End::Faulted(fault) => least = Some(lesser(fault, least)),
             End::NoMemory => return Err(Memory),

@@ -1,11 +1,13 @@
 //! One event loop: slots claim clusters side by side, each into a piece of its own, and the pieces are joined.
-//! It stands on `slot_state`, `cluster_claims` and `partial_watch`.
+//! It stands on `slot_state`, `cluster_claims` and `partial_lines`.
 #![tactic(auto)]
 
 pub mod end;
-pub mod gather;
+mod filling;
+mod gather;
 pub mod one_loop;
-pub mod workers;
+mod seating;
+mod workers;
 
 pub use crate::end::{FilledLoop, LoopEnd};
 pub use crate::one_loop::run_loop;

@@ -7,6 +7,11 @@ ghost use Rattle.slot_state.specs.Jobs.{job_facts};
 ghost use Rattle.event_loop.specs.Ends.{HasEnded};
 
 use crate::end::LoopEnd;
+use crate::filling::filled;
+use crate::gather::{Outcome, gathered};
+use crate::seating::{fresh_states, opened, seated, watched_in};
+use crate::workers::run_slots;
+use cluster_claims::Claims;
 use entry_cache::Job;
 use rdf_outside::Gate;
 use rdf_values::Memory;
@@ -28,5 +33,18 @@ pub fn run_loop<R: Threads + Sync, G: Gate>(
     requires watch { 0 < watch }
     ensures { IfOk result (λ end. HasEnded (job_facts (job_of job.now)) watch end) }
 {
-    Err(Memory)
+    let clusters = job.cuts.count();
+    let states = fresh_states(alloc, job, slots)?;
+    let watched = watched_in(states.as_slice());
+    let (book, shares) = opened(alloc, watched, slots, clusters)?;
+    let (claims, seats) = Claims::new(alloc, clusters, slots)?;
+    let fresh = seated(alloc, states, seats, shares)?;
+    let finished = run_slots(rt, alloc, job, &claims, &book, fresh, gate)?;
+    match gathered(alloc, claims, finished)? {
+        Outcome::Faulted(fault) => Ok(LoopEnd::Faulted(fault)),
+        Outcome::Processed(slots) => {
+            let filled = filled(alloc, book, slots, watched, clusters, watch)?;
+            Ok(LoopEnd::Filled(filled))
+        }
+    }
 }

@@ -1,5 +1,5 @@
 // What the slots of a loop begin with.
-ghost use Rattle.std.specs.Prelude.{◌≡◌, ◌<◌, ◌≤◌, All, IfOk, length, vec_len};
+ghost use Rattle.std.specs.Prelude.{◌≡◌, ◌<◌, ◌≤◌, All, IfOk, Option, length, vec_len};
 ghost use Rattle.rdf_values.specs.Path.{history};
 ghost use Rattle.rdf_values.specs.Words.{StatementsHaveWords};
 ghost use Rattle.entry_cache.specs.Jobs.{Fits, job_of};
@@ -26,10 +26,18 @@ pub fn fresh_states(alloc: Global, job: &Job<'_>, slots: u32) -> Result<Vec<Slot
     ensures fresh { IfOk result (λ v. AreFreshStates (job_facts (job_of job.now)) v.items) }
 {
     let mut states = Vec::new(alloc);
-    for _ in 0..slots {
+    for _slot in 0..slots {
         states.push(SlotState::new(alloc, job)?)?;
     }
     Ok(states)
+}
+
+/// How many results are watched, which each state of a loop tells.
+pub fn watched_in(states: &[SlotState]) -> u32
+    requires { 0 < length states.now }
+    ensures { (job : JobFacts) → AreFreshStates job states.now → result ≡ length job.watched }
+{
+    states[0].watched()
 }
 
 /// A book with a share for each slot, where a result is watched; it takes the memory for all numbers.

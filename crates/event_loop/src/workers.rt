@@ -150,7 +150,15 @@ pub fn run_slots<R: Threads + Sync, G: Gate>(
                 cuts,
                 functions,
             };
-            run_slot(alloc, &job, claims, book, slot, gate)
+            let finished = run_slot(alloc, &job, claims, book, slot, gate);
+            let Job {
+                graph: _,
+                loop_index: _,
+                columns: _,
+                cuts: _,
+                functions: _,
+            } = job;
+            finished
         },
     )?;
     Ok(finished)

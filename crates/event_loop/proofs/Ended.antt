@@ -1,0 +1,216 @@
+-- What the slots of a loop tell once all have stopped.
+use Rattle.std.proofs.Common.{◌≡◌, ◌⊎◌, ℕ, zero, suc, ◌+◌, ◌<◌, ◌≤◌, min, List, [], ◌∷◌, ◌++◌, length, map, get_or, Option, None, Some, refl, sym, ap, ◌∙◌, subst, inl, inr, ⊎_elim, arith}
+use Rattle.std.specs.Prelude.{slice_get, IfSome, IsSomeAnd}
+use Rattle.std.specs.List.{All, Contains, concat}
+use Rattle.std.proofs.lemmas.Bool.{cases_lt}
+use Rattle.std.proofs.lemmas.List.Elements.{All-nil, All-cons, All-head, All-tail}
+use Rattle.std.proofs.lemmas.Option.{slice_get-get_or}
+use Rattle.rdf_values.specs.Cuts.{below}
+use Rattle.rdf_values.specs.Draws.{DrawnBy, IsUnion}
+use Rattle.rdf_values.specs.Machine.{AreInEntryOrder, least_fault, first_in}
+use Rattle.rdf_values.specs.Times.{times, once_below}
+use Rattle.rdf_values.specs.declared.fault.Fault.{Fault}
+use Rattle.rdf_values.proofs.DrawCounts.{times_concat, times_push, counts_by_drawn, once_inside, inside_once, times_self}
+use Rattle.rdf_values.proofs.UnionLemmas.{drawn_lists_unite}
+use Rattle.merge_core.proofs.Faults.{Among, Told, told_nothing, told_both, first_told, among_left, among_right}
+use Rattle.merge_core.proofs.Holding.{only}
+use Rattle.cluster_claims.specs.Seats.{ClaimsSeen, SeatSeen, IsLeast, IsPassed, last_of}
+use Rattle.partial_watch.specs.Shares.{BookSeen}
+use Rattle.slot_state.specs.Jobs.{JobFacts}
+use Rattle.event_loop.specs.declared.gather.Done.{Done}
+use Rattle.event_loop.specs.declared.workers.Finished.{Finished}
+use Rattle.event_loop.specs.declared.workers.Slot.{Slot}
+use Rattle.event_loop.specs.declared.workers.End.{End}
+use Rattle.event_loop.specs.declared.workers.End.TheVariants.{Over, Faulted, NoMemory}
+use Rattle.event_loop.specs.Workers.{HasRun, HasWorked, MetBar, MetFault, RanOut, Stopped}
+use Rattle.event_loop.specs.Gathered.{AreDone, AreFacts, HasMemory, HasStopped, IsDone, IsServed, done_in, end_faults, fault_of, finished_by, seat_in}
+
+-- the clusters that each slot drew
+abbrev pub drawn_in : List Finished → List (List ℕ)
+drawn_in fs = map (λ (s : SeatSeen). s.drawn) (map seat_in fs)
+
+-- what is known of the number with which a slot ran out
+abbrev pub IsKept : ℕ → ℕ → SeatSeen → Type 0
+IsKept clusters word s = IfSome s.kept (λ k. (clusters ≤ k) × (k < word))
+
+module _ (c : ClaimsSeen) (b : Option BookSeen) (job : JobFacts) (bar : ℕ) where
+  abbrev pub Ran : Finished → Type 0
+  Ran f = HasStopped c b job f
+
+  -- the last of a list, which isn't among the others
+  last_is : (k n : ℕ) (done drawn : List ℕ) → drawn ≡ done ++ n ∷ [] → 0 < times k drawn → times k done ≤ 0 → n ≡ k
+  last_is k n done drawn is some none = only k n (omega (arith, ap (times k) is, times_push k done n))
+
+  passed_above : (seat : SeatSeen) (last : ℕ) → seat.passed ≡ Some last → IsPassed bar seat → bar ≤ last
+  passed_above seat last is h = (subst (λ (o : Option ℕ). IfSome o (λ p. (bar ≤ p) × (0 < length seat.drawn) × (p ≡ last_of seat.drawn))) is h).0
+
+  over_sound : (s : Slot) (k : ℕ) → HasWorked b job s → RanOut c s.seat s.state.done ⊎ MetBar c s.seat s.state.done → IsPassed bar s.seat → 0 < times k s.seat.drawn → k < bar → slice_get job.faults k ≡ Some None
+  over_sound s k worked how passed some lt = ⊎_elim
+      (λ (r : RanOut c s.seat s.state.done). worked.sound k (subst (λ (l : List ℕ). 0 < times k l) r.all some))
+      (λ (m : MetBar c s.seat s.state.done). ⊎_elim
+      (λ (here : 0 < times k s.state.done). worked.sound k here)
+      (λ (none : times k s.state.done ≤ 0).
+      let same = last_is k m.last s.state.done s.seat.drawn m.others some none in
+      let above = passed_above s.seat m.last m.passed passed in
+      absurd (omega arith))
+      (cases_lt 0 (times k s.state.done)))
+      how
+
+  slot_told : (end : End) (s : Slot) → Stopped c b job end s → IsServed end → IsPassed bar s.seat → Told job.faults bar s.seat.drawn (fault_of end)
+  slot_told Over s stopped served passed = record { sound = λ k some lt. inl (over_sound s k stopped.0 stopped.1 passed some lt); own = λ f a. elim a [ ] }
+  slot_told (Faulted g) s stopped served passed =
+      let met = stopped.1 in
+      record {
+        sound = λ k some lt. ⊎_elim
+            (λ (here : 0 < times k s.state.done). inl (stopped.0.sound k here))
+            (λ (none : times k s.state.done ≤ 0).
+            inr (g, inl refl, subst (λ (j : ℕ). slice_get job.faults j ≡ Some (Some g)) (last_is k met.last s.state.done s.seat.drawn met.others some none) met.its_fault))
+            (cases_lt 0 (times k s.state.done));
+        own = λ f a. ⊎_elim
+            (λ (e : f ≡ g). (met.last, omega (arith, ap (times met.last) met.others, times_push met.last s.state.done met.last, times_push met.last [] met.last, times_self met.last []), met.its_fault ∙ ap (λ (k : Fault). Some (Some k)) (sym e)))
+            (λ (n : ⊥). absurd n)
+            a;
+      }
+  slot_told NoMemory s stopped served passed = elim served [ ]
+
+  slots_told : (fs : List Finished) → All Ran fs → All HasMemory fs → All (IsPassed bar) (map seat_in fs) → Told job.faults bar (concat (drawn_in fs)) (end_faults fs)
+  slots_told [] ran memory passed = told_nothing job.faults bar
+  slots_told (f ∷ fs) ran memory passed =
+      told_both job.faults bar f.slot.seat.drawn (concat (drawn_in fs)) (fault_of f.end) (end_faults fs)
+      (slot_told f.end f.slot (All-head Ran f fs ran).stopped (All-head HasMemory f fs memory) (All-head (IsPassed bar) (seat_in f) (map seat_in fs) passed))
+      (slots_told fs (All-tail Ran f fs ran) (All-tail HasMemory f fs memory) (All-tail (IsPassed bar) (seat_in f) (map seat_in fs) passed))
+
+  -- a slot that lowered the bar to it met a fault there
+  abbrev IsReached : List Fault → Type 0
+  IsReached mine = (g : Fault) × Among g mine × (slice_get job.faults bar ≡ Some (Some g))
+
+  one_lowered : (end : End) (s : Slot) → Stopped c b job end s → IsServed end → s.seat.lowered ≡ Some bar → IsReached (fault_of end)
+  one_lowered Over s stopped served is = (let none = stopped.2 in absurd (cc))
+  one_lowered (Faulted g) s stopped served is =
+      let met = stopped.1 in
+      let same : met.last ≡ bar = told_same met.last (sym met.lowered ∙ is) in
+      (g, inl refl, subst (λ (j : ℕ). slice_get job.faults j ≡ Some (Some g)) same met.its_fault)
+    where
+      told_same : (n : ℕ) → Some n ≡ Some bar → n ≡ bar
+      told_same n e = cc
+  one_lowered NoMemory s stopped served is = elim served [ ]
+
+  reached_at : (fs : List Finished) (k : ℕ) → All Ran fs → All HasMemory fs → slice_get (map (λ (s : SeatSeen). s.lowered) (map seat_in fs)) k ≡ Some (Some bar) → IsReached (end_faults fs)
+  reached_at [] k ran memory h = absurd (cc)
+  reached_at (f ∷ fs) zero ran memory h =
+      let r = one_lowered f.end f.slot (All-head Ran f fs ran).stopped (All-head HasMemory f fs memory) (told_some f.slot.seat.lowered h) in
+      (r.0, among_left r.0 (fault_of f.end) (end_faults fs) r.1, r.2)
+    where
+      told_some : (o : Option ℕ) → Some o ≡ Some (Some bar) → o ≡ Some bar
+      told_some o e = cc
+  reached_at (f ∷ fs) (suc k) ran memory h =
+      let r = reached_at fs k (All-tail Ran f fs ran) (All-tail HasMemory f fs memory) h in
+      (r.0, among_right r.0 (fault_of f.end) (end_faults fs) r.1, r.2)
+
+  -- the bar isn't below the number of clusters, or a slot met a fault there
+  pub reaches : (fs : List Finished) → c.clusters ≡ length job.faults → All Ran fs → All HasMemory fs → IsLeast c.clusters (map seat_in fs) bar → (length job.faults ≤ bar) ⊎ IsReached (end_faults fs)
+  reaches fs few ran memory least = ⊎_elim
+      (λ (lt : bar < c.clusters).
+      let there = least.reached lt in
+      let lowered = map (λ (s : SeatSeen). s.lowered) (map seat_in fs) in
+      inr (reached_at fs there.0 ran memory (slice_get-get_or lowered there.0 (Some bar) there.1 ∙ ap Some there.2)))
+      (λ (le : c.clusters ≤ bar). inl (omega arith))
+      (cases_lt bar c.clusters)
+
+  -- ---- where no slot faulted
+
+  is_over : (end : End) (rest : List Fault) → IsServed end → fault_of end ++ rest ≡ [] → (end ≡ Over) × (rest ≡ [])
+  is_over Over rest served none = (refl, none)
+  is_over (Faulted f) rest served none = absurd (cc)
+  is_over NoMemory rest served none = elim served [ ]
+
+  abbrev pub IsOver : Finished → Type 0
+  IsOver f = f.end ≡ Over
+
+  pub all_over : (fs : List Finished) → All HasMemory fs → end_faults fs ≡ [] → All IsOver fs
+  all_over [] memory none = All-nil IsOver
+  all_over (f ∷ fs) memory none =
+      let first = is_over f.end (end_faults fs) (All-head HasMemory f fs memory) none in
+      All-cons IsOver f fs first.0 (all_over fs (All-tail HasMemory f fs memory) first.1)
+
+  -- what a slot that is over is
+  abbrev WasOver : Finished → Type 0
+  WasOver f = Stopped c b job Over f.slot
+
+  was_over : (f : Finished) → Ran f → IsOver f → WasOver f
+  was_over f ran over = subst (λ (e : End). Stopped c b job e f.slot) over ran.stopped
+
+  ran_out : (s : Slot) → c.clusters ≤ bar → RanOut c s.seat s.state.done ⊎ MetBar c s.seat s.state.done → IsPassed bar s.seat → RanOut c s.seat s.state.done
+  ran_out s high how passed = ⊎_elim
+      (λ (r : RanOut c s.seat s.state.done). r)
+      (λ (m : MetBar c s.seat s.state.done).
+      let above = passed_above s.seat m.last m.passed passed in
+      let inside = m.cluster in
+      absurd (omega arith))
+      how
+
+  kept_more : (o : Option ℕ) (word : ℕ) → IsSomeAnd o (λ k. c.clusters ≤ k) → IfSome o (λ k. (c.clusters ≤ k) × (k < word)) → c.clusters ≤ word
+  kept_more None word s k = elim s [ ]
+  kept_more (Some n) word s k = let x = k.0 in let y = k.1 in omega arith
+
+  pub all_drawn : (fs : List Finished) (word : ℕ) → 0 < length fs → c.clusters ≤ bar → All Ran fs → All IsOver fs → All (IsPassed bar) (map seat_in fs) → All (IsKept c.clusters word) (map seat_in fs) → c.clusters ≤ word
+  all_drawn [] word some high ran over passed kept = absurd (omega arith)
+  all_drawn (f ∷ fs) word some high ran over passed kept =
+      let was = was_over f (All-head Ran f fs ran) (All-head IsOver f fs over) in
+      let out = ran_out f.slot high was.1 (All-head (IsPassed bar) (seat_in f) (map seat_in fs) passed) in
+      kept_more f.slot.seat.kept word out.past (All-head (IsKept c.clusters word) (seat_in f) (map seat_in fs) kept)
+
+  done_lists : (fs : List Finished) → c.clusters ≤ bar → All Ran fs → All IsOver fs → All (IsPassed bar) (map seat_in fs) → drawn_in fs ≡ map finished_by (map done_in fs)
+  done_lists [] high ran over passed = refl
+  done_lists (f ∷ fs) high ran over passed =
+      let was = was_over f (All-head Ran f fs ran) (All-head IsOver f fs over) in
+      let out = ran_out f.slot high was.1 (All-head (IsPassed bar) (seat_in f) (map seat_in fs) passed) in
+      ap (λ (l : List ℕ). l ∷ drawn_in fs) out.all ∙ ap (λ (l : List (List ℕ)). f.slot.state.done ∷ l) (done_lists fs high (All-tail Ran f fs ran) (All-tail IsOver f fs over) (All-tail (IsPassed bar) (seat_in f) (map seat_in fs) passed))
+
+  each_done : (fs : List Finished) → All Ran fs → All IsOver fs → All (IsDone b job) (map done_in fs)
+  each_done [] ran over = All-nil (IsDone b job)
+  each_done (f ∷ fs) ran over =
+      let first = All-head Ran f fs ran in
+      let was = was_over f first (All-head IsOver f fs over) in
+      All-cons (IsDone b job) (done_in f) (map done_in fs) record { same = first.same; going = was.3; noted = was.0.noted } (each_done fs (All-tail Ran f fs ran) (All-tail IsOver f fs over))
+
+  module _ (fs : List Finished) (word : ℕ) (facts : AreFacts c.clusters job) (some : 0 < length fs) (ran : All Ran fs) (memory : All HasMemory fs)
+      (drawn : DrawnBy (drawn_in fs) (min word c.clusters)) (least : IsLeast c.clusters (map seat_in fs) bar) (passed : All (IsPassed bar) (map seat_in fs)) (kept : All (IsKept c.clusters word) (map seat_in fs)) where
+    high_bar : end_faults fs ≡ [] → c.clusters ≤ bar
+    high_bar none = ⊎_elim
+        (λ (le : length job.faults ≤ bar). let f = facts.faults in let r : c.clusters ≤ bar = omega arith in r)
+        (λ (g : IsReached (end_faults fs)). absurd (subst (Among g.0) none g.1))
+        (reaches fs (sym facts.faults) ran memory least)
+
+    full : end_faults fs ≡ [] → c.clusters ≤ word
+    full none = all_drawn fs word some (high_bar none) ran (all_over fs memory none) passed kept
+
+    -- the least of the slots' faults is that of the first cluster that has one
+    pub least_is_first : least_fault (end_faults fs) ≡ first_in job.faults
+    least_is_first =
+        let m = min word c.clusters in
+        let count : (k : ℕ) → times k (concat (drawn_in fs)) ≡ once_below k m = λ k. times_concat k (drawn_in fs) ∙ (counts_by_drawn (drawn_in fs) m drawn).1 k in
+        first_told job.faults bar m (concat (drawn_in fs)) (end_faults fs) facts.order (slots_told fs ran memory passed) (reaches fs (sym facts.faults) ran memory least)
+        (λ k lt. omega (arith, count k, once_inside k m lt))
+        (λ k there. inside_once k m (omega (arith, count k)))
+        (λ none. let w = full none in let f = facts.faults in omega arith)
+
+    -- where no slot faulted, they finished all clusters
+    pub are_done : end_faults fs ≡ [] → AreDone b job (map done_in fs)
+    are_done none =
+        let over = all_over fs memory none in
+        let whole : min word c.clusters ≡ length job.faults = (let w = full none in let f = facts.faults in omega arith) in
+        record {
+          each = each_done fs ran over;
+          unite = drawn_lists_unite (map finished_by (map done_in fs)) (length job.faults)
+              (subst (DrawnBy (map finished_by (map done_in fs))) whole (subst (λ (l : List (List ℕ)). DrawnBy l (min word c.clusters)) (done_lists fs (high_bar none) ran over passed) drawn));
+        }
+
+-- the least of no faults is none
+pub none_left : (fs : List Fault) (least : Option Fault) → least ≡ least_fault fs → ((f : Fault) → least ≡ Some f → ⊥) → fs ≡ []
+none_left [] least is none = refl
+none_left (f ∷ fs) least is none = absurd (none _ is)
+
+pub left_none : (fs : List Fault) → None ≡ least_fault fs → fs ≡ []
+left_none [] is = refl
+left_none (f ∷ fs) is = absurd (cc)

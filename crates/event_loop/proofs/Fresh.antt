@@ -1,0 +1,74 @@
+-- What the slots of a loop begin with.
+use Rattle.std.proofs.Common.{◌≡◌, ℕ, suc, ◌+◌, ◌<◌, ◌≤◌, List, [], ◌∷◌, ◌++◌, length, map, Option, None, Some, refl, sym, ap, ◌∙◌, subst, arith, length-append}
+use Rattle.std.specs.Prelude.{MatchOption}
+use Rattle.std.specs.List.{All, range_with_len}
+use Rattle.std.proofs.lemmas.List.{length-map}
+use Rattle.std.proofs.lemmas.List.FromFn.{length-range_with_len}
+use Rattle.std.proofs.lemmas.List.Elements.{All-map, All-nil, All-push, All-pop}
+use Rattle.cluster_claims.specs.Seats.{ClaimsSeen, SeatSeen, fresh_seat, fresh_seats}
+use Rattle.partial_watch.specs.Shares.{BookSeen, ShareSeen, fresh_share, fresh_shares}
+use Rattle.slot_state.specs.Jobs.{JobFacts}
+use Rattle.slot_state.specs.Slots.{SlotView, fresh_slot}
+use Rattle.event_loop.specs.declared.workers.Slot.{Slot}
+use Rattle.event_loop.specs.Seated.{AreBlank, AreFreshStates, IsBlank}
+use Rattle.event_loop.specs.Workers.{HasNoted, IsFresh, IsReady}
+
+pub many_seats : (c : ClaimsSeen) (n : ℕ) → length (fresh_seats c n) ≡ n
+many_seats c n = length-map (range_with_len 0 n) (fresh_seat c) ∙ length-range_with_len 0 n
+
+many_shares : (b : BookSeen) (n : ℕ) → length (fresh_shares b n) ≡ n
+many_shares b n = length-map (range_with_len 0 n) (fresh_share b) ∙ length-range_with_len 0 n
+
+pub all_ready : (c : ClaimsSeen) (n : ℕ) → All (IsReady c) (fresh_seats c n)
+all_ready c n = All-map (IsReady c) (fresh_seat c) (range_with_len 0 n) (λ k d lt. record { of = (refl, refl); undrawn = refl; unkept = refl; unpassed = refl; unlowered = refl })
+
+pub all_blank : (b : BookSeen) (n : ℕ) (shares : List ShareSeen) → shares ≡ fresh_shares b n → AreBlank (Some b) n shares
+all_blank b n shares is = (ap length is ∙ many_shares b n, subst (All (IsBlank b)) (sym is) (All-map (IsBlank b) (fresh_share b) (range_with_len 0 n) (λ k d lt. record { of = (refl, refl); unnoted = refl })))
+
+-- the next share, where there is a book
+pub next_share : (b : Option BookSeen) (n : ℕ) (old new : List ShareSeen) (r : Option ShareSeen)
+    → AreBlank b (n + 1) old → MatchOption r ((old ≡ []) × (new ≡ [])) (λ s. old ≡ new ++ s ∷ []) → HasNoted b 0 r × AreBlank b n new
+next_share None n old new None blank popped = (tt, popped.1)
+next_share None n old new (Some s) blank popped = absurd (none new (sym popped ∙ blank))
+  where
+    none : (xs : List ShareSeen) → xs ++ s ∷ [] ≡ [] → ⊥
+    none [] e = absurd (cc)
+    none (x ∷ xs) e = absurd (cc)
+next_share (Some b) n old new None blank popped = (let e = ap length popped.0 in let m = blank.0 in absurd (omega arith))
+next_share (Some b) n old new (Some s) blank popped =
+    let all = All-pop (IsBlank b) old new (Some s) popped blank.1 in
+    let m = blank.0 in
+    ((all.1.of, ap length all.1.unnoted), (omega (arith, ap length popped, length-append new (s ∷ [])), all.0))
+
+-- what is left, and what is seated
+pub record AreSeated (c : ClaimsSeen) (b : Option BookSeen) (job : JobFacts) (seats : List SeatSeen) (shares : List ShareSeen) (states : List SlotView) (slots : List Slot) : Type 0 where
+  pub ready : All (IsReady c) seats
+  pub blank : AreBlank b (length seats) shares
+  pub fresh : AreFreshStates job states
+  pub done : All (IsFresh c b job) slots
+
+pub none_seated : (c : ClaimsSeen) (b : Option BookSeen) (job : JobFacts) (seats : List SeatSeen) (shares : List ShareSeen) (states : List SlotView)
+    → All (IsReady c) seats → AreBlank b (length seats) shares → AreFreshStates job states → AreSeated c b job seats shares states []
+none_seated c b job seats shares states ready blank fresh = record { ready = ready; blank = blank; fresh = fresh; done = All-nil (IsFresh c b job) }
+
+pub next_seated : (c : ClaimsSeen) (b : Option BookSeen) (job : JobFacts) (seats seats' : List SeatSeen) (shares shares' : List ShareSeen) (states states' : List SlotView) (slots slots' : List Slot)
+    (seat : SeatSeen) (share : Option ShareSeen) (state : SlotView) (slot : Slot)
+    → AreSeated c b job seats shares states slots
+    → seats ≡ seats' ++ seat ∷ [] → MatchOption share ((shares ≡ []) × (shares' ≡ [])) (λ s. shares ≡ shares' ++ s ∷ []) → states ≡ states' ++ state ∷ []
+    → slots' ≡ slots ++ slot ∷ [] → slot.seat ≡ seat → slot.share ≡ share → slot.state ≡ state
+    → AreSeated c b job seats' shares' states' slots'
+next_seated c b job seats seats' shares shares' states states' slots slots' seat share state slot h seats_are shares_are states_are slots_are seat_is share_is state_is =
+    let ready = All-pop (IsReady c) seats seats' (Some seat) seats_are h.ready in
+    let fresh = All-pop (λ (s : SlotView). s ≡ fresh_slot job) states states' (Some state) states_are h.fresh in
+    let many : length seats ≡ length seats' + 1 = omega (arith, ap length seats_are, length-append seats' (seat ∷ [])) in
+    let noted = next_share b (length seats') shares shares' share (subst (λ (n : ℕ). AreBlank b n shares) many h.blank) shares_are in
+    record {
+      ready = ready.0;
+      blank = noted.1;
+      fresh = fresh.0;
+      done = subst (All (IsFresh c b job)) (sym slots_are) (All-push (IsFresh c b job) slots slot h.done record {
+        seat = subst (IsReady c) (sym seat_is) ready.1;
+        share = subst (HasNoted b 0) (sym share_is) noted.0;
+        state = state_is ∙ fresh.1;
+      });
+    }

@@ -1,0 +1,50 @@
+-- Pieces that are made of slots, one after another.
+use Rattle.std.proofs.Common.{◌≡◌, ℕ, ◌<◌, List, [], ◌∷◌, ◌++◌, length, get_or, refl, sym, ap, ◌∙◌, subst, arith, append_assoc, append-nil}
+use Rattle.std.specs.Prelude.{flat_map}
+use Rattle.std.specs.List.{All, remove}
+use Rattle.std.proofs.lemmas.List.Elements.{All-head, All-tail}
+use Rattle.std.proofs.lemmas.List.Concat.{flat_map-append}
+use Rattle.loop_pieces.specs.declared.loop_piece.LoopPiece.{LoopPiece}
+use Rattle.partial_watch.specs.Shares.{ShareSeen}
+use Rattle.event_loop.specs.declared.gather.Done.{Done}
+use Rattle.event_loop.specs.Filling.{AllAreGoing, ArePieces, IsGoing, IsPieceOf, shares_in, share_or_none}
+
+-- the first slots are pieces and shares, the others are left
+pub record AreMade (slots left : List Done) (pieces : List LoopPiece) (shares : List ShareSeen) : Type 0 where
+  pub made : List Done
+  pub all : slots ≡ made ++ left
+  pub pieces_of : ArePieces made pieces
+  pub shares_of : shares ≡ flat_map shares_in made
+  pub going : AllAreGoing left
+
+pub none_made : (slots : List Done) → AllAreGoing slots → AreMade slots slots [] []
+none_made slots going = record { made = []; all = refl; pieces_of = tt; shares_of = refl; going = going }
+
+one_more : (ds : List Done) (ps : List LoopPiece) (d : Done) (p : LoopPiece) → ArePieces ds ps → IsPieceOf d.state p → ArePieces (ds ++ d ∷ []) (ps ++ p ∷ [])
+one_more [] [] d p h k = (k, tt)
+one_more [] (q ∷ qs) d p h k = elim h [ ]
+one_more (t ∷ ts) [] d p h k = elim h [ ]
+one_more (t ∷ ts) (q ∷ qs) d p h k = (h.0, one_more ts qs d p h.1 k)
+
+pub next_made : (slots left rest : List Done) (pieces now : List LoopPiece) (shares more : List ShareSeen) (d : Done) (p : LoopPiece)
+    → AreMade slots left pieces shares → 0 < length left → d ≡ get_or left 0 d → rest ≡ remove left 0 → more ≡ shares ++ share_or_none d.share → now ≡ pieces ++ p ∷ [] → IsPieceOf d.state p → AreMade slots rest now more
+next_made slots [] rest pieces now shares more d p m some is gone grown is_now k = absurd (omega arith)
+next_made slots (t ∷ ts) rest pieces now shares more d p m some is gone grown is_now k = record {
+  made = m.made ++ d ∷ [];
+  all = m.all ∙ ap (λ (l : List Done). m.made ++ l) (ap (λ (h : Done). h ∷ ts) (sym is) ∙ ap (λ (l : List Done). d ∷ l) (sym gone)) ∙ sym (append_assoc m.made (d ∷ []) rest);
+  pieces_of = subst (ArePieces (m.made ++ d ∷ [])) (sym is_now) (one_more m.made pieces d p m.pieces_of k);
+  shares_of = grown ∙ ap (λ (l : List ShareSeen). l ++ share_or_none d.share) m.shares_of ∙ ap (λ (l : List ShareSeen). flat_map shares_in m.made ++ l) (sym (append-nil (share_or_none d.share))) ∙ sym (flat_map-append shares_in m.made (d ∷ []));
+  going = subst AllAreGoing (sym gone) (All-tail IsGoing t ts m.going);
+}
+
+pub first_going : (slots left : List Done) (pieces : List LoopPiece) (shares : List ShareSeen) (d : Done) → AreMade slots left pieces shares → 0 < length left → d ≡ get_or left 0 d → IsGoing d
+first_going slots left pieces shares d m some is = subst IsGoing (sym is) (m.going 0 d some)
+
+all_made : (slots left : List Done) (pieces : List LoopPiece) (shares : List ShareSeen) → AreMade slots left pieces shares → left ≡ [] → (m : List Done) × (slots ≡ m) × ArePieces m pieces × (shares ≡ flat_map shares_in m)
+all_made slots left pieces shares m none = (m.made, m.all ∙ ap (λ (l : List Done). m.made ++ l) none ∙ append-nil m.made, m.pieces_of, m.shares_of)
+
+pub made_pieces : (slots left : List Done) (pieces : List LoopPiece) (shares : List ShareSeen) → AreMade slots left pieces shares → left ≡ [] → ArePieces slots pieces
+made_pieces slots left pieces shares m none = let a = all_made slots left pieces shares m none in subst (λ (l : List Done). ArePieces l pieces) (sym a.1) a.2
+
+pub made_shares : (slots left : List Done) (pieces : List LoopPiece) (shares : List ShareSeen) → AreMade slots left pieces shares → left ≡ [] → shares ≡ flat_map shares_in slots
+made_shares slots left pieces shares m none = let a = all_made slots left pieces shares m none in a.3 ∙ ap (flat_map shares_in) (sym a.1)

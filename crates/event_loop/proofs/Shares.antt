@@ -1,0 +1,159 @@
+-- The shares and the trails of slots that finished all clusters.
+use Rattle.std.proofs.Common.{◌≡◌, ℕ, zero, suc, ◌+◌, ◌<◌, ◌≤◌, List, [], ◌∷◌, ◌++◌, length, map, Option, None, Some, refl, sym, ap, ap₂, ◌∙◌, subst, arith}
+use Rattle.std.specs.Prelude.{flat_map, slice_get, slice_index_or}
+use Rattle.std.specs.List.{All, concat, sum_by}
+use Rattle.std.proofs.lemmas.List.{length-map}
+use Rattle.std.proofs.lemmas.List.Concat.{concat_is, length-flat_map}
+use Rattle.std.proofs.lemmas.List.Elements.{All-nil, All-cons, All-head, All-tail}
+use Rattle.std.proofs.lemmas.List.Sorted.{length_permutation}
+use Rattle.std.proofs.lemmas.List.Sums.{sum_by-cons}
+use Rattle.rdf_values.specs.Cuts.{below}
+use Rattle.rdf_values.specs.Draws.{DrawnBy, IsUnion}
+use Rattle.rdf_values.proofs.Below.{length-below}
+use Rattle.actions.specs.Accumulators.{Accumulator}
+use Rattle.loop_pieces.specs.LoopPieces.{IsPass, StandsFor}
+use Rattle.loop_pieces.specs.PartialLines.{HavePartials}
+use Rattle.loop_pieces.specs.Trails.{HaveTrails}
+use Rattle.loop_pieces.specs.declared.loop_piece.LoopPiece.{LoopPiece}
+use Rattle.loop_pieces.specs.declared.filled_result.PartialLine.{PartialLine}
+use Rattle.merge_core.specs.Pieces.{Stand}
+use Rattle.rdf_model.specs.declared.loop_facts.LoopFacts.{LoopFacts}
+use Rattle.partial_lines.specs.Chains.{AreNoted}
+use Rattle.partial_lines.specs.Trails.{HasSameBody, HaveAllTrails, HaveSameBodies}
+use Rattle.partial_watch.specs.Shares.{BookSeen, ShareSeen, many_in}
+use Rattle.partial_watch.specs.Shares as book
+use Rattle.slot_state.specs.Jobs.{JobFacts}
+use Rattle.event_loop.specs.declared.gather.Done.{Done}
+use Rattle.event_loop.specs.Workers.{HasNoted}
+use Rattle.event_loop.specs.Gathered.{AreDone, AreFacts, IsDone, finished_by}
+use Rattle.event_loop.specs.Filling.{AllAreGoing, AreFilled, ArePieces, CanFill, IsBookOf, IsGoing, IsPieceOf, share_or_none, shares_in}
+
+pub all_going : (b : Option BookSeen) (job : JobFacts) (ds : List Done) → All (IsDone b job) ds → AllAreGoing ds
+all_going b job [] h = All-nil IsGoing
+all_going b job (d ∷ ds) h = All-cons IsGoing d ds (All-head (IsDone b job) d ds h).going (all_going b job ds (All-tail (IsDone b job) d ds h))
+
+abbrev numbers_in : ShareSeen → List ℕ
+numbers_in s = s.numbers
+
+module _ (b : BookSeen) (job : JobFacts) where
+  -- a slot's share, and how many clusters it noted
+  one_share : (n : ℕ) (o : Option ShareSeen) → HasNoted (Some b) n o → (s : ShareSeen) × (share_or_none o ≡ s ∷ []) × book.IsOf b s × (length s.numbers ≡ n)
+  one_share n None h = elim h [ ]
+  one_share n (Some s) h = (s, refl, h.0, h.1)
+
+  -- what is known of the shares of the slots
+  pub record AreShares (ds : List Done) (shares : List ShareSeen) : Type 0 where
+    pub many : length shares ≡ length ds
+    pub of : All (book.IsOf b) shares
+    pub noted : map length (map numbers_in shares) ≡ map length (map finished_by ds)
+
+  pub are_shares : (ds : List Done) → All (IsDone (Some b) job) ds → AreShares ds (flat_map shares_in ds)
+  are_shares [] h = record { many = refl; of = All-nil (book.IsOf b); noted = refl }
+  are_shares (d ∷ ds) h =
+      let first = All-head (IsDone (Some b) job) d ds h in
+      let one = one_share (length d.state.done) d.share first.noted in
+      let rest = are_shares ds (All-tail (IsDone (Some b) job) d ds h) in
+      let more : flat_map shares_in (d ∷ ds) ≡ one.0 ∷ flat_map shares_in ds = ap (λ (l : List ShareSeen). l ++ flat_map shares_in ds) one.1 in
+      subst (AreShares (d ∷ ds)) (sym more)
+      record {
+        many = (let m = rest.many in omega arith);
+        of = All-cons (book.IsOf b) one.0 (flat_map shares_in ds) one.2 rest.of;
+        noted = ap₂ (λ (n : ℕ) (l : List ℕ). n ∷ l) one.3 rest.noted;
+      }
+
+sum_lengths : (xs ys : List (List ℕ)) → map length xs ≡ map length ys → sum_by length xs ≡ sum_by length ys
+sum_lengths [] [] e = refl
+sum_lengths [] (y ∷ ys) e = absurd (cc)
+sum_lengths (x ∷ xs) [] e = absurd (cc)
+sum_lengths (x ∷ xs) (y ∷ ys) e =
+    let first : length x ≡ length y = cc in
+    let rest : map length xs ≡ map length ys = cc in
+    omega (arith, sum_by-cons length x xs, sum_by-cons length y ys, sum_lengths xs ys rest)
+
+-- as many as there are clusters
+many_finished : (dones : List (List ℕ)) (n : ℕ) → IsUnion dones (below n) → sum_by length dones ≡ n
+many_finished dones n u = sym (ap length (concat_is dones) ∙ length-flat_map (λ (x : List ℕ). x) dones) ∙ sym (length_permutation (concat dones) (below n) u.each_once) ∙ length-below n
+
+pub are_noted : (dones orders : List (List ℕ)) (n : ℕ) → IsUnion dones (below n) → map length orders ≡ map length dones → DrawnBy orders (many_in orders) → AreNoted orders dones n
+are_noted dones orders n u same drawn = record {
+  unite = u;
+  drawn = subst (DrawnBy orders) (sum_lengths orders dones same ∙ many_finished dones n u) drawn;
+  many = same;
+}
+
+module _ (b : Option BookSeen) (job : JobFacts) where
+  first_piece : (d : Done) (ds : List Done) (p : LoopPiece) → All (IsDone b job) (d ∷ ds) → IsPieceOf d.state p → StandsFor job.facts d.state.done p × HaveTrails job.facts job.watched d.state.done p.trails.items
+  first_piece d ds p h piece =
+      let same = (All-head (IsDone b job) d ds h).same in
+      (subst (λ (j : JobFacts). StandsFor j.facts d.state.done p) same piece.stands, subst (λ (j : JobFacts). HaveTrails j.facts j.watched d.state.done p.trails.items) same piece.trails)
+
+  pub have_all : (ds : List Done) (ps : List LoopPiece) → All (IsDone b job) ds → ArePieces ds ps → HaveAllTrails job.facts job.watched (map finished_by ds) ps
+  have_all [] [] h pieces = record { many = refl; each = λ k done p at there. absurd (cc) }
+  have_all [] (p ∷ ps) h pieces = elim pieces [ ]
+  have_all (d ∷ ds) [] h pieces = elim pieces [ ]
+  have_all (d ∷ ds) (p ∷ ps) h pieces =
+      let rest = have_all ds ps (All-tail (IsDone b job) d ds h) pieces.1 in
+      let first = (first_piece d ds p h pieces.0).1 in
+      record { many = (let m = rest.many in omega arith); each = λ k done q at there. at_either k done q at there first rest }
+    where
+      at_either : (k : ℕ) (done : List ℕ) (q : LoopPiece) → slice_get (map finished_by (d ∷ ds)) k ≡ Some done → slice_get (p ∷ ps) k ≡ Some q → HaveTrails job.facts job.watched d.state.done p.trails.items → HaveAllTrails job.facts job.watched (map finished_by ds) ps
+          → HaveTrails job.facts job.watched done q.trails.items
+      at_either zero done q at there first rest =
+          let same : d.state.done ≡ done = cc in
+          let piece : p ≡ q = cc in
+          subst (λ (x : LoopPiece). HaveTrails job.facts job.watched done x.trails.items) piece (subst (λ (l : List ℕ). HaveTrails job.facts job.watched l p.trails.items) same first)
+      at_either (suc k) done q at there first rest = rest.each k done q at there
+
+  -- a piece stands for its clusters also without its trails
+  stands_so : (f : LoopFacts) (set : List ℕ) (p q : LoopPiece) → HasSameBody p q → StandsFor f set p → StandsFor f set q
+  stands_so f set p q same s = record {
+    facts = s.facts;
+    rises = s.rises;
+    kinds = ap (map (λ (acc : Accumulator). acc.kind)) same.accs ∙ s.kinds;
+    accs = subst (λ (l : List Accumulator). (i : ℕ) (d : Accumulator) → i < length l → IsPass f set i (slice_index_or l i d)) (sym same.accs) s.accs;
+    flow = same.flow ∙ s.flow;
+  }
+
+  rest_bodies : (p q : LoopPiece) (ps qs : List LoopPiece) → HaveSameBodies (p ∷ ps) (q ∷ qs) → HaveSameBodies ps qs
+  rest_bodies p q ps qs h = record { many = (let m = h.many in omega arith); each = λ k x y a c. h.each (suc k) x y a c }
+
+  pub stand : (ds : List Done) (ps qs : List LoopPiece) → All (IsDone b job) ds → ArePieces ds ps → HaveSameBodies ps qs → Stand (StandsFor job.facts) (map finished_by ds) qs
+  stand [] [] [] h pieces same = tt
+  stand [] [] (q ∷ qs) h pieces same = (let m = same.many in absurd (omega arith))
+  stand [] (p ∷ ps) qs h pieces same = elim pieces [ ]
+  stand (d ∷ ds) [] qs h pieces same = elim pieces [ ]
+  stand (d ∷ ds) (p ∷ ps) [] h pieces same = (let m = same.many in absurd (omega arith))
+  stand (d ∷ ds) (p ∷ ps) (q ∷ qs) h pieces same =
+      (stands_so job.facts d.state.done p q (same.each 0 p q refl refl) (first_piece d ds p h pieces.0).0, stand ds ps qs (All-tail (IsDone b job) d ds h) pieces.1 (rest_bodies p q ps qs same))
+
+  pub as_many_pieces : (ds : List Done) (ps : List LoopPiece) → ArePieces ds ps → length ps ≡ length ds
+  as_many_pieces [] [] pieces = refl
+  as_many_pieces [] (p ∷ ps) pieces = elim pieces [ ]
+  as_many_pieces (d ∷ ds) [] pieces = elim pieces [ ]
+  as_many_pieces (d ∷ ds) (p ∷ ps) pieces = let r = as_many_pieces ds ps pieces.1 in omega arith
+
+-- nothing is watched
+pub none_watched : (facts : LoopFacts) (places : List ℕ) (k : ℕ) → length places ≡ 0 → HavePartials facts places k []
+none_watched facts [] k none = record { sets = []; chain = λ some. absurd (omega arith); many = refl; each = λ w place lines a c. absurd (cc) }
+none_watched facts (p ∷ ps) k none = absurd (omega arith)
+
+-- where there is a book
+pub record AreBooked (b : BookSeen) (clusters : ℕ) (ds : List Done) (shares : List ShareSeen) : Type 0 where
+  pub many : length shares ≡ b.slots
+  pub of : All (book.IsOf b) shares
+  pub noted : (orders : List (List ℕ)) → orders ≡ map (λ (s : ShareSeen). s.numbers) shares → DrawnBy (map (λ (s : ShareSeen). s.numbers) shares) (many_in (map (λ (s : ShareSeen). s.numbers) shares)) → AreNoted orders (map finished_by ds) clusters
+
+booked : (b : BookSeen) (watched clusters : ℕ) (job : JobFacts) (ds : List Done) (shares : List ShareSeen) → CanFill (Some b) watched clusters job ds → shares ≡ flat_map shares_in ds → AreBooked b clusters ds shares
+booked b watched clusters job ds shares can is =
+    let s = subst (AreShares b job ds) (sym is) (are_shares b job ds can.done.each) in
+    let f = can.facts.faults in
+    record {
+      many = s.many ∙ sym can.booked;
+      of = s.of;
+      noted = λ orders orders_are drawn. subst (λ (os : List (List ℕ)). AreNoted os (map finished_by ds) clusters) (sym orders_are)
+          (are_noted (map finished_by ds) (map numbers_in shares) clusters (subst (λ (n : ℕ). IsUnion (map finished_by ds) (below n)) f can.done.unite) s.noted drawn);
+    }
+
+pub with_book : (o : Option BookSeen) (b : BookSeen) (watched clusters : ℕ) (job : JobFacts) (ds : List Done) (shares : List ShareSeen)
+    → o ≡ Some b → CanFill o watched clusters job ds → shares ≡ flat_map shares_in ds → AreBooked b clusters ds shares
+with_book o b watched clusters job ds shares o_is can is = booked b watched clusters job ds shares (subst (λ (x : Option BookSeen). CanFill x watched clusters job ds) o_is can) is

@@ -1,0 +1,61 @@
+-- What is known of a whole loop.
+use Rattle.std.proofs.Common.{◌≡◌, ℕ, ◌+◌, ◌<◌, ◌≤◌, List, length, map, Option, None, Some, refl, sym, ap, ◌∙◌, subst, arith}
+use Rattle.std.specs.List.{All}
+use Rattle.std.proofs.lemmas.List.{length-map}
+use Rattle.rdf_values.specs.Cuts.{Lead, below, cut}
+use Rattle.rdf_values.specs.Machine.{first_in}
+use Rattle.rdf_values.specs.declared.fault.Fault.{Fault}
+use Rattle.rdf_values.proofs.Below.{length-below}
+use Rattle.rdf_values.proofs.Leading.{cuts_lead}
+use Rattle.clusters.proofs.Leading.{few_ranges}
+use Rattle.cluster_claims.specs.Seats.{ClaimsSeen, SeatSeen, fresh_seats}
+use Rattle.partial_watch.specs.Shares.{BookSeen, ShareSeen}
+use Rattle.entry_cache.specs.Jobs.{IsJob, JobView, passes_in}
+use Rattle.loop_pieces.specs.Whole.{cluster_fault}
+use Rattle.loop_pieces.proofs.ClusterFaults.{lower_clusters_fault_first}
+use Rattle.slot_state.specs.Jobs.{JobFacts, job_facts, job_spans}
+use Rattle.event_loop.specs.declared.end.FilledLoop.{FilledLoop}
+use Rattle.event_loop.specs.declared.gather.Done.{Done}
+use Rattle.event_loop.specs.declared.gather.Outcome.{Outcome}
+use Rattle.event_loop.specs.declared.gather.Outcome.TheVariants as outcome
+use Rattle.event_loop.specs.Ends.{IsFilled}
+use Rattle.event_loop.specs.Filling.{AreFilled, CanFill, IsBookOf}
+use Rattle.event_loop.specs.Gathered.{AreDone, AreFacts, IsOutcome}
+use Rattle.event_loop.specs.Seated.{AreBlank, IsOpened}
+use Rattle.event_loop.specs.Workers.{IsReady}
+use Rattle.event_loop.proofs.Fresh.{all_ready, many_seats}
+
+-- no more clusters than entries
+pub few_clusters : (j : JobView) (n : ℕ) → n ≡ length (job_spans j) → j.cuts.entries ≤ 1000000 → n ≤ 1000000
+few_clusters j n is few = omega (arith, few_ranges (job_spans j) 0 j.cuts.entries (cuts_lead j.cuts.entries j.cuts.size j.cuts.marks))
+
+pub facts_of : (j : JobView) (n : ℕ) → IsJob j → n ≡ length (job_spans j) → AreFacts n (job_facts j)
+facts_of j n job is = record {
+  ranges = sym is;
+  faults = length-map (below (length (job_spans j))) (cluster_fault j.dataset (job_spans j) (passes_in j)) ∙ length-below (length (job_spans j)) ∙ sym is;
+  order = lower_clusters_fault_first j.dataset (job_spans j) (passes_in j) (subst (λ (k : ℕ). Lead 0 k (job_spans j)) job.cuts (cuts_lead j.cuts.entries j.cuts.size j.cuts.marks));
+}
+
+pub seats_ready : (c : ClaimsSeen) (n : ℕ) (seats : List SeatSeen) → seats ≡ fresh_seats c n → All (IsReady c) seats
+seats_ready c n seats is = subst (All (IsReady c)) (sym is) (all_ready c n)
+
+pub seats_many : (c : ClaimsSeen) (n : ℕ) (seats : List SeatSeen) → seats ≡ fresh_seats c n → length seats ≡ n
+seats_many c n seats is = ap length is ∙ many_seats c n
+
+booked_for : (o : Option BookSeen) (watched slots clusters n : ℕ) → IsOpened watched slots clusters o → n ≡ slots → IsBookOf watched n o
+booked_for None watched slots clusters n h is = h
+booked_for (Some b) watched slots clusters n h is = h.0 ∙ sym is
+
+-- the outcome where all clusters are processed
+pub can_fill : (o : Option BookSeen) (watched slots clusters n : ℕ) (job : JobFacts) (end : Outcome) (ds : _)
+    → AreFacts clusters job → IsOutcome o job n end → end ≡ outcome.Processed ds → n ≡ slots → 0 < slots → length job.watched ≡ watched → IsOpened watched slots clusters o
+    → CanFill o watched clusters job ds.items
+can_fill o watched slots clusters n job end ds facts ended is many some watches opened =
+    let e = subst (IsOutcome o job n) is ended in
+    record { facts = facts; done = e.1; some = omega (arith, e.2); watches = watches; booked = booked_for o watched slots clusters (length ds.items) opened (e.2 ∙ many) }
+
+pub first_is : (o : Option BookSeen) (n : ℕ) (job : JobFacts) (end : Outcome) (fault : Fault) → IsOutcome o job n end → end ≡ outcome.Faulted fault → first_in job.faults ≡ Some fault
+first_is o n job end fault ended is = subst (IsOutcome o job n) is ended
+
+pub is_filled : (o : Option BookSeen) (n k : ℕ) (job : JobFacts) (end : Outcome) (ds : _) (filled : FilledLoop) → IsOutcome o job n end → end ≡ outcome.Processed ds → AreFilled job k filled → IsFilled job k filled
+is_filled o n k job end ds filled ended is h = record { sound = (subst (IsOutcome o job n) is ended).0; stands = h.stands; partials = h.partials }

@@ -1,0 +1,60 @@
+-- What a loop without a fault is filled with.
+use Rattle.std.specs.Prelude.{◌≡◌, ◌<◌, ℕ, List, [], ◌∷◌, Option, Some, None, All, length}
+use Rattle.rdf_values.specs.Cuts.{below}
+use Rattle.loop_pieces.specs.LoopPieces.{StandsFor}
+use Rattle.loop_pieces.specs.PartialLines.{HavePartials}
+use Rattle.loop_pieces.specs.Trails.{HaveTrails}
+use Rattle.loop_pieces.specs.declared.loop_piece.LoopPiece.{LoopPiece}
+use Rattle.partial_watch.specs.Shares.{BookSeen, ShareSeen}
+use Rattle.slot_state.specs.Jobs.{JobFacts}
+use Rattle.slot_state.specs.Slots.{SlotView}
+use Rattle.slot_state.specs.declared.progress.Phase.TheVariants as phase
+use Rattle.event_loop.specs.Gathered.{AreDone, AreFacts}
+use Rattle.event_loop.specs.declared.end.FilledLoop.{FilledLoop}
+use Rattle.event_loop.specs.declared.gather.Done.{Done}
+
+-- the slot goes on
+abbrev pub IsGoing : Done → Type 0
+IsGoing d = d.state.phase ≡ phase.Going
+
+-- each of the slots
+abbrev pub AllAreGoing : List Done → Type 0
+AllAreGoing ds = All IsGoing ds
+
+-- the share of a slot, where it has one
+abbrev pub share_or_none : Option ShareSeen → List ShareSeen
+share_or_none None = []
+share_or_none (Some s) = s ∷ []
+
+-- of a slot that is done
+abbrev pub shares_in : Done → List ShareSeen
+shares_in d = share_or_none d.share
+
+-- the piece is what the slot's clusters came to, with a trail for each watched result
+pub record IsPieceOf (s : SlotView) (p : LoopPiece) : Type 0 where
+  pub stands : StandsFor s.job.facts s.done p
+  pub trails : HaveTrails s.job.facts s.job.watched s.done p.trails.items
+
+-- the slots' pieces, in their order
+abbrev pub ArePieces : List Done → List LoopPiece → Type 0
+ArePieces [] [] = Unit {0}
+ArePieces (d ∷ ds) (p ∷ ps) = IsPieceOf d.state p × ArePieces ds ps
+ArePieces ds ps = ⊥
+
+-- there is a book of so many slots, where a result is watched
+abbrev pub IsBookOf : ℕ → ℕ → Option BookSeen → Type 0
+IsBookOf watched slots None = watched ≡ 0
+IsBookOf watched slots (Some b) = b.slots ≡ slots
+
+-- the slots finished all clusters of the job, which has so many watched results
+pub record CanFill (b : Option BookSeen) (watched clusters : ℕ) (job : JobFacts) (slots : List Done) : Type 0 where
+  pub facts : AreFacts clusters job
+  pub done : AreDone b job slots
+  pub some : 0 < length slots
+  pub watches : length job.watched ≡ watched
+  pub booked : IsBookOf watched (length slots) b
+
+-- the piece is what all clusters come to, and the partial results are those of the watched results
+pub record AreFilled (job : JobFacts) (k : ℕ) (filled : FilledLoop) : Type 0 where
+  pub stands : StandsFor job.facts (below (length job.faults)) filled.piece
+  pub partials : HavePartials job.facts job.watched k filled.partials

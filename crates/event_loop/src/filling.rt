@@ -1,0 +1,95 @@
+// What a loop without a fault is filled with.
+ghost use Rattle.std.specs.Prelude.{◌≡◌, ◌<◌, ◌≤◌, ◌++◌, List, Option, IfOk, OnOk, flat_map};
+ghost use Rattle.loop_pieces.specs.PartialLines.{HavePartials};
+ghost use Rattle.partial_lines.specs.Trails.{HaveSameBodies};
+ghost use Rattle.slot_state.specs.Jobs.{JobFacts};
+ghost use Rattle.event_loop.specs.Filling.{AllAreGoing, AreFilled, ArePieces, CanFill, share_or_none, shares_in};
+ghost use Rattle.event_loop.specs.declared.gather.Done.{Done};
+
+use crate::end::FilledLoop;
+use crate::gather::Done;
+use loop_pieces::{LoopPiece, PartialLine};
+use merge_core::merge_all;
+use partial_lines::partial_lines;
+use partial_watch::{Book, Share, ShareList};
+use rdf_values::{ListOf, Memory};
+use std::alloc::Global;
+
+// Appends a share, where there is one.
+fn keep_share(shares: &mut ShareList, share: Option<Share>) -> Result<(), Memory>
+    ensures { OnOk result (shares.new ≡ shares.old ++ share_or_none share) }
+{
+    if let Some(share) = share {
+        shares.push(share)?;
+    }
+    Ok(())
+}
+
+// The pieces and the shares of the slots, in their order.
+fn pieces_of(alloc: Global, slots: Vec<Done>) -> Result<(Vec<LoopPiece>, ShareList), Memory>
+    requires { AllAreGoing slots.items }
+    ensures pieces { IfOk result (λ r. ArePieces slots.items r.0.items) }
+    ensures shares { IfOk result (λ r. r.1 ≡ flat_map shares_in slots.items) }
+{
+    let mut left = slots;
+    let mut pieces = Vec::new(alloc);
+    let mut shares = ShareList::new(alloc);
+    while !left.is_empty() {
+        let Done { state, share } = left.remove(0);
+        keep_share(&mut shares, share)?;
+        pieces.push(state.into_piece())?;
+    }
+    Ok((pieces, shares))
+}
+
+// The partial results of the watched results, whose trails are taken out of the pieces.
+fn lines_in(
+    alloc: Global,
+    book: Option<Book>,
+    shares: ShareList,
+    pieces: &mut [LoopPiece],
+    watched: u32,
+    clusters: u32,
+    watch: u32,
+) -> Result<ListOf<ListOf<PartialLine>>, Memory>
+    requires few { clusters ≤ 1000000 }
+    requires watch { 0 < watch }
+    requires done { (job : JobFacts) × (slots : List Done) × CanFill book watched clusters job slots × ArePieces slots pieces.old × (shares ≡ flat_map shares_in slots) }
+    ensures partials { (job : JobFacts) (slots : List Done) → CanFill book watched clusters job slots → ArePieces slots pieces.old → shares ≡ flat_map shares_in slots
+        → IfOk result (HavePartials job.facts job.watched watch) }
+    ensures bodies { OnOk result (HaveSameBodies pieces.old pieces.new) }
+{
+    let Some(book) = book else {
+        return Ok(ListOf::new(alloc));
+    };
+    let orders = book.close(alloc, shares)?;
+    partial_lines(alloc, &orders, pieces, watched, clusters, watch)
+}
+
+/// The piece of all clusters, and the partial results of the watched results, where there are any.
+pub fn filled(
+    alloc: Global,
+    book: Option<Book>,
+    slots: Vec<Done>,
+    watched: u32,
+    clusters: u32,
+    watch: u32,
+) -> Result<FilledLoop, Memory>
+    requires few { clusters ≤ 1000000 }
+    requires watch { 0 < watch }
+    requires done { (job : JobFacts) × CanFill book watched clusters job slots.items }
+    ensures { (job : JobFacts) → CanFill book watched clusters job slots.items → IfOk result (AreFilled job watch) }
+{
+    let (mut pieces, shares) = pieces_of(alloc, slots)?;
+    let partials = lines_in(
+        alloc,
+        book,
+        shares,
+        pieces.as_mut_slice(),
+        watched,
+        clusters,
+        watch,
+    )?;
+    let piece = merge_all(ListOf::from_vec(pieces))?;
+    Ok(FilledLoop { piece, partials })
+}
