@@ -1,5 +1,5 @@
 -- How far a slot has come in a loop, and what its clusters and entries so far feed and reach.
-use Rattle.std.specs.Prelude.{◌≡◌, ◌<◌, ◌+◌, ℕ, List, [], ◌++◌, Some, count_by, flat_map, if◌then◌else◌, length, nat_lt, slice_get, take}
+use Rattle.std.specs.Prelude.{◌≡◌, ◌+◌, ℕ, List, ◌++◌, Some, count_by, flat_map, if◌then◌else◌, nat_lt, slice_get, take}
 use Rattle.rdf_values.specs.declared.item.Item.{Item}
 use Rattle.rdf_model.specs.LoopFacts.{if_there, is_passed, is_reached, list_at}
 use Rattle.rdf_model.specs.PartialResults.{span_rows}

@@ -1,8 +1,9 @@
 -- What a tally holds.
 use Rattle.std.specs.Prelude.{◌≡◌, ◌≤◌, ◌<◌, ◌+◌, ⊤, ℕ, List, [], ◌∷◌, All, Option, None, Some, length, map, slice_get}
-use Rattle.std.specs.List.{Contains}
 use Rattle.std.specs.List.Sorted.{IsStrictlyIncreasing}
 use Rattle.rdf_values.specs.Cuts.{below}
+use Rattle.rdf_values.specs.declared.action.ActionKind.{ActionKind}
+use Rattle.rdf_values.specs.declared.action.ActionKind.TheVariants as kind
 use Rattle.rdf_model.specs.LoopFacts.{IsLoopFacts}
 use Rattle.rdf_model.specs.declared.loop_facts.LoopFacts.{LoopFacts}
 use Rattle.actions.specs.Accumulators.{Accumulator, HasFed}
@@ -27,9 +28,18 @@ pub record IsFedTo (f : LoopFacts) (s : Stage) (i : ℕ) (acc : Accumulator) : T
   pub few : acc.entries ≤ entries_over f s.done + taken_at s.entries s.passes i
   pub last : acc.last ≤ s.cluster
 
+-- an action whose result can be watched
+abbrev pub CanWatch : ActionKind → Type 0
+CanWatch kind.Count = ⊤
+CanWatch (kind.Sum c) = ⊤
+CanWatch (kind.Min c) = ⊤
+CanWatch (kind.Max c) = ⊤
+CanWatch k = ⊥
+
 -- and that of a watched pass what the current cluster feeds to it
 pub record IsFedAlone (f : LoopFacts) (s : Stage) (i : ℕ) (acc : Accumulator) : Type 0 where
   pub kind : slice_get f.kinds i ≡ Some acc.kind
+  pub watch : CanWatch acc.kind
   pub fed : HasFed acc (from_cluster s.cluster (first_items f s.cluster (taken_at s.entries s.passes i) i))
   pub few : acc.entries ≤ taken_at s.entries s.passes i
   pub last : acc.last ≤ s.cluster

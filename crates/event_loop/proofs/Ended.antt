@@ -172,7 +172,7 @@ module _ (c : ClaimsSeen) (b : Option BookSeen) (job : JobFacts) (bar : ℕ) whe
   each_done (f ∷ fs) ran over =
       let first = All-head Ran f fs ran in
       let was = was_over f first (All-head IsOver f fs over) in
-      All-cons (IsDone b job) (done_in f) (map done_in fs) record { same = first.same; going = was.3; noted = was.0.noted } (each_done fs (All-tail Ran f fs ran) (All-tail IsOver f fs over))
+      All-cons (IsDone b job) (done_in f) (map done_in fs) record { slot = first.slot; going = was.3; noted = was.0.noted } (each_done fs (All-tail Ran f fs ran) (All-tail IsOver f fs over))
 
   module _ (fs : List Finished) (word : ℕ) (facts : AreFacts c.clusters job) (some : 0 < length fs) (ran : All Ran fs) (memory : All HasMemory fs)
       (drawn : DrawnBy (drawn_in fs) (min word c.clusters)) (least : IsLeast c.clusters (map seat_in fs) bar) (passed : All (IsPassed bar) (map seat_in fs)) (kept : All (IsKept c.clusters word) (map seat_in fs)) where

@@ -8,7 +8,7 @@ use Rattle.std.proofs.lemmas.List.Elements.{All-map, All-nil, All-push, All-pop}
 use Rattle.cluster_claims.specs.Seats.{ClaimsSeen, SeatSeen, fresh_seat, fresh_seats}
 use Rattle.partial_watch.specs.Shares.{BookSeen, ShareSeen, fresh_share, fresh_shares}
 use Rattle.slot_state.specs.Jobs.{JobFacts}
-use Rattle.slot_state.specs.Slots.{SlotView, fresh_slot}
+use Rattle.slot_state.specs.Slots.{IsFreshSlot, SlotView}
 use Rattle.event_loop.specs.declared.workers.Slot.{Slot}
 use Rattle.event_loop.specs.Seated.{AreBlank, AreFreshStates, IsBlank}
 use Rattle.event_loop.specs.Workers.{HasNoted, IsFresh, IsReady}
@@ -59,7 +59,7 @@ pub next_seated : (c : ClaimsSeen) (b : Option BookSeen) (job : JobFacts) (seats
     → AreSeated c b job seats' shares' states' slots'
 next_seated c b job seats seats' shares shares' states states' slots slots' seat share state slot h seats_are shares_are states_are slots_are seat_is share_is state_is =
     let ready = All-pop (IsReady c) seats seats' (Some seat) seats_are h.ready in
-    let fresh = All-pop (λ (s : SlotView). s ≡ fresh_slot job) states states' (Some state) states_are h.fresh in
+    let fresh = All-pop (IsFreshSlot job) states states' (Some state) states_are h.fresh in
     let many : length seats ≡ length seats' + 1 = omega (arith, ap length seats_are, length-append seats' (seat ∷ [])) in
     let noted = next_share b (length seats') shares shares' share (subst (λ (n : ℕ). AreBlank b n shares) many h.blank) shares_are in
     record {
@@ -69,6 +69,6 @@ next_seated c b job seats seats' shares shares' states states' slots slots' seat
       done = subst (All (IsFresh c b job)) (sym slots_are) (All-push (IsFresh c b job) slots slot h.done record {
         seat = subst (IsReady c) (sym seat_is) ready.1;
         share = subst (HasNoted b 0) (sym share_is) noted.0;
-        state = state_is ∙ fresh.1;
+        state = subst (IsFreshSlot job) (sym state_is) fresh.1;
       });
     }

@@ -84,8 +84,8 @@ are_noted dones orders n u same drawn = record {
 module _ (b : Option BookSeen) (job : JobFacts) where
   first_piece : (d : Done) (ds : List Done) (p : LoopPiece) → All (IsDone b job) (d ∷ ds) → IsPieceOf d.state p → StandsFor job.facts d.state.done p × HaveTrails job.facts job.watched d.state.done p.trails.items
   first_piece d ds p h piece =
-      let same = (All-head (IsDone b job) d ds h).same in
-      (subst (λ (j : JobFacts). StandsFor j.facts d.state.done p) same piece.stands, subst (λ (j : JobFacts). HaveTrails j.facts j.watched d.state.done p.trails.items) same piece.trails)
+      let slot = (All-head (IsDone b job) d ds h).slot in
+      (piece.stands job slot, piece.trails job slot)
 
   pub have_all : (ds : List Done) (ps : List LoopPiece) → All (IsDone b job) ds → ArePieces ds ps → HaveAllTrails job.facts job.watched (map finished_by ds) ps
   have_all [] [] h pieces = record { many = refl; each = λ k done p at there. absurd (cc) }

@@ -13,7 +13,8 @@ use Rattle.partial_watch.specs.Shares.{BookSeen, ShareSeen}
 use Rattle.entry_cache.specs.Jobs.{IsJob, JobView, passes_in}
 use Rattle.loop_pieces.specs.Whole.{cluster_fault}
 use Rattle.loop_pieces.proofs.ClusterFaults.{lower_clusters_fault_first}
-use Rattle.slot_state.specs.Jobs.{JobFacts, job_facts, job_spans}
+use Rattle.entry_passes.specs.Entries.{job_spans}
+use Rattle.slot_state.specs.Jobs.{JobFacts, job_facts}
 use Rattle.event_loop.specs.declared.end.FilledLoop.{FilledLoop}
 use Rattle.event_loop.specs.declared.gather.Done.{Done}
 use Rattle.event_loop.specs.declared.gather.Outcome.{Outcome}

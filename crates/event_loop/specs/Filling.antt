@@ -7,7 +7,7 @@ use Rattle.loop_pieces.specs.Trails.{HaveTrails}
 use Rattle.loop_pieces.specs.declared.loop_piece.LoopPiece.{LoopPiece}
 use Rattle.partial_watch.specs.Shares.{BookSeen, ShareSeen}
 use Rattle.slot_state.specs.Jobs.{JobFacts}
-use Rattle.slot_state.specs.Slots.{SlotView}
+use Rattle.slot_state.specs.Slots.{IsSlotOf, SlotView}
 use Rattle.slot_state.specs.declared.progress.Phase.TheVariants as phase
 use Rattle.event_loop.specs.Gathered.{AreDone, AreFacts}
 use Rattle.event_loop.specs.declared.end.FilledLoop.{FilledLoop}
@@ -30,10 +30,10 @@ share_or_none (Some s) = s ∷ []
 abbrev pub shares_in : Done → List ShareSeen
 shares_in d = share_or_none d.share
 
--- the piece is what the slot's clusters came to, with a trail for each watched result
+-- the piece is what the slot's clusters came to in the slot's loop, with a trail for each watched result
 pub record IsPieceOf (s : SlotView) (p : LoopPiece) : Type 0 where
-  pub stands : StandsFor s.job.facts s.done p
-  pub trails : HaveTrails s.job.facts s.job.watched s.done p.trails.items
+  pub stands : (job : JobFacts) → IsSlotOf job s → StandsFor job.facts s.done p
+  pub trails : (job : JobFacts) → IsSlotOf job s → HaveTrails job.facts job.watched s.done p.trails.items
 
 -- the slots' pieces, in their order
 abbrev pub ArePieces : List Done → List LoopPiece → Type 0

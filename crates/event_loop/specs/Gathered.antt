@@ -7,6 +7,7 @@ use Rattle.rdf_values.specs.declared.fault.Fault.{Fault}
 use Rattle.cluster_claims.specs.Seats.{ClaimsSeen, SeatSeen}
 use Rattle.partial_watch.specs.Shares.{BookSeen}
 use Rattle.slot_state.specs.Jobs.{JobFacts}
+use Rattle.slot_state.specs.Slots.{IsSlotOf}
 use Rattle.slot_state.specs.declared.progress.Phase.TheVariants as phase
 use Rattle.event_loop.specs.Workers.{HasNoted, HasRun}
 use Rattle.event_loop.specs.declared.gather.Done.{Done}
@@ -55,7 +56,7 @@ pub record AreFacts (clusters : ℕ) (job : JobFacts) : Type 0 where
 
 -- the slot goes on, and noted the clusters that it finished
 pub record IsDone (b : Option BookSeen) (job : JobFacts) (d : Done) : Type 0 where
-  pub same : d.state.job ≡ job
+  pub slot : IsSlotOf job d.state
   pub going : d.state.phase ≡ phase.Going
   pub noted : HasNoted b (length d.state.done) d.share
 

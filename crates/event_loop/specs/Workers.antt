@@ -7,7 +7,7 @@ use Rattle.cluster_claims.specs.Seats as claims
 use Rattle.partial_watch.specs.Shares.{BookSeen, ShareSeen}
 use Rattle.partial_watch.specs.Shares as book
 use Rattle.slot_state.specs.Jobs.{JobFacts}
-use Rattle.slot_state.specs.Slots.{SlotView, fresh_slot}
+use Rattle.slot_state.specs.Slots.{IsFreshSlot, IsSlotOf}
 use Rattle.slot_state.specs.declared.progress.Phase.TheVariants as phase
 use Rattle.event_loop.specs.declared.workers.Slot.{Slot}
 use Rattle.event_loop.specs.declared.workers.End.{End}
@@ -40,7 +40,7 @@ pub record IsReady (c : ClaimsSeen) (s : SeatSeen) : Type 0 where
 pub record IsFresh (c : ClaimsSeen) (b : Option BookSeen) (job : JobFacts) (s : Slot) : Type 0 where
   pub seat : IsReady c s.seat
   pub share : HasNoted b 0 s.share
-  pub state : s.state ≡ fresh_slot job
+  pub state : IsFreshSlot job s.state
 
 -- the slot finished these clusters, each of them sound and noted
 pub record HasWorked (b : Option BookSeen) (job : JobFacts) (s : Slot) : Type 0 where
@@ -75,5 +75,5 @@ Stopped c b job NoMemory s = ⊤
 -- the slot stopped in that way
 pub record HasRun (c : ClaimsSeen) (b : Option BookSeen) (job : JobFacts) (end : End) (s : Slot) : Type 0 where
   pub seat_of : claims.IsOf c s.seat
-  pub same : s.state.job ≡ job
+  pub slot : IsSlotOf job s.state
   pub stopped : Stopped c b job end s

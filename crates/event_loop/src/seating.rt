@@ -4,7 +4,6 @@ ghost use Rattle.rdf_values.specs.Path.{history};
 ghost use Rattle.rdf_values.specs.Words.{StatementsHaveWords};
 ghost use Rattle.entry_cache.specs.Jobs.{Fits, job_of};
 ghost use Rattle.slot_state.specs.Jobs.{JobFacts, job_facts};
-ghost use Rattle.slot_state.specs.Slots.{fresh_slot};
 ghost use Rattle.cluster_claims.specs.Seats.{ClaimsSeen};
 ghost use Rattle.partial_watch.specs.Shares.{BookSeen};
 ghost use Rattle.event_loop.specs.Seated.{AreBlank, AreFreshStates, IsOpened};

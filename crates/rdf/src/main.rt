@@ -1,9 +1,15 @@
-//! The program: a script over a table, both files of the folder that it runs in, to standard output.
+//! The program: a script over a table, to standard output.
 #![tactic(auto)]
 
-use rdf_outside::{DirShelf, StdSink, WordList};
+ghost use Rattle.std.specs.Prelude.{◌≡◌, length};
+ghost use Rattle.entry_fns.specs.Shipped.{clampto_of, hyp2_of, square_of};
+
+use entry_fns::shipped::{Clampto, Hyp2, Square};
+use entry_fns::{Closure, FnList, Stored};
+use rdf_outside::{DirShelf, OpenGate, StdSink, WordList};
 use rdf_program::{Status, rdf_top};
-use rdf_values::Memory;
+use rdf_values::{Memory, Name};
+use std::alloc::Global;
 use std::env;
 use std::io::ErrorKind;
 use std::process::ExitCode;
@@ -25,14 +31,66 @@ fn words_of(rt: &HostRuntime) -> Result<WordList, Memory> {
     }
 }
 
-fn main(rt: HostRuntime) -> ExitCode {
-    let status = match words_of(&rt) {
-        Ok(words) => {
-            let mut shelf = DirShelf::new(&rt);
-            let mut sink = StdSink::new(&rt);
-            rdf_top(rt.alloc(), &words, &mut shelf, &mut sink)
-        }
-        Err(Memory) => Status::Memory,
+// Adds a function, whose name is none of the list yet; so nothing but memory can be wanting.
+fn add(functions: &mut FnList, alloc: Global, name: &[u8], function: Stored) -> Result<(), Memory> {
+    let Some(name) = Name::read(alloc, name)? else {
+        return Err(Memory);
     };
-    ExitCode::from(status as u8)
+    match functions.add(name, function) {
+        Ok(()) => Ok(()),
+        Err(_) => Err(Memory),
+    }
+}
+
+// The status of a run that found no memory before it began.
+fn no_memory() -> ExitCode {
+    ExitCode::from(Status::Memory.code())
+}
+
+fn main(rt: HostRuntime) -> ExitCode {
+    let alloc = rt.alloc();
+    let Ok(words) = words_of(&rt) else {
+        return no_memory();
+    };
+    let Ok(square) = Box::new(
+        alloc,
+        |args: &[i64]| -> Option<i64>
+            requires { length args.now ≡ 1 }
+            ensures { result ≡ square_of args.now }
+        { Square::answer(args) },
+    ) else {
+        return no_memory();
+    };
+    let Ok(hyp2) = Box::new(
+        alloc,
+        |args: &[i64]| -> Option<i64>
+            requires { length args.now ≡ 2 }
+            ensures { result ≡ hyp2_of args.now }
+        { Hyp2::answer(args) },
+    ) else {
+        return no_memory();
+    };
+    let Ok(clampto) = Box::new(
+        alloc,
+        |args: &[i64]| -> Option<i64>
+            requires { length args.now ≡ 3 }
+            ensures { result ≡ clampto_of args.now }
+        { Clampto::answer(args) },
+    ) else {
+        return no_memory();
+    };
+    let mut functions = FnList::new(alloc);
+    for (name, function) in [
+        (b"square".as_slice(), Stored::new::<Square>(square)),
+        (b"hyp2".as_slice(), Stored::new::<Hyp2>(hyp2)),
+        (b"clampto".as_slice(), Stored::new::<Clampto>(clampto)),
+    ] {
+        if add(&mut functions, alloc, name, function).is_err() {
+            return no_memory();
+        }
+    }
+    let mut shelf = DirShelf::new(&rt);
+    let mut sink = StdSink::new(&rt);
+    let status = rdf_top(&rt, alloc, &words, &mut shelf, &mut sink, &functions, &OpenGate);
+    ExitCode::from(status.code())
 }

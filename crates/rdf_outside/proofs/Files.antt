@@ -1,14 +1,15 @@
 -- Files in memory, place by place.
-use Rattle.std.proofs.Common.{◌≡◌, ◌≤◌, ◌<◌, ◌+◌, ◌-◌, ◌^◌, ⊎_elim, min, ℕ, zero, suc, List, [], ◌∷◌, ◌++◌, Option, None, Some, position, cond, not, length, take, drop, refl, ap, sym, ◌∙◌, arith, length-drop, length-append, true, false, get_or}
+use Rattle.std.proofs.Common.{◌≡◌, ◌≤◌, ◌<◌, ◌+◌, ◌-◌, ◌^◌, ⊎_elim, min, ℕ, zero, suc, List, [], ◌∷◌, ◌++◌, Option, None, Some, Bool, Ok, if◌then◌else◌, position, cond, not, length, take, drop, refl, ap, sym, ◌∙◌, arith, length-drop, length-append, true, false, get_or}
 use Rattle.std.specs.List.{position_or_len}
 use Rattle.std.proofs.Math.ListN.{drop_of_length-le}
 use Rattle.std.proofs.lemmas.List.{drop-drop, length-take, nil_from_length, take_all}
 use Rattle.std.proofs.Math.Seq.{take-append_seam}
 use Rattle.std.proofs.lemmas.Bool.{cases_lt, cond-true, cond-false, lt-ltb, le-ltb}
+use Rattle.rdf_outside.specs.declared.failed.Failed.{Failed}
 use Rattle.rdf_outside.specs.declared.memory_shelf.MemoryFile.{MemoryFile}
 use Rattle.rdf_outside.specs.declared.memory_shelf.Place.{Place}
 use Rattle.rdf_outside.specs.Memory.{bytes_at, file_of, has_name, left_at, moved}
-use Rattle.rdf_outside.specs.Outside.{Finds, Takes}
+use Rattle.rdf_outside.specs.Outside.{Finds, ReadsFrom, Takes}
 
 pub bytes_at_is : (fs : List MemoryFile) (i : ℕ) (f : MemoryFile) → i < length fs → f ≡ get_or fs i f → bytes_at fs i ≡ f.bytes.items
 bytes_at_is [] i f h e = absurd (omega arith)
@@ -98,3 +99,9 @@ nothing_left fs place p bs e b h = sym (left_is fs place p bs e b ∙ drop_of_le
 
 pub some_left : (fs : List MemoryFile) (place : Option Place) (p : Place) (bs slice : List ℕ) → place ≡ Some p → bytes_at fs p.file ≡ bs → slice ≡ bs → take (length slice - p.read) (drop p.read slice) ≡ left_at fs place
 some_left fs place p bs slice e b s = rw (left_is fs place p bs e b, s) (take_all (length bs - p.read) (drop p.read bs) (simp length-drop (omega arith)))
+
+-- a read takes from what is left, where that is told
+pub reads_where_told : (lost : Bool) (left after : List ℕ) (n : ℕ) (buf : List ℕ) → (n ≤ length buf) × Takes left (Some after) n buf
+    → ReadsFrom {E = Failed} (if lost then None else Some left) (if lost then None else Some after) (Ok n) buf
+reads_where_told true left after n buf h = (h.0, tt)
+reads_where_told false left after n buf h = h

@@ -1,3 +1,5 @@
+pub mod Answers
+pub mod Calls
 pub mod Memory
 pub mod MemorySink
 pub mod Outside

@@ -1,9 +1,12 @@
 -- What a shelf in memory holds.
-use Rattle.std.specs.Prelude.{nat_eq, ℕ, zero, suc, ◌+◌, ◌-◌, ◌^◌, min, List, [], ◌∷◌, Option, Some, None, Bool, if◌then◌else◌, drop}
+use Rattle.std.specs.Prelude.{◌≡◌, nat_eq, ℕ, zero, suc, ◌+◌, ◌-◌, ◌^◌, min, List, [], ◌∷◌, Option, Some, None, Bool, true, false, Result, Ok, Err, if◌then◌else◌, drop}
 use Rattle.std.specs.Cmp.Lexicographic.{pointwise}
 use Rattle.rdf_outside.specs.declared.memory_shelf.MemoryFile.{MemoryFile}
 use Rattle.rdf_outside.specs.declared.memory_shelf.MemoryShelf.{MemoryShelf}
 use Rattle.rdf_outside.specs.declared.memory_shelf.Place.{Place}
+use Rattle.rdf_outside.specs.declared.shelf.TurnStop.{TurnStop}
+use Rattle.rdf_outside.specs.declared.shelf.TurnStop.TheVariants.{Failed}
+use Rattle.rdf_outside.specs.Calls.{is_listed, faults_after, Counts}
 
 -- two texts have the same bytes
 abbrev pub same_bytes : List ℕ → List ℕ → Bool
@@ -37,6 +40,36 @@ moved (Some p) n = Some record { file = p.file; read = min (p.read + n) (2 ^ 64 
 abbrev pub shelf_file : MemoryShelf → List ℕ → Option (List ℕ)
 shelf_file s name = file_of s.items.items name
 
--- what is not yet read of the shelf's file turned to
-abbrev pub shelf_left : MemoryShelf → List ℕ
-shelf_left s = left_at s.items.items s.turned
+-- what is not yet read of the shelf's file turned to, where no call has failed since
+abbrev pub shelf_left : MemoryShelf → Option (List ℕ)
+shelf_left s = if s.is_lost then None else Some (left_at s.items.items s.turned)
+
+-- the names that the shelf was turned to
+abbrev pub shelf_turns : MemoryShelf → List (List ℕ)
+shelf_turns s = s.turns.names
+
+-- how many calls were made
+abbrev pub shelf_made : MemoryShelf → ℕ
+shelf_made s = s.calls.made
+
+-- the numbers of the calls that are to fail
+abbrev pub shelf_listed : MemoryShelf → List ℕ
+shelf_listed s = s.calls.listed.items
+
+-- how many of those were made
+abbrev pub shelf_faults : MemoryShelf → ℕ
+shelf_faults s = s.faults
+
+abbrev pub turn_fails : Result Bool TurnStop → Bool
+turn_fails (Err Failed) = true
+turn_fails r = false
+
+abbrev pub read_fails : {E : Type 0} → Result ℕ E → Bool
+read_fails (Ok n) = false
+read_fails (Err e) = true
+
+-- a call fails exactly where its number is listed, and is then counted
+pub record FailsWhereListed (before after : MemoryShelf) (failed : Bool) : Type 0 where
+  pub listed : failed ≡ is_listed before.calls
+  pub counted : Counts before.calls after.calls
+  pub faults : after.faults ≡ faults_after before.faults failed

@@ -1,5 +1,5 @@
 -- What calls of a shelf and a sink do to their bytes and to their counts of faults.
-use Rattle.std.specs.Prelude.{◌≡◌, ◌<◌, ◌≤◌, ◌+◌, ◌-◌, ◌^◌, ℕ, List, [], ◌++◌, Option, Some, None, Result, Ok, Err, Bool, true, false, OnErr, min, length, take, drop}
+use Rattle.std.specs.Prelude.{◌≡◌, ◌<◌, ◌≤◌, ◌+◌, ◌-◌, ◌^◌, ℕ, List, [], ◌++◌, Option, Some, None, Result, Ok, Err, Bool, true, false, OnErr, OnOk, min, length, take, drop}
 use Rattle.rdf_outside.specs.declared.shelf.TurnStop.{TurnStop}
 use Rattle.rdf_outside.specs.declared.shelf.TurnStop.TheVariants.{Failed}
 
@@ -11,6 +11,7 @@ Rose before now = min (before + 1) (2 ^ 64 - 1) ≤ now
 pub record HasCause {T E : Type 0} (before now : ℕ) (result : Result T E) : Type 0 where
   pub later : before ≤ now
   pub failed : OnErr result (Rose before now)
+  pub kept : OnOk result (now ≡ before)
 
 abbrev pub IsFailed : Result Bool TurnStop → Type 0
 IsFailed (Err Failed) = Unit {0}
@@ -19,6 +20,7 @@ IsFailed r = ⊥
 pub record TurnHasCause (before now : ℕ) (result : Result Bool TurnStop) : Type 0 where
   pub later : before ≤ now
   pub failed : IsFailed result → Rose before now
+  pub kept : (IsFailed result → ⊥) → now ≡ before
 
 -- turning to a file: whether it is there, and all its bytes are left
 abbrev pub Finds : Option (List ℕ) → Option (List ℕ) → Bool → Type 0

@@ -1,5 +1,5 @@
 -- What is read of a file as a whole.
-use Rattle.std.specs.Prelude.{◌≡◌, ◌<◌, ℕ, List, [], Option, Some, None, length, ◌++◌}
+use Rattle.std.specs.Prelude.{◌≡◌, ◌<◌, ℕ, ◌+◌, List, [], Option, Some, None, length, drop, ◌++◌}
 
 -- these are all the bytes that were left, and none is left now, where that is told
 abbrev pub Reads : Option (List ℕ) → Option (List ℕ) → List ℕ → Type 0
@@ -10,6 +10,11 @@ Reads (Some left) after bytes = (bytes ≡ left) × (after ≡ Some [])
 abbrev pub IsTooLarge : ℕ → Option (List ℕ) → Type 0
 IsTooLarge max None = Unit {0}
 IsTooLarge max (Some left) = max < length left
+
+-- the first bytes of what was left were taken, one more than so many, where that is told
+abbrev pub TakesOneMore : ℕ → Option (List ℕ) → Option (List ℕ) → Type 0
+TakesOneMore max None after = Unit {0}
+TakesOneMore max (Some left) after = after ≡ Some (drop (max + 1) left)
 
 -- the bytes that were read and those that are left make up the whole
 abbrev pub Joins : List ℕ → List ℕ → Option (List ℕ) → Type 0

@@ -2,6 +2,7 @@
 //! It stands on `rdf_values` alone; everything above reads and writes through its two traits.
 #![tactic(auto)]
 
+mod call_list;
 mod dir_shelf;
 mod failed;
 mod gate;
@@ -9,7 +10,9 @@ mod memory_shelf;
 mod memory_sink;
 mod shelf;
 mod sink;
+mod std_answers;
 mod std_sink;
+mod turns;
 mod whole;
 mod word_list;
 
@@ -21,6 +24,7 @@ pub use crate::memory_sink::MemorySink;
 pub use crate::shelf::{Shelf, TurnStop};
 pub use crate::sink::Sink;
 pub use crate::std_sink::StdSink;
+pub use crate::turns::Turns;
 pub use crate::whole::{ReadRefusal, read_whole, write_whole};
 pub use crate::word_list::WordList;
 

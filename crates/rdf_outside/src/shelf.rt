@@ -1,5 +1,5 @@
 // What gives files.
-ghost use Rattle.std.specs.Prelude.{◌≡◌, ℕ, List, Option};
+ghost use Rattle.std.specs.Prelude.{◌≡◌, ◌∷◌, ◌++◌, [], ℕ, List, Option};
 ghost use Rattle.rdf_outside.specs.Outside.{HasCause, TurnHasCause, TurnsTo, ReadsFrom};
 
 use crate::failed::Failed;
@@ -22,9 +22,13 @@ pub trait Shelf {
     /// How often it has failed.
     ghost faults: { Self → ℕ };
 
+    /// The names that it was turned to, in their order, whatever the answers were.
+    ghost turns: { Self → List (List ℕ) };
+
     /// Turns to the start of a file; false where there is none of that name.
     fn turn_to(&mut self, name: &str) -> Result<bool, TurnStop>
         ensures same { files self.new ≡ files self.old }
+        ensures turns { turns self.new ≡ turns self.old ++ name.now ∷ [] }
         ensures turned { TurnsTo (files self.old) name.now (left self.new) result }
         ensures cause { TurnHasCause (faults self.old) (faults self.new) result };
 
@@ -32,6 +36,7 @@ pub trait Shelf {
     /// 0 in a buffer that isn't empty is the file's end.
     fn read(&mut self, buf: &mut [u8]) -> Result<usize, Failed>
         ensures same { files self.new ≡ files self.old }
+        ensures turns { turns self.new ≡ turns self.old }
         ensures bytes { ReadsFrom (left self.old) (left self.new) result buf.new }
         ensures cause { HasCause (faults self.old) (faults self.new) result };
 }

@@ -1,8 +1,9 @@
 // Standard output.
-ghost use Rattle.std.specs.Prelude.{None};
+ghost use Rattle.std.specs.Prelude.{None, ◌≡◌};
 
 use crate::failed::Failed;
 use crate::sink::Sink;
+use crate::std_answers::write_answer;
 
 /// Standard output, written without a buffer of its own. It tells no bytes.
 #[derive(Drop)]
@@ -13,7 +14,9 @@ pub struct StdSink<'a, R: Print> {
 
 impl<'a, R: Print> StdSink<'a, R> {
     /// Standard output.
-    pub fn new(rt: &'a R) -> StdSink<'a, R> {
+    pub fn new(rt: &'a R) -> StdSink<'a, R>
+        ensures { result.faults ≡ 0 }
+    {
         StdSink { rt, faults: 0 }
     }
 }
@@ -24,12 +27,6 @@ impl<R: Print> Sink for StdSink<'_, R> {
     ghost faults = { λ s. s.faults };
 
     fn write(&mut self, piece: &[u8]) -> Result<usize, Failed> {
-        match self.rt.write_some(piece) {
-            Ok(count) if count > 0 || piece.is_empty() => Ok(count),
-            _ => {
-                self.faults = self.faults.saturating_add(1);
-                Err(Failed)
-            }
-        }
+        write_answer(self.rt.write_some(piece), piece, &mut self.faults)
     }
 }

@@ -1,8 +1,10 @@
 // Each call that may want memory once with enough of it, and the two edges.
 use super::*;
 use std::alloc::Global;
+use std::fmt::Display;
+use std::io::ErrorKind;
 use std::test::Fail;
-use std::{env, fs};
+use std::{env, fs, io};
 
 #[test]
 fn words_stand_in_order(rt: HostRuntime) -> Result<(), Fail> {
@@ -46,21 +48,78 @@ fn a_sink_takes_what_fits(rt: HostRuntime) -> Result<(), Fail> {
 }
 
 #[test]
+fn listed_calls_fail(rt: HostRuntime) -> Result<(), Fail> {
+    let mut shelf = MemoryShelf::new(rt.alloc());
+    shelf.add("a", b"12")?;
+    shelf.fail_at(1)?;
+    shelf.fail_at(3)?;
+    let mut buffer = [0; 8];
+    assert!(rt; shelf.turn_to("a") == Ok(true));
+    assert!(rt; shelf.read(&mut buffer) == Err(Failed));
+    assert!(rt; shelf.read(&mut buffer) == Ok(2));
+    assert!(rt; shelf.turn_to("a") == Err(TurnStop::Failed));
+    assert!(rt; shelf.read(&mut buffer) == Ok(0));
+    let mut sink = MemorySink::new(rt.alloc(), 5)?;
+    sink.fail_at(1)?;
+    sink.take_at_most(2);
+    assert!(rt; sink.write(b"abc") == Ok(2));
+    assert!(rt; sink.write(b"c") == Err(Failed));
+    assert!(rt; write_whole(&mut sink, b"cde") == Ok(()));
+    assert_eq!(rt; sink.bytes(), b"abcde".as_slice());
+    OpenGate.turn(0, 0);
+    Ok(())
+}
+
+// More than one buffer of a whole read, and a first and a last byte of its own.
+#[test]
 fn a_real_file_is_read(rt: HostRuntime) -> Result<(), Fail> {
     let mut path = env::temp_dir(&rt)?;
     path.push("rdf_outside_a_real_file_is_read")?;
-    fs::write(&rt, path.as_path(), "1,2\n")?;
+    let mut written: Vec<u8> = Vec::from_slice(rt.alloc(), b"first,")?;
+    written.resize(200_000, b'1')?;
+    written.extend_from_slice(b",last")?;
+    fs::write(&rt, path.as_path(), written.as_slice())?;
     let Some(name) = path.as_path().to_str() else {
         panic!(rt; "the folder's name is no text");
     };
     let mut shelf = DirShelf::new(&rt);
     assert!(rt; shelf.turn_to(name) == Ok(true));
-    match read_whole(rt.alloc(), &mut shelf, 100) {
-        Ok(bytes) => assert_eq!(rt; bytes.as_slice(), b"1,2\n".as_slice()),
+    match read_whole(rt.alloc(), &mut shelf, 300_000) {
+        Ok(bytes) => assert_eq!(rt; bytes.as_slice(), written.as_slice()),
         Err(refusal) => panic!(rt; "{refusal:?}"),
     }
+    assert!(rt; shelf.turn_to(name) == Ok(true));
+    assert!(rt;
+        matches!(
+            read_whole(rt.alloc(), &mut shelf, 200_000),
+            Err(ReadRefusal::TooLarge)
+        )
+    );
+    path.push("behind_a_file")?;
+    let Some(behind) = path.as_path().to_str() else {
+        panic!(rt; "the folder's name is no text");
+    };
+    assert!(rt; shelf.turn_to(behind) == Err(TurnStop::Failed));
+    path.pop();
     fs::remove_file(&rt, path.as_path())?;
+    let Some(name) = path.as_path().to_str() else {
+        panic!(rt; "the folder's name is no text");
+    };
     assert!(rt; shelf.turn_to(name) == Ok(false));
+    Ok(())
+}
+
+// A folder is opened like a file, and fails when it is read.
+#[test]
+fn a_read_that_fails_is_no_end(rt: HostRuntime) -> Result<(), Fail> {
+    let mut shelf = DirShelf::new(&rt);
+    assert!(rt; shelf.turn_to(".") == Ok(true));
+    assert!(rt;
+        matches!(
+            read_whole(rt.alloc(), &mut shelf, 100),
+            Err(ReadRefusal::Failed)
+        )
+    );
     Ok(())
 }
 
@@ -68,4 +127,44 @@ fn a_real_file_is_read(rt: HostRuntime) -> Result<(), Fail> {
 fn standard_output_takes_a_piece(rt: HostRuntime) {
     let mut sink = StdSink::new(&rt);
     assert!(rt; write_whole(&mut sink, b"one piece\n") == Ok(()));
+}
+
+// Takes at most so many bytes of each write, or fails.
+#[derive(Drop)]
+struct Printer(Option<usize>);
+
+impl Print for Printer {
+    fn print<D: Display + Drop>(&self, _value: D) -> io::Result<()> {
+        Ok(())
+    }
+
+    fn println<D: Display + Drop>(&self, _value: D) -> io::Result<()> {
+        Ok(())
+    }
+
+    fn write_all(&self, _bytes: &[u8]) -> io::Result<()> {
+        Ok(())
+    }
+
+    fn write_some(&self, bytes: &[u8]) -> io::Result<usize> {
+        match self.0 {
+            Some(most) => Ok(bytes.len().min(most)),
+            None => Err(io::Error::from(ErrorKind::BrokenPipe)),
+        }
+    }
+}
+
+#[test]
+fn a_short_write_is_not_full(rt: HostRuntime) {
+    let short = Printer(Some(2));
+    let mut sink = StdSink::new(&short);
+    assert!(rt; sink.write(b"abc") == Ok(2));
+    assert!(rt; write_whole(&mut sink, b"abc") == Ok(()));
+    let full = Printer(Some(0));
+    let mut sink = StdSink::new(&full);
+    assert!(rt; sink.write(b"") == Ok(0));
+    assert!(rt; sink.write(b"abc") == Err(Failed));
+    let broken = Printer(None);
+    let mut sink = StdSink::new(&broken);
+    assert!(rt; sink.write(b"abc") == Err(Failed));
 }

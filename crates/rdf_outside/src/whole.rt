@@ -1,7 +1,7 @@
 // Whole reads and whole writes.
 ghost use Rattle.std.specs.Prelude.{◌≡◌, ◌<◌, ◌≤◌, ◌+◌, ◌^◌, ℕ, List, length, IfOk, OnOk, IsErrOf};
 ghost use Rattle.rdf_outside.specs.Outside.{Rose, HasCause, Appends, AppendsPart};
-ghost use Rattle.rdf_outside.specs.Whole.{Reads, IsTooLarge, Joins};
+ghost use Rattle.rdf_outside.specs.Whole.{Reads, IsTooLarge, TakesOneMore, Joins};
 
 use crate::failed::Failed;
 use crate::shelf::Shelf;
@@ -23,14 +23,17 @@ const PIECE: usize = 65_536;
 pub fn read_whole<S: Shelf>(alloc: Global, shelf: &mut S, max: usize) -> Result<Bytes, ReadRefusal>
     requires { max + 1 < 2 ^ 64 }
     ensures same { S.files shelf.new ≡ S.files shelf.old }
+    ensures turns { S.turns shelf.new ≡ S.turns shelf.old }
     ensures later { S.faults shelf.old ≤ S.faults shelf.new }
 
     // All bytes of a file of at most `max`; too large exactly where there are more.
     ensures bytes { IfOk result (λ b. Reads (S.left shelf.old) (S.left shelf.new) b) }
     ensures few { IfOk result (λ b. length b ≤ max) }
     ensures too_large { IsErrOf result ReadRefusal.TooLarge → IsTooLarge max (S.left shelf.old) }
+    ensures taken { IsErrOf result ReadRefusal.TooLarge → TakesOneMore max (S.left shelf.old) (S.left shelf.new) }
 
     ensures failed { IsErrOf result ReadRefusal.Failed → Rose (S.faults shelf.old) (S.faults shelf.new) }
+    ensures kept { (IsErrOf result ReadRefusal.Failed → ⊥) → S.faults shelf.new ≡ S.faults shelf.old }
 {
     let Ok(mut zeros) = zeros(alloc, PIECE) else {
         return Err(ReadRefusal::Memory);
@@ -66,8 +69,10 @@ fn read_piece<S: Shelf>(
     requires room { 0 < room }
     requires buffer { 0 < length buffer.old }
     ensures same { S.files shelf.new ≡ S.files shelf.old }
+    ensures turns { S.turns shelf.new ≡ S.turns shelf.old }
     ensures later { S.faults shelf.old ≤ S.faults shelf.new }
     ensures failed { IsErrOf result ReadRefusal.Failed → Rose (S.faults shelf.old) (S.faults shelf.new) }
+    ensures kept { (IsErrOf result ReadRefusal.Failed → ⊥) → S.faults shelf.new ≡ S.faults shelf.old }
     ensures not_large { IsErrOf result ReadRefusal.TooLarge → ⊥ }
     ensures told { IfOk result (λ n. (all : List ℕ) → Joins all bytes.old (S.left shelf.old) → Joins all bytes.new (S.left shelf.new) × (n ≡ 0 → bytes.new ≡ all)) }
     ensures count { IfOk result (λ n. (n ≤ room) × (length bytes.new ≡ length bytes.old + n)) }

@@ -1,90 +1,207 @@
--- Answers to two files, and what is due to the words.
-use Rattle.std.proofs.Common.{Result, Ok, Err, IfOk, ◌≡◌, ◌≤◌, ◌⊎◌, ℕ, List, [], ◌∷◌, length, HoldsAt, Option, None, Some, IfSome, arith, ap, inr, inl, refl, ⊎_elim}
+-- Answers to files and to the generator's input, and what is due to the words.
+use Rattle.std.proofs.Common.{Result, Ok, Err, IfOk, ◌≡◌, ◌≤◌, ◌⊎◌, ℕ, Bool, true, false, List, [], ◌∷◌, length, nat_lt, Option, None, Some, IfSome, IsSome, MatchOption, arith, ap, inr, inl, refl, sym, subst, ◌∙◌, ⊎_elim}
+use Rattle.std.specs.Bool.{MatchBool}
+use Rattle.std.proofs.lemmas.Bool.{le-ltb}
 use Rattle.rdf_outside.specs.Outside.{Appends, AppendsPart, Rose}
+use Rattle.rdf_values.specs.Answers.{Refuses}
+use Rattle.rdf_values.specs.Functions.{Function, fn_names}
+use Rattle.rdf_values.specs.Generator.{generated_script, generated_table}
+use Rattle.rdf_values.specs.Kinds.{FunctionNames}
+use Rattle.rdf_values.specs.RefusalLines.{graph_cause_line, read_failed_line, usage_line}
+use Rattle.rdf_values.specs.Scripts.{IsScript}
+use Rattle.rdf_values.specs.TableText.{MarkedTable}
+use Rattle.rdf_values.specs.Verdict.{verdict}
+use Rattle.rdf_values.specs.declared.column.Column.{Column}
+use Rattle.rdf_values.specs.declared.graph_cause.GraphCause.{GraphCause}
+use Rattle.rdf_values.specs.declared.script.Script.{Script}
+use Rattle.graph_numbers.specs.Graphs.{GraphView, booked, booked_unless}
+use Rattle.node_graph.specs.Refusals.{refused_at}
+use Rattle.node_graph.specs.declared.refusal.GraphRefusal.{GraphRefusal}
+use Rattle.node_graph.specs.declared.refusal.GraphRefusal.TheVariants as graph
+use Rattle.command_words.proofs.Bounds.{asked_fits}
+use Rattle.command_words.specs.Asked.{asked_of}
+use Rattle.command_words.specs.Limits.{AreWithinLimits}
+use Rattle.command_words.specs.declared.command.Command.{Command}
+use Rattle.command_words.specs.declared.command.Input.{Input}
+use Rattle.command_words.specs.declared.command.Input.TheVariants.{Files, Generated}
 use Rattle.rdf_program.specs.declared.answer.Answer.{Answer}
 use Rattle.rdf_program.specs.declared.status.Status.{Status}
 use Rattle.rdf_program.specs.declared.status.Status.TheVariants.{Done, Memory, Words, ReadFault, WriteFault, NoFile, ScriptRefused, TableRefused, LoopFault}
-use Rattle.rdf_program.specs.Due.{Due, due_of, IsDue, IsDueToBytes, IsDueToFiles, max_script, read_failed_line, usage_line}
-use Rattle.rdf_program.specs.Answers.{AreTaken, HoldsScript, IsAnswer, IsFinal, IsOfFiles, MayRead, MayReadOf, SpellsScript}
+use Rattle.rdf_program.specs.Due.{Due, due_of, IsDue, IsDueOver, IsDueToBytes, IsDueToFiles, IsDueToInput, IsDueToMade, IsDueToTable, WithScript, max_script}
+use Rattle.rdf_program.specs.Answers.{Answers, AreTaken, HoldsScript, IsAnswer, IsOfFiles, MayRead, MayReadIn, MayReadOf, SpellsScript}
 use Rattle.rdf_program.specs.Fetching.{Tells}
-use Rattle.rdf_program.specs.Top.{WritesPart}
+use Rattle.rdf_program.specs.Running.{AreSettings}
+use Rattle.rdf_program.specs.Statuses.{IsFinal}
+use Rattle.rdf_program.specs.Top.{NameFiles, OfFiles, WritesDue, WritesDuePart, WritesPart}
 
-pub two_words : (words : List (List ℕ)) (script table : List ℕ) → length words ≡ 2 → HoldsAt (λ w. script ≡ w) words 0 → HoldsAt (λ w. table ≡ w) words 1 → words ≡ script ∷ table ∷ []
-two_words [] script table n a b = absurd (omega arith)
-two_words (s ∷ []) script table n a b = absurd (omega arith)
-two_words (s ∷ t ∷ []) script table n a b = rw (a s, b t) refl
-two_words (s ∷ t ∷ u ∷ us) script table n a b = absurd (omega arith)
+-- the files by their names, where the shelf tells them
+abbrev Told : Type 0
+Told = Option (List ℕ → Option (List ℕ))
 
-holds : (files : Option (List ℕ → Option (List ℕ))) (script bytes : List ℕ) → Tells files script (λ f. f ≡ Some bytes) → length bytes ≤ max_script → SpellsScript bytes → IfSome files (λ f. HoldsScript (f script))
+-- ---- over a table
+
+refusal_of : (wanted : Result GraphView (ℕ × GraphCause)) (line : ℕ) (cause : GraphCause) → Refuses refused_at graph.Memory wanted (graph.At line cause) → wanted ≡ Err (line, cause)
+refusal_of wanted line cause (inl e) = absurd (cc e)
+refusal_of wanted line cause (inr h) =
+    let e = h.1 in
+    let p : h.0.0 ≡ line = cc e in
+    let q : h.0.1 ≡ cause = cc e in
+    h.2 ∙ (λ i. Err (p i, q i))
+
+refused_verdict : (g : GraphView) (v : Option (ℕ × GraphCause)) (c : ℕ × GraphCause) → ◌≡◌ {A = Result GraphView (ℕ × GraphCause)} (booked_unless g v) (Err c) → v ≡ Some c
+refused_verdict g None c e = absurd (cc e)
+refused_verdict g (Some d) c e = cc e
+
+-- a script that can't be booked over the table is refused
+pub over_refused : {E : Type 0} (fns : List Function) (size watch : ℕ) (script : Script) (header : List Column) (names : FunctionNames) (table : MarkedTable) (refusal : GraphRefusal) (line line' : ℕ) (cause cause' : GraphCause) (r : Result Answer E)
+    → header ≡ table.table.columns → names ≡ fn_names fns → refusal ≡ graph.At line cause → Refuses refused_at graph.Memory (booked script header names) refusal
+    → line' ≡ line → cause' ≡ cause → IfOk r (λ a. (a.status ≡ ScriptRefused) × (a.text ≡ graph_cause_line line' cause')) → IfOk r (Answers (IsDueOver fns size watch script table))
+over_refused fns size watch script header names table refusal line line' cause cause' (Err e) h n is refused l k a = tt
+over_refused fns size watch script header names table refusal line line' cause cause' (Ok a) h n is refused l k e =
+    let v = refused_verdict _ (verdict names header script) (line, cause) (refusal_of _ line cause (rw is at refused)) in
+    let w : verdict (fn_names fns) table.table.columns script ≡ Some (line, cause) = rw (h, n) at v in
+    let text : a.text ≡ graph_cause_line line cause = rw (l, k) at e.1 in
+    (rw e.0 tt, rw e.0 tt, rw (w, e.0, text) refl)
+
+-- ---- the generator's script
+
+read_made : {E : Type 0} (bytes text : List ℕ) (s : Script) (Next : Script → Due → Type 0) (r : Result Answer E)
+    → length bytes ≤ max_script → bytes ≡ text → IsScript bytes s → IfOk r (Answers (Next s)) → IfOk r (Answers (WithScript text Next))
+read_made bytes text s Next (Err e) few same is h = tt
+read_made bytes text s Next (Ok a) few same is h =
+    let short : nat_lt max_script (length text) ≡ false = le-ltb max_script (length text) (rw same at few) in
+    (h.0, h.1, rw short (inr (s, rw same at is, h.2)))
+
+pub made_due : {E : Type 0} (fns : List Function) (size watch entries seed : ℕ) (bytes cells : List ℕ) (s : Script) (r : Result Answer E)
+    → length bytes ≤ max_script → bytes ≡ generated_script → IsScript bytes s → cells ≡ generated_table entries seed → IfOk r (Answers (IsDueToTable fns size watch s cells))
+    → IfOk r (Answers (IsDueToMade fns size watch entries seed))
+made_due fns size watch entries seed bytes cells s r few script is table h =
+    read_made bytes generated_script s (λ x d. IsDueToTable fns size watch x (generated_table entries seed) d) r few script is
+    (subst (λ (t : List ℕ). IfOk r (Answers (IsDueToTable fns size watch s t))) table h)
+
+-- ---- two files
+
+holds : (files : Told) (script bytes : List ℕ) → Tells files script (λ f. f ≡ Some bytes) → length bytes ≤ max_script → SpellsScript bytes → IfSome files (λ f. HoldsScript (f script))
 holds None script bytes t n is = tt
 holds (Some f) script bytes t n is = rw t (n, is)
 
-due_from_bytes : (files : Option (List ℕ → Option (List ℕ))) (script table bytes : List ℕ) (d : Due) → Tells files script (λ f. f ≡ Some bytes)
-    → IfSome files (λ f. IsDueToBytes bytes table f d) → IfSome files (λ f. IsDueToFiles script table f d)
-due_from_bytes None script table bytes d t h = tt
-due_from_bytes (Some f) script table bytes d t h = rw t h
+module _ (fns : List Function) (size watch : ℕ) where
+  due_from_bytes : (files : Told) (script table bytes : List ℕ) (d : Due) → Tells files script (λ f. f ≡ Some bytes)
+      → IfSome files (λ f. IsDueToBytes fns size watch bytes table f d) → IfSome files (λ f. IsDueToFiles fns size watch script table f d)
+  due_from_bytes None script table bytes d t h = tt
+  due_from_bytes (Some f) script table bytes d t h = rw t h
 
--- the answer with the script's bytes is that to both files
-from_bytes : (files : Option (List ℕ → Option (List ℕ))) (script table bytes : List ℕ) (f0 f1 f2 : ℕ) (a : Answer) → Tells files script (λ f. f ≡ Some bytes) → length bytes ≤ max_script → f0 ≤ f1
-    → IsAnswer (IsDueToBytes bytes table) (λ name. (name ≡ table) × SpellsScript bytes) files f1 f2 a → IsAnswer (IsDueToFiles script table) (MayReadOf script table files) files f0 f2 a
-from_bytes files script table bytes f0 f1 f2 a t n le is = record {
-  of_files = is.of_files;
-  rose = λ e. let r = is.rose e in omega arith;
-  names = λ e. let h = is.names e in (h.0, inr (h.1.0, holds files script bytes t n h.1.1), h.2);
-  is_due = λ e. due_from_bytes files script table bytes _ t (is.is_due e);
-}
+  -- the answer with the script's bytes is that to both files
+  from_bytes : (files : Told) (script table bytes : List ℕ) (f0 f1 f2 : ℕ) (a : Answer) → Tells files script (λ f. f ≡ Some bytes) → length bytes ≤ max_script → f0 ≤ f1
+      → IsAnswer (IsDueToBytes fns size watch bytes table) (λ name. (name ≡ table) × SpellsScript bytes) files f1 f2 a
+      → IsAnswer (IsDueToFiles fns size watch script table) (MayReadOf script table files) files f0 f2 a
+  from_bytes files script table bytes f0 f1 f2 a t n le is = record {
+    of_files = is.of_files;
+    rose = λ e. let r = is.rose e in omega arith;
+    names = λ e. let h = is.names e in (h.0, inr (h.1.0, holds files script bytes t n h.1.1), h.2);
+    is_due = λ e. due_from_bytes files script table bytes _ t (is.is_due e);
+  }
 
-fault_answer : (files : Option (List ℕ → Option (List ℕ))) (script table : List ℕ) (f0 f1 : ℕ) (a : Answer) → Rose f0 f1 → a.status ≡ ReadFault → a.text ≡ read_failed_line script
-    → IsAnswer (IsDueToFiles script table) (MayReadOf script table files) files f0 f1 a
-fault_answer files script table f0 f1 a r e b = record {
-  of_files = rw e tt;
-  rose = λ _. r;
-  names = λ _. (script, inl refl, b);
-  is_due = λ final. absurd (rw e at final);
-}
+  fault_answer : (files : Told) (script table : List ℕ) (f0 f1 : ℕ) (a : Answer) → Rose f0 f1 → a.status ≡ ReadFault → a.text ≡ read_failed_line script
+      → IsAnswer (IsDueToFiles fns size watch script table) (MayReadOf script table files) files f0 f1 a
+  fault_answer files script table f0 f1 a r e b = record {
+    of_files = rw e tt;
+    rose = λ _. r;
+    names = λ _. (script, inl refl, b);
+    is_due = λ final. absurd (rw e at final);
+  }
 
-module _ {E : Type 0} (files : Option (List ℕ → Option (List ℕ))) (f0 : ℕ) where
-  pub from_bytes_ok : (files' : Option (List ℕ → Option (List ℕ))) (f1 f2 : ℕ) (script table bytes s : List ℕ) (r : Result Answer E) → Tells files script (λ f. f ≡ Some bytes) × (length bytes ≤ max_script) → f0 ≤ f1 → files' ≡ files → s ≡ bytes
-      → IfOk r (IsAnswer (IsDueToBytes s table) (λ name. (name ≡ table) × SpellsScript s) files' f1 f2) → IfOk r (IsAnswer (IsDueToFiles script table) (MayReadOf script table files) files f0 f2)
-  from_bytes_ok files' f1 f2 script table bytes s (Err e) t le same e' h = tt
-  from_bytes_ok files' f1 f2 script table bytes s (Ok a) t le same e' h = from_bytes files script table bytes f0 f1 f2 a t.0 t.1 le (rw (same, e') at h)
+  module _ {E : Type 0} (files : Told) (f0 : ℕ) where
+    pub from_bytes_ok : (files' : Told) (f1 f2 : ℕ) (script table bytes s : List ℕ) (r : Result Answer E) → Tells files script (λ f. f ≡ Some bytes) × (length bytes ≤ max_script) → f0 ≤ f1 → files' ≡ files → s ≡ bytes
+        → IfOk r (IsAnswer (IsDueToBytes fns size watch s table) (λ name. (name ≡ table) × SpellsScript s) files' f1 f2)
+        → IfOk r (IsAnswer (IsDueToFiles fns size watch script table) (MayReadOf script table files) files f0 f2)
+    from_bytes_ok files' f1 f2 script table bytes s (Err e) t le same e' h = tt
+    from_bytes_ok files' f1 f2 script table bytes s (Ok a) t le same e' h = from_bytes files script table bytes f0 f1 f2 a t.0 t.1 le (rw (same, e') at h)
 
-  pub fault_ok : (f1 : ℕ) (script table : List ℕ) (r : Result Answer E) → Rose f0 f1 → IfOk r (λ a. (a.status ≡ ReadFault) × (a.text ≡ read_failed_line script))
-      → IfOk r (IsAnswer (IsDueToFiles script table) (MayReadOf script table files) files f0 f1)
-  fault_ok f1 script table (Err e) rose h = tt
-  fault_ok f1 script table (Ok a) rose h = fault_answer files script table f0 f1 a rose h.0 h.1
+    pub fault_ok : (f1 : ℕ) (script table : List ℕ) (r : Result Answer E) → Rose f0 f1 → IfOk r (λ a. (a.status ≡ ReadFault) × (a.text ≡ read_failed_line script))
+        → IfOk r (IsAnswer (IsDueToFiles fns size watch script table) (MayReadOf script table files) files f0 f1)
+    fault_ok f1 script table (Err e) rose h = tt
+    fault_ok f1 script table (Ok a) rose h = fault_answer files script table f0 f1 a rose h.0 h.1
 
-  pub taken_ok : (f1 : ℕ) (words : List (List ℕ)) (script table : List ℕ) (r : Result Answer E) → words ≡ script ∷ table ∷ []
-      → IfOk r (IsAnswer (IsDueToFiles script table) (MayReadOf script table files) files f0 f1)
-      → IfOk r (λ a. AreTaken words → IsAnswer (IsDue words) (MayRead words files) files f0 f1 a)
-  taken_ok f1 words script table (Err e) two h = tt
-  taken_ok f1 words script table (Ok a) two h = λ taken. rw two h
+-- ---- the words
 
--- ---- what is due to the words
+-- what the words ask for
+pub asked : (o : Option Command) (words : List (List ℕ)) (c : Command) → o ≡ asked_of words → o ≡ Some c → asked_of words ≡ Some c
+asked o words c e h = sym e ∙ h
 
-module _ (files : Option (List ℕ → Option (List ℕ))) (f0 f1 : ℕ) (a : Answer) where
-  usage_due : (files' : Option (List ℕ → Option (List ℕ))) (IsDueTo : (List ℕ → Option (List ℕ)) → Due → Type 0) → ((f : List ℕ → Option (List ℕ)) → IsDueTo f (due_of a.status a.text)) → IfSome files' (λ f. IsDueTo f (due_of a.status a.text))
-  usage_due None IsDueTo h = tt
-  usage_due (Some f) IsDueTo h = h f
+pub settings_fit : (words : List (List ℕ)) (c : Command) → asked_of words ≡ Some c → AreSettings (record { slots = c.slots; cluster = c.cluster; watch = c.watch })
+settings_fit words c e =
+    let w = asked_fits words c e in
+    record { some_slots = w.slots.0; few_slots = w.slots.1; cluster = w.cluster.0; watch = w.watch.0 }
 
-  pub words_due : (words : List (List ℕ)) → (AreTaken words → IsAnswer (IsDue words) (MayRead words files) files f0 f1 a) → ((AreTaken words → ⊥) → due_of a.status a.text ≡ due_of Words usage_line)
-      → IsFinal a.status → IfSome files (λ f. IsDue words f (due_of a.status a.text))
-  words_due [] taken not_taken final = usage_due files (IsDue []) (λ f. not_taken (λ t. t))
-  words_due (w ∷ []) taken not_taken final = usage_due files (IsDue (w ∷ [])) (λ f. not_taken (λ t. t))
-  words_due (w ∷ v ∷ []) taken not_taken final = (taken tt).is_due final
-  words_due (w ∷ v ∷ u ∷ us) taken not_taken final = usage_due files (IsDue (w ∷ v ∷ u ∷ us)) (λ f. not_taken (λ t. t))
+pub entries_fit : (words : List (List ℕ)) (c : Command) (entries seed : ℕ) → asked_of words ≡ Some c → c.input ≡ Generated entries seed → (1 ≤ entries) × (entries ≤ 1000000)
+entries_fit words c entries seed e i = let w = rw i at (asked_fits words c e).input in (w.0, w.1)
 
-pub due_written : (files : Option (List ℕ → Option (List ℕ))) (words : List (List ℕ)) (status : Status) (text : List ℕ) (before after : Option (List ℕ))
-    → IfSome files (λ f. IsDue words f (due_of status text)) → Appends before after text
-    → IfSome files (λ f. (d : Due) × IsDue words f d × (status ≡ d.status) × Appends before after d.bytes)
-due_written None words status text before after h w = tt
-due_written (Some f) words status text before after h w = (due_of status text, h, refl, w)
+-- what holds of all files holds of those that are told
+whatever : (P : (List ℕ → Option (List ℕ)) → Type 0) (files : Told) → ((f : List ℕ → Option (List ℕ)) → P f) → IfSome files P
+whatever P None h = tt
+whatever P (Some f) h = h f
 
-part_of_due : (files : Option (List ℕ → Option (List ℕ))) (words : List (List ℕ)) (status : Status) (text : List ℕ) (before after : Option (List ℕ))
-    → IfSome files (λ f. IsDue words f (due_of status text)) → AppendsPart before after text
-    → IfSome files (λ f. (d : Due) × IsDue words f d × AppendsPart before after d.bytes)
-part_of_due None words status text before after h w = tt
-part_of_due (Some f) words status text before after h w = (due_of status text, h, w)
+module _ (fns : List Function) (files : Told) (f0 f1 : ℕ) (words : List (List ℕ)) (c : Command) (a : Answer) where
+  -- an answer by what the words ask for, and by what they name
+  abbrev AnswersAsked : Option Command → Type 0
+  AnswersAsked o =
+      IsAnswer (λ f d. MatchOption o (d ≡ due_of Words usage_line) (λ command. IsDueToInput fns command.cluster command.watch f command.input d))
+      (λ name. MatchOption o ⊥ (λ command. MayReadIn command.input files name)) files f0 f1 a
+
+  abbrev AnswersInput : Input → Type 0
+  AnswersInput i = IsAnswer (λ f d. IsDueToInput fns c.cluster c.watch f i d) (λ name. MayReadIn i files name) files f0 f1 a
+
+  by_asked : (i : Input) → asked_of words ≡ Some c → c.input ≡ i → AnswersInput i → IsAnswer (IsDue fns words) (MayRead words files) files f0 f1 a
+  by_asked i o e h = subst AnswersAsked (sym o) (subst AnswersInput (sym e) h)
+
+  made_final : (entries seed : ℕ) → asked_of words ≡ Some c → c.input ≡ Generated entries seed → Answers (IsDueToMade fns c.cluster c.watch entries seed) a
+      → (f : List ℕ → Option (List ℕ)) → IsDue fns words f (due_of a.status a.text)
+  made_final entries seed o i h f =
+      let P : Option Command → Type 0 = λ x. MatchOption x (due_of a.status a.text ≡ due_of Words usage_line) (λ command. IsDueToInput fns command.cluster command.watch f command.input (due_of a.status a.text)) in
+      let Q : Input → Type 0 = λ x. IsDueToInput fns c.cluster c.watch f x (due_of a.status a.text) in
+      subst P (sym o) (subst Q (sym i) h.2)
+
+module _ {E : Type 0} (fns : List Function) (files : Told) (f0 f1 : ℕ) (words : List (List ℕ)) (c : Command) where
+  pub taken_files : (script table script' table' : List ℕ) (r : Result Answer E) → asked_of words ≡ Some c → c.input ≡ Files script table → script' ≡ script → table' ≡ table
+      → IfOk r (IsAnswer (IsDueToFiles fns c.cluster c.watch script' table') (MayReadOf script' table' files) files f0 f1)
+      → IfOk r (λ a. AreTaken words → IsAnswer (IsDue fns words) (MayRead words files) files f0 f1 a)
+  taken_files script table script' table' (Err e) o i s t h = tt
+  taken_files script table script' table' (Ok a) o i s t h = λ taken. by_asked fns files f0 f1 words c a (Files script table) o i (rw (s, t) at h)
+
+  pub taken_made : (entries seed : ℕ) (r : Result Answer E) → asked_of words ≡ Some c → c.input ≡ Generated entries seed → IfOk r (Answers (IsDueToMade fns c.cluster c.watch entries seed))
+      → IfOk r (λ a. AreTaken words → IsAnswer (IsDue fns words) (MayRead words files) files f0 f1 a)
+  taken_made entries seed (Err e) o i h = tt
+  taken_made entries seed (Ok a) o i h = λ taken. record {
+    of_files = h.0;
+    rose = λ e. absurd (rw e at h.1);
+    names = λ e. absurd (rw e at h.1);
+    is_due = λ _. whatever (λ f. IsDue fns words f (due_of a.status a.text)) files (made_final fns files f0 f1 words c a entries seed o i h);
+  }
+
+pub made_names : {E : Type 0} (fns : List Function) (words : List (List ℕ)) (c : Command) (entries seed : ℕ) (r : Result Answer E) → asked_of words ≡ Some c → c.input ≡ Generated entries seed
+    → IfOk r (Answers (IsDueToMade fns c.cluster c.watch entries seed))
+    → IfOk r (λ a. (NameFiles words → ⊥) → IsFinal a.status × ((f : List ℕ → Option (List ℕ)) → IsDue fns words f (due_of a.status a.text)))
+made_names fns words c entries seed (Err e) o i h = tt
+made_names fns words c entries seed (Ok a) o i h = λ _. (h.1, made_final fns None 0 0 words c a entries seed o i h)
+
+-- ---- what is written
+
+each : (files : Told) (P Q : (List ℕ → Option (List ℕ)) → Type 0) → ((f : List ℕ → Option (List ℕ)) → P f → Q f) → IfSome files P → IfSome files Q
+each None P Q step p = tt
+each (Some f) P Q step p = step f p
+
+of_files : (words : List (List ℕ)) (files : Told) (P Q : (List ℕ → Option (List ℕ)) → Type 0) → ((f : List ℕ → Option (List ℕ)) → P f → Q f) → OfFiles words files P → OfFiles words files Q
+of_files words files P Q step h = (each files P Q step h.0, λ none f. step f (h.1 none f))
+
+-- the words are taken or not
+decide : (o : Option Command) → IsSome o ⊎ (IsSome o → ⊥)
+decide None = inr (λ h. absurd (cc h))
+decide (Some c) = inl refl
+
+names_taken : (o : Option Command) (P : Command → Type 0) → MatchOption o ⊥ P → IsSome o
+names_taken None P h = absurd h
+names_taken (Some c) P h = refl
 
 -- a status is due, that of a failed read, or none of an answer
 kinds : (s : Status) → IsFinal s ⊎ ((s ≡ ReadFault) ⊎ ((IsOfFiles s → ⊥) × (s ≡ Words → ⊥)))
@@ -98,23 +215,32 @@ kinds ScriptRefused = inl tt
 kinds TableRefused = inl tt
 kinds LoopFault = inl tt
 
--- the words are taken or not
-taken_or_not : (words : List (List ℕ)) → AreTaken words ⊎ (AreTaken words → ⊥)
-taken_or_not [] = inr (λ t. t)
-taken_or_not (w ∷ []) = inr (λ t. t)
-taken_or_not (w ∷ v ∷ []) = inl tt
-taken_or_not (w ∷ v ∷ u ∷ us) = inr (λ t. t)
+module _ (fns : List Function) (words : List (List ℕ)) (files : Told) (f0 f1 : ℕ) (a : Answer)
+    (taken : AreTaken words → IsAnswer (IsDue fns words) (MayRead words files) files f0 f1 a)
+    (made : (NameFiles words → ⊥) → IsFinal a.status × ((f : List ℕ → Option (List ℕ)) → IsDue fns words f (due_of a.status a.text)))
+    (not_taken : (AreTaken words → ⊥) → due_of a.status a.text ≡ due_of Words usage_line) where
+  words_due : IsFinal a.status → OfFiles words files (λ f. IsDue fns words f (due_of a.status a.text))
+  words_due final =
+      (
+        ⊎_elim (λ (t : AreTaken words). (taken t).is_due final)
+        (λ (n : AreTaken words → ⊥). whatever (λ f. IsDue fns words f (due_of a.status a.text)) files (made (λ h. n (names_taken (asked_of words) _ h))).1)
+        (decide (asked_of words)),
+        λ none. (made none).1
+      )
 
-pub part_written : (files : Option (List ℕ → Option (List ℕ))) (f0 f1 : ℕ) (words : List (List ℕ)) (a : Answer) (before after : Option (List ℕ))
-    → (AreTaken words → IsAnswer (IsDue words) (MayRead words files) files f0 f1 a) → ((AreTaken words → ⊥) → due_of a.status a.text ≡ due_of Words usage_line)
-    → AppendsPart before after a.text → WritesPart words files f0 f1 before after
-part_written files f0 f1 words a before after taken not_taken part =
-    ⊎_elim (λ (final : IsFinal a.status). inl (part_of_due files words a.status a.text before after (words_due files f0 f1 a words taken not_taken final) part))
-    (⊎_elim
-    (λ (e : a.status ≡ ReadFault).
-    ⊎_elim (λ (t : AreTaken words). let is = taken t in let h = is.names e in inr (is.rose e, (h.0, h.1, rw h.2 at part)))
-    (λ (n : AreTaken words → ⊥). absurd (cc (e, ap (λ (d : Due). d.status) (not_taken n))))
-    (taken_or_not words))
-    (λ (none : (IsOfFiles a.status → ⊥) × (a.status ≡ Words → ⊥)).
-    ⊎_elim (λ (t : AreTaken words). absurd (none.0 (taken t).of_files)) (λ (n : AreTaken words → ⊥). absurd (none.1 (ap (λ (d : Due). d.status) (not_taken n)))) (taken_or_not words)))
-    (kinds a.status)
+  pub due_written : (before after : Option (List ℕ)) → IsFinal a.status → Appends before after a.text → OfFiles words files (WritesDue fns words (λ d. a.status ≡ d.status) before after)
+  due_written before after final w =
+      of_files words files (λ f. IsDue fns words f (due_of a.status a.text)) (WritesDue fns words (λ d. a.status ≡ d.status) before after) (λ f h. (due_of a.status a.text, h, refl, w)) (words_due final)
+
+  pub part_written : (before after : Option (List ℕ)) → AppendsPart before after a.text → WritesPart fns words files f0 f1 before after
+  part_written before after part =
+      ⊎_elim
+      (λ (final : IsFinal a.status). inl (of_files words files (λ f. IsDue fns words f (due_of a.status a.text)) (WritesDuePart fns words before after) (λ f h. (due_of a.status a.text, h, part)) (words_due final)))
+      (⊎_elim
+      (λ (e : a.status ≡ ReadFault).
+      ⊎_elim (λ (t : AreTaken words). let is = taken t in let h = is.names e in inr (is.rose e, (h.0, h.1, rw h.2 at part)))
+      (λ (n : AreTaken words → ⊥). absurd (cc (e, ap (λ (d : Due). d.status) (not_taken n))))
+      (decide (asked_of words)))
+      (λ (none : (IsOfFiles a.status → ⊥) × (a.status ≡ Words → ⊥)).
+      ⊎_elim (λ (t : AreTaken words). absurd (none.0 (taken t).of_files)) (λ (n : AreTaken words → ⊥). absurd (none.1 (ap (λ (d : Due). d.status) (not_taken n)))) (decide (asked_of words))))
+      (kinds a.status)

@@ -1,8 +1,3 @@
-pub mod Adding
-pub mod Answering
-pub mod Books
-pub mod Entries
-pub mod Fitting
-pub mod OneDue
-pub mod Prints
-pub mod SomeDue
+mod Answering
+mod OneDue
+mod SomeDue

@@ -1,30 +1,67 @@
--- To the same words and files at most one answer is due.
-use Rattle.std.proofs.Common.{◌≡◌, ℕ, Bool, true, false, List, [], ◌∷◌, length, Option, None, Some, Result, Ok, Err, MatchResult, nat_lt, inl, inr, ap, sym, subst, ◌∙◌}
+-- To the same words and files one status is due.
+use Rattle.std.proofs.Common.{◌≡◌, ℕ, Bool, true, false, List, [], ◌∷◌, length, Option, None, Some, Result, Ok, Err, MatchOption, MatchResult, nat_lt, inl, inr, ap, refl, sym, subst, ◌∙◌}
 use Rattle.std.specs.Bool.{MatchBool}
+use Rattle.rdf_values.specs.Functions.{Function, fn_names}
+use Rattle.rdf_values.specs.Path.{history}
+use Rattle.rdf_values.specs.RefusalLines.{graph_cause_line, long_script_line, long_table_line, script_cause_line, table_cause_line, usage_line}
 use Rattle.rdf_values.specs.TableText.{MarkedTable, table_of}
-use Rattle.rdf_values.specs.Tables.{TableView}
+use Rattle.rdf_values.specs.Verdict.{verdict}
+use Rattle.rdf_values.specs.declared.fault.Fault.{Fault}
+use Rattle.rdf_values.specs.declared.graph_cause.GraphCause.{GraphCause}
+use Rattle.rdf_values.specs.declared.statement.Statement.{Statement}
 use Rattle.rdf_values.specs.declared.table_cause.TableCause.{TableCause}
 use Rattle.rdf_values.specs.declared.script.Script.{Script}
 use Rattle.rdf_values.proofs.OneScript.{one_cause, one_script, script_or_refusal}
+use Rattle.rdf_model.specs.Loops.{Access, accesses}
+use Rattle.rdf_model.specs.PartialResults.{Course}
+use Rattle.rdf_model.specs.Results.{Dataset, first_fault}
+use Rattle.rdf_model.specs.Transcript.{Printed, access_passes, access_printed, printed}
 use Rattle.expr_read.proofs.ReadOnce.{read_once}
 use Rattle.table_csv.specs.Csv.{csv_records}
-use Rattle.rdf_program.specs.Due.{Due, IsDue, IsDueOverTable, IsDueToBytes, IsDueToScript, ReadsScript, WithFile, answered, due_of, long_script_line, long_table_line, max_script, max_table, script_cause_line, table_cause_line}
+use Rattle.command_words.specs.Asked.{asked_of}
+use Rattle.command_words.specs.declared.command.Command.{Command}
+use Rattle.command_words.specs.declared.command.Input.{Input}
+use Rattle.command_words.specs.declared.command.Input.TheVariants.{Files, Generated}
+use Rattle.rdf_values.specs.Generator.{generated_script}
+use Rattle.rdf_values.specs.Generator.{generated_table}
+use Rattle.rdf_program.specs.Due.{Due, IsDue, IsDueOver, IsDueToBytes, IsDueToFiles, IsDueToInput, IsDueToMade, IsDueToScript, IsDueToTable, IsPrinted, ReadsScript, WithFile, WithScript, WithTable, dataset_of, due_of, max_script, max_table}
+use Rattle.rdf_program.specs.Statuses.{printed_status}
+use Rattle.rdf_program.specs.declared.status.Status.{Status}
 use Rattle.rdf_program.specs.declared.status.Status.TheVariants.{ScriptRefused, TableRefused}
 
--- ---- each stage gives one answer where the next does
+-- ---- a transcript's status doesn't tell the course
+
+module _ (script : List Statement) (d : Dataset) (one other : Course) where
+  status_of_access : (a : Access) (fault : Option Fault) (rest rest' : Printed) → rest.status ≡ rest'.status
+      → (access_printed script d one a fault rest).status ≡ (access_printed script d other a fault rest').status
+  status_of_access a (Some f) rest rest' e = refl
+  status_of_access a None rest rest' e = e
+
+  pub status_is_one : (accs : List Access) → (printed script d one accs).status ≡ (printed script d other accs).status
+  status_is_one [] = refl
+  status_is_one (a ∷ accs) = status_of_access a (first_fault d (access_passes script d one a)) (printed script d one accs) (printed script d other accs) (status_is_one accs)
+
+-- ---- each stage gives one status where the next does
+
+-- two answers of one status
+abbrev Agree : Due → Due → Type 0
+Agree d e = d.status ≡ e.status
+
+same_due : (d e line : Due) → d ≡ line → e ≡ line → Agree d e
+same_due d e line h g = ap (λ (x : Due). x.status) (h ∙ sym g)
 
 module _ (d e : Due) where
-  one_file : (name : List ℕ) (file : Option (List ℕ)) (Next : List ℕ → Due → Type 0) → ((bytes : List ℕ) → Next bytes d → Next bytes e → d ≡ e)
-      → WithFile name file Next d → WithFile name file Next e → d ≡ e
-  one_file name None Next one h g = h ∙ sym g
+  one_file : (name : List ℕ) (file : Option (List ℕ)) (Next : List ℕ → Due → Type 0) → ((bytes : List ℕ) → Next bytes d → Next bytes e → Agree d e)
+      → WithFile name file Next d → WithFile name file Next e → Agree d e
+  one_file name None Next one h g = same_due d e _ h g
   one_file name (Some bytes) Next one h g = one bytes h g
 
-  one_of_two : (test : Bool) (line : Due) (P Q : Type 0) → (P → Q → d ≡ e) → MatchBool test (d ≡ line) P → MatchBool test (e ≡ line) Q → d ≡ e
-  one_of_two true line P Q one h g = h ∙ sym g
+  one_of_two : (test : Bool) (line : Due) (P Q : Type 0) → (P → Q → Agree d e) → MatchBool test (d ≡ line) P → MatchBool test (e ≡ line) Q → Agree d e
+  one_of_two true line P Q one h g = same_due d e line h g
   one_of_two false line P Q one h g = one h g
 
-  one_reading : (bytes : List ℕ) (Next : Script → Due → Type 0) → ((s : Script) → Next s d → Next s e → d ≡ e) → ReadsScript bytes Next d → ReadsScript bytes Next e → d ≡ e
-  one_reading bytes Next one (inl h) (inl g) = h.2 ∙ ap (λ c. due_of ScriptRefused (script_cause_line c)) (one_cause read_once bytes h.0 g.0 h.1 g.1) ∙ sym g.2
+  one_reading : (bytes : List ℕ) (Next : Script → Due → Type 0) → ((s : Script) → Next s d → Next s e → Agree d e) → ReadsScript bytes Next d → ReadsScript bytes Next e → Agree d e
+  one_reading bytes Next one (inl h) (inl g) = ap (λ (x : Due). x.status) (h.2 ∙ ap (λ c. due_of ScriptRefused (script_cause_line c)) (one_cause read_once bytes h.0 g.0 h.1 g.1) ∙ sym g.2)
   one_reading bytes Next one (inl h) (inr g) = absurd (script_or_refusal read_once bytes g.0 h.0 g.1 h.1)
   one_reading bytes Next one (inr h) (inl g) = absurd (script_or_refusal read_once bytes h.0 g.0 h.1 g.1)
   one_reading bytes Next one (inr h) (inr g) =
@@ -32,24 +69,46 @@ module _ (d e : Due) where
       let P : Script → Type 0 = λ s. Next s d in
       one g.0 (subst P same h.2) g.2
 
-  one_table : (r : Result MarkedTable TableCause) (Next : TableView → Due → Type 0) → ((t : TableView) → Next t d → Next t e → d ≡ e)
-      → MatchResult r (λ m. Next m.table d) (λ cause. d ≡ due_of TableRefused (table_cause_line cause)) → MatchResult r (λ m. Next m.table e) (λ cause. e ≡ due_of TableRefused (table_cause_line cause)) → d ≡ e
-  one_table (Ok m) Next one h g = one m.table h g
-  one_table (Err cause) Next one h g = h ∙ sym g
+  one_table : (r : Result MarkedTable TableCause) (Next : MarkedTable → Due → Type 0) → ((t : MarkedTable) → Next t d → Next t e → Agree d e)
+      → MatchResult r (λ m. Next m d) (λ cause. d ≡ due_of TableRefused (table_cause_line cause)) → MatchResult r (λ m. Next m e) (λ cause. e ≡ due_of TableRefused (table_cause_line cause)) → Agree d e
+  one_table (Ok m) Next one h g = one m h g
+  one_table (Err cause) Next one h g = same_due d e _ h g
 
-  over_table : (script : Script) (bytes : List ℕ) → IsDueOverTable script bytes d → IsDueOverTable script bytes e → d ≡ e
-  over_table script bytes h g =
-      one_of_two (nat_lt max_table (length bytes)) (due_of TableRefused long_table_line) _ _ (λ x y. one_table (table_of (csv_records bytes)) (λ t u. u ≡ answered script.lines t) (λ t p q. p ∙ sym q) x y) h g
+  one_verdict : (v : Option (ℕ × GraphCause)) (P Q : Type 0) → (P → Q → Agree d e)
+      → MatchOption v P (λ refused. d ≡ due_of ScriptRefused (graph_cause_line refused.0 refused.1)) → MatchOption v Q (λ refused. e ≡ due_of ScriptRefused (graph_cause_line refused.0 refused.1)) → Agree d e
+  one_verdict None P Q one h g = one h g
+  one_verdict (Some refused) P Q one h g = same_due d e _ h g
 
-  to_script : (script : Script) (table : List ℕ) (files : List ℕ → Option (List ℕ)) → IsDueToScript script table files d → IsDueToScript script table files e → d ≡ e
-  to_script script table files h g = one_file table (files table) (IsDueOverTable script) (over_table script) h g
+  module _ (fns : List Function) (size watch : ℕ) where
+    one_print : (script : Script) (table : MarkedTable) → IsPrinted fns size watch script table d → IsPrinted fns size watch script table e → Agree d e
+    one_print script table h g =
+        h.status ∙ ap printed_status (status_is_one (history script) (dataset_of fns size watch table.table) h.course g.course (accesses (history script))) ∙ sym g.status
 
-  to_bytes : (bytes table : List ℕ) (files : List ℕ → Option (List ℕ)) → IsDueToBytes bytes table files d → IsDueToBytes bytes table files e → d ≡ e
-  to_bytes bytes table files h g =
-      one_of_two (nat_lt max_script (length bytes)) (due_of ScriptRefused long_script_line) _ _ (λ x y. one_reading bytes (λ s u. IsDueToScript s table files u) (λ s p q. to_script s table files p q) x y) h g
+    over : (script : Script) (table : MarkedTable) → IsDueOver fns size watch script table d → IsDueOver fns size watch script table e → Agree d e
+    over script table h g = one_verdict (verdict (fn_names fns) table.table.columns script) _ _ (one_print script table) h g
 
-pub one_due : (words : List (List ℕ)) (files : List ℕ → Option (List ℕ)) (d e : Due) → IsDue words files d → IsDue words files e → d ≡ e
-one_due [] files d e h g = h ∙ sym g
-one_due (w ∷ []) files d e h g = h ∙ sym g
-one_due (script ∷ table ∷ []) files d e h g = one_file d e script (files script) (λ bytes u. IsDueToBytes bytes table files u) (λ bytes p q. to_bytes d e bytes table files p q) h g
-one_due (w ∷ v ∷ u ∷ us) files d e h g = h ∙ sym g
+    to_table : (script : Script) (bytes : List ℕ) → IsDueToTable fns size watch script bytes d → IsDueToTable fns size watch script bytes e → Agree d e
+    to_table script bytes h g =
+        one_of_two (nat_lt max_table (length bytes)) (due_of TableRefused long_table_line) _ _ (λ x y. one_table (table_of (csv_records bytes)) (λ t u. IsDueOver fns size watch script t u) (λ t p q. over script t p q) x y) h g
+
+    reading : (bytes : List ℕ) (Next : Script → Due → Type 0) → ((s : Script) → Next s d → Next s e → Agree d e) → WithScript bytes Next d → WithScript bytes Next e → Agree d e
+    reading bytes Next one h g = one_of_two (nat_lt max_script (length bytes)) (due_of ScriptRefused long_script_line) _ _ (λ x y. one_reading bytes Next one x y) h g
+
+    to_script : (script : Script) (table : List ℕ) (files : List ℕ → Option (List ℕ)) → IsDueToScript fns size watch script table files d → IsDueToScript fns size watch script table files e → Agree d e
+    to_script script table files h g = one_file table (files table) (λ bytes u. IsDueToTable fns size watch script bytes u) (λ bytes p q. to_table script bytes p q) h g
+
+    to_bytes : (bytes table : List ℕ) (files : List ℕ → Option (List ℕ)) → IsDueToBytes fns size watch bytes table files d → IsDueToBytes fns size watch bytes table files e → Agree d e
+    to_bytes bytes table files h g = reading bytes (λ s u. IsDueToScript fns size watch s table files u) (λ s p q. to_script s table files p q) h g
+
+    to_input : (files : List ℕ → Option (List ℕ)) (input : Input) → IsDueToInput fns size watch files input d → IsDueToInput fns size watch files input e → Agree d e
+    to_input files (Files script table) h g = one_file script (files script) (λ bytes u. IsDueToBytes fns size watch bytes table files u) (λ bytes p q. to_bytes bytes table files p q) h g
+    to_input files (Generated entries seed) h g = reading generated_script (λ s u. IsDueToTable fns size watch s (generated_table entries seed) u) (λ s p q. to_table s (generated_table entries seed) p q) h g
+
+  to_asked : (fns : List Function) (asked : Option Command) (files : List ℕ → Option (List ℕ)) (line : Due)
+      → MatchOption asked (d ≡ line) (λ command. IsDueToInput fns command.cluster command.watch files command.input d)
+      → MatchOption asked (e ≡ line) (λ command. IsDueToInput fns command.cluster command.watch files command.input e) → Agree d e
+  to_asked fns None files line h g = same_due d e line h g
+  to_asked fns (Some c) files line h g = to_input fns c.cluster c.watch files c.input h g
+
+pub one_due : (fns : List Function) (words : List (List ℕ)) (files : List ℕ → Option (List ℕ)) (d e : Due) → IsDue fns words files d → IsDue fns words files e → Agree d e
+one_due fns words files d e h g = to_asked d e fns (asked_of words) files _ h g

@@ -1,13 +1,28 @@
 -- To all words and files an answer is due.
-use Rattle.std.proofs.Common.{◌≡◌, ℕ, Bool, true, false, List, [], ◌∷◌, length, Option, None, Some, Result, Ok, Err, MatchResult, nat_lt, inl, inr, refl}
+use Rattle.std.proofs.Common.{◌≡◌, ℕ, Bool, true, false, List, [], ◌∷◌, length, Option, None, Some, Result, Ok, Err, MatchOption, MatchResult, nat_lt, inl, inr, refl}
 use Rattle.std.specs.Bool.{MatchBool}
+use Rattle.rdf_values.specs.Cuts.{cut, stride}
+use Rattle.rdf_values.specs.Functions.{Function, fn_names}
+use Rattle.rdf_values.specs.Path.{history}
+use Rattle.rdf_values.specs.RefusalLines.{graph_cause_line, long_script_line, long_table_line, no_file_line, script_cause_line, table_cause_line, usage_line}
 use Rattle.rdf_values.specs.TableText.{MarkedTable, table_of}
-use Rattle.rdf_values.specs.Tables.{TableView}
+use Rattle.rdf_values.specs.Verdict.{verdict}
+use Rattle.rdf_values.specs.declared.graph_cause.GraphCause.{GraphCause}
 use Rattle.rdf_values.specs.declared.table_cause.TableCause.{TableCause}
 use Rattle.rdf_values.specs.declared.script.Script.{Script}
+use Rattle.rdf_model.specs.PartialResults.{Course, IsChain, IsCourse}
+use Rattle.rdf_model.specs.Transcript.{transcript}
 use Rattle.script_read.proofs.Answered.{answered}
 use Rattle.table_csv.specs.Csv.{csv_records}
-use Rattle.rdf_program.specs.Due.{Due, IsDue, IsDueOverTable, IsDueToBytes, IsDueToScript, ReadsScript, WithFile, answered as answered_over, due_of, usage_line, no_file_line, long_script_line, long_table_line, max_script, max_table, script_cause_line, table_cause_line}
+use Rattle.transcripts.proofs.SomeChain.{first_sets, first_sets_are_a_chain}
+use Rattle.command_words.specs.Asked.{asked_of}
+use Rattle.command_words.specs.declared.command.Command.{Command}
+use Rattle.command_words.specs.declared.command.Input.{Input}
+use Rattle.command_words.specs.declared.command.Input.TheVariants.{Files, Generated}
+use Rattle.rdf_values.specs.Generator.{generated_script}
+use Rattle.rdf_values.specs.Generator.{generated_table}
+use Rattle.rdf_program.specs.Due.{Due, IsDue, IsDueOver, IsDueToBytes, IsDueToInput, IsDueToScript, IsDueToTable, IsPrinted, ReadsScript, WithFile, WithScript, WithTable, dataset_of, due_of, max_script, max_table}
+use Rattle.rdf_program.specs.Statuses.{printed_status}
 use Rattle.rdf_program.specs.declared.status.Status.TheVariants.{NoFile, ScriptRefused, TableRefused, Words}
 
 -- an answer of which that holds
@@ -29,21 +44,53 @@ some_reading bytes Next some =
       | inr c ↦ (due_of ScriptRefused (script_cause_line c.0), inl (c.0, c.1, refl))
     ]
 
-some_table : (r : Result MarkedTable TableCause) (Next : TableView → Due → Type 0) → ((t : TableView) → SomeDue (Next t)) → SomeDue (λ d. MatchResult r (λ m. Next m.table d) (λ cause. d ≡ due_of TableRefused (table_cause_line cause)))
-some_table (Ok m) Next some = some m.table
+some_script : (bytes : List ℕ) (Next : Script → Due → Type 0) → ((s : Script) → SomeDue (Next s)) → SomeDue (WithScript bytes Next)
+some_script bytes Next some = some_of_two (nat_lt max_script (length bytes)) (due_of ScriptRefused long_script_line) (ReadsScript bytes Next) (some_reading bytes Next some)
+
+some_table : (r : Result MarkedTable TableCause) (Next : MarkedTable → Due → Type 0) → ((t : MarkedTable) → SomeDue (Next t)) → SomeDue (λ d. MatchResult r (λ m. Next m d) (λ cause. d ≡ due_of TableRefused (table_cause_line cause)))
+some_table (Ok m) Next some = some m
 some_table (Err cause) Next some = (due_of TableRefused (table_cause_line cause), refl)
 
-over_table : (script : Script) (bytes : List ℕ) → SomeDue (IsDueOverTable script bytes)
-over_table script bytes =
-    some_of_two (nat_lt max_table (length bytes)) (due_of TableRefused long_table_line) _ (some_table (table_of (csv_records bytes)) (λ t u. u ≡ answered_over script.lines t) (λ t. (answered_over script.lines t, refl)))
+some_verdict : (v : Option (ℕ × GraphCause)) (P : Due → Type 0) → SomeDue P → SomeDue (λ d. MatchOption v (P d) (λ refused. d ≡ due_of ScriptRefused (graph_cause_line refused.0 refused.1)))
+some_verdict None P some = some
+some_verdict (Some refused) P some = (due_of ScriptRefused (graph_cause_line refused.0 refused.1), refl)
 
-to_bytes : (bytes table : List ℕ) (files : List ℕ → Option (List ℕ)) → SomeDue (IsDueToBytes bytes table files)
-to_bytes bytes table files =
-    some_of_two (nat_lt max_script (length bytes)) (due_of ScriptRefused long_script_line) _
-    (some_reading bytes (λ s u. IsDueToScript s table files u) (λ s. some_file table (files table) (IsDueOverTable s) (over_table s)))
+module _ (fns : List Function) (size watch : ℕ) where
+  -- the course in which each loop notes its clusters in file order
+  abbrev course_of : MarkedTable → Course
+  course_of table =
+      let spans = cut (length table.table.rows) size table.marks in
+      record { spans = spans; chains = λ l. first_sets (length spans) (stride (length spans) watch) }
 
-pub some_due : (words : List (List ℕ)) (files : List ℕ → Option (List ℕ)) → SomeDue (IsDue words files)
-some_due [] files = (due_of Words usage_line, refl)
-some_due (w ∷ []) files = (due_of Words usage_line, refl)
-some_due (script ∷ table ∷ []) files = some_file script (files script) (λ bytes u. IsDueToBytes bytes table files u) (λ bytes. to_bytes bytes table files)
-some_due (w ∷ v ∷ u ∷ us) files = (due_of Words usage_line, refl)
+  some_print : (script : Script) (table : MarkedTable) → SomeDue (IsPrinted fns size watch script table)
+  some_print script table =
+      let t = transcript script (dataset_of fns size watch table.table) (course_of table) in
+      (due_of (printed_status t.status) t.bytes, record {
+        course = course_of table;
+        is_course = record { spans = refl; chains = λ l results _ _. first_sets_are_a_chain _ _ };
+        bytes = refl;
+        status = refl;
+      })
+
+  over : (script : Script) (table : MarkedTable) → SomeDue (IsDueOver fns size watch script table)
+  over script table = some_verdict (verdict (fn_names fns) table.table.columns script) (IsPrinted fns size watch script table) (some_print script table)
+
+  to_table : (script : Script) (bytes : List ℕ) → SomeDue (IsDueToTable fns size watch script bytes)
+  to_table script bytes =
+      some_of_two (nat_lt max_table (length bytes)) (due_of TableRefused long_table_line) _ (some_table (table_of (csv_records bytes)) (λ t u. IsDueOver fns size watch script t u) (λ t. over script t))
+
+  to_bytes : (bytes table : List ℕ) (files : List ℕ → Option (List ℕ)) → SomeDue (IsDueToBytes fns size watch bytes table files)
+  to_bytes bytes table files =
+      some_script bytes (λ s u. IsDueToScript fns size watch s table files u) (λ s. some_file table (files table) (λ cells u. IsDueToTable fns size watch s cells u) (λ cells. to_table s cells))
+
+  to_input : (files : List ℕ → Option (List ℕ)) (input : Input) → SomeDue (IsDueToInput fns size watch files input)
+  to_input files (Files script table) = some_file script (files script) (λ bytes u. IsDueToBytes fns size watch bytes table files u) (λ bytes. to_bytes bytes table files)
+  to_input files (Generated entries seed) = some_script generated_script (λ s u. IsDueToTable fns size watch s (generated_table entries seed) u) (λ s. to_table s (generated_table entries seed))
+
+to_asked : (fns : List Function) (asked : Option Command) (files : List ℕ → Option (List ℕ)) (line : Due)
+    → SomeDue (λ d. MatchOption asked (d ≡ line) (λ command. IsDueToInput fns command.cluster command.watch files command.input d))
+to_asked fns None files line = (line, refl)
+to_asked fns (Some c) files line = to_input fns c.cluster c.watch files c.input
+
+pub some_due : (fns : List Function) (words : List (List ℕ)) (files : List ℕ → Option (List ℕ)) → SomeDue (IsDue fns words files)
+some_due fns words files = to_asked fns (asked_of words) files (due_of Words usage_line)

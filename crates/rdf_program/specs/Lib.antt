@@ -1,7 +1,6 @@
 pub mod Answers
 pub mod Due
 pub mod Fetching
-pub mod Fitting
-pub mod Plan
-pub mod Results
+pub mod Running
+pub mod Statuses
 pub mod Top

@@ -1,5 +1,5 @@
 // Whole files by their names.
-ghost use Rattle.std.specs.Prelude.{◌≡◌, ◌≤◌, ◌<◌, ◌^◌, ◌+◌, IfOk};
+ghost use Rattle.std.specs.Prelude.{◌≡◌, ◌≤◌, ◌<◌, ◌^◌, ◌+◌, ◌++◌, ◌∷◌, [], IfOk};
 ghost use Rattle.rdf_program.specs.Fetching.{IsFetched};
 
 use rdf_outside::{ReadRefusal, Shelf, TurnStop, read_whole};
@@ -24,6 +24,7 @@ pub(crate) fn fetch<S: Shelf>(
 ) -> Result<Fetched, Memory>
     requires { max + 1 < 2 ^ 64 }
     ensures same { S.files shelf.new ≡ S.files shelf.old }
+    ensures turns { S.turns shelf.new ≡ S.turns shelf.old ++ name.now ∷ [] }
     ensures later { S.faults shelf.old ≤ S.faults shelf.new }
     ensures fetched { IfOk result (IsFetched max (S.files shelf.old) name.now (S.faults shelf.old) (S.faults shelf.new)) }
 {

@@ -1,23 +1,19 @@
-//! The program's top call: two files are read, and what is due to them is written.
-//! It stands on `rdf_outside` for files and output, and on `script_read` and `table_csv` for what the files' bytes mean.
+//! The program's top call: a script and a table are read, the script is booked and run over the table in event loops, and what is
+//! due is written. It stands on `rdf_outside` for files and output, on `command_words`, `script_read` and `table_csv` for what the
+//! words and bytes mean, and on `transcripts` for what is printed.
 #![tactic(auto)]
 
 mod answer;
-mod booking;
-mod counting;
 mod fetch;
-mod names_fit;
+mod input;
 mod one_due;
 mod over_table;
-mod printing;
-mod quantity;
+mod settings;
 mod status;
-mod tally;
-mod to_words;
 mod top;
+mod words;
 
-pub use crate::names_fit::names_fit_where_demands_are_kept;
-pub use crate::one_due::exactly_one_due;
+pub use crate::one_due::one_status_is_due;
 pub use crate::status::Status;
 pub use crate::top::rdf_top;
 

@@ -1,9 +1,11 @@
-// The law that exactly one answer is due.
+// The law that an answer is due, with one status.
 ghost use Rattle.std.specs.Prelude.{◌≡◌, ℕ, List, Option};
+ghost use Rattle.rdf_values.specs.Functions.{Function};
 ghost use Rattle.rdf_program.specs.Due.{Due, IsDue};
 
-/// To all words and files an answer is due, and to the same ones no other.
-pub fn exactly_one_due()
-    ensures some { (words : List (List ℕ)) (files : List ℕ → Option (List ℕ)) → (d : Due) × IsDue words files d }
-    ensures one { (words : List (List ℕ)) (files : List ℕ → Option (List ℕ)) (d e : Due) → IsDue words files d → IsDue words files e → d ≡ e }
+/// To all words and files an answer is due, and all that are due to the same ones have one status. Their bytes may differ in
+/// partial lines, which name the clusters that a loop happened to finish first.
+pub fn one_status_is_due()
+    ensures some { (fns : List Function) (words : List (List ℕ)) (files : List ℕ → Option (List ℕ)) → (d : Due) × IsDue fns words files d }
+    ensures one { (fns : List Function) (words : List (List ℕ)) (files : List ℕ → Option (List ℕ)) (d e : Due) → IsDue fns words files d → IsDue fns words files e → d.status ≡ e.status }
 {}

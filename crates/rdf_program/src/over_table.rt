@@ -1,55 +1,128 @@
-// What is due to a script over a table.
-ghost use Rattle.std.specs.Prelude.{◌≡◌, ◌≤◌, ◌<◌, All, IfOk, MatchResult, length};
-ghost use Rattle.rdf_program.specs.Due.{answered, due_of, IsDueOverTable};
+// What is due to a script over the bytes of a table.
+ghost use Rattle.std.specs.Prelude.{◌≡◌, ◌≤◌, ◌<◌, All, IfOk, length};
+ghost use Rattle.entry_fns.specs.Lists.{functions_in};
+ghost use Rattle.rdf_values.specs.Bookable.{IsBookable};
+ghost use Rattle.rdf_values.specs.Path.{history};
+ghost use Rattle.rdf_values.specs.Words.{StatementsHaveWords};
+ghost use Rattle.rdf_values.specs.Functions.{fn_names};
+ghost use Rattle.rdf_program.specs.Answers.{Answers};
+ghost use Rattle.rdf_program.specs.Due.{IsDueOver, IsDueToTable, IsPrinted};
+ghost use Rattle.rdf_program.specs.Running.{AreSettings, columns_over};
 
 use crate::answer::Answer;
-use crate::booking::book;
-use crate::counting::add_entries;
-use crate::printing::print_all;
+use crate::settings::Settings;
 use crate::status::Status;
 use clusters::cut;
 use columns::Columns;
-use rdf_values::{Line, Memory, Script};
+use entry_fns::FnList;
+use node_graph::{Graph, GraphRefusal};
+use rdf_outside::Gate;
+use rdf_values::{Memory, Script};
+use result_text::Refusal;
 use std::alloc::Global;
+use std::thread::Threads;
 use table_csv::{Marked, TableRefusal, read_table};
+use transcripts::run_prints;
 
-const CLUSTER_SIZE: u32 = 10_000;
+/// The most bytes of a table.
+pub(crate) const MAX_TABLE: usize = 67_108_864;
 
 // The columns of a table over its clusters.
-fn columns_of(alloc: Global, marked: Marked) -> Result<Columns, Memory>
-    requires { All (λ e. e < length marked.table.rows) marked.marks }
-    ensures { IfOk result (λ columns. columns.table ≡ marked.table) }
+fn columns_of(alloc: Global, marked: Marked, cluster: u32) -> Result<Columns, Memory>
+    requires within { All (λ e. e < length marked.table.rows) marked.marks }
+    requires size { 1 ≤ cluster }
+    ensures { IfOk result (λ columns. columns ≡ columns_over marked.table marked.marks cluster) }
 {
-    let cuts = cut(alloc, marked.table.entries(), CLUSTER_SIZE, &marked.marks)?;
+    let cuts = cut(alloc, marked.table.entries(), cluster, &marked.marks)?;
     Columns::build(alloc, marked.table, cuts)
 }
 
-// The answer to lines over a table.
-fn answer_lines(alloc: Global, lines: &[Line], columns: &Columns) -> Result<Answer, Memory>
-    ensures { IfOk result (λ a. due_of a.status a.text ≡ answered lines.now columns.now.table) }
+// The answer of a graph's Prints.
+fn answer_prints<R: Threads + Sync, G: Gate>(
+    rt: &R,
+    alloc: Global,
+    graph: Graph,
+    columns: Columns,
+    functions: &FnList,
+    settings: Settings,
+    gate: &G,
+) -> Result<Answer, Memory>
+    requires graph { (graph.header ≡ columns.table.columns) × (graph.names ≡ fn_names (functions_in functions.now)) }
+    requires words { StatementsHaveWords (history graph.script) }
+    requires settings { AreSettings settings }
+    requires size { columns.cuts.size ≡ settings.cluster }
+    ensures { IfOk result (Answers (IsPrinted (functions_in functions.now) settings.cluster settings.watch graph.script (record { table = columns.table; marks = columns.cuts.marks }))) }
 {
-    let Some(mut tallies) = book(alloc, columns.columns(), lines)? else {
-        return Answer::line(alloc, Status::ScriptRefused, b"script refused: not built");
+    let transcript = run_prints(
+        rt,
+        alloc,
+        graph,
+        columns,
+        functions,
+        settings.slots,
+        settings.watch,
+        gate,
+    )?;
+    let status = if transcript.faulted {
+        Status::LoopFault
+    } else {
+        Status::Done
     };
-    add_entries(&mut tallies, columns);
-    let text = print_all(alloc, lines, &tallies, columns.entries())?;
-    Ok(Answer {
-        status: Status::Done,
-        text,
-    })
+    let text = transcript.text;
+    Ok(Answer { status, text })
+}
+
+// The answer to a script over a table.
+fn answer_script<R: Threads + Sync, G: Gate>(
+    rt: &R,
+    alloc: Global,
+    script: Script,
+    marked: Marked,
+    functions: &FnList,
+    settings: Settings,
+    gate: &G,
+) -> Result<Answer, Memory>
+    requires bookable { IsBookable script }
+    requires words { StatementsHaveWords (history script) }
+    requires within { All (λ e. e < length marked.table.rows) marked.marks }
+    requires settings { AreSettings settings }
+    ensures { IfOk result (Answers (IsDueOver (functions_in functions.now) settings.cluster settings.watch script (record { table = marked.table; marks = marked.marks }))) }
+{
+    let columns = columns_of(alloc, marked, settings.cluster)?;
+    match Graph::book(alloc, script, columns.columns(), functions.names()) {
+        Ok(graph) => answer_prints(rt, alloc, graph, columns, functions, settings, gate),
+        Err(GraphRefusal::Memory) => Err(Memory),
+        Err(GraphRefusal::At { line, cause }) => Answer::refused(
+            alloc,
+            Status::ScriptRefused,
+            &Refusal::Graph { line, cause },
+        ),
+    }
 }
 
 /// The answer to a script over the bytes of a table.
-pub(crate) fn answer_over(alloc: Global, script: &Script, bytes: &[u8]) -> Result<Answer, Memory>
-    requires { length bytes.now ≤ 67108864 }
-    ensures { IfOk result (λ a. IsDueOverTable script.now bytes.now (due_of a.status a.text)) }
+pub(crate) fn answer_over<R: Threads + Sync, G: Gate>(
+    rt: &R,
+    alloc: Global,
+    script: Script,
+    bytes: &[u8],
+    functions: &FnList,
+    settings: Settings,
+    gate: &G,
+) -> Result<Answer, Memory>
+    requires bookable { IsBookable script }
+    requires words { StatementsHaveWords (history script) }
+    requires settings { AreSettings settings }
+    ensures { IfOk result (Answers (IsDueToTable (functions_in functions.now) settings.cluster settings.watch script bytes.now)) }
 {
+    if bytes.len() > MAX_TABLE {
+        return Answer::refused(alloc, Status::TableRefused, &Refusal::TableLong);
+    }
     match read_table(alloc, bytes) {
-        Ok(marked) => {
-            let columns = columns_of(alloc, marked)?;
-            answer_lines(alloc, script.lines.as_slice(), &columns)
-        }
+        Ok(marked) => answer_script(rt, alloc, script, marked, functions, settings, gate),
         Err(TableRefusal::Memory) => Err(Memory),
-        Err(TableRefusal::At(cause)) => Answer::refused_table(alloc, cause),
+        Err(TableRefusal::At(cause)) => {
+            Answer::refused(alloc, Status::TableRefused, &Refusal::Table(cause))
+        }
     }
 }

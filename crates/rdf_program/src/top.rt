@@ -1,26 +1,32 @@
 // The top call.
-ghost use Rattle.std.specs.Prelude.{◌≡◌, ◌⊎◌, [], List, ℕ, IfSome};
-ghost use Rattle.rdf_outside.specs.Outside.{Rose, Appends, AppendsPart};
-ghost use Rattle.rdf_program.specs.Answers.{AreTaken, IsFinal, MayRead};
-ghost use Rattle.rdf_program.specs.Due.{Due, due_of, usage_line, IsDue};
-ghost use Rattle.rdf_program.specs.Top.{WritesReadFailed, WritesPart};
+ghost use Rattle.std.specs.Prelude.{◌≡◌, ◌⊎◌, [], List, ℕ};
+ghost use Rattle.entry_fns.specs.Lists.{functions_in};
+ghost use Rattle.rdf_values.specs.RefusalLines.{usage_line};
+ghost use Rattle.rdf_outside.specs.Outside.{Rose, Appends};
+ghost use Rattle.rdf_program.specs.Answers.{AreTaken};
+ghost use Rattle.rdf_program.specs.Statuses.{IsFinal};
+ghost use Rattle.rdf_program.specs.Top.{OfFiles, TurnsBesides, WritesDue, WritesPart, WritesReadFailed};
 
 use crate::status::Status;
-use crate::to_words::answer_words;
-use rdf_outside::{Failed, Shelf, Sink, WordList, write_whole};
+use crate::words::answer_words;
+use entry_fns::FnList;
+use rdf_outside::{Failed, Gate, Shelf, Sink, WordList, write_whole};
 use std::alloc::Global;
+use std::thread::Threads;
 
-/// Reads the script and the table that the words name, and writes what is due to them.
-/// Nothing is written before all is known. `LoopFault` doesn't come: no script that is taken has one.
-pub fn rdf_top<S: Shelf, K: Sink>(
+/// Reads the script and the table that the words name, or makes them, runs the event loops and writes what is due.
+/// Nothing is written before all is known. The gate is called before each cluster of a loop.
+pub fn rdf_top<R: Threads + Sync, S: Shelf, K: Sink, G: Gate>(
+    rt: &R,
     alloc: Global,
     words: &WordList,
     shelf: &mut S,
     sink: &mut K,
+    functions: &FnList,
+    gate: &G,
 ) -> Status
-    // What is due to the words and the files is answered and written, and nothing else.
-    ensures due { IsFinal result → IfSome (S.files shelf.old) (λ files.
-        (d : Due) × IsDue words.now files d × (result ≡ d.status) × Appends (K.written sink.old) (K.written sink.new) d.bytes) }
+    // What is due to the words, the files and the functions is answered and written, and nothing else.
+    ensures due { IsFinal result → OfFiles words.now (S.files shelf.old) (WritesDue (functions_in functions.now) words.now (λ d. result ≡ d.status) (K.written sink.old) (K.written sink.new)) }
 
     // The usage line comes exactly where the words aren't taken.
     ensures words { result ≡ Status.Words → (AreTaken words.now → ⊥) × Appends (K.written sink.old) (K.written sink.new) usage_line }
@@ -31,10 +37,12 @@ pub fn rdf_top<S: Shelf, K: Sink>(
     ensures read { result ≡ Status.ReadFault → Rose (S.faults shelf.old) (S.faults shelf.new) }
     ensures read_line { result ≡ Status.ReadFault → WritesReadFailed words.now (S.files shelf.old) (K.written sink.old) (K.written sink.new) }
     ensures write { result ≡ Status.WriteFault → Rose (K.faults sink.old) (K.faults sink.new) }
-    ensures part { result ≡ Status.WriteFault → WritesPart words.now (S.files shelf.old) (S.faults shelf.old) (S.faults shelf.new) (K.written sink.old) (K.written sink.new) }
-    ensures no_loop_fault { result ≡ Status.LoopFault → ⊥ }
+    ensures part { result ≡ Status.WriteFault → WritesPart (functions_in functions.now) words.now (S.files shelf.old) (S.faults shelf.old) (S.faults shelf.new) (K.written sink.old) (K.written sink.new) }
+
+    // The script is turned to once, and the table at most once, after a script was read.
+    ensures turns { result ≡ Status.Memory ⊎ TurnsBesides words.now (S.files shelf.old) (S.turns shelf.old) (S.turns shelf.new) }
 {
-    let Ok(answer) = answer_words(alloc, words, shelf) else {
+    let Ok(answer) = answer_words(rt, alloc, words, shelf, functions, gate) else {
         return Status::Memory;
     };
     match write_whole(sink, answer.text.as_bytes()) {

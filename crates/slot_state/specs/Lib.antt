@@ -1,3 +1,4 @@
+pub mod Clusters
 pub mod Jobs
+pub mod Passes
 pub mod Slots
-pub mod Stub

@@ -1,28 +1,46 @@
 -- What a contract sees of a slot.
-use Rattle.std.specs.Prelude.{◌≡◌, ⊤, ℕ, List, [], ◌∷◌, All, if◌then◌else◌, is_some, length, slice_get}
+use Rattle.std.specs.Prelude.{◌≡◌, ◌≤◌, ◌<◌, ℕ, Bool, List, [], ◌∷◌, All, if◌then◌else◌, is_some, length, slice_get}
 use Rattle.std.specs.List.{sum_by}
-use Rattle.rdf_values.specs.declared.action.ActionKind.{ActionKind}
-use Rattle.rdf_values.specs.declared.action.ActionKind.TheVariants as kind
 use Rattle.rdf_values.specs.declared.value.Value.{Value}
 use Rattle.rdf_model.specs.Demanded.{demanded}
 use Rattle.rdf_model.specs.LoopFacts.{kinds_in}
 use Rattle.rdf_model.specs.PartialResults.{span_rows}
 use Rattle.rdf_model.specs.Results.{first_fault_in}
-use Rattle.entry_cache.specs.Caches.{IsPlainLoop}
+use Rattle.entry_cache.specs.Caches.{CacheView, IsPlainLoop}
 use Rattle.entry_cache.specs.Jobs.{JobView, passes_in}
-use Rattle.slot_state.specs.Jobs.{JobFacts, job_facts, job_spans}
+use Rattle.entry_cache.specs.Keys.{AreKeys, key_count}
+use Rattle.entry_passes.specs.Entries.{IsNoTake, job_spans}
+use Rattle.cluster_tally.specs.Stages.{at_begin}
+use Rattle.cluster_tally.specs.Tallies.{Holds, TallyView}
+use Rattle.slot_state.specs.Jobs.{JobFacts, job_facts}
 use Rattle.slot_state.specs.declared.progress.Phase.{Phase}
 use Rattle.slot_state.specs.declared.progress.Phase.TheVariants.{Going}
 
--- what the loop is to give, the clusters that the slot finished, and whether it goes on
+-- the evaluations of an entry, which named filters are covered, what the clusters gave, how many results are watched, room for so
+-- many clusters, those that the slot finished, and whether it goes on
 pub record SlotView : Type 0 where
-  pub job : JobFacts
+  pub cache : CacheView
+  pub plan : List Bool
+  pub tally : TallyView
+  pub watched : ℕ
+  pub room : ℕ
   pub done : List ℕ
   pub phase : Phase
 
--- a slot that finished no cluster
-abbrev pub fresh_slot : JobFacts → SlotView
-fresh_slot job = record { job = job; done = []; phase = Going }
+-- the slot is one of the loop that is to give that; while it goes on, its tally holds what the finished clusters give
+pub record IsSlotOf (job : JobFacts) (s : SlotView) : Type 0 where
+  pub cells : length s.cache.cells ≡ key_count job.graph
+  pub keys : AreKeys job.graph s.cache.keys
+  pub plan : s.plan ≡ job.covered
+  pub watched : s.watched ≡ length job.watched
+  pub room : length job.faults ≤ s.room
+  pub holds : s.phase ≡ Going → (c : ℕ) → All (λ d. d < c) s.done → Holds job.facts job.watched (at_begin s.done c) s.tally
+
+-- and it finished no cluster
+pub record IsFreshSlot (job : JobFacts) (s : SlotView) : Type 0 where
+  pub slot : IsSlotOf job s
+  pub none : s.done ≡ []
+  pub going : s.phase ≡ Going
 
 -- ---- how much is evaluated
 
@@ -40,11 +58,6 @@ abbrev pub cluster_demands : JobView → ℕ → ℕ
 cluster_demands j cluster = sum_by (row_demands j) (up_to_fault j (span_rows j.dataset.rows (slice_get (job_spans j) cluster)))
 
 -- ---- memory
-
--- not a Take
-abbrev pub IsNoTake : ActionKind → Type 0
-IsNoTake (kind.Take c) = ⊥
-IsNoTake k = ⊤
 
 -- no site and no column in use is a vector, nothing is taken and nothing is watched
 pub record IsPlainSlot (j : JobView) : Type 0 where

@@ -2,8 +2,10 @@
 //! It stands on `entry_passes` and `cluster_tally`.
 #![tactic(auto)]
 
+mod cluster;
 pub mod progress;
 pub mod state;
+mod tallies;
 
 pub use crate::progress::{Phase, Progress, SlotStop};
 pub use crate::state::SlotState;

@@ -6,11 +6,15 @@ ghost use Rattle.rdf_values.specs.declared.fault.Fault.{Fault};
 ghost use Rattle.entry_cache.specs.Jobs.{Fits, job_of};
 ghost use Rattle.loop_pieces.specs.LoopPieces.{StandsFor};
 ghost use Rattle.loop_pieces.specs.Trails.{HaveTrails};
-ghost use Rattle.slot_state.specs.Jobs.{job_facts};
-ghost use Rattle.slot_state.specs.Slots.{IsPlainSlot, cluster_demands, fresh_slot};
+ghost use Rattle.slot_state.specs.Jobs.{JobFacts, job_facts};
+ghost use Rattle.slot_state.specs.Slots.{IsFreshSlot, IsPlainSlot, IsSlotOf, cluster_demands};
 
+use crate::cluster::{ClusterStop, try_cluster};
 use crate::progress::{Phase, Progress, SlotStop};
-use entry_cache::Job;
+use crate::tallies::tally_of;
+use cluster_tally::Tally;
+use entry_cache::{EntryCache, Job};
+use entry_passes::EntryPlan;
 use expr_eval::Steps;
 use loop_pieces::LoopPiece;
 use rdf_values::{Fault, Memory};
@@ -18,21 +22,24 @@ use std::alloc::Global;
 use std::marker::Model;
 use std::sync::ledger::Ledger;
 
-/// One slot of a loop. Contracts see what the loop is to give, the clusters that the slot finished, and whether it goes on.
+/// One slot of a loop.
 #[derive(Drop)]
 pub struct SlotState {
-    nothing: u8,
+    cache: EntryCache,
+    plan: EntryPlan,
+    tally: Tally,
+    watched: u32,
+    done: Vec<u32>,
+    phase: Phase,
 }
 
 impl Model for SlotState {
+    ghost use Rattle.std.specs.Prelude.{vec_capacity};
     ghost use Rattle.slot_state.specs.Slots.{SlotView};
-    ghost use Rattle.slot_state.specs.Stub.{no_slot};
 
     ghost Value = { SlotView };
 
-    ghost view = { λ s. no_slot };
-
-    ghost invariant = { λ s. ⊥ };
+    ghost view = { λ s. record { cache = s.cache; plan = s.plan; tally = s.tally; watched = s.watched; room = vec_capacity s.done; done = s.done.items; phase = s.phase } };
 }
 
 impl SlotState {
@@ -40,17 +47,28 @@ impl SlotState {
     pub fn new(alloc: Global, job: &Job<'_>) -> Result<SlotState, Memory>
         requires job { Fits job.now }
         requires words { StatementsHaveWords (history (job_of job.now).script) }
-        ensures { IfOk result (λ s. s ≡ fresh_slot (job_facts (job_of job.now))) }
+        ensures { IfOk result (λ s. IsFreshSlot (job_facts (job_of job.now)) s) }
     {
-        Err(Memory)
+        job.functions.answers_have_64_bits();
+        let cache = EntryCache::new(alloc, job)?;
+        let plan = EntryPlan::new(alloc, job)?;
+        let (tally, watched) = tally_of(alloc, job)?;
+        let done = Vec::with_capacity(alloc, job.cuts.count() as usize)?;
+        Ok(SlotState {
+            cache,
+            plan,
+            tally,
+            watched,
+            done,
+            phase: Phase::Going,
+        })
     }
 
     /// How many results of the loop are watched.
     pub fn watched(&self) -> u32
-        ensures { result ≡ length self.now.job.watched }
+        ensures { (job : JobFacts) → IsSlotOf job self.now → result ≡ length job.watched }
     {
-        let _nothing = self.nothing;
-        unreachable!()
+        self.watched
     }
 
     /// Processes a cluster above all that the slot finished.
@@ -62,31 +80,59 @@ impl SlotState {
         steps: &mut Steps<L>,
     ) -> Result<Progress, SlotStop>
         requires job { Fits job.now }
-        requires same { job_facts (job_of job.now) ≡ self.old.job }
-        requires cluster { cluster < length self.old.job.faults }
+        requires slot { IsSlotOf (job_facts (job_of job.now)) self.old }
+        requires cluster { cluster < length (job_facts (job_of job.now)).faults }
         requires above { All (λ c. c < cluster) self.old.done }
         requires open { self.old.phase ≢ Phase.Faulted }
-        ensures same { self.new.job ≡ self.old.job }
-        ensures done { result ≡ Ok Progress.Done → (self.old.phase ≡ Phase.Going) × (slice_get self.old.job.faults cluster ≡ Some None)
+        ensures slot { IsSlotOf (job_facts (job_of job.now)) self.new }
+        ensures done { result ≡ Ok Progress.Done → (self.old.phase ≡ Phase.Going) × (slice_get (job_facts (job_of job.now)).faults cluster ≡ Some None)
             × (self.new.done ≡ self.old.done ++ cluster ∷ []) × (self.new.phase ≡ Phase.Going) }
-        ensures faulted { (f : Fault) → result ≡ Ok (Progress.Faulted f) → (self.old.phase ≡ Phase.Going) × (slice_get self.old.job.faults cluster ≡ Some (Some f))
+        ensures faulted { (f : Fault) → result ≡ Ok (Progress.Faulted f) → (self.old.phase ≡ Phase.Going) × (slice_get (job_facts (job_of job.now)).faults cluster ≡ Some (Some f))
             × (self.new.done ≡ self.old.done) × (self.new.phase ≡ Phase.Faulted) }
         ensures memory { result ≡ Err SlotStop.Memory → (self.new.done ≡ self.old.done) × (self.new.phase ≡ Phase.NoMemory) }
         ensures kept { self.old.phase ≡ Phase.NoMemory → result ≡ Err SlotStop.Memory }
         ensures plain { IsPlainSlot (job_of job.now) → self.old.phase ≡ Phase.Going → result ≢ Err SlotStop.Memory }
         ensures bound { steps.new ≤ steps.old + 2 * cluster_demands (job_of job.now) cluster }
     {
-        let _nothing = self.nothing;
-        unreachable!()
+        if let Phase::NoMemory = self.phase {
+            return Err(SlotStop::Memory);
+        }
+        match try_cluster(
+            alloc,
+            job,
+            &self.plan,
+            &mut self.cache,
+            &mut self.tally,
+            cluster,
+            steps,
+        ) {
+            Ok(()) => match self.tally.close(cluster) {
+                Ok(()) => {
+                    self.done.push_reserved(cluster);
+                    Ok(Progress::Done)
+                }
+                Err(Memory) => {
+                    self.phase = Phase::NoMemory;
+                    Err(SlotStop::Memory)
+                }
+            },
+            Err(ClusterStop::Fault(fault)) => {
+                self.phase = Phase::Faulted;
+                Ok(Progress::Faulted(fault))
+            }
+            Err(ClusterStop::Memory) => {
+                self.phase = Phase::NoMemory;
+                Err(SlotStop::Memory)
+            }
+        }
     }
 
     /// What the clusters that the slot finished come to, with a trail for each watched result.
     pub fn into_piece(self) -> LoopPiece
         requires { self.phase ≡ Phase.Going }
-        ensures stands { StandsFor self.job.facts self.done result }
-        ensures trails { HaveTrails self.job.facts self.job.watched self.done result.trails.items }
+        ensures stands { (job : JobFacts) → IsSlotOf job self → StandsFor job.facts self.done result }
+        ensures trails { (job : JobFacts) → IsSlotOf job self → HaveTrails job.facts job.watched self.done result.trails.items }
     {
-        let _nothing = self.nothing;
-        unreachable!()
+        self.tally.into_piece()
     }
 }

@@ -1,5 +1,8 @@
 use Rattle.std.proofs.Common.{◌≡◌, ◌-◌, None, length}
 use Rattle.cluster_claims.specs.Seats as claims
+use Rattle.entry_cache.specs.Jobs.{job_of}
+use Rattle.slot_state.specs.Jobs.{job_facts}
+use Rattle.slot_state.specs.Slots.{IsSlotOf}
 use Rattle.slot_state.specs.declared.progress.Phase.TheVariants as phase
 use Rattle.event_loop.specs.Workers.{AreSound, HasNoted}
 use Rattle.event_loop.proofs.workers.work.Given as goal
@@ -10,9 +13,9 @@ invariant-loop-cluster g l = record {
   unkept : l.slot.seat.kept ≡ None;
   unpassed : l.slot.seat.passed ≡ None;
   unlowered : l.slot.seat.lowered ≡ None;
-  job : l.slot.state.job ≡ l.fn.slot.state.job;
+  slot : IsSlotOf (job_facts (job_of l.job)) l.slot.state;
   noted : HasNoted l.book (length l.slot.state.done) l.slot.share;
-  sound : AreSound l.fn.slot.state.job.faults l.slot.state.done;
+  sound : AreSound (job_facts (job_of l.job)).faults l.slot.state.done;
   done : l.slot.state.done ≡ l.slot.seat.drawn;
   going : l.slot.state.phase ≡ phase.Going;
 }

@@ -9,7 +9,9 @@ returns-then-count-eq0-clause-bytes g c =
 pub loop-buffer-preserved : goal.loop-buffer-preserved
 loop-buffer-preserved g c = record {
   same = search rules;
+  turns = search rules;
   later = search rules;
+  kept = search rules;
   told = λ all e. (c.in_ok-count.ensures.told all (c.loop-buffer.invariant.told all e)).0;
   few = search rules;
 }

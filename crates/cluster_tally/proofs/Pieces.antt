@@ -1,0 +1,77 @@
+-- A tally's first and last moments.
+use Rattle.std.proofs.Common.{◌≡◌, ℕ, ◌+◌, List, [], ◌∷◌, ◌++◌, length, map, Bool, true, false, Option, Some, inl, inr, refl, sym, ap, ap₂, ◌∙◌, subst, arith, append-nil}
+use Rattle.std.specs.Prelude.{slice_get}
+use Rattle.std.proofs.lemmas.List.{length_push, map-append}
+use Rattle.std.proofs.lemmas.Option.{same_Some, slice_get-get_or}
+use Rattle.rdf_values.proofs.Below.{map-below}
+use Rattle.rdf_values.specs.declared.action.ActionKind.{ActionKind}
+use Rattle.rdf_model.specs.declared.loop_facts.LoopFacts.{LoopFacts}
+use Rattle.actions.specs.Accumulators.{Accumulator, HasFed}
+use Rattle.loop_pieces.specs.LoopPieces.{StandsFor, counts_at}
+use Rattle.loop_pieces.specs.declared.loop_piece.LoopPiece.{LoopPiece}
+use Rattle.cluster_tally.specs.Feedings.{IsFresh, acc_if, fresh_acc, place_if, with_trail}
+use Rattle.cluster_tally.specs.Stages.{at_begin, counts_to}
+use Rattle.cluster_tally.specs.Tallies.{CanWatch, Holds, TallyView, places_there}
+use Rattle.cluster_tally.proofs.ListPlaces.{at_push, kept_at, last_at, places_more}
+use Rattle.cluster_tally.proofs.Stagings.{counts_at_begin, fed_at_begin}
+use Rattle.cluster_tally.proofs.Steps.{taken_from}
+
+-- ---- the first
+
+abbrev with_pass : TallyView → Bool → ActionKind → TallyView
+with_pass t b k = record { accs = t.accs ++ fresh_acc k ∷ []; watched = t.watched ++ acc_if b k ∷ []; flow = t.flow; trails = with_trail b t.trails }
+
+module _ (kinds : List ActionKind) (watched : List ℕ) (t : TallyView) (k : ActionKind) (h : IsFresh kinds watched t) where
+  places_now : (b : Bool) → places_there (length t.watched) (acc_if b k ∷ []) ≡ place_if b kinds
+  places_now true = ap (λ n. n ∷ []) h.many
+  places_now false = refl
+
+  alone_now : (b : Bool) → (b ≡ true → CanWatch k) → (i : ℕ) (acc : Accumulator) → slice_get (t.watched ++ acc_if b k ∷ []) i ≡ Some (Some acc)
+      → (j : ActionKind) × (slice_get (kinds ++ k ∷ []) i ≡ Some j) × CanWatch j × (acc ≡ fresh_acc j)
+  alone_now b can i acc at = elim (at_push t.watched (acc_if b k) i (Some acc) at) [
+    | inl p ↦ (let one = h.alone i acc p in (one.0, kept_at kinds k i one.0 one.1, one.2, one.3))
+    | inr p ↦ go b can p.1 (ap (slice_get (kinds ++ k ∷ [])) (p.0 ∙ h.many) ∙ last_at kinds k)
+  ]
+    where
+      go : (b : Bool) → (b ≡ true → CanWatch k) → Some acc ≡ acc_if b k → slice_get (kinds ++ k ∷ []) i ≡ Some k → (j : ActionKind) × (slice_get (kinds ++ k ∷ []) i ≡ Some j) × CanWatch j × (acc ≡ fresh_acc j)
+      go true can e last = (k, last, can refl, same_Some acc (fresh_acc k) e)
+      go false can e last = absurd (cc)
+
+  trails_now : (b : Bool) → with_trail b t.trails ≡ map (λ p. []) (watched ++ place_if b kinds)
+  trails_now true = ap (λ l. l ++ [] ∷ []) h.trails ∙ sym (map-append (λ p. []) watched (length kinds ∷ []))
+  trails_now false = h.trails ∙ ap (map (λ p. [])) (sym (append-nil watched))
+
+  pub fresh_more : (b : Bool) → (b ≡ true → CanWatch k) → IsFresh (kinds ++ k ∷ []) (watched ++ place_if b kinds) (with_pass t b k)
+  fresh_more b can = record {
+    accs = ap (λ l. l ++ fresh_acc k ∷ []) h.accs ∙ sym (map-append fresh_acc kinds (k ∷ []));
+    many = length_push t.watched (acc_if b k) ∙ ap (λ n. n + 1) h.many ∙ sym (length_push kinds k);
+    places = places_more t.watched 0 (acc_if b k) ∙ (let e : (n : ℕ) → 0 + n ≡ n = λ n. omega arith in ap₂ (λ l n. l ++ places_there n (acc_if b k ∷ [])) h.places (e (length t.watched))) ∙ ap (λ l. watched ++ l) (places_now b);
+    alone = alone_now b can;
+    trails = trails_now b;
+  }
+
+  pub fresh_from : (b : Bool) → (b ≡ true → CanWatch k) → (u : TallyView) (acc : Accumulator) (w : Option Accumulator) → u.accs ≡ t.accs ++ acc ∷ [] → acc ≡ fresh_acc k → u.watched ≡ t.watched ++ w ∷ [] → w ≡ acc_if b k
+      → u.trails ≡ with_trail b t.trails → IsFresh (kinds ++ k ∷ []) (watched ++ place_if b kinds) u
+  fresh_from b can u acc w accs acc_is alone w_is trails =
+      let r = fresh_more b can in
+      let same = alone ∙ ap (λ o. t.watched ++ o ∷ []) w_is in
+      record {
+        accs = accs ∙ ap (λ a. t.accs ++ a ∷ []) acc_is ∙ r.accs;
+        many = ap length same ∙ r.many;
+        places = ap (places_there 0) same ∙ r.places;
+        alone = λ i a at. r.alone i a (ap (λ l. slice_get l i) (sym same) ∙ at);
+        trails = trails ∙ r.trails;
+      }
+
+-- ---- the last
+
+pub stands : (f : LoopFacts) (watched done : List ℕ) (c : ℕ) (t : TallyView) (p : LoopPiece) → p.accs.items ≡ t.accs → p.flow ≡ t.flow → Holds f watched (at_begin done c) t → StandsFor f done p
+stands f watched done c t p accs flow h = record {
+  facts = h.facts;
+  rises = h.rises;
+  kinds = ap (map (λ (acc : Accumulator). acc.kind)) accs ∙ h.kinds;
+  accs = λ i d lt. (
+      let one = h.accs i _ (ap (λ l. slice_get l i) (sym accs) ∙ slice_get-get_or p.accs.items i d lt) in
+      record { fed = subst (HasFed _) (fed_at_begin f done c i) one.fed; few = omega (arith, one.few, taken_from 0 0 i (omega arith)) });
+  flow = flow ∙ h.flow ∙ map-below f.filters (counts_to f (at_begin done c)) (counts_at f done) (λ i lt. counts_at_begin f done c i);
+}

@@ -1,0 +1,209 @@
+// Tallies.
+ghost use Rattle.std.specs.Prelude.{◌≡◌, ◌<◌, ◌+◌, ◌++◌, ◌∷◌, [], ℕ, Bool, IsTrue, List, IfOk, OnErr, OnOk, Some, length, map, replicate, slice_get};
+ghost use Rattle.rdf_values.specs.declared.action.ActionKind.{ActionKind};
+ghost use Rattle.rdf_model.specs.declared.loop_facts.LoopFacts.{LoopFacts};
+ghost use Rattle.actions.specs.Accumulators.{Accumulator, HasFed};
+ghost use Rattle.actions.specs.Feeding.{Fed};
+ghost use Rattle.actions.specs.Holding.{HasEdges, IsTake};
+ghost use Rattle.filters_report.specs.Flows.{nothing};
+ghost use Rattle.loop_pieces.specs.LoopPieces.{StandsFor};
+ghost use Rattle.loop_pieces.specs.Trails.{HaveTrails};
+ghost use Rattle.cluster_tally.specs.Closings.{noted_all, noted_at, renewed, times_there};
+ghost use Rattle.cluster_tally.specs.Feedings.{AreFed, AreFedIfThere, CanFeed, CanNote, CanTake, IsAtEnd, IsFresh, acc_if, after_filter, after_pass, place_if, with_trail};
+ghost use Rattle.cluster_tally.specs.Stages.{Stage, at_begin};
+ghost use Rattle.cluster_tally.specs.Tallies.{CanWatch, Holds, places_there};
+
+use crate::watcher::Watcher;
+use actions::{Acc, FeedStop, Items};
+use filters_report::Flow;
+use loop_pieces::{LoopPiece, WatchPiece};
+use merge_core::{Noted, Trail};
+use rdf_values::{ActionKind, ListOf, Memory};
+use std::alloc::Global;
+use std::marker::Model;
+
+/// The accumulators of the action passes, for each that is watched one of the current cluster alone, the counts of the named
+/// filters, and the trails.
+#[derive(Drop)]
+pub struct Tally {
+    alloc: Global,
+    accs: Vec<Acc>,
+    watched: Vec<Option<Watcher>>,
+    flow: Flow,
+    trails: Vec<Trail<WatchPiece>>,
+}
+
+impl Model for Tally {
+    ghost use Rattle.std.specs.Prelude.{◌≡◌};
+    ghost use Rattle.cluster_tally.specs.Tallies.{TallyView};
+
+    ghost Value = { TallyView };
+
+    ghost view = { λ t. record { accs = t.accs.items; watched = t.watched.items; flow = t.flow; trails = t.trails.items } };
+}
+
+// A watcher of the action, and an empty trail, where it is watched.
+fn watcher_if(
+    alloc: Global,
+    kind: &ActionKind,
+    is_watched: bool,
+    trails: &mut Vec<Trail<WatchPiece>>,
+) -> Result<Option<Watcher>, Memory>
+    requires { IsTrue is_watched → CanWatch kind.now }
+    ensures watcher { IfOk result (λ watcher. watcher ≡ acc_if is_watched kind.now) }
+    ensures trails { OnOk result (trails.new.items ≡ with_trail is_watched trails.old.items) }
+{
+    if !is_watched {
+        return Ok(None);
+    }
+    trails.push(ListOf::new(alloc))?;
+    Ok(Some(Watcher::new(alloc, kind)?))
+}
+
+// Feeds the accumulator of a pass.
+fn feed_acc(accs: &mut [Acc], pass: u32, cluster: u32, items: &Items<'_>) -> Result<(), Memory>
+    requires within { pass < length accs.old }
+    requires can { (acc : Accumulator) → slice_get accs.old pass ≡ Some acc → CanTake cluster items.now acc }
+    ensures fed { OnOk result (AreFed pass cluster items.now accs.old accs.new) }
+    ensures memory { (acc : Accumulator) → slice_get accs.old pass ≡ Some acc → OnErr result (IsTake acc.kind) }
+{
+    let acc = &mut accs[pass as usize];
+    match acc.feed(cluster, items) {
+        Ok(()) => Ok(()),
+        Err(FeedStop::Memory) => Err(Memory),
+        Err(FeedStop::Fault(_)) => unreachable!(),
+    }
+}
+
+// Feeds the accumulator of a pass that is watched, if it is.
+fn feed_watched(watched: &mut [Option<Watcher>], pass: u32, cluster: u32, items: &Items<'_>)
+    requires within { pass < length watched.old }
+    requires can { (acc : Accumulator) → slice_get watched.old pass ≡ Some (Some acc) → CanTake cluster items.now acc }
+    ensures { AreFedIfThere pass cluster items.now watched.old watched.new }
+{
+    if let Some(watcher) = &mut watched[pass as usize] {
+        watcher.feed(cluster, items);
+    }
+}
+
+// Notes what a watcher holds, if it is there, and begins it anew; tells the number of the next trail.
+fn close_one(
+    alloc: Global,
+    cluster: u32,
+    watcher: &mut Option<Watcher>,
+    trails: &mut [Trail<WatchPiece>],
+    trail: usize,
+) -> Result<usize, Memory>
+    requires { (acc : Accumulator) → watcher.old ≡ Some acc → (trail < length trails.old) × (fed : List Fed) × HasFed acc fed }
+    ensures watcher { OnOk result (watcher.new ≡ renewed watcher.old) }
+    ensures trails { OnOk result (trails.new ≡ noted_at cluster watcher.old trails.old trail) }
+    ensures next { IfOk result (λ next. next ≡ trail + times_there watcher.old) }
+    ensures memory { OnErr result (0 < length trails.old) }
+{
+    match watcher {
+        None => Ok(trail),
+        Some(watcher) => {
+            let piece = watcher.close(alloc)?;
+            trails[trail].push(Noted { cluster, piece })?;
+            Ok(trail + 1)
+        }
+    }
+}
+
+// Notes what each watcher holds in its trail, and begins it anew.
+fn close_all(
+    alloc: Global,
+    cluster: u32,
+    watched: &mut [Option<Watcher>],
+    trails: &mut [Trail<WatchPiece>],
+) -> Result<(), Memory>
+    requires trails { length trails.old ≡ length (places_there 0 watched.old) }
+    requires fed { (i : ℕ) (acc : Accumulator) → slice_get watched.old i ≡ Some (Some acc) → (fed : List Fed) × HasFed acc fed }
+    ensures watched { OnOk result (watched.new ≡ map renewed watched.old) }
+    ensures trails { OnOk result (trails.new ≡ noted_all cluster watched.old trails.old) }
+    ensures memory { OnErr result (0 < length trails.old) }
+{
+    let mut trail = 0;
+    for i in 0..watched.len() {
+        trail = close_one(alloc, cluster, &mut watched[i], trails, trail)?;
+    }
+    Ok(())
+}
+
+impl Tally {
+    /// A tally of no action pass, to which nothing was told of so many named filters.
+    pub fn new(alloc: Global, filters: u32) -> Result<Tally, Memory>
+        ensures fresh { IfOk result (λ tally. IsFresh [] [] tally) }
+        ensures flow { IfOk result (λ tally. tally.flow ≡ replicate filters nothing) }
+    {
+        Ok(Tally {
+            alloc,
+            accs: Vec::new(alloc),
+            watched: Vec::new(alloc),
+            flow: Flow::new(alloc, filters)?,
+            trails: Vec::new(alloc),
+        })
+    }
+
+    /// Adds an action pass, behind those that were added.
+    pub fn add_pass(&mut self, kind: &ActionKind, is_watched: bool) -> Result<(), Memory>
+        requires edges { HasEdges kind.now }
+        requires watched { IsTrue is_watched → CanWatch kind.now }
+        ensures fresh { (kinds : List ActionKind) (watched : List ℕ) → IsFresh kinds watched self.old
+            → OnOk result (IsFresh (kinds ++ kind.now ∷ []) (watched ++ place_if is_watched kinds) self.new) }
+        ensures flow { self.new.flow ≡ self.old.flow }
+    {
+        let watcher = watcher_if(self.alloc, kind, is_watched, &mut self.trails)?;
+        self.watched.push(watcher)?;
+        self.accs.push(Acc::new(self.alloc, kind)?)?;
+        Ok(())
+    }
+
+    /// Takes in what the next entry of a cluster feeds to the next action pass.
+    pub fn feed(&mut self, pass: u32, cluster: u32, items: &Items<'_>) -> Result<(), Memory>
+        requires { (f : LoopFacts) × (watched : List ℕ) × (s : Stage) × CanFeed f watched s self.old pass cluster items.now }
+        ensures holds { (f : LoopFacts) (watched : List ℕ) (s : Stage) → CanFeed f watched s self.old pass cluster items.now
+            → OnOk result (Holds f watched (after_pass s) self.new) }
+        ensures memory { (f : LoopFacts) (watched : List ℕ) (s : Stage) → (can : CanFeed f watched s self.old pass cluster items.now)
+            → OnErr result (IsTake can.kind) }
+    {
+        feed_watched(self.watched.as_mut_slice(), pass, cluster, items);
+        feed_acc(self.accs.as_mut_slice(), pass, cluster, items)
+    }
+
+    /// Takes in that the next entry reaches the next named filter, and passes it or not.
+    pub fn note(&mut self, filter: u32, passed: bool)
+        requires { (f : LoopFacts) × (watched : List ℕ) × (s : Stage) × CanNote f watched s self.old filter passed }
+        ensures { (f : LoopFacts) (watched : List ℕ) (s : Stage) → CanNote f watched s self.old filter passed → Holds f watched (after_filter s) self.new }
+    {
+        self.flow.note(filter, passed);
+    }
+
+    /// Notes what the cluster that ends gives to each watched result, and begins those anew.
+    pub fn close(&mut self, cluster: u32) -> Result<(), Memory>
+        requires { (f : LoopFacts) × (watched : List ℕ) × (s : Stage) × Holds f watched s self.old × IsAtEnd f s cluster }
+        ensures holds { (f : LoopFacts) (watched : List ℕ) (s : Stage) (next : ℕ) → Holds f watched s self.old → IsAtEnd f s cluster → cluster < next
+            → OnOk result (Holds f watched (at_begin (s.done ++ cluster ∷ []) next) self.new) }
+        ensures memory { OnErr result (0 < length self.old.trails) }
+    {
+        close_all(
+            self.alloc,
+            cluster,
+            self.watched.as_mut_slice(),
+            self.trails.as_mut_slice(),
+        )
+    }
+
+    /// What the clusters that are done come to.
+    pub fn into_piece(self) -> LoopPiece
+        ensures stands { (f : LoopFacts) (watched done : List ℕ) (cluster : ℕ) → Holds f watched (at_begin done cluster) self → StandsFor f done result }
+        ensures trails { (f : LoopFacts) (watched done : List ℕ) (cluster : ℕ) → Holds f watched (at_begin done cluster) self
+            → HaveTrails f watched done result.trails.items }
+    {
+        LoopPiece {
+            accs: self.accs,
+            flow: self.flow,
+            trails: self.trails,
+        }
+    }
+}

@@ -1,0 +1,108 @@
+// The accumulator of a watched result over one cluster.
+ghost use Rattle.std.specs.Prelude.{◌≡◌, ◌<◌, ◌≤◌, ◌+◌, ◌++◌, [], List, None, IfOk, OnErr, OnOk};
+ghost use Rattle.rdf_values.specs.Fold.{fold_items};
+ghost use Rattle.rdf_values.specs.Spread.{feed_fault, spread};
+ghost use Rattle.actions.specs.Accumulators.{HasFed};
+ghost use Rattle.actions.specs.Feeding.{Fed, from_cluster};
+ghost use Rattle.actions.specs.Parts.{Suits, values_of};
+ghost use Rattle.loop_pieces.specs.Watching.{IsOfKind, watch_filled};
+ghost use Rattle.cluster_tally.specs.Feedings.{fresh_acc};
+ghost use Rattle.cluster_tally.specs.Tallies.{CanWatch};
+
+use actions::{Acc, Filled, Items};
+use loop_pieces::WatchPiece;
+use rdf_values::{ActionKind, Memory};
+use std::alloc::Global;
+use std::marker::Model;
+
+/// An accumulator that begins anew with each cluster: of a Count, a Sum, a Min or a Max.
+#[derive(Drop)]
+pub struct Watcher {
+    kind: ActionKind,
+    acc: Acc,
+}
+
+impl Model for Watcher {
+    ghost use Rattle.std.specs.Prelude.{◌≡◌};
+    ghost use Rattle.actions.specs.Accumulators.{Accumulator};
+    ghost use Rattle.cluster_tally.specs.Watchers.{IsWatcher};
+
+    ghost Value = { Accumulator };
+
+    ghost view = { λ w. w.acc };
+
+    ghost invariant = { λ w. IsWatcher w.kind w.acc };
+}
+
+// A copy of the kind of an action that can be watched.
+fn copy_of(alloc: Global, kind: &ActionKind) -> Result<ActionKind, Memory>
+    requires { CanWatch kind.now }
+    ensures { IfOk result (λ copy. copy ≡ kind.now) }
+{
+    match kind {
+        ActionKind::Count => Ok(ActionKind::Count),
+        ActionKind::Sum(column) => Ok(ActionKind::Sum(column.copy(alloc)?)),
+        ActionKind::Min(column) => Ok(ActionKind::Min(column.copy(alloc)?)),
+        ActionKind::Max(column) => Ok(ActionKind::Max(column.copy(alloc)?)),
+        _ => unreachable!(),
+    }
+}
+
+// What an accumulator of the kind holds.
+fn piece_of(kind: &ActionKind, acc: &Acc) -> WatchPiece
+    requires watch { CanWatch kind.now }
+    requires kind { acc.now.kind ≡ kind.now }
+    requires fed { (fed : List Fed) × HasFed acc.now fed }
+    ensures kind { IsOfKind kind.now result }
+    ensures filled { watch_filled result ≡ acc.now.filled }
+{
+    match (kind, acc.filled()) {
+        (ActionKind::Count, Filled::Count(entries)) => WatchPiece::Count(entries),
+        (ActionKind::Sum(_), Filled::Sum(sum)) => WatchPiece::Sum(sum),
+        (ActionKind::Min(_), Filled::Extreme(least)) => WatchPiece::Least(least),
+        (ActionKind::Max(_), Filled::Extreme(greatest)) => WatchPiece::Greatest(greatest),
+        _ => unreachable!(),
+    }
+}
+
+impl Watcher {
+    /// A watcher of the action, to which nothing was fed.
+    pub fn new(alloc: Global, kind: &ActionKind) -> Result<Watcher, Memory>
+        requires { CanWatch kind.now }
+        ensures { IfOk result (λ watcher. watcher ≡ fresh_acc kind.now) }
+    {
+        Ok(Watcher {
+            kind: copy_of(alloc, kind)?,
+            acc: Acc::new(alloc, kind)?,
+        })
+    }
+
+    /// Takes in the items of an entry of a cluster; clusters don't fall.
+    pub fn feed(&mut self, cluster: u32, items: &Items<'_>)
+        requires suits { Suits self.old.kind items.now }
+        requires no_fault { feed_fault self.old.kind (values_of items.now) ≡ None }
+        requires rising { self.old.last ≤ cluster }
+        requires room { self.old.entries < 1000000 }
+        ensures kind { self.new.kind ≡ self.old.kind }
+        ensures entries { self.new.entries ≡ self.old.entries + 1 }
+        ensures last { self.new.last ≡ cluster }
+        ensures fed { (fed : List Fed) → HasFed self.old fed → HasFed self.new (fed ++ from_cluster cluster (spread self.old.kind (values_of items.now))) }
+    {
+        match self.acc.feed(cluster, items) {
+            Ok(()) => {}
+            Err(_) => unreachable!(),
+        }
+    }
+
+    /// Hands out what it holds, and begins anew.
+    pub fn close(&mut self, alloc: Global) -> Result<WatchPiece, Memory>
+        requires { (fed : List Fed) × HasFed self.old fed }
+        ensures kind { IfOk result (λ piece. IsOfKind self.old.kind piece) }
+        ensures filled { IfOk result (λ piece. watch_filled piece ≡ self.old.filled) }
+        ensures fresh { IfOk result (λ piece. self.new ≡ fresh_acc self.old.kind) }
+    {
+        let piece = piece_of(&self.kind, &self.acc);
+        self.acc = Acc::new(alloc, &self.kind)?;
+        Ok(piece)
+    }
+}

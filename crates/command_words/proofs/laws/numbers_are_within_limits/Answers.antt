@@ -1,0 +1,5 @@
+use Rattle.command_words.proofs.Bounds.{asked_fits}
+use Rattle.command_words.proofs.laws.numbers_are_within_limits.Goals as goal
+
+pub returns : goal.returns
+returns c = asked_fits

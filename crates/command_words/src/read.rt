@@ -1,0 +1,148 @@
+// Reading the command's words.
+ghost use Rattle.std.specs.Prelude.{◌≡◌, IfOk, option_map, map};
+ghost use Rattle.clap.specs.Words.{first_of, found_of, rows_of};
+ghost use Rattle.command_words.specs.Asked.{asked_in, asked_of, input_from, is_set, number_of, setting_of};
+
+use crate::arguments::arguments;
+use crate::command::{Command, Input};
+use crate::file_name::FileName;
+use clap::ArgMatches;
+use clap::error::ErrorKind;
+use rdf_outside::WordList;
+use rdf_values::{Memory, read_integer};
+use std::alloc::Global;
+
+const MAX_SLOTS: u32 = 16;
+
+const MAX_SIZE: u32 = 1_000_000;
+
+const MAX_ENTRIES: u32 = 1_000_000;
+
+// The words, borrowed one by one.
+fn borrowed<'a>(alloc: Global, words: &'a WordList) -> Result<Vec<&'a str>, Memory>
+    ensures { IfOk result (λ list. map (λ w. w.now) list.items ≡ words.entry.now) }
+{
+    let mut list = Vec::new(alloc);
+    for i in 0..words.len() {
+        list.push(words.word(i))?;
+    }
+    Ok(list)
+}
+
+// The number that the text is canonical for, within the limits.
+#[tactic(auto, unfolding(crate::specs::Asked::number_of))]
+fn number(text: &str, least: u32, most: u32) -> Option<u32>
+    ensures { result ≡ number_of least most text.now }
+{
+    let n = read_integer(text.as_bytes())?;
+    if n >= least as i64 && n <= most as i64 {
+        Some(n as u32)
+    } else {
+        None
+    }
+}
+
+// The number of an option, which may be left out.
+fn setting(text: Option<&str>, usual: u32, most: u32) -> Option<u32>
+    ensures { result ≡ setting_of usual most (option_map (λ s. s.now) text.entry) }
+{
+    match text {
+        Some(text) => number(text, 1, most),
+        None => Some(usual),
+    }
+}
+
+fn is_set(text: Option<&str>) -> bool
+    ensures { result ≡ is_set (option_map (λ s. s.now) text.entry) }
+{
+    match text {
+        Some(text) => text == "true",
+        None => false,
+    }
+}
+
+// The first value of an argument.
+fn value<'a>(matches: &ArgMatches<'a>, id: &str) -> Option<&'a str>
+    ensures { option_map (λ s. s.now) result ≡ first_of id.now (rows_of (found_of matches.now)) }
+{
+    matches.get_str(id)
+}
+
+fn input(
+    alloc: Global,
+    is_made: bool,
+    first: Option<&str>,
+    second: Option<&str>,
+) -> Result<Option<Input>, Memory>
+    ensures { IfOk result (λ input. input ≡ input_from is_made (option_map (λ s. s.now) first.entry) (option_map (λ s. s.now) second.entry)) }
+{
+    let Some(first) = first else {
+        return Ok(None);
+    };
+    let Some(second) = second else {
+        return Ok(None);
+    };
+    if !is_made {
+        return Ok(Some(Input::Files {
+            script: FileName::of(alloc, first)?,
+            table: FileName::of(alloc, second)?,
+        }));
+    }
+    let Some(entries) = number(first, 1, MAX_ENTRIES) else {
+        return Ok(None);
+    };
+    let Some(seed) = number(second, 0, u32::MAX) else {
+        return Ok(None);
+    };
+    Ok(Some(Input::Generated { entries, seed }))
+}
+
+// What is asked by the values of a parse.
+#[tactic(auto, unfolding(crate::specs::Asked::asked_in, crate::specs::Asked::input_of))]
+fn asked(alloc: Global, matches: &ArgMatches<'_>) -> Result<Option<Command>, Memory>
+    ensures { IfOk result (λ command. command ≡ asked_in (rows_of (found_of matches.now))) }
+{
+    let Some(slots) = setting(value(matches, "slots"), 1, MAX_SLOTS) else {
+        return Ok(None);
+    };
+    let Some(cluster) = setting(value(matches, "cluster"), 10_000, MAX_SIZE) else {
+        return Ok(None);
+    };
+    let Some(watch) = setting(value(matches, "watch"), 1, MAX_SIZE) else {
+        return Ok(None);
+    };
+    let is_made = is_set(value(matches, "make"));
+    let Some(input) = input(
+        alloc,
+        is_made,
+        value(matches, "SCRIPT"),
+        value(matches, "TABLE"),
+    )?
+    else {
+        return Ok(None);
+    };
+    Ok(Some(Command {
+        slots,
+        cluster,
+        watch,
+        input,
+    }))
+}
+
+/// What the words ask for. There is none where the command doesn't take the words, or a number isn't canonical or not
+/// within its limits.
+pub fn read_command(alloc: Global, words: &WordList) -> Result<Option<Command>, Memory>
+    ensures { IfOk result (λ command. command ≡ asked_of words.now) }
+{
+    let Ok(arguments) = arguments(alloc) else {
+        return Err(Memory);
+    };
+    let list = borrowed(alloc, words)?;
+    match arguments.try_get_matches_from(list.as_slice()) {
+        Ok(matches) => asked(alloc, &matches),
+        Err(error) => match error.kind() {
+            ErrorKind::OutOfMemory => Err(Memory),
+            _ => Ok(None),
+        },
+    }
+}

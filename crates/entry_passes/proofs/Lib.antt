@@ -1,0 +1,10 @@
+pub mod CacheTurns
+pub mod Covered
+pub mod DemandCounts
+pub mod EntryLaws
+pub mod Faults
+pub mod FilterLaws
+pub mod PassCounts
+pub mod PlanLaws
+pub mod ReportTies
+pub mod Taken

@@ -1,0 +1,104 @@
+-- The plan of a loop, as it is made and read.
+use Rattle.std.proofs.Common.{◌≡◌, ℕ, zero, suc, ◌+◌, ◌<◌, ◌≤◌, Bool, true, false, ◌||◌, List, [], ◌∷◌, ◌++◌, length, take, Option, Some, None, option_map, refl, sym, ◌∙◌, ap, arith, nat_eq, get_or, slice_get}
+use Rattle.std.specs.List.{list_any}
+use Rattle.std.proofs.lemmas.Option.{slice_get-get_or}
+use Rattle.graph_numbers.specs.Graphs.{GraphView, graph_filters, graph_results}
+use Rattle.graph_numbers.specs.Results.{ResultAt}
+use Rattle.graph_numbers.specs.declared.pass.Pass.{Pass as NumberedPass}
+use Rattle.entry_cache.specs.Jobs.{JobView, IsJob, job_graph}
+use Rattle.entry_cache.proofs.FillLaws.{there}
+use Rattle.entry_cache.proofs.PassNumbers.{result_inside}
+use Rattle.entry_passes.specs.Plans.{covered_in}
+use Rattle.entry_passes.specs.Turns.{covers_of, is_covering, numbered_passes}
+use Rattle.entry_passes.proofs.Covered.{cover_at, cover_is, covered_count}
+
+-- ---- tests of a list's elements
+
+or_false : (a b : Bool) → a ≡ false → b ≡ false → (a || b) ≡ false
+or_false true b h k = cc h
+or_false false b h k = k
+
+right_false : (a b : Bool) → (a || b) ≡ false → (a ≡ false) × (b ≡ false)
+right_false true b h = cc h
+right_false false b h = (refl, h)
+
+any_next : {A : Type 0} (test : A → Bool) (xs : List A) (i : ℕ) (d : A) → i < length xs → list_any test (take i xs) ≡ false → test (get_or xs i d) ≡ false → list_any test (take (suc i) xs) ≡ false
+any_next test [] i d lt h e = absurd (omega (arith, lt))
+any_next test (x ∷ xs) zero d lt h e = or_false (test x) (list_any test (take 0 xs)) e refl
+any_next test (x ∷ xs) (suc i) d lt h e =
+    let p = right_false (test x) (list_any test (take i xs)) h in or_false (test x) (list_any test (take (suc i) xs)) p.0 (any_next test xs i d (omega (arith, lt)) p.1 e)
+
+any_here : {A : Type 0} (test : A → Bool) (xs : List A) (i : ℕ) (d : A) → i < length xs → test (get_or xs i d) ≡ true → list_any test xs ≡ true
+any_here test [] i d lt e = absurd (omega (arith, lt))
+any_here test (x ∷ xs) zero d lt e = ap (λ b. b || list_any test xs) e
+any_here test (x ∷ xs) (suc i) d lt e = go (test x) (any_here test xs i d (omega (arith, lt)) e)
+  where
+    go : (b : Bool) → list_any test xs ≡ true → (b || list_any test xs) ≡ true
+    go true h = refl
+    go false h = h
+
+take_all : {A : Type 0} (xs : List A) (n : ℕ) → length xs ≤ n → take n xs ≡ xs
+take_all [] zero le = refl
+take_all [] (suc n) le = refl
+take_all (x ∷ xs) zero le = absurd (omega (arith, le))
+take_all (x ∷ xs) (suc n) le = ap (λ ys. x ∷ ys) (take_all xs n (omega (arith, le)))
+
+take_next : {A : Type 0} (xs : List A) (i : ℕ) (x : A) → slice_get xs i ≡ Some x → take (suc i) xs ≡ take i xs ++ x ∷ []
+take_next [] i x h = cc h
+take_next (y ∷ xs) zero x h = let e : y ≡ x = cc h in ap (λ z. z ∷ []) e
+take_next (y ∷ xs) (suc i) x h = ap (λ ys. y ∷ ys) (take_next xs i x h)
+
+-- ---- a report of the loop
+
+covers_are : (o : Option ResultAt) (ns : List ℕ) → option_map (λ (x : ResultAt). x.covers) o ≡ Some ns → covers_of o ≡ ns
+covers_are None ns h = cc h
+covers_are (Some r) ns h = cc h
+
+module _ (j : JobView) (g : GraphView) (e : g ≡ job_graph j) (f : ℕ) (m : NumberedPass) (ns : List ℕ) (q : option_map (λ (x : ResultAt). x.covers) (slice_get (graph_results g) m.result) ≡ Some ns) where
+  pub covering_is : (b : Bool) → b ≡ list_any (nat_eq f) ns → is_covering (graph_results (job_graph j)) f m ≡ b
+  covering_is b h =
+      ap (list_any (nat_eq f)) (ap (λ (v : GraphView). covers_of (slice_get (graph_results v) m.result)) (sym e) ∙ covers_are (slice_get (graph_results g) m.result) ns q) ∙ sym h
+
+module _ (j : JobView) (ps : List NumberedPass) (e : ps ≡ numbered_passes j) (f : ℕ) where
+  abbrev test : NumberedPass → Bool
+  test m = is_covering (graph_results (job_graph j)) f m
+
+  pub result_below : (g : GraphView) → g ≡ job_graph j → (i : ℕ) (d : NumberedPass) → i < length ps → (get_or ps i d).result < length (graph_results g)
+  result_below g h i d lt =
+      let a = result_inside j i (get_or ps i d) (ap (λ qs. slice_get qs i) (sym e) ∙ slice_get-get_or ps i d lt) in
+      let l : length (graph_results g) ≡ length (graph_results (job_graph j)) = ap (λ (v : GraphView). length (graph_results v)) h in omega (arith, a, l)
+
+  pub cover_next : (i : ℕ) (d : NumberedPass) → i < length ps → list_any test (take i ps) ≡ false → test (get_or ps i d) ≡ false → list_any test (take (i + 1) ps) ≡ false
+  cover_next i d lt h k = let s : i + 1 ≡ suc i = omega arith in ap (λ n. list_any test (take n ps)) s ∙ any_next test ps i d lt h k
+
+  pub cover_found : (i : ℕ) (d : NumberedPass) → i < length ps → test (get_or ps i d) ≡ true → true ≡ list_any test (numbered_passes j)
+  cover_found i d lt k = sym (ap (list_any test) (sym e) ∙ any_here test ps i d lt k)
+
+  pub cover_none : (i : ℕ) → length ps ≤ i → list_any test (take i ps) ≡ false → false ≡ list_any test (numbered_passes j)
+  cover_none i le h = sym (ap (list_any test) (sym e) ∙ ap (list_any test) (sym (take_all ps i le)) ∙ h)
+
+-- ---- the whole plan
+
+module _ (j : JobView) (job : IsJob j) (g : GraphView) (e : g ≡ job_graph j) (count : ℕ) (all : count ≡ length (graph_filters g)) where
+  all_filters : count ≡ length (graph_filters (job_graph j))
+  all_filters = all ∙ ap (λ (v : GraphView). length (graph_filters v)) e
+
+  pub plan_next : (f : ℕ) (old new : List Bool) (b : Bool) → f < count → old ≡ take f (covered_in j) → new ≡ old ++ b ∷ [] → b ≡ list_any (is_covering (graph_results (job_graph j)) f) (numbered_passes j)
+      → new ≡ take (f + 1) (covered_in j)
+  plan_next f old new b lt h k is =
+      let x = there (graph_filters (job_graph j)) f (let l = all_filters in omega (arith, lt, l)) in
+      let at : slice_get (covered_in j) f ≡ Some b = cover_at j job f x.0 x.1 ∙ ap Some (sym (is ∙ cover_is j job f x.0 x.1)) in
+      let s : suc f ≡ f + 1 = omega arith in
+      k ∙ ap (λ bs. bs ++ b ∷ []) h ∙ sym (take_next (covered_in j) f b at) ∙ ap (λ n. take n (covered_in j)) s
+
+  pub plan_whole : (f : ℕ) (bs : List Bool) → count ≤ f → bs ≡ take f (covered_in j) → bs ≡ covered_in j
+  plan_whole f bs le h = h ∙ take_all (covered_in j) f (let l = all_filters in let m = covered_count j in omega (arith, le, l, m))
+
+  -- as it is read
+  module _ (bs : List Bool) (is : bs ≡ covered_in j) where
+    pub plan_count : count ≡ length bs
+    plan_count = all_filters ∙ sym (covered_count j) ∙ sym (ap length is)
+
+    pub plan_at : (f : ℕ) (b : Bool) → f < count → get_or bs f false ≡ b → slice_get (covered_in j) f ≡ Some b
+    plan_at f b lt h =
+        ap (λ cs. slice_get cs f) (sym is) ∙ slice_get-get_or bs f false (let l = plan_count in omega (arith, lt, l)) ∙ ap Some h

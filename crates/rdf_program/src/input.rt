@@ -1,0 +1,175 @@
+// What the program answers to a script and a table, read from files or made.
+ghost use Rattle.std.specs.Prelude.{◌≡◌, ◌≤◌, ◌++◌, ◌⊎◌, [], ◌∷◌, IfOk, List, ℕ, length};
+ghost use Rattle.entry_fns.specs.Lists.{functions_in};
+ghost use Rattle.rdf_values.specs.Bookable.{IsBookable};
+ghost use Rattle.rdf_values.specs.Path.{history};
+ghost use Rattle.rdf_values.specs.RefusalLines.{no_file_line, read_failed_line};
+ghost use Rattle.rdf_values.specs.Words.{StatementsHaveWords};
+ghost use Rattle.rdf_program.specs.Answers.{Answers, AreTurnsTo, IsAnswer, MayReadOf, SpellsScript};
+ghost use Rattle.rdf_program.specs.Due.{IsDueToBytes, IsDueToFiles, IsDueToMade, IsDueToScript};
+ghost use Rattle.rdf_program.specs.Running.{AreSettings};
+
+use crate::answer::{Answer, text_of};
+use crate::fetch::{Fetched, fetch};
+use crate::over_table::{MAX_TABLE, answer_over};
+use crate::settings::Settings;
+use crate::status::Status;
+use entry_fns::FnList;
+use rdf_make::{make_script, make_table};
+use rdf_model::laws::{scripts_are_bookable, scripts_have_words};
+use rdf_outside::{Gate, Shelf};
+use rdf_values::{Memory, Script};
+use result_text::Refusal;
+use script_read::{ScriptRefusal, read_script};
+use std::alloc::Global;
+use std::thread::Threads;
+
+/// The most bytes of a script.
+const MAX_SCRIPT: usize = 65_536;
+
+// Goes on with the table's file, once the script was read.
+fn answer_with_table<R: Threads + Sync, S: Shelf, G: Gate>(
+    rt: &R,
+    alloc: Global,
+    shelf: &mut S,
+    script: Script,
+    table: &str,
+    functions: &FnList,
+    settings: Settings,
+    gate: &G,
+) -> Result<Answer, Memory>
+    requires bookable { IsBookable script }
+    requires words { StatementsHaveWords (history script) }
+    requires settings { AreSettings settings }
+    ensures same { S.files shelf.new ≡ S.files shelf.old }
+    ensures turns { S.turns shelf.new ≡ S.turns shelf.old ++ table.now ∷ [] }
+    ensures later { S.faults shelf.old ≤ S.faults shelf.new }
+    ensures answer { IfOk result (IsAnswer (IsDueToScript (functions_in functions.now) settings.cluster settings.watch script table.now) (λ name. name ≡ table.now) (S.files shelf.old) (S.faults shelf.old) (S.faults shelf.new)) }
+{
+    match fetch(alloc, shelf, table, MAX_TABLE)? {
+        Fetched::Whole(bytes) => answer_over(
+            rt,
+            alloc,
+            script,
+            bytes.as_slice(),
+            functions,
+            settings,
+            gate,
+        ),
+        Fetched::Absent => absent(alloc, table),
+        Fetched::TooLong => Answer::refused(alloc, Status::TableRefused, &Refusal::TableLong),
+        Fetched::Failed => unread(alloc, table),
+    }
+}
+
+// There is no file of that name.
+fn absent(alloc: Global, name: &str) -> Result<Answer, Memory>
+    ensures { IfOk result (λ a. (a.status ≡ Status.NoFile) × (a.text ≡ no_file_line name.now)) }
+{
+    let name = text_of(alloc, name)?;
+    Answer::refused(alloc, Status::NoFile, &Refusal::NoFile { name })
+}
+
+// A read of the file failed.
+fn unread(alloc: Global, name: &str) -> Result<Answer, Memory>
+    ensures { IfOk result (λ a. (a.status ≡ Status.ReadFault) × (a.text ≡ read_failed_line name.now)) }
+{
+    let name = text_of(alloc, name)?;
+    Answer::refused(alloc, Status::ReadFault, &Refusal::Read { name })
+}
+
+// Goes on with the script's text, once its file was read.
+fn answer_bytes<R: Threads + Sync, S: Shelf, G: Gate>(
+    rt: &R,
+    alloc: Global,
+    shelf: &mut S,
+    bytes: &[u8],
+    table: &str,
+    functions: &FnList,
+    settings: Settings,
+    gate: &G,
+) -> Result<Answer, Memory>
+    requires few { length bytes.now ≤ 65536 }
+    requires settings { AreSettings settings }
+    ensures same { S.files shelf.new ≡ S.files shelf.old }
+    ensures turns { (S.turns shelf.new ≡ S.turns shelf.old) ⊎ ((S.turns shelf.new ≡ S.turns shelf.old ++ table.now ∷ []) × SpellsScript bytes.now) }
+    ensures later { S.faults shelf.old ≤ S.faults shelf.new }
+    ensures answer { IfOk result (IsAnswer (IsDueToBytes (functions_in functions.now) settings.cluster settings.watch bytes.now table.now) (λ name. (name ≡ table.now) × SpellsScript bytes.now) (S.files shelf.old) (S.faults shelf.old) (S.faults shelf.new)) }
+{
+    match read_script(alloc, bytes) {
+        Ok(script) => {
+            scripts_have_words();
+            scripts_are_bookable();
+            answer_with_table(rt, alloc, shelf, script, table, functions, settings, gate)
+        }
+        Err(ScriptRefusal::Memory) => Err(Memory),
+        Err(ScriptRefusal::At(cause)) => {
+            Answer::refused(alloc, Status::ScriptRefused, &Refusal::Script(cause))
+        }
+    }
+}
+
+/// The answer to two names of files.
+pub(crate) fn answer_files<R: Threads + Sync, S: Shelf, G: Gate>(
+    rt: &R,
+    alloc: Global,
+    shelf: &mut S,
+    script: &str,
+    table: &str,
+    functions: &FnList,
+    settings: Settings,
+    gate: &G,
+) -> Result<Answer, Memory>
+    requires settings { AreSettings settings }
+    ensures turns { (turns : List (List ℕ)) × (S.turns shelf.new ≡ S.turns shelf.old ++ turns) × AreTurnsTo script.now table.now (S.files shelf.old) turns }
+    ensures answer { IfOk result (IsAnswer (IsDueToFiles (functions_in functions.now) settings.cluster settings.watch script.now table.now) (MayReadOf script.now table.now (S.files shelf.old)) (S.files shelf.old) (S.faults shelf.old) (S.faults shelf.new)) }
+{
+    match fetch(alloc, shelf, script, MAX_SCRIPT)? {
+        Fetched::Whole(bytes) => answer_bytes(
+            rt,
+            alloc,
+            shelf,
+            bytes.as_slice(),
+            table,
+            functions,
+            settings,
+            gate,
+        ),
+        Fetched::Absent => absent(alloc, script),
+        Fetched::TooLong => Answer::refused(alloc, Status::ScriptRefused, &Refusal::ScriptLong),
+        Fetched::Failed => unread(alloc, script),
+    }
+}
+
+/// The answer to the generator's script over its table.
+pub(crate) fn answer_made<R: Threads + Sync, G: Gate>(
+    rt: &R,
+    alloc: Global,
+    entries: u32,
+    seed: u32,
+    functions: &FnList,
+    settings: Settings,
+    gate: &G,
+) -> Result<Answer, Memory>
+    requires entries { (1 ≤ entries) × (entries ≤ 1000000) }
+    requires settings { AreSettings settings }
+    ensures { IfOk result (Answers (IsDueToMade (functions_in functions.now) settings.cluster settings.watch entries seed)) }
+{
+    let text = make_script(alloc)?;
+    let bytes = text.as_slice();
+    if bytes.len() > MAX_SCRIPT {
+        return Answer::refused(alloc, Status::ScriptRefused, &Refusal::ScriptLong);
+    }
+    match read_script(alloc, bytes) {
+        Ok(script) => {
+            scripts_have_words();
+            scripts_are_bookable();
+            let table = make_table(alloc, entries, seed)?;
+            answer_over(rt, alloc, script, table.as_slice(), functions, settings, gate)
+        }
+        Err(ScriptRefusal::Memory) => Err(Memory),
+        Err(ScriptRefusal::At(cause)) => {
+            Answer::refused(alloc, Status::ScriptRefused, &Refusal::Script(cause))
+        }
+    }
+}

@@ -1,0 +1,192 @@
+// Slots that wait for one another.
+ghost use Rattle.std.specs.Prelude.{◌≡◌, length};
+ghost use Rattle.entry_fns.specs.Shipped.{square_of};
+
+use super::*;
+use crate::tests::functions::name;
+use entry_fns::shipped::Square;
+use entry_fns::{Closure, Stored};
+use rdf_values::Text;
+use std::sync::Arc;
+use std::sync::atomic::{AtomicBool, AtomicU64, Ordering};
+
+// How often a hold looks again before it gives up.
+const TURNS: u32 = 10_000_000;
+
+const FIRST: u64 = 0;
+
+// It holds the first slot that comes until another one had a turn.
+struct FirstWaits {
+    // The slot that came first, plus 1.
+    first: AtomicU64,
+    other_came: AtomicBool,
+    released: AtomicBool,
+}
+
+impl Gate for FirstWaits {
+    fn turn(&self, slot: u32, _cluster: u32) {
+        let own = slot as u64 + 1;
+        let first = match self
+            .first
+            .compare_exchange(FIRST, own, Ordering::SeqCst, Ordering::SeqCst)
+        {
+            Ok(_) => own,
+            Err(first) => first,
+        };
+        if first != own {
+            self.other_came.store(true, Ordering::SeqCst);
+            return;
+        }
+        for _ in 0..TURNS {
+            if self.other_came.load(Ordering::SeqCst) {
+                self.released.store(true, Ordering::SeqCst);
+                return;
+            }
+        }
+    }
+}
+
+#[test]
+fn two_slots_at_once(rt: HostRuntime) -> Result<(), Fail> {
+    let case = Case {
+        script: COUNT,
+        table: TABLE,
+        options: &["--slots", "2", "--cluster", "1"],
+        output: "n = 4\n",
+        status: Status::Done,
+    };
+    let gate = FirstWaits {
+        first: AtomicU64::new(FIRST),
+        other_came: AtomicBool::new(false),
+        released: AtomicBool::new(false),
+    };
+    let functions = FnList::new(rt.alloc());
+    let (status, sink) = run(&rt, rt.alloc(), &case, &functions, &gate)?;
+    assert!(rt; status == case.status);
+    assert_eq!(rt; sink.bytes(), case.output.as_bytes());
+    assert!(rt; gate.released.load(Ordering::SeqCst));
+    Ok(())
+}
+
+// It holds the slot with cluster 0 until a slot comes with cluster 3.
+struct FirstClusterWaits {
+    last_came: AtomicBool,
+    released: AtomicBool,
+}
+
+impl Gate for FirstClusterWaits {
+    fn turn(&self, _slot: u32, cluster: u32) {
+        if cluster == 3 {
+            self.last_came.store(true, Ordering::SeqCst);
+        }
+        if cluster != 0 {
+            return;
+        }
+        for _ in 0..TURNS {
+            if self.last_came.load(Ordering::SeqCst) {
+                self.released.store(true, Ordering::SeqCst);
+                return;
+            }
+        }
+    }
+}
+
+#[test]
+fn held_cluster_comes_late(rt: HostRuntime) -> Result<(), Fail> {
+    let case = Case {
+        script: "n = df.Count()\nWatch(n)\nPrint(n)\n",
+        table: TABLE,
+        options: &["--slots", "2", "--cluster", "1", "--watch", "1"],
+        output: "partial n over 1 = 1\npartial n over 1-2 = 2\n",
+        status: Status::Done,
+    };
+    let gate = FirstClusterWaits {
+        last_came: AtomicBool::new(false),
+        released: AtomicBool::new(false),
+    };
+    let functions = FnList::new(rt.alloc());
+    let (status, sink) = run(&rt, rt.alloc(), &case, &functions, &gate)?;
+    assert!(rt; status == case.status);
+    assert!(rt; sink.bytes().starts_with(case.output.as_bytes()));
+    assert!(rt; gate.released.load(Ordering::SeqCst));
+    Ok(())
+}
+
+// It holds each turn with a cluster above 0 until the fault was met, and then as long again.
+struct FaultIsMet {
+    met: Arc<AtomicBool>,
+    turns: AtomicU64,
+}
+
+impl Gate for FaultIsMet {
+    fn turn(&self, _slot: u32, cluster: u32) {
+        self.turns.fetch_add(1, Ordering::SeqCst);
+        if cluster == 0 {
+            return;
+        }
+        for _ in 0..TURNS {
+            if self.met.load(Ordering::SeqCst) {
+                break;
+            }
+        }
+        let mut met = 0_u64;
+        for _ in 0..TURNS {
+            if self.met.load(Ordering::SeqCst) {
+                met = met.wrapping_add(1);
+            }
+        }
+        self.turns.fetch_add(met / u64::MAX, Ordering::SeqCst);
+    }
+}
+
+// The square of the first entry is no number of 64 bits.
+const OVERFLOWING: i64 = 4_000_000_000;
+
+fn hundred_entries(alloc: Global) -> Result<Text, Fail> {
+    let mut table = Text::new(alloc);
+    table.extend(b"x:int\n4000000000\n")?;
+    for _ in 1..100 {
+        table.extend(b"1\n")?;
+    }
+    Ok(table)
+}
+
+#[test]
+fn bar_is_lowered(rt: HostRuntime) -> Result<(), Fail> {
+    let alloc = rt.alloc();
+    let met = Arc::new(alloc, AtomicBool::new(false))?;
+    let flag = met.clone()?;
+    let square: Closure = Box::new(
+        alloc,
+        move |args: &[i64]| -> Option<i64>
+            requires { length args.now ≡ 1 }
+            ensures { result ≡ square_of args.now }
+        {
+            if args[0] == OVERFLOWING {
+                flag.store(true, Ordering::SeqCst);
+            }
+            Square::answer(args)
+        },
+    )?;
+    let mut functions = FnList::new(alloc);
+    if functions
+        .add(name(alloc, b"square")?, Stored::new::<Square>(square))
+        .is_err()
+    {
+        return Err(Fail::from("not added"));
+    }
+    let gate = FaultIsMet {
+        met,
+        turns: AtomicU64::new(0),
+    };
+    let table = hundred_entries(alloc)?;
+    let script = "f = df.Filter(\"square(x) > 0\")\nn = f.Count()\nPrint(n)\n";
+    let words = words_of(alloc, TWO_FILES, &["--slots", "2", "--cluster", "1"])?;
+    let mut shelf = shelf_of(alloc, script.as_bytes(), table.as_bytes())?;
+    let mut sink = MemorySink::new(alloc, ROOM)?;
+    let status = rdf_top(&rt, alloc, &words, &mut shelf, &mut sink, &functions, &gate);
+    assert!(rt; status == Status::LoopFault);
+    assert_eq!(rt; sink.bytes(), b"fault at entry 0 in n: F8 Function\n".as_slice());
+    assert!(rt; gate.turns.load(Ordering::SeqCst) <= 10);
+    Ok(())
+}

@@ -1,0 +1,220 @@
+-- What an accepted script says of its actions: their edges are those of an axis, and only numbers are watched.
+use Rattle.std.proofs.Common.{◌≡◌, inl, inr, ℕ, zero, suc, ◌≤◌, Bool, true, false, ◌&&◌, List, [], ◌∷◌, ◌++◌, length, map, reverse, Option, None, Some, refl, sym, ◌∙◌, ap, subst, arith, slice_get, append-nil, if◌then◌else◌}
+use Rattle.std.specs.List.{AllByRecursion, list_any}
+use Rattle.std.proofs.lemmas.Bool.{and_parts, or_cases, or_left, or_parts, or_right}
+use Rattle.std.proofs.lemmas.List.{reverse-append}
+use Rattle.std.proofs.lemmas.List.Elements.{recursion_from_All}
+use Rattle.rdf_values.specs.Bookable.{IsBookable, IsShort}
+use Rattle.rdf_values.specs.Bookings.{ActionAt, Booked, ReportOn, booked_by, bookings, covered, is_watched, names_of, results_named}
+use Rattle.rdf_values.specs.Edges.{are_edges}
+use Rattle.rdf_values.specs.Kinds.{FunctionNames, Scope}
+use Rattle.rdf_values.specs.Names.{among, same}
+use Rattle.rdf_values.specs.Path.{Path, history, path}
+use Rattle.rdf_values.specs.Verdict.{AreAccepted, can_watch, check, check_columns, check_edges, check_node, check_passes, check_results, first_refusal, is_in_use, is_node, is_result, permitted_kinds, refuse_if, refuse_unless, result_is, scope_at}
+use Rattle.rdf_values.specs.Bookings.{columns_of}
+use Rattle.rdf_values.specs.declared.action.ActionKind.{ActionKind}
+use Rattle.rdf_values.specs.declared.action.ActionKind.TheVariants as kind
+use Rattle.rdf_values.specs.declared.graph_cause.GraphCause.{GraphCause}
+use Rattle.rdf_values.specs.declared.graph_cause.GraphCause.TheVariants as cause
+use Rattle.rdf_values.specs.declared.script.Line.{Line}
+use Rattle.rdf_values.specs.declared.script.Script.{Script}
+use Rattle.rdf_values.specs.declared.statement.Statement.{Statement}
+use Rattle.rdf_values.specs.declared.statement.Statement.TheVariants.{Action, Report, Watch}
+use Rattle.rdf_model.proofs.Accepted.{both_none, if_fails, itself, names_equal, third, unless_holds}
+use Rattle.histograms.specs.Axis.{IsAxis}
+use Rattle.actions.specs.Holding.{HasEdges}
+use Rattle.graph_numbers.proofs.Listed.{of_joined}
+use Rattle.cluster_tally.specs.Tallies.{CanWatch}
+
+-- ---- edges
+
+module _ (names : FunctionNames) (header : Scope) where
+  axis : (edges : List _) → are_edges edges ≡ true → length edges ≤ 65536 → IsAxis edges
+  axis edges rise few = record { rise = rise; few = omega (arith, few) }
+
+  of_kind : (k : ActionKind) (result parent : List ℕ) → check_edges k ≡ None → IsShort (Action result parent k) → HasEdges k
+  of_kind kind.Count r p h short = tt
+  of_kind (kind.Sum c) r p h short = tt
+  of_kind (kind.Min c) r p h short = tt
+  of_kind (kind.Max c) r p h short = tt
+  of_kind (kind.Take c) r p h short = tt
+  of_kind (kind.Reduce o c) r p h short = tt
+  of_kind (kind.Histo1D edges x w) r p h short = axis edges (unless_holds (are_edges edges) cause.BadEdges h) short
+  of_kind (kind.Histo2D xs ys x y w) r p h short =
+      let both = and_parts (are_edges xs) (are_edges ys) (unless_holds (are_edges xs && are_edges ys) cause.BadEdges h) in
+      (axis xs both.0 short.0, axis ys both.1 short.1)
+
+  edges_kept : (before : List Statement) (result parent : List ℕ) (k : ActionKind) → check names header before (Action result parent k) ≡ None → check_edges k ≡ None
+  edges_kept before result parent k h =
+      third (check_node before result parent) (check_columns (scope_at names header before parent) (permitted_kinds k) [] (columns_of k)) (check_edges k)
+      (check_results (Action result parent k ∷ before) ∷ check_passes before (bookings (Action result parent k ∷ before)) ∷ []) h
+
+  own_edges : (before : List Statement) (s : Statement) → check names header before s ≡ None → IsShort s → (n : ℕ) (b : Booked) (k : ActionKind) (at : Path) → slice_get (booked_by before s) n ≡ Some b
+      → b.booking ≡ ActionAt k at → HasEdges k
+  own_edges before (Action result parent j) h short zero b k at is of =
+      let e : j ≡ k = same_action (ap (λ (x : Booked). x.booking) (found is) ∙ of) in
+      subst HasEdges e (of_kind j result parent (edges_kept before result parent j h) short)
+    where
+      found : {x : Booked} → slice_get (x ∷ []) 0 ≡ Some b → x ≡ b
+      found e = cc e
+
+      same_action : {x : ActionKind} {p q : Path} → ActionAt x p ≡ ActionAt k q → x ≡ k
+      same_action e = cc e
+  own_edges before (Action result parent j) h short (suc n) b k at is of = cc is
+  own_edges before (Report result parent) h short zero b k at is of = absurd (other (ap (λ (x : Booked). x.booking) (found is) ∙ of))
+    where
+      found : {x : Booked} → slice_get (x ∷ []) 0 ≡ Some b → x ≡ b
+      found e = cc e
+
+      other : {fs : List Path} → ReportOn fs ≡ ActionAt k at → ⊥
+      other e = cc e
+  own_edges before (Report result parent) h short (suc n) b k at is of = cc is
+  own_edges before s h short n b k at is of = cc is
+
+  -- the edges of a booked action
+  pub has_edges : (st : List Statement) → AreAccepted names header st → AllByRecursion IsShort st → (n : ℕ) (b : Booked) (k : ActionKind) (at : Path) → slice_get (bookings st) n ≡ Some b → b.booking ≡ ActionAt k at → HasEdges k
+  has_edges [] acc short n b k at is of = cc is
+  has_edges (s ∷ before) acc short n b k at is of = elim (of_joined (bookings before) (booked_by before s) n b is) [
+    | inl q ↦ has_edges before acc.1 short.1 n b k at q of
+    | inr q ↦ own_edges before s acc.0 short.0 q.0 b k at q.2 of
+  ]
+
+  -- ---- names of results
+
+  unused : (before : List Statement) (result parent : List ℕ) (more : List (Option GraphCause)) → first_refusal (check_node before result parent ∷ more) ≡ None → is_result before result ≡ false
+  unused before result parent more h =
+      let q = both_none (check_node before result parent) more h in
+      let p = both_none (refuse_if (is_in_use before result) cause.NameTaken) (refuse_unless (is_node before parent) cause.UnknownName ∷ []) q.0 in
+      (or_parts (is_node before result) (is_result before result) (if_fails (is_in_use before result) cause.NameTaken p.0)).1
+
+  fresh : (before : List Statement) (s : Statement) → check names header before s ≡ None → (n : ℕ) (b : Booked) → slice_get (booked_by before s) n ≡ Some b → is_result before b.name ≡ false
+  fresh before (Action result parent k) h zero b is = let e : record { name = result; booking = ActionAt k (path before parent) } ≡ b = cc is in subst (λ (x : Booked). is_result before x.name ≡ false) e (unused before result parent _ h)
+  fresh before (Action result parent k) h (suc n) b is = cc is
+  fresh before (Report result parent) h zero b is = let e : record { name = result; booking = ReportOn (covered before (path before parent)) } ≡ b = cc is in subst (λ (x : Booked). is_result before x.name ≡ false) e (unused before result parent _ h)
+  fresh before (Report result parent) h (suc n) b is = cc is
+  fresh before s h n b is = cc is
+
+among_there : (bs : List Booked) (n : ℕ) (b : Booked) (name : List ℕ) → slice_get bs n ≡ Some b → b.name ≡ name → among name (names_of bs) ≡ true
+among_there [] n b name is e = cc is
+among_there (c ∷ cs) zero b name is e =
+    let here : c ≡ b = cc is in
+    or_left (same name c.name) (among name (names_of cs)) (ap (same name) (ap (λ (x : Booked). x.name) here ∙ e) ∙ itself name)
+among_there (c ∷ cs) (suc n) b name is e = or_right (same name c.name) (among name (names_of cs)) (among_there cs n b name is e)
+
+few_booked : (before : List Statement) (s : Statement) → length (booked_by before s) ≤ 1
+few_booked before (Action result parent k) = omega arith
+few_booked before (Report result parent) = omega arith
+few_booked before s = omega arith
+
+only_one : (xs : List Booked) → length xs ≤ 1 → (i k : ℕ) (b c : Booked) → slice_get xs i ≡ Some b → slice_get xs k ≡ Some c → b ≡ c
+only_one [] few i k b c x y = cc x
+only_one (z ∷ w ∷ ws) few i k b c x y = absurd (omega arith)
+only_one (z ∷ []) few zero zero b c x y = cc (x, y)
+only_one (z ∷ []) few zero (suc k) b c x y = cc y
+only_one (z ∷ []) few (suc i) k b c x y = cc x
+
+-- one of the results of a name that can be watched
+record IsNamed (bs : List Booked) (name : List ℕ) : Type 0 where
+  place : ℕ
+  booked : Booked
+  there_is : slice_get bs place ≡ Some booked
+  named : booked.name ≡ name
+  can : can_watch booked.booking ≡ true
+
+behind : (c : Booked) (cs : List Booked) (name : List ℕ) → IsNamed cs name → IsNamed (c ∷ cs) name
+behind c cs name r = record { place = suc r.place; booked = r.booked; there_is = r.there_is; named = r.named; can = r.can }
+
+named_step : (c : Booked) (cs : List Booked) (name : List ℕ) (t : Bool) → same c.name name ≡ t
+    → list_any (λ (b : Booked). can_watch b.booking) (if t then c ∷ results_named name cs else results_named name cs) ≡ true
+    → (list_any (λ (b : Booked). can_watch b.booking) (results_named name cs) ≡ true → IsNamed cs name) → IsNamed (c ∷ cs) name
+named_step c cs name true e q next = elim (or_cases (can_watch c.booking) (list_any (λ (b : Booked). can_watch b.booking) (results_named name cs)) q) [
+  | inl p ↦ record { place = 0; booked = c; there_is = refl; named = names_equal c.name name e; can = p }
+  | inr p ↦ behind c cs name (next p)
+]
+named_step c cs name false e q next = behind c cs name (next q)
+
+any_named : (bs : List Booked) (name : List ℕ) → list_any (λ (b : Booked). can_watch b.booking) (results_named name bs) ≡ true → IsNamed bs name
+any_named [] name h = cc h
+any_named (c ∷ cs) name h = named_step c cs name (same c.name name) refl h (any_named cs name)
+
+no_both : (b : Bool) → b ≡ true → b ≡ false → ⊥
+no_both b t f = cc (sym t ∙ f)
+
+module _ (names : FunctionNames) (header : Scope) where
+  -- results have distinct names
+  unique : (st : List Statement) → AreAccepted names header st → (i k : ℕ) (b c : Booked) → slice_get (bookings st) i ≡ Some b → slice_get (bookings st) k ≡ Some c → b.name ≡ c.name → b ≡ c
+  unique [] acc i k b c x y e = cc x
+  unique (s ∷ before) acc i k b c x y e = elim (of_joined (bookings before) (booked_by before s) i b x) [
+    | inl p ↦ elim (of_joined (bookings before) (booked_by before s) k c y) [
+      | inl q ↦ unique before acc.1 i k b c p q e
+      | inr q ↦ absurd (no_both (is_result before c.name) (among_there (bookings before) i b c.name p e) (fresh names header before s acc.0 q.0 c q.2))
+    ]
+    | inr p ↦ elim (of_joined (bookings before) (booked_by before s) k c y) [
+      | inl q ↦ absurd (no_both (is_result before b.name) (among_there (bookings before) k c b.name q (sym e)) (fresh names header before s acc.0 p.0 b p.2))
+      | inr q ↦ only_one (booked_by before s) (few_booked before s) p.0 q.0 b c p.2 q.2
+    ]
+  ]
+
+  among_more : (xs ys : List Booked) (name : List ℕ) → among name (names_of xs) ≡ true → among name (names_of (xs ++ ys)) ≡ true
+  among_more [] ys name h = cc h
+  among_more (x ∷ xs) ys name h = elim (or_cases (same name x.name) (among name (names_of xs)) h) [
+    | inl p ↦ or_left (same name x.name) (among name (names_of (xs ++ ys))) p
+    | inr p ↦ or_right (same name x.name) (among name (names_of (xs ++ ys))) (among_more xs ys name p)
+  ]
+
+  -- what is watched is a result
+  watched_named : (st : List Statement) → AreAccepted names header st → (name : List ℕ) → is_watched st name ≡ true → is_result st name ≡ true
+  watched_named [] acc name h = cc h
+  watched_named (Watch r ∷ before) acc name h = among_more (bookings before) [] name (elim (or_cases (same r name) (is_watched before name) h) [
+    | inl p ↦ subst (λ n. is_result before n ≡ true) (names_equal r name p) (unless_holds (is_result before r) cause.UnknownName (both_none (refuse_unless (is_result before r) cause.UnknownName) _ acc.0).0)
+    | inr p ↦ watched_named before acc.1 name p
+  ])
+  watched_named (s ∷ before) acc name h = among_more (bookings before) (booked_by before s) name (watched_named before acc.1 name h)
+
+  watched_can : (st : List Statement) → AreAccepted names header st → (n : ℕ) (b : Booked) → slice_get (bookings st) n ≡ Some b → is_watched st b.name ≡ true → can_watch b.booking ≡ true
+  watched_can [] acc n b is h = cc is
+  watched_can (Watch r ∷ before) acc n b is h =
+      let here : slice_get (bookings before) n ≡ Some b = ap (λ l. slice_get l n) (sym (append-nil (bookings before))) ∙ is in
+      elim (or_cases (same r b.name) (is_watched before b.name) h) [
+        | inl p ↦ (
+            let known = (both_none (refuse_unless (is_result before r) cause.UnknownName) _ acc.0).1 in
+            let can = unless_holds (result_is can_watch before r) cause.WrongKind (both_none (refuse_unless (result_is can_watch before r) cause.WrongKind) _ known).0 in
+            let c = any_named (bookings before) r can in
+            let one = unique before acc.1 c.place n c.booked b c.there_is here (c.named ∙ names_equal r b.name p) in
+            subst (λ (x : Booked). can_watch x.booking ≡ true) one c.can)
+        | inr p ↦ watched_can before acc.1 n b here p
+      ]
+  watched_can (s ∷ before) acc n b is h = elim (of_joined (bookings before) (booked_by before s) n b is) [
+    | inl q ↦ watched_can before acc.1 n b q h
+    | inr q ↦ absurd (no_both (is_result before b.name) (watched_named before acc.1 b.name h) (fresh names header before s acc.0 q.0 b q.2))
+  ]
+
+kind_can : (k : ActionKind) (at : Path) → can_watch (ActionAt k at) ≡ true → CanWatch k
+kind_can kind.Count at h = tt
+kind_can (kind.Sum c) at h = tt
+kind_can (kind.Min c) at h = tt
+kind_can (kind.Max c) at h = tt
+kind_can k at h = cc h
+
+-- what is watched can be
+pub can_be_watched : (names : FunctionNames) (header : Scope) (st : List Statement) → AreAccepted names header st → (n : ℕ) (b : Booked) (k : ActionKind) (at : Path) → slice_get (bookings st) n ≡ Some b → b.booking ≡ ActionAt k at
+    → is_watched st b.name ≡ true → CanWatch k
+can_be_watched names header st acc n b k at is of h = kind_can k at (ap can_watch (sym of) ∙ watched_can names header st acc n b is h)
+
+-- ---- short statements
+
+all_back : {A : Type 0} (P : A → Type 0) (xs : List A) → AllByRecursion P xs → AllByRecursion P (reverse xs)
+all_back P [] h = tt
+all_back P (x ∷ xs) h = subst (AllByRecursion P) (sym (reverse-append (x ∷ []) xs)) (joined (reverse xs) (all_back P xs h.1) h.0)
+  where
+    joined : (ys : List _) → AllByRecursion P ys → P x → AllByRecursion P (ys ++ x ∷ [])
+    joined [] k q = (q, tt)
+    joined (y ∷ ys) k q = (k.0, joined ys k.1 q)
+
+of_lines : (ls : List Line) → AllByRecursion (λ (l : Line). IsShort l.statement) ls → AllByRecursion IsShort (map (λ (l : Line). l.statement) ls)
+of_lines [] h = tt
+of_lines (l ∷ ls) h = (h.0, of_lines ls h.1)
+
+pub all_short : (script : Script) → IsBookable script → AllByRecursion IsShort (history script)
+all_short script h =
+    all_back IsShort (map (λ (l : Line). l.statement) script.lines) (of_lines script.lines (recursion_from_All (λ (l : Line). IsShort l.statement) script.lines h.short))

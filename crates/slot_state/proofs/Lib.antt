@@ -1,0 +1,5 @@
+pub mod Accepting
+pub mod Adding
+pub mod Beginning
+pub mod ClusterTurns
+pub mod SlotLemmas

@@ -1,0 +1,14 @@
+use Rattle.std.proofs.Common.{arith, refl}
+use Rattle.entry_cache.specs.Jobs.{job_of}
+use Rattle.slot_state.specs.contracts.state.SlotState.{the_view}
+use Rattle.slot_state.specs.declared.progress.Phase.TheVariants as phase
+use Rattle.slot_state.proofs.Beginning.{begun}
+use Rattle.slot_state.proofs.state.SlotState.new.Goals as goal
+
+pub returns : goal.returns
+returns g c =
+    let t = c.in_ok-tally in
+    let d = c.in_ok-done in
+    begun (job_of c.args.job.now) c.requires.job.job c.answers_have_64_bits.ensures c.requires.words
+    (the_view (record { cache = c.in_ok-cache.cache; plan = c.in_ok-plan.plan; tally = t.tally; watched = t.watched; done = d.done; phase = phase.Going }))
+    c.in_ok-cache.ensures.1 c.in_ok-plan.ensures t.ensures.fresh t.ensures.flow t.ensures.watched (omega (arith, d.ensures.capacity, c.count.ensures.value)) d.ensures.items refl

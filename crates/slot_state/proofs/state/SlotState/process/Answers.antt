@@ -1,0 +1,95 @@
+use Rattle.std.proofs.Common.{◌≡◌, ◌∙◌, ◌<◌, ◌++◌, ◌∷◌, [], Ok, Err, None, Some, length, ap, arith, refl, subst, sym}
+use Rattle.std.specs.Prelude.{Result}
+use Rattle.rdf_values.specs.declared.fault.Fault.{Fault}
+use Rattle.entry_cache.specs.Jobs.{job_of}
+use Rattle.entry_passes.specs.Entries.{facts_in}
+use Rattle.cluster_tally.specs.Stages.{at_begin}
+use Rattle.cluster_tally.specs.Tallies.{Holds}
+use Rattle.slot_state.specs.Clusters.{IsClusterAnswer, at_end}
+use Rattle.slot_state.specs.Jobs.{job_facts}
+use Rattle.slot_state.specs.Slots.{SlotView}
+use Rattle.slot_state.specs.contracts.state.SlotState.{the_view}
+use Rattle.slot_state.specs.declared.progress.Progress.{Progress}
+use Rattle.slot_state.specs.declared.progress.Progress.TheVariants.{Faulted}
+use Rattle.slot_state.specs.declared.progress.SlotStop.{SlotStop}
+use Rattle.slot_state.proofs.SlotLemmas.{begins, cluster_within, fault_at, goes_on, has_room, is_at_end, went_on}
+use Rattle.slot_state.proofs.state.SlotState.process.Goals as goal
+
+same_fault : (x y : Fault) → ◌≡◌ {A = Result Progress SlotStop} (Ok (Faulted x)) (Ok (Faulted y)) → x ≡ y
+same_fault x y e = cc e
+
+pub try_cluster-requires-clause-cluster : goal.try_cluster-requires-clause-cluster
+try_cluster-requires-clause-cluster g c = cluster_within (job_of c.args.job.now) c.args.cluster c.requires.cluster
+
+pub try_cluster-requires-clause-begin : goal.try_cluster-requires-clause-begin
+try_cluster-requires-clause-begin g c =
+    let going = goes_on c.args.self.now.phase (λ e. c.in_default.not-NoMemory (ap (λ (s : SlotView). s.phase) c.self.view_is ∙ e)) c.requires.open in
+    let begin = begins (job_of c.args.job.now) c.args.self.now c.requires.slot going c.args.cluster c.requires.cluster c.requires.above in (
+      _,
+      _,
+      subst (λ (s : SlotView). Holds (facts_in (job_of c.args.job.now)) (job_facts (job_of c.args.job.now)).watched (at_begin c.args.self.now.done c.args.cluster) s.tally) (sym c.self.view_is) begin,
+    )
+
+pub close-requires : goal.close-requires
+close-requires g c =
+    let going = goes_on c.args.self.now.phase (λ e. c.in_default.not-NoMemory (ap (λ (s : SlotView). s.phase) c.self.view_is ∙ e)) c.requires.open in
+    let begin = begins (job_of c.args.job.now) c.args.self.now c.requires.slot going c.args.cluster c.requires.cluster c.requires.above in (
+      _,
+      _,
+      _,
+      c.in-Ok.ensures.holds (job_facts (job_of c.args.job.now)).watched c.args.self.now.done
+          (subst (λ (s : SlotView). Holds (facts_in (job_of c.args.job.now)) (job_facts (job_of c.args.job.now)).watched (at_begin c.args.self.now.done c.args.cluster) s.tally) (sym c.self.view_is) begin),
+      is_at_end (job_of c.args.job.now) c.args.self.now.done c.args.cluster,
+    )
+
+pub push_reserved-requires : goal.push_reserved-requires
+push_reserved-requires g c =
+    let going = goes_on c.args.self.now.phase (λ e. c.in_default.not-NoMemory (ap (λ (s : SlotView). s.phase) c.self.view_is ∙ e)) c.requires.open in
+    let room = has_room (job_of c.args.job.now) c.args.self.now c.requires.slot going c.args.cluster c.requires.cluster c.requires.above in
+    let here = subst (λ (s : SlotView). length s.done < s.room) (sym c.self.view_is) room in
+    let len = c.self.inside.done.ok.0 in
+    omega (arith, here, len)
+
+pub returns-in-Ok-close-clause-slot : goal.returns-in-Ok-close-clause-slot
+returns-in-Ok-close-clause-slot g c =
+    let j = job_of c.args.job.now in
+    let going = goes_on c.args.self.now.phase (λ e. c.in_default.not-NoMemory (ap (λ (s : SlotView). s.phase) c.self.view_is ∙ e)) c.requires.open in
+    let begin = begins j c.args.self.now c.requires.slot going c.args.cluster c.requires.cluster c.requires.above in
+    let here = subst (λ (s : SlotView). Holds (facts_in j) (job_facts j).watched (at_begin c.args.self.now.done c.args.cluster) s.tally) (sym c.self.view_is) begin in
+    let taken = c.in-Ok.ensures.holds (job_facts j).watched c.args.self.now.done here in
+    went_on j c.args.self.now c.requires.slot going c.args.cluster c.requires.cluster c.requires.above
+    (the_view (record { cache = c.try_cluster.new.cache; plan = c.self.inside.plan; tally = c.close.new.self; watched = c.self.inside.watched; done = c.push_reserved.new.self; phase = c.self.inside.phase }))
+    c.try_cluster.ensures.sized (ap (λ (s : SlotView). s.plan) c.self.view_is) (ap (λ (s : SlotView). s.watched) c.self.view_is)
+    (c.push_reserved.ensures.capacity ∙ ap (λ (s : SlotView). s.room) c.self.view_is)
+    (c.push_reserved.ensures.items ∙ ap (λ (s : SlotView). s.done ++ c.args.cluster ∷ []) c.self.view_is)
+    (λ next later. c.in-Ok-close.ensures.holds (facts_in j) (job_facts j).watched (at_end (facts_in j) c.args.self.now.done c.args.cluster) next taken (is_at_end j c.args.self.now.done c.args.cluster) later)
+
+pub returns-in-Ok-close-clause-done : goal.returns-in-Ok-close-clause-done
+returns-in-Ok-close-clause-done g c = λ e.
+    let j = job_of c.args.job.now in
+    let going = goes_on c.args.self.now.phase (λ e. c.in_default.not-NoMemory (ap (λ (s : SlotView). s.phase) c.self.view_is ∙ e)) c.requires.open in (
+      going,
+      fault_at j c.args.cluster None c.requires.cluster (subst (IsClusterAnswer j c.args.cluster) c.in-Ok.is c.try_cluster.ensures.answer),
+      c.push_reserved.ensures.items ∙ ap (λ (s : SlotView). s.done ++ c.args.cluster ∷ []) c.self.view_is,
+      ap (λ (s : SlotView). s.phase) c.self.view_is ∙ going,
+    )
+
+pub returns-in-Err-clause-plain : goal.returns-in-Err-clause-plain
+returns-in-Err-clause-plain g c = λ plain going e.
+    let j = job_of c.args.job.now in
+    let begin = begins j c.args.self.now c.requires.slot going c.args.cluster c.requires.cluster c.requires.above in
+    let here = subst (λ (s : SlotView). Holds (facts_in j) (job_facts j).watched (at_begin c.args.self.now.done c.args.cluster) s.tally) (sym c.self.view_is) begin in
+    let taken = c.in-Ok.ensures.holds (job_facts j).watched c.args.self.now.done here in
+    let some = c.in-Err.ensures.memory in
+    absurd (omega (arith, some, taken.trails.many, ap length plain.unwatched))
+
+pub returns-in-Err-Fault-clause-faulted : goal.returns-in-Err-Fault-clause-faulted
+returns-in-Err-Fault-clause-faulted g c = λ f e.
+    let j = job_of c.args.job.now in
+    let going = goes_on c.args.self.now.phase (λ e. c.in_default.not-NoMemory (ap (λ (s : SlotView). s.phase) c.self.view_is ∙ e)) c.requires.open in
+    let same = same_fault c.in-Err-Fault.fault f e in (
+      going,
+      fault_at j c.args.cluster (Some f) c.requires.cluster (subst (IsClusterAnswer j c.args.cluster) (c.in-Err-Fault.is ∙ ap Err c.in-Err-Fault.field-0-is) c.try_cluster.ensures.answer ∙ ap Some same),
+      ap (λ (s : SlotView). s.done) c.self.view_is,
+      refl,
+    )

@@ -1,0 +1,26 @@
+-- The passes of a loop, as they are added to a tally.
+use Rattle.std.specs.Prelude.{◌&&◌, ℕ, Bool, List, is_none, length, take}
+use Rattle.rdf_values.specs.Bookings.{Pass, is_watched}
+use Rattle.rdf_values.specs.Path.{history}
+use Rattle.rdf_values.specs.declared.statement.Statement.{Statement}
+use Rattle.rdf_model.specs.LoopFacts.{kinds_in}
+use Rattle.entry_cache.specs.Jobs.{JobView, passes_in}
+use Rattle.cluster_tally.specs.Feedings.{IsFresh}
+use Rattle.cluster_tally.specs.Tallies.{TallyView}
+use Rattle.loop_pieces.specs.Trails.{watched_places}
+
+-- the nominal pass of a result that the script watches
+abbrev pub is_watched_pass : List Statement → Pass → Bool
+is_watched_pass script p = is_none p.under && is_watched script p.result.name
+
+-- the places of the watched passes among the first so many passes
+abbrev pub places_before : JobView → ℕ → List ℕ
+places_before j n = watched_places (history j.script) (take n (passes_in j))
+
+-- and how many there are
+abbrev pub watched_before : JobView → ℕ → ℕ
+watched_before j n = length (places_before j n)
+
+-- nothing was told to the tally, and it is one of the first so many passes
+abbrev pub IsOfPasses : JobView → ℕ → TallyView → Type 0
+IsOfPasses j n t = IsFresh (kinds_in (take n (passes_in j))) (places_before j n) t

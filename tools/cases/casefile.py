@@ -1,0 +1,136 @@
+"""Reads case files. Their format is told in cases/README.md."""
+import itertools
+import os
+import re
+import shlex
+
+TOP = os.path.dirname(os.path.dirname(os.path.dirname(os.path.abspath(__file__))))
+CASES = os.path.join(TOP, "cases")
+NO_FILE = None
+
+
+class Case:
+    def __init__(self, file, name, options):
+        self.file = file
+        self.name = name
+        self.options = options          # lists of words, one list for each run
+        self.words = ["s.txt", "a.csv"]
+        self.files = {"s.txt": NO_FILE, "a.csv": NO_FILE}
+        self.status = 0
+        self.output = b""
+        self.heavy = False
+
+    def title(self):
+        return "%s: %s" % (os.path.basename(self.file), self.name)
+
+    def runs(self):
+        return [self.words + options for options in self.options]
+
+    def contents(self):
+        return {name: text for name, text in self.files.items() if text is not NO_FILE}
+
+
+def expanded(lines):
+    """Lines with `@repeat LO HI TEXT` written out, and `<<TEXT*N>>` too."""
+    found = []
+    for line in lines:
+        match = re.fullmatch(r"@repeat (\d+) (\d+) (.*)", line)
+        numbers = range(int(match[1]), int(match[2])) if match else [None]
+        for number in numbers:
+            text = match[3] if match else line
+            text = re.sub(r"<<i(?:\+(\d+))?>>", lambda m: str(number + int(m[1] or 0)), text)
+            found.append(re.sub(r"<<(.+?)\*(\d+)>>", lambda m: m[1] * int(m[2]), text))
+    return found
+
+
+def unescaped(text):
+    return re.sub(rb"\\(n|r|t|\\|x[0-9a-f]{2})",
+                  lambda m: bytes([int(m[1][1:], 16)]) if m[1][:1] == b"x" else
+                  {b"n": b"\n", b"r": b"\r", b"t": b"\t", b"\\": b"\\"}[m[1]], text)
+
+
+def body(form, lines):
+    if form == "bytes":
+        return unescaped("".join(expanded(lines)).encode())
+    if form == "expanded":
+        lines = expanded(lines)
+    return "".join(line + "\n" for line in lines).encode()
+
+
+def option_sets(text):
+    """`--slots 1|2 --cluster 1|3` as the four lists of words."""
+    choices = [word.split("|") for word in text.split()]
+    return [list(chosen) for chosen in itertools.product(*choices)]
+
+
+def read_case_file(path):
+    with open(path, encoding="utf-8", newline="\n") as file:
+        lines = file.read().split("\n")[:-1]
+    tables, cases, usual = {}, [], [[]]
+    at = 0
+    while at < len(lines):
+        line = lines[at]
+        at += 1
+        begin = at
+        while at < len(lines) and not lines[at].startswith(("=== ", "--- ")):
+            at += 1
+        text = lines[begin:at]
+        while text and not text[-1] and at < len(lines) and lines[at].startswith("=== "):
+            text.pop()                  # the blank line before the next case
+        mark, key, rest = (line.split(" ", 2) + ["", ""])[:3]
+        if begin == 1 and not line.startswith("=== "):
+            continue                    # what the file is about
+        if line.startswith("=== table "):
+            tables[rest] = body("", text)
+        elif line.startswith("=== with "):
+            usual = option_sets(rest)
+        elif line.startswith("=== case "):
+            cases.append(Case(path, rest, list(usual)))
+            fresh = True
+        elif mark == "---" and key in ("script", "table"):
+            name = "s.txt" if key == "script" else "a.csv"
+            cases[-1].files[name] = tables[rest] if rest in tables else body(rest, text)
+        elif mark == "---" and key == "file":
+            cases[-1].files[rest] = body("", text)
+        elif mark == "---" and key == "words":
+            cases[-1].words = shlex.split(rest)
+            cases[-1].options, fresh = [[]], False
+        elif mark == "---" and key == "with":
+            cases[-1].options = ([] if fresh else cases[-1].options) + option_sets(rest)
+            fresh = False
+        elif mark == "---" and key == "status":
+            cases[-1].status = int(rest)
+        elif mark == "---" and key == "output":
+            cases[-1].output = body(rest, text)
+        elif mark == "---" and key == "heavy":
+            cases[-1].heavy = True
+        elif line and not line.startswith("#"):
+            raise ValueError("%s:%d: %s" % (path, begin, line))
+    return cases
+
+
+def read_whole(path):
+    with open(path, "rb") as file:
+        return file.read()
+
+
+def example_cases():
+    """The analyses of examples/, whatever the slots; the clusters too where no partial line shows them."""
+    folder = os.path.join(TOP, "examples")
+    found = []
+    for name in sorted(n[:-4] for n in os.listdir(folder) if n.endswith(".txt")):
+        path = os.path.join(folder, name)
+        case = Case("examples", name, [])
+        case.files = {"s.txt": read_whole(path + ".txt"), "a.csv": read_whole(path + ".csv")}
+        case.output = read_whole(path + ".out")
+        case.options = option_sets("--slots 1|2|3|16")
+        if b"partial " not in case.output:
+            case.options += option_sets("--slots 1|2|3|16 --cluster 1|7|1000")
+        found.append(case)
+    return found
+
+
+def all_cases(folder=CASES):
+    files = sorted(name for name in os.listdir(folder) if name.endswith(".case"))
+    cases = [case for name in files for case in read_case_file(os.path.join(folder, name))]
+    return cases + example_cases()

@@ -1,0 +1,209 @@
+#!/bin/sh
+# The built program over real files, pipes and outputs: what no contract says and no fake shows.
+# The program is RDF_PROGRAM, or crates/rdf/out/rdf. Ends with 1 where a test fails. With
+# OUTSIDE_SMALL=1 tables of a million entries are left out.
+set -u
+
+top=$(cd "$(dirname "$0")/.." && pwd -P) || exit 1
+program=${RDF_PROGRAM:-$top/crates/rdf/out/rdf}
+case $program in /*) ;; *) program=$PWD/$program ;; esac
+[ -x "$program" ] || { echo "outside_test: no program at $program"; exit 1; }
+
+folder=$(mktemp -d) || exit 1
+trap 'rm -rf "$folder"' EXIT
+cd "$folder" || exit 1
+tests=0 failed=0 skipped=0
+
+# Compares the status in `status` and the bytes in `out` and `err` with what is wanted.
+judge() { # NAME STATUSES OUTPUT
+    tests=$((tests + 1))
+    got=$(cat status)
+    wanted=$3
+    good=no
+    for each in $2; do [ "$got" = "$each" ] && good=yes; done
+    printf '%s' "$wanted" >wanted
+    [ -z "$wanted" ] || echo >>wanted
+    cmp -s wanted out && [ ! -s err ] || good=no
+    if [ $good = no ]; then
+        failed=$((failed + 1))
+        echo "FAILED $1: status $got, wanted $2"
+        diff wanted out | head -n 10
+        head -n 5 err
+    fi
+}
+
+run() { "$program" "$@" >out 2>err </dev/null; echo $? >status; }
+
+skip() { skipped=$((skipped + 1)); echo "skipped: $1"; }
+
+printf 'n = df.Count()\nPrint(n)\n' >s.txt
+printf 'x:int\n1\n2\n3\n' >a.csv
+
+# ---- each status but want of memory
+
+run s.txt a.csv
+judge "status 0" 0 "n = 3"
+usage="usage: rdf SCRIPT TABLE [--slots N] [--cluster N] [--watch K] [--make]"
+run
+judge "status 2, no words" 2 "$usage"
+run s.txt a.csv --slots 0
+judge "status 2, a number" 2 "$usage"
+run s.txt none.csv
+judge "status 5" 5 "no file none.csv"
+run none/s.txt a.csv
+judge "status 5, a folder that isn't there" 5 "no file none/s.txt"
+printf 'n = df.Count(\n' >bad.txt
+run bad.txt a.csv
+judge "status 6" 6 "script refused at line 1 place 13: S1 Syntax"
+printf 'x:int\n1\n05\n' >bad.csv
+run s.txt bad.csv
+judge "status 7" 7 "table refused at entry 1 field 0: B3 BadInt"
+printf 'n = df.Count()\nPrint(n)\nf = df.Filter("1 / (x - 2) == 0")\nm = f.Count()\nPrint(m)\n' >fault.txt
+run fault.txt a.csv --slots 2 --cluster 1
+judge "status 8" 8 "n = 3
+fault at entry 1 in m: F2 ZeroDivisor"
+
+# ---- files
+
+run ./s.txt "$folder/a.csv"
+judge "paths" 0 "n = 3"
+cp s.txt "a script.txt"
+cp a.csv "tablé.csv"
+run "a script.txt" "tablé.csv"
+judge "blanks and letters of other alphabets in names" 0 "n = 3"
+run s.txt "$(printf 'a\377.csv')"
+judge "a word that isn't UTF-8" 2 "$usage"
+
+awk 'BEGIN { print "x:int"; for (i = 0; i < 20000; i++) print i }' >long.csv
+printf 'n = df.Count()\ns = df.Sum("x")\nl = df.Max("x")\nPrint(n)\nPrint(s)\nPrint(l)\n' >sum.txt
+[ "$(wc -c <long.csv)" -gt 65536 ] || { echo "the long table is short"; failed=$((failed + 1)); }
+run sum.txt long.csv
+judge "a table of more than 65,536 bytes" 0 "n = 20000
+s = 199990000
+l = 19999"
+run sum.txt long.csv --slots 3 --cluster 100
+judge "the same with slots" 0 "n = 20000
+s = 199990000
+l = 19999"
+awk 'BEGIN { print "x:int"; for (i = 0; i < 20000; i++) print i; print "x" }' >long_bad.csv
+run sum.txt long_bad.csv
+judge "a bad cell at the end of a long table" 7 "table refused at entry 20000 field 0: B3 BadInt"
+
+{ cat s.txt; head -c 65537 /dev/zero | tr '\0' '#'; } >comment
+head -c 65536 comment >most.txt
+run most.txt a.csv
+judge "a script of 65,536 bytes" 0 "n = 3"
+head -c 65537 comment >most.txt
+run most.txt a.csv
+judge "a script of 65,537 bytes" 6 "script refused: longer than 65536 bytes"
+{ cat a.csv; head -c 67108864 /dev/zero; } >huge.csv
+run s.txt huge.csv
+judge "a table of more than 67,108,864 bytes" 7 "table refused: longer than 67108864 bytes"
+rm -f huge.csv
+
+: >empty
+run empty a.csv
+judge "an empty script" 0 ""
+run s.txt empty
+judge "an empty table" 7 "table refused at header field 0: B1 Header"
+run /dev/null /dev/null
+judge "a device" 7 "table refused at header field 0: B1 Header"
+
+mkdir dir
+run dir a.csv
+judge "a folder as script" 3 "read failed: dir"
+run s.txt dir
+judge "a folder as table" 3 "read failed: dir"
+run bad.txt dir
+judge "a script that is refused before the table is read" 6 "script refused at line 1 place 13: S1 Syntax"
+run s.txt dir --slots 0
+judge "the words before a folder" 2 "$usage"
+
+if [ "$(id -u)" -eq 0 ]; then
+    skip "files without read permission: root reads them"
+else
+    cp s.txt closed.txt && chmod 000 closed.txt
+    run closed.txt a.csv
+    judge "a script without read permission" 3 "read failed: closed.txt"
+    cp a.csv closed.csv && chmod 000 closed.csv
+    run s.txt closed.csv
+    judge "a table without read permission" 3 "read failed: closed.csv"
+fi
+
+# ---- a million entries
+
+large() {
+    awk 'BEGIN { print "x:int"; for (i = 0; i < 1000000; i++) print i }' >million.csv
+    run sum.txt million.csv --slots 4
+    judge "1,000,000 entries" 0 "n = 1000000
+s = 499999500000
+l = 999999"
+    { cat million.csv; echo x; } >more.csv
+    run sum.txt more.csv
+    judge "1,000,001 entries, the last with a bad cell" 7 "table refused at entry 1000000: B5 TooMany"
+    { cat million.csv; echo 1,2; } >more.csv
+    run sum.txt more.csv
+    judge "1,000,001 entries, the last with a field too many" 7 "table refused at entry 1000000: B5 TooMany"
+    printf 'n = df.Count()\nWatch(n)\nPrint(n)\n' >watch.txt
+    run watch.txt million.csv --cluster 1
+    judge "1,000,000 clusters, one slot: 1,000 partial lines" 0 "$(awk 'BEGIN {
+        for (j = 1; j <= 1000; j++) print "partial n over 0-" 1000 * j - 1 " = " 1000 * j
+        print "n = 1000000" }')"
+    run watch.txt million.csv --cluster 1 --slots 4
+    # Each line must name as many clusters as its value says, 1,000 more than the line before.
+    awk '$1 == "partial" {
+            named = 0
+            parts = split($4, part, ",")
+            for (i = 1; i <= parts; i++) { ends = split(part[i], end, "-"); named += ends == 2 ? end[2] - end[1] + 1 : 1 }
+            lines++
+            if (named != 1000 * lines || $6 != named) bad++
+        }
+        END { print lines + 0 " lines, " bad + 0 " bad; " $0 }' out >counted && mv counted out
+    judge "1,000,000 clusters, four slots: 1,000 partial lines" 0 "1000 lines, 0 bad; n = 1000000"
+    rm -f million.csv more.csv
+}
+if [ "${OUTSIDE_SMALL:-0}" = 1 ]; then skip "tables of a million entries"; else large; fi
+
+# ---- pipes
+
+mkfifo script.pipe table.pipe
+{ printf 'n = df.Cou'; sleep 0.1; printf 'nt()\nPrint(n)\n'; } >script.pipe &
+{ printf 'x:int\n1'; sleep 0.3; printf '1\n2\n'; sleep 0.1; printf '3\n'; } >table.pipe &
+run script.pipe table.pipe
+judge "pipes as script and as table, in pieces" 0 "n = 3"
+wait
+cat long.csv >table.pipe &
+run sum.txt table.pipe
+judge "a long table through a pipe" 0 "n = 20000
+s = 199990000
+l = 19999"
+wait
+"$program" /dev/stdin a.csv <s.txt >out 2>err; echo $? >status
+judge "standard input as script" 0 "n = 3"
+cat a.csv | "$program" s.txt /dev/stdin >out 2>err; echo $? >status
+judge "a pipe on standard input as table" 0 "n = 3"
+
+# ---- outputs
+
+if [ -c /dev/full ]; then
+    "$program" s.txt a.csv >/dev/full 2>err </dev/null; echo $? >status; : >out
+    judge "a full output" 4 ""
+    "$program" >/dev/full 2>err </dev/null; echo $? >status
+    judge "a full output for a refusal" 4 ""
+else
+    skip "a full output: no /dev/full"
+fi
+"$program" s.txt a.csv >&- 2>err </dev/null; echo $? >status; : >out
+judge "a closed output" "0 4" ""
+echo "a closed output: status $(cat status)"
+{ sleep 0.3; "$program" sum.txt long.csv 2>err </dev/null; echo $? >status; } | true
+sleep 0.6
+: >out
+judge "a pipe that nobody reads" 4 ""
+awk 'BEGIN { for (i = 0; i < 16; i++) print "t" i " = df.Take(\"x\")"; for (i = 0; i < 16; i++) print "Print(t" i ")" }' >takes.txt
+"$program" takes.txt long.csv 2>err </dev/null | wc -c >out; echo 0 >status
+# 16 lines, each of 88,890 digits and 20,000 blanks or line ends, and labels of 5 or 6 bytes
+judge "1.7 MB of output through a pipe" 0 1742326
+
+echo "outside_test: $tests tests, $skipped skipped, $failed failed"
+[ $failed -eq 0 ]

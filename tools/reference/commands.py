@@ -1,0 +1,114 @@
+"""The command's words, the generator, and a whole run."""
+from booking import Booking
+from expressions import SHIPPED
+from scripts import read_script
+from tables import read_table
+from transcripts import Run
+from values import Refusal, integer
+
+USAGE = b"usage: rdf SCRIPT TABLE [--slots N] [--cluster N] [--watch K] [--make]"
+LIMITS = {b"slots": (1, 16, 1), b"cluster": (1, 1000000, 10000), b"watch": (1, 1000000, 1)}
+
+MADE_SCRIPT = b"""\
+v = df.Vary("c0", "{c0 - 100, c0 + 100}", ["down", "up"])
+f = v.Filter("c0 > 499", "high")
+n = f.Count()
+s = f.Sum("c0")
+h = df.Histo1D([0, 500, 1000], "v")
+m = df.Max("c3")
+r = df.Report()
+VariationsFor(n)
+VariationsFor(s)
+Print(n)
+Print(s)
+Print(h)
+Print(m)
+Print(r)
+"""
+
+
+def made_table(entries, seed):
+    lines = [b"c0:int,c1:int,c2:int,c3:int,v:vec"]
+    for entry in range(entries):
+        cells = [b"%d" % ((entry * 7919 + column * 104729 + seed) % 1000) for column in range(4)]
+        lines.append(b",".join(cells + [b";".join(cells[1:1 + int(cells[0]) % 4])]))
+    return b"\n".join(lines) + b"\n"
+
+
+class Words:
+    """SCRIPT and TABLE, or with --make ENTRIES and SEED; and the options."""
+
+    def __init__(self, words):
+        self.named = []
+        self.make = False
+        self.options = {}
+        given = list(words)
+        for word in given:
+            try:
+                word.decode()
+            except UnicodeDecodeError:
+                raise Refusal(2, USAGE) from None
+        while given:
+            word = given.pop(0)
+            if word == b"--":
+                self.named += given
+                break
+            if not word.startswith(b"-") or word == b"-":
+                self.named.append(word)
+            elif word == b"--make" and not self.make:
+                self.make = True
+            else:
+                self.take_option(word, given)
+        refused = len(self.named) != 2
+        for name, (least, most, usual) in LIMITS.items():
+            value = integer(self.options.get(name, b"%d" % usual))
+            refused = refused or value is None or not least <= value <= most
+            setattr(self, name.decode(), value)
+        if self.make and not refused:
+            self.entries, self.seed = [integer(word) for word in self.named]
+            refused = (self.entries is None or not 1 <= self.entries <= 1000000
+                       or self.seed is None or not 0 <= self.seed < 2 ** 32)
+        if refused:
+            raise Refusal(2, USAGE)
+
+    def take_option(self, word, given):
+        name, equals, value = word[2:].partition(b"=")
+        if not word.startswith(b"--") or name not in LIMITS or name in self.options:
+            raise Refusal(2, USAGE)
+        if not equals:
+            if not given or given[0].startswith(b"-") and given[0] != b"-":
+                raise Refusal(2, USAGE)
+            value = given.pop(0)
+        self.options[name] = value
+
+
+def prepared(words, shelf):
+    """A checked run. `shelf` gives the bytes of a file, or None where there is none."""
+    taken = Words(words)
+    if taken.make:
+        script, text = read_script(MADE_SCRIPT), made_table(taken.entries, taken.seed)
+    else:
+        script = read_script(file_of(shelf, taken.named[0]))
+        text = file_of(shelf, taken.named[1])
+    table = read_table(text)
+    booking = Booking(table.columns, SHIPPED).book(script)
+    return Run(booking, table, taken.cluster, taken.watch)
+
+
+def file_of(shelf, name):
+    try:
+        content = shelf(name)
+    except OSError:
+        raise Refusal(3, b"read failed: " + name) from None
+    if content is None:
+        raise Refusal(5, b"no file " + name)
+    return content
+
+
+def run(words, shelf):
+    """The status and the bytes that the words call for."""
+    try:
+        status, lines = prepared(words, shelf).transcript()
+    except Refusal as refusal:
+        status, lines = refusal.status, [refusal.line]
+    return status, b"".join(line + b"\n" for line in lines)
