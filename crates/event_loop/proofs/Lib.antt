@@ -1,5 +1,6 @@
 pub mod Ended
 pub mod Fresh
+pub mod Growing
 pub mod Least
 pub mod Pieces
 pub mod Rising

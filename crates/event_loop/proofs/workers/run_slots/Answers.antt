@@ -1,6 +1,9 @@
 use contract.Lifetimes.{Lfts}
+use mathlib.Core.List.{[]}
 use mir.Syntax.{named}
 use denote.Param.{param}
+use denote.Param.Callables.{held_fn}
+use denote.Param.Object.{Vt, ghosts_of}
 use denote.Param.Send.{IsSync, sendable, shr_sync}
 use denote.Struct.Field.{u32-field}
 use Rattle.std.proofs.Crossing.{crosses, dyn_box_sync}
@@ -14,7 +17,9 @@ use Rattle.columns.specs.contracts.columns.Columns.{the_row as columns_row}
 use Rattle.partial_watch.specs.contracts.book.Book.{the_row as book_row}
 use Rattle.cluster_claims.specs.contracts.claims.Claims.{the_row as claims_row}
 use Rattle.event_loop.proofs.Sharing.{cuts_sync, table_sync, claims_sync, books_sync, nine_sync}
+use Rattle.entry_fns.specs.contracts.list.FnList.{the_row as functions_row}
 use Rattle.event_loop.specs.contracts.workers.run_slots.{G-row}
+use Rattle.event_loop.specs.contracts.workers.run_slots.dyn-1 as dyn
 use Rattle.event_loop.proofs.workers.run_slots.Lts as lts
 use Rattle.event_loop.proofs.workers.run_slots.Given as given
 use Rattle.event_loop.proofs.workers.run_slots.Goals as goal
@@ -24,14 +29,14 @@ captured_sync : (g : given.Over) → IsSync (G-row g.row.R g.row.G) → (κs : L
 captured_sync g s κs =
     let word : IsSync u32-field.row = search (sendable, crosses) depth 40 fits 4000 in
     let global : IsSync global_row = search (sendable, crosses) depth 40 fits 4000 in
-    let functions : IsSync (lts.of-0 g.row.R g.row.G g.R.laws g.G.laws g.R.Threads g.R.Threads-dict g.G.Gate g.G.Gate-dict g.dyn-1 g.dyn-1-has) = search (sendable, crosses, names.the_sync, dyn_box_sync) depth 40 fits 4000 in
+    let functions : IsSync (functions_row (Vt (dyn.slots g.row.R g.row.G) g.dyn-1.0) (ghosts_of (dyn.slots g.row.R g.row.G) g.dyn-1.0 g.dyn-1.1) (held_fn g.dyn-1.0)) = search (sendable, crosses, names.the_sync, dyn_box_sync) depth 40 fits 4000 in
     record {
-      shared = (nine_sync (lts.name-25 g.row.R g.row.G g.R.laws g.G.laws g.R.Threads g.R.Threads-dict g.G.Gate g.G.Gate-dict g.dyn-1 g.dyn-1-has) _ _ _ _ _ _ _ _ _
+      shared = (nine_sync [] _ _ _ _ _ _ _ _ _
       (shr_sync (named 7) κs.1.1.1.1.1.1.1.0 graph_row graph_sync)
       (shr_sync (named 8) κs.1.1.1.1.1.1.1.1.0 u32-field.row word)
       (shr_sync (named 9) κs.1.1.1.1.1.1.1.1.1.0 columns_row table_sync)
       (shr_sync (named 10) κs.1.1.1.1.1.1.1.1.1.1.0 cuts_row cuts_sync)
-      (shr_sync (named 11) κs.1.1.1.1.1.1.1.1.1.1.1.0 (lts.of-0 g.row.R g.row.G g.R.laws g.G.laws g.R.Threads g.R.Threads-dict g.G.Gate g.G.Gate-dict g.dyn-1 g.dyn-1-has) functions)
+      (shr_sync (named 11) κs.1.1.1.1.1.1.1.1.1.1.1.0 (functions_row (Vt (dyn.slots g.row.R g.row.G) g.dyn-1.0) (ghosts_of (dyn.slots g.row.R g.row.G) g.dyn-1.0 g.dyn-1.1) (held_fn g.dyn-1.0)) functions)
       (shr_sync (named 12) κs.1.1.1.1.1.1.1.1.1.1.1.1.0 global_row global)
       (shr_sync (named 13) κs.1.1.1.1.1.1.1.1.1.1.1.1.1.0 claims_row claims_sync)
       (shr_sync (named 14) κs.1.1.1.1.1.1.1.1.1.1.1.1.1.1.0 (option_row book_row) books_sync)
