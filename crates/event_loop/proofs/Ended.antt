@@ -1,13 +1,12 @@
 -- What the slots of a loop tell once all have stopped.
-use Rattle.std.proofs.Common.{◌≡◌, ◌⊎◌, ℕ, zero, suc, ◌+◌, ◌<◌, ◌≤◌, min, List, [], ◌∷◌, ◌++◌, length, map, get_or, Option, None, Some, refl, sym, ap, ◌∙◌, subst, inl, inr, ⊎_elim, arith}
+use Rattle.std.proofs.Common.{◌≡◌, ◌⊎◌, ℕ, zero, suc, ◌<◌, ◌≤◌, min, List, [], ◌∷◌, ◌++◌, length, map, Option, None, Some, refl, sym, ap, ◌∙◌, subst, inl, inr, ⊎_elim, arith}
 use Rattle.std.specs.Prelude.{slice_get, IfSome, IsSomeAnd}
-use Rattle.std.specs.List.{All, Contains, concat}
+use Rattle.std.specs.List.{All, concat}
 use Rattle.std.proofs.lemmas.Bool.{cases_lt}
 use Rattle.std.proofs.lemmas.List.Elements.{All-nil, All-cons, All-head, All-tail}
 use Rattle.std.proofs.lemmas.Option.{slice_get-get_or}
-use Rattle.rdf_values.specs.Cuts.{below}
-use Rattle.rdf_values.specs.Draws.{DrawnBy, IsUnion}
-use Rattle.rdf_values.specs.Machine.{AreInEntryOrder, least_fault, first_in}
+use Rattle.rdf_values.specs.Draws.{DrawnBy}
+use Rattle.rdf_values.specs.Machine.{least_fault, first_in}
 use Rattle.rdf_values.specs.Times.{times, once_below}
 use Rattle.rdf_values.specs.declared.fault.Fault.{Fault}
 use Rattle.rdf_values.proofs.DrawCounts.{times_concat, times_push, counts_by_drawn, once_inside, inside_once, times_self}
@@ -17,12 +16,11 @@ use Rattle.merge_core.proofs.Holding.{only}
 use Rattle.cluster_claims.specs.Seats.{ClaimsSeen, SeatSeen, IsLeast, IsPassed, last_of}
 use Rattle.partial_watch.specs.Shares.{BookSeen}
 use Rattle.slot_state.specs.Jobs.{JobFacts}
-use Rattle.event_loop.specs.declared.gather.Done.{Done}
 use Rattle.event_loop.specs.declared.workers.Finished.{Finished}
 use Rattle.event_loop.specs.declared.workers.Slot.{Slot}
 use Rattle.event_loop.specs.declared.workers.End.{End}
 use Rattle.event_loop.specs.declared.workers.End.TheVariants.{Over, Faulted, NoMemory}
-use Rattle.event_loop.specs.Workers.{HasRun, HasWorked, MetBar, MetFault, RanOut, Stopped}
+use Rattle.event_loop.specs.Workers.{HasWorked, MetBar, RanOut, Stopped}
 use Rattle.event_loop.specs.Gathered.{AreDone, AreFacts, HasMemory, HasStopped, IsDone, IsServed, done_in, end_faults, fault_of, finished_by, seat_in}
 
 -- the clusters that each slot drew

@@ -1,8 +1,7 @@
 -- The shares and the trails of slots that finished all clusters.
-use Rattle.std.proofs.Common.{◌≡◌, ℕ, zero, suc, ◌+◌, ◌<◌, ◌≤◌, List, [], ◌∷◌, ◌++◌, length, map, Option, None, Some, refl, sym, ap, ap₂, ◌∙◌, subst, arith}
+use Rattle.std.proofs.Common.{◌≡◌, ℕ, zero, suc, ◌<◌, List, [], ◌∷◌, ◌++◌, length, map, Option, None, Some, refl, sym, ap, ap₂, ◌∙◌, subst, arith}
 use Rattle.std.specs.Prelude.{flat_map, slice_get, slice_index_or}
 use Rattle.std.specs.List.{All, concat, sum_by}
-use Rattle.std.proofs.lemmas.List.{length-map}
 use Rattle.std.proofs.lemmas.List.Concat.{concat_is, length-flat_map}
 use Rattle.std.proofs.lemmas.List.Elements.{All-nil, All-cons, All-head, All-tail}
 use Rattle.std.proofs.lemmas.List.Sorted.{length_permutation}
@@ -15,7 +14,6 @@ use Rattle.loop_pieces.specs.LoopPieces.{IsPass, StandsFor}
 use Rattle.loop_pieces.specs.PartialLines.{HavePartials}
 use Rattle.loop_pieces.specs.Trails.{HaveTrails}
 use Rattle.loop_pieces.specs.declared.loop_piece.LoopPiece.{LoopPiece}
-use Rattle.loop_pieces.specs.declared.filled_result.PartialLine.{PartialLine}
 use Rattle.merge_core.specs.Pieces.{Stand}
 use Rattle.rdf_model.specs.declared.loop_facts.LoopFacts.{LoopFacts}
 use Rattle.partial_lines.specs.Chains.{AreNoted}
@@ -25,8 +23,8 @@ use Rattle.partial_watch.specs.Shares as book
 use Rattle.slot_state.specs.Jobs.{JobFacts}
 use Rattle.event_loop.specs.declared.gather.Done.{Done}
 use Rattle.event_loop.specs.Workers.{HasNoted}
-use Rattle.event_loop.specs.Gathered.{AreDone, AreFacts, IsDone, finished_by}
-use Rattle.event_loop.specs.Filling.{AllAreGoing, AreFilled, ArePieces, CanFill, IsBookOf, IsGoing, IsPieceOf, share_or_none, shares_in}
+use Rattle.event_loop.specs.Gathered.{IsDone, finished_by}
+use Rattle.event_loop.specs.Filling.{AllAreGoing, ArePieces, CanFill, IsGoing, IsPieceOf, share_or_none, shares_in}
 
 pub all_going : (b : Option BookSeen) (job : JobFacts) (ds : List Done) → All (IsDone b job) ds → AllAreGoing ds
 all_going b job [] h = All-nil IsGoing

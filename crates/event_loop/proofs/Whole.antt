@@ -1,28 +1,27 @@
 -- What is known of a whole loop.
-use Rattle.std.proofs.Common.{◌≡◌, ℕ, ◌+◌, ◌<◌, ◌≤◌, List, length, map, Option, None, Some, refl, sym, ap, ◌∙◌, subst, arith}
+use Rattle.std.proofs.Common.{◌≡◌, ℕ, ◌<◌, ◌≤◌, List, length, Option, None, Some, sym, ap, ◌∙◌, subst, arith}
 use Rattle.std.specs.List.{All}
 use Rattle.std.proofs.lemmas.List.{length-map}
-use Rattle.rdf_values.specs.Cuts.{Lead, below, cut}
+use Rattle.rdf_values.specs.Cuts.{Lead, below}
 use Rattle.rdf_values.specs.Machine.{first_in}
 use Rattle.rdf_values.specs.declared.fault.Fault.{Fault}
 use Rattle.rdf_values.proofs.Below.{length-below}
 use Rattle.rdf_values.proofs.Leading.{cuts_lead}
 use Rattle.clusters.proofs.Leading.{few_ranges}
 use Rattle.cluster_claims.specs.Seats.{ClaimsSeen, SeatSeen, fresh_seats}
-use Rattle.partial_watch.specs.Shares.{BookSeen, ShareSeen}
+use Rattle.partial_watch.specs.Shares.{BookSeen}
 use Rattle.entry_cache.specs.Jobs.{IsJob, JobView, passes_in}
 use Rattle.loop_pieces.specs.Whole.{cluster_fault}
 use Rattle.loop_pieces.proofs.ClusterFaults.{lower_clusters_fault_first}
 use Rattle.entry_passes.specs.Entries.{job_spans}
 use Rattle.slot_state.specs.Jobs.{JobFacts, job_facts}
 use Rattle.event_loop.specs.declared.end.FilledLoop.{FilledLoop}
-use Rattle.event_loop.specs.declared.gather.Done.{Done}
 use Rattle.event_loop.specs.declared.gather.Outcome.{Outcome}
 use Rattle.event_loop.specs.declared.gather.Outcome.TheVariants as outcome
 use Rattle.event_loop.specs.Ends.{IsFilled}
 use Rattle.event_loop.specs.Filling.{AreFilled, CanFill, IsBookOf}
-use Rattle.event_loop.specs.Gathered.{AreDone, AreFacts, IsOutcome}
-use Rattle.event_loop.specs.Seated.{AreBlank, IsOpened}
+use Rattle.event_loop.specs.Gathered.{AreFacts, IsOutcome}
+use Rattle.event_loop.specs.Seated.{IsOpened}
 use Rattle.event_loop.specs.Workers.{IsReady}
 use Rattle.event_loop.proofs.Fresh.{all_ready, many_seats}
 

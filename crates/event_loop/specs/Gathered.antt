@@ -1,5 +1,5 @@
 -- What the slots of a loop give back.
-use Rattle.std.specs.Prelude.{◌≡◌, ◌<◌, ⊤, ℕ, List, [], ◌∷◌, Option, Some, None, All, flat_map, length, map}
+use Rattle.std.specs.Prelude.{◌≡◌, ⊤, ℕ, List, [], ◌∷◌, Option, Some, None, All, flat_map, length, map}
 use Rattle.rdf_values.specs.Cuts.{below}
 use Rattle.rdf_values.specs.Draws.{IsUnion}
 use Rattle.rdf_values.specs.Machine.{AreInEntryOrder, first_in}

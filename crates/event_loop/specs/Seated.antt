@@ -1,5 +1,5 @@
 -- What the slots of a loop begin with.
-use Rattle.std.specs.Prelude.{◌≡◌, ◌<◌, ◌≤◌, ℕ, List, [], Option, Some, None, All, length}
+use Rattle.std.specs.Prelude.{◌≡◌, ℕ, List, [], Option, Some, None, All, length}
 use Rattle.partial_watch.specs.Shares.{BookSeen, ShareSeen}
 use Rattle.partial_watch.specs.Shares as book
 use Rattle.slot_state.specs.Jobs.{JobFacts}

@@ -49,10 +49,7 @@ pub fn least_of(finished: &[Finished]) -> Result<Option<Fault>, Memory>
 }
 
 /// The seats of the slots, and what is left of them, in their order.
-pub fn taken_apart(
-    alloc: Global,
-    finished: Vec<Finished>,
-) -> Result<(SeatList, Vec<Done>), Memory>
+pub fn taken_apart(alloc: Global, finished: Vec<Finished>) -> Result<(SeatList, Vec<Done>), Memory>
     ensures seats { IfOk result (λ r. r.0 ≡ map seat_in finished.items) }
     ensures rest { IfOk result (λ r. r.1.items ≡ map done_in finished.items) }
 {
@@ -76,11 +73,7 @@ pub enum Outcome {
 }
 
 /// The outcome of a loop of which all slots stopped.
-pub fn gathered(
-    alloc: Global,
-    claims: Claims,
-    finished: Vec<Finished>,
-) -> Result<Outcome, Memory>
+pub fn gathered(alloc: Global, claims: Claims, finished: Vec<Finished>) -> Result<Outcome, Memory>
     requires some { 0 < vec_len finished }
     requires many { vec_len finished ≡ claims.slots }
     requires of { All (λ f. IsOf claims f.slot.seat) finished.items }

@@ -1,14 +1,6 @@
-use Rattle.std.proofs.Common.{◌≡◌, List, length, map, Some, sym, ap, ◌∙◌, subst, arith}
-use Rattle.std.specs.Prelude.{flat_map, Option}
-use Rattle.std.specs.List.{All}
-use Rattle.rdf_values.specs.Cuts.{below}
-use Rattle.partial_watch.specs.Shares.{BookSeen, IsOf}
-use Rattle.partial_lines.specs.Chains.{AreNoted}
-use Rattle.slot_state.specs.Jobs.{JobFacts}
-use Rattle.event_loop.specs.declared.gather.Done.{Done}
-use Rattle.event_loop.specs.Filling.{CanFill, ArePieces, IsBookOf, shares_in}
-use Rattle.event_loop.specs.Gathered.{AreDone, finished_by}
-use Rattle.event_loop.proofs.Shares.{AreShares, are_shares, are_noted, have_all, with_book}
+use Rattle.std.proofs.Common.{map}
+use Rattle.event_loop.specs.Gathered.{finished_by}
+use Rattle.event_loop.proofs.Shares.{have_all, with_book}
 use Rattle.event_loop.proofs.filling.lines_in.Goals as goal
 
 pub close-requires-clause-all : goal.close-requires-clause-all

@@ -1,4 +1,4 @@
-use Rattle.std.proofs.Common.{rules, ◌≡◌, ◌<◌, length}
+use Rattle.std.proofs.Common.{rules}
 use Rattle.event_loop.proofs.Pieces.{next_made}
 use Rattle.event_loop.proofs.filling.pieces_of.Goals as goal
 

@@ -1,8 +1,8 @@
-use Rattle.std.proofs.Common.{◌≡◌, ◌≤◌, ℕ, List, length, sym, ap, ◌∙◌, subst, arith}
+use Rattle.std.proofs.Common.{ℕ, sym, ◌∙◌, subst, arith}
 use Rattle.std.specs.List.{All}
 use Rattle.entry_cache.specs.Jobs.{job_of}
 use Rattle.slot_state.specs.Jobs.{job_facts}
-use Rattle.event_loop.specs.Gathered.{AreFacts, HasStopped, IsOutcome}
+use Rattle.event_loop.specs.Gathered.{AreFacts, HasStopped}
 use Rattle.event_loop.specs.Seated.{AreBlank, AreFreshStates}
 use Rattle.event_loop.proofs.Whole.{few_clusters, facts_of, seats_ready, seats_many, can_fill, first_is, is_filled}
 use Rattle.event_loop.proofs.one_loop.run_loop.Goals as goal

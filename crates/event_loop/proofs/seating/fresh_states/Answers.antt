@@ -1,4 +1,4 @@
-use Rattle.std.proofs.Common.{rules, ◌≡◌, All, sym, subst, arith}
+use Rattle.std.proofs.Common.{rules, All, sym, subst}
 use Rattle.std.proofs.lemmas.List.Elements.{All-push}
 use Rattle.entry_cache.specs.Jobs.{job_of}
 use Rattle.slot_state.specs.Jobs.{job_facts}

@@ -1,4 +1,3 @@
-use Rattle.std.proofs.Common.{refl, ◌∙◌, arith}
 use Rattle.event_loop.proofs.Fresh.{all_blank}
 use Rattle.event_loop.proofs.seating.opened.Goals as goal
 

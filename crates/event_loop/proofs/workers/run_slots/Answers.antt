@@ -32,15 +32,15 @@ captured_sync g s κs =
     let functions : IsSync (functions_row (Vt (dyn.slots g.row.R g.row.G) g.dyn-1.0) (ghosts_of (dyn.slots g.row.R g.row.G) g.dyn-1.0 g.dyn-1.1) (held_fn g.dyn-1.0)) = search (sendable, crosses, names.the_sync, dyn_box_sync) depth 40 fits 4000 in
     record {
       shared = (nine_sync [] _ _ _ _ _ _ _ _ _
-      (shr_sync (named 7) κs.1.1.1.1.1.1.1.0 graph_row graph_sync)
-      (shr_sync (named 8) κs.1.1.1.1.1.1.1.1.0 u32-field.row word)
-      (shr_sync (named 9) κs.1.1.1.1.1.1.1.1.1.0 columns_row table_sync)
-      (shr_sync (named 10) κs.1.1.1.1.1.1.1.1.1.1.0 cuts_row cuts_sync)
-      (shr_sync (named 11) κs.1.1.1.1.1.1.1.1.1.1.1.0 (functions_row (Vt (dyn.slots g.row.R g.row.G) g.dyn-1.0) (ghosts_of (dyn.slots g.row.R g.row.G) g.dyn-1.0 g.dyn-1.1) (held_fn g.dyn-1.0)) functions)
-      (shr_sync (named 12) κs.1.1.1.1.1.1.1.1.1.1.1.1.0 global_row global)
-      (shr_sync (named 13) κs.1.1.1.1.1.1.1.1.1.1.1.1.1.0 claims_row claims_sync)
-      (shr_sync (named 14) κs.1.1.1.1.1.1.1.1.1.1.1.1.1.1.0 (option_row book_row) books_sync)
-      (shr_sync (named 15) κs.1.1.1.1.1.1.1.1.1.1.1.1.1.1.1.0 (param 1 g.row.G) s)).shared;
+          (shr_sync (named 7) κs.1.1.1.1.1.1.1.0 graph_row graph_sync)
+          (shr_sync (named 8) κs.1.1.1.1.1.1.1.1.0 u32-field.row word)
+          (shr_sync (named 9) κs.1.1.1.1.1.1.1.1.1.0 columns_row table_sync)
+          (shr_sync (named 10) κs.1.1.1.1.1.1.1.1.1.1.0 cuts_row cuts_sync)
+          (shr_sync (named 11) κs.1.1.1.1.1.1.1.1.1.1.1.0 (functions_row (Vt (dyn.slots g.row.R g.row.G) g.dyn-1.0) (ghosts_of (dyn.slots g.row.R g.row.G) g.dyn-1.0 g.dyn-1.1) (held_fn g.dyn-1.0)) functions)
+          (shr_sync (named 12) κs.1.1.1.1.1.1.1.1.1.1.1.1.0 global_row global)
+          (shr_sync (named 13) κs.1.1.1.1.1.1.1.1.1.1.1.1.1.0 claims_row claims_sync)
+          (shr_sync (named 14) κs.1.1.1.1.1.1.1.1.1.1.1.1.1.1.0 (option_row book_row) books_sync)
+          (shr_sync (named 15) κs.1.1.1.1.1.1.1.1.1.1.1.1.1.1.1.0 (param 1 g.row.G) s)).shared;
     }
 
 pub map_vec-requires-sync-F : goal.map_vec-requires-sync-F

@@ -1,4 +1,4 @@
-use Rattle.std.proofs.Common.{◌≡◌, ◌+◌, ◌∷◌, ◌++◌, List, [], ℕ, Ok, length, sym, ap, ◌∙◌, subst, refl, arith, length-append}
+use Rattle.std.proofs.Common.{◌≡◌, ◌+◌, ◌∷◌, ◌++◌, List, [], ℕ, Ok, length, sym, ap, ◌∙◌, subst, length-append}
 use Rattle.cluster_claims.specs.Seats.{IsOf, SeatSeen}
 use Rattle.entry_cache.specs.Jobs.{job_of}
 use Rattle.slot_state.specs.Jobs.{job_facts}
@@ -39,17 +39,16 @@ returns-in-Ok-Faulted g c =
     record {
       seat_of = subst (IsOf c.args.claims.now) (sym c.lower.ensures) c.in-Some.ensures.of.0;
       slot = c.process.ensures.slot;
-      stopped =
-          (
-            record {
-              sound = subst (AreSound faults) (sym f.2) inv.sound;
-              noted = subst (λ (n : ℕ). HasNoted c.args.book.now n c.loop-cluster.slot.share) (sym (ap length f.2)) inv.noted;
-            },
-            record {
-              last = cluster;
-              others = ap (λ (s : SeatSeen). s.drawn) c.lower.ensures ∙ c.in-Some.ensures.some.1 ∙ ap (λ (l : List ℕ). l ++ cluster ∷ []) (sym inv.done ∙ sym f.2);
-              its_fault = f.1;
-              lowered = ap (λ (s : SeatSeen). s.lowered) c.lower.ensures;
-            }
-          );
+      stopped = (
+        record {
+          sound = subst (AreSound faults) (sym f.2) inv.sound;
+          noted = subst (λ (n : ℕ). HasNoted c.args.book.now n c.loop-cluster.slot.share) (sym (ap length f.2)) inv.noted;
+        },
+        record {
+          last = cluster;
+          others = ap (λ (s : SeatSeen). s.drawn) c.lower.ensures ∙ c.in-Some.ensures.some.1 ∙ ap (λ (l : List ℕ). l ++ cluster ∷ []) (sym inv.done ∙ sym f.2);
+          its_fault = f.1;
+          lowered = ap (λ (s : SeatSeen). s.lowered) c.lower.ensures;
+        },
+      );
     }
