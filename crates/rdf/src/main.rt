@@ -91,6 +91,8 @@ fn main(rt: HostRuntime) -> ExitCode {
     }
     let mut shelf = DirShelf::new(&rt);
     let mut sink = StdSink::new(&rt);
-    let status = rdf_top(&rt, alloc, &words, &mut shelf, &mut sink, &functions, &OpenGate);
+    let status = rdf_top(
+        &rt, alloc, &words, &mut shelf, &mut sink, &functions, &OpenGate,
+    );
     ExitCode::from(status.code())
 }

@@ -220,13 +220,12 @@ module _ (fns : List Function) (words : List (List ℕ)) (files : Told) (f0 f1 :
     (made : (NameFiles words → ⊥) → IsFinal a.status × ((f : List ℕ → Option (List ℕ)) → IsDue fns words f (due_of a.status a.text)))
     (not_taken : (AreTaken words → ⊥) → due_of a.status a.text ≡ due_of Words usage_line) where
   words_due : IsFinal a.status → OfFiles words files (λ f. IsDue fns words f (due_of a.status a.text))
-  words_due final =
-      (
-        ⊎_elim (λ (t : AreTaken words). (taken t).is_due final)
+  words_due final = (
+    ⊎_elim (λ (t : AreTaken words). (taken t).is_due final)
         (λ (n : AreTaken words → ⊥). whatever (λ f. IsDue fns words f (due_of a.status a.text)) files (made (λ h. n (names_taken (asked_of words) _ h))).1)
         (decide (asked_of words)),
-        λ none. (made none).1
-      )
+    λ none. (made none).1,
+  )
 
   pub due_written : (before after : Option (List ℕ)) → IsFinal a.status → Appends before after a.text → OfFiles words files (WritesDue fns words (λ d. a.status ≡ d.status) before after)
   due_written before after final w =

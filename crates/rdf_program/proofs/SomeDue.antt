@@ -64,13 +64,15 @@ module _ (fns : List Function) (size watch : ℕ) where
 
   some_print : (script : Script) (table : MarkedTable) → SomeDue (IsPrinted fns size watch script table)
   some_print script table =
-      let t = transcript script (dataset_of fns size watch table.table) (course_of table) in
-      (due_of (printed_status t.status) t.bytes, record {
-        course = course_of table;
-        is_course = record { spans = refl; chains = λ l results _ _. first_sets_are_a_chain _ _ };
-        bytes = refl;
-        status = refl;
-      })
+      let t = transcript script (dataset_of fns size watch table.table) (course_of table) in (
+        due_of (printed_status t.status) t.bytes,
+        record {
+          course = course_of table;
+          is_course = record { spans = refl; chains = λ l results _ _. first_sets_are_a_chain _ _ };
+          bytes = refl;
+          status = refl;
+        },
+      )
 
   over : (script : Script) (table : MarkedTable) → SomeDue (IsDueOver fns size watch script table)
   over script table = some_verdict (verdict (fn_names fns) table.table.columns script) (IsPrinted fns size watch script table) (some_print script table)

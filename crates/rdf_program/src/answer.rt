@@ -16,7 +16,11 @@ pub(crate) struct Answer {
 
 impl Answer {
     /// A status with the line of a refusal.
-    pub(crate) fn refused(alloc: Global, status: Status, refusal: &Refusal) -> Result<Answer, Memory>
+    pub(crate) fn refused(
+        alloc: Global,
+        status: Status,
+        refusal: &Refusal,
+    ) -> Result<Answer, Memory>
         ensures { IfOk result (λ a. (a.status ≡ status) × (a.text ≡ refusal_text refusal.now)) }
     {
         let text = refusal_line(alloc, refusal)?;

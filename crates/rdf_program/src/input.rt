@@ -165,7 +165,15 @@ pub(crate) fn answer_made<R: Threads + Sync, G: Gate>(
             scripts_have_words();
             scripts_are_bookable();
             let table = make_table(alloc, entries, seed)?;
-            answer_over(rt, alloc, script, table.as_slice(), functions, settings, gate)
+            answer_over(
+                rt,
+                alloc,
+                script,
+                table.as_slice(),
+                functions,
+                settings,
+                gate,
+            )
         }
         Err(ScriptRefusal::Memory) => Err(Memory),
         Err(ScriptRefusal::At(cause)) => {

@@ -18,7 +18,9 @@ fn a_failed_read_is_named_at_each_call(rt: HostRuntime) -> Result<(), Fail> {
         let mut shelf = shelf_of(alloc, COUNT.as_bytes(), TABLE.as_bytes())?;
         shelf.fail_at(call)?;
         let mut sink = MemorySink::new(alloc, ROOM)?;
-        let status = rdf_top(&rt, alloc, &words, &mut shelf, &mut sink, &functions, &OpenGate);
+        let status = rdf_top(
+            &rt, alloc, &words, &mut shelf, &mut sink, &functions, &OpenGate,
+        );
         assert!(rt; status == Status::ReadFault, "call {call}");
         assert_eq!(rt; sink.bytes(), output.as_bytes(), "call {call}");
     }
@@ -34,7 +36,9 @@ fn a_failed_write_leaves_a_first_part(rt: HostRuntime) -> Result<(), Fail> {
     let mut sink = MemorySink::new(alloc, ROOM)?;
     sink.take_at_most(3);
     sink.fail_at(1)?;
-    let status = rdf_top(&rt, alloc, &words, &mut shelf, &mut sink, &functions, &OpenGate);
+    let status = rdf_top(
+        &rt, alloc, &words, &mut shelf, &mut sink, &functions, &OpenGate,
+    );
     assert!(rt; status == Status::WriteFault);
     assert_eq!(rt; sink.bytes(), b"n =".as_slice());
     Ok(())
@@ -47,7 +51,9 @@ fn a_file_that_is_not_there_is_named(rt: HostRuntime) -> Result<(), Fail> {
     let words = words_of(alloc, &["s.txt", "b.csv"], &[])?;
     let mut shelf = shelf_of(alloc, COUNT.as_bytes(), TABLE.as_bytes())?;
     let mut sink = MemorySink::new(alloc, ROOM)?;
-    let status = rdf_top(&rt, alloc, &words, &mut shelf, &mut sink, &functions, &OpenGate);
+    let status = rdf_top(
+        &rt, alloc, &words, &mut shelf, &mut sink, &functions, &OpenGate,
+    );
     assert!(rt; status == Status::NoFile);
     assert_eq!(rt; sink.bytes(), b"no file b.csv\n".as_slice());
     Ok(())
@@ -72,7 +78,9 @@ fn words_out_of_form_give_the_usage_line(rt: HostRuntime) -> Result<(), Fail> {
         let words = words_of(alloc, TWO_FILES, options)?;
         let mut shelf = shelf_of(alloc, COUNT.as_bytes(), TABLE.as_bytes())?;
         let mut sink = MemorySink::new(alloc, ROOM)?;
-        let status = rdf_top(&rt, alloc, &words, &mut shelf, &mut sink, &functions, &OpenGate);
+        let status = rdf_top(
+            &rt, alloc, &words, &mut shelf, &mut sink, &functions, &OpenGate,
+        );
         assert!(rt; status == Status::Words);
         assert_eq!(rt; sink.bytes(), USAGE.as_bytes());
     }

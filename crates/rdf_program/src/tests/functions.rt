@@ -16,7 +16,8 @@ pub(super) fn name(alloc: Global, bytes: &[u8]) -> Result<Name, Memory> {
     }
 }
 
-const SHARED: &str = "d = df.Define(\"z\", \"square(w)\")\ns = d.Sum(\"z\")\nt = d.Sum(\"z\")\nm = d.Max(\"z\")\nf = d.Filter(\"z > 1\")\nn = f.Count()\nPrint(s)\nPrint(t)\nPrint(m)\nPrint(n)\n";
+const SHARED: &str =
+    "d = df.Define(\"z\", \"square(w)\")\ns = d.Sum(\"z\")\nt = d.Sum(\"z\")\nm = d.Max(\"z\")\nf = d.Filter(\"z > 1\")\nn = f.Count()\nPrint(s)\nPrint(t)\nPrint(m)\nPrint(n)\n";
 
 // Four results share one column: one call for each of the four entries.
 #[test]

@@ -10,12 +10,19 @@ fn repeated(alloc: Global, text: &str, count: usize) -> Result<Text, Fail> {
     Ok(whole)
 }
 
-fn answer<R: Threads + Sync>(rt: &R, alloc: Global, script: &[u8], table: &[u8]) -> Result<(Status, MemorySink), Fail> {
+fn answer<R: Threads + Sync>(
+    rt: &R,
+    alloc: Global,
+    script: &[u8],
+    table: &[u8],
+) -> Result<(Status, MemorySink), Fail> {
     let functions = FnList::new(alloc);
     let words = words_of(alloc, TWO_FILES, &[])?;
     let mut shelf = shelf_of(alloc, script, table)?;
     let mut sink = MemorySink::new(alloc, ROOM)?;
-    let status = rdf_top(rt, alloc, &words, &mut shelf, &mut sink, &functions, &OpenGate);
+    let status = rdf_top(
+        rt, alloc, &words, &mut shelf, &mut sink, &functions, &OpenGate,
+    );
     Ok((status, sink))
 }
 

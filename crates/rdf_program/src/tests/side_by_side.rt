@@ -10,12 +10,16 @@ use rdf_values::Text;
 use std::sync::Arc;
 use std::sync::atomic::{AtomicBool, AtomicU64, Ordering};
 
-// How often a hold looks again before it gives up.
-const TURNS: u32 = 10_000_000;
+// How often a hold looks again before it gives up: seconds, for a busy machine.
+const TURNS: u32 = 1_000_000_000;
+
+// How often it looks after the fault was met: some milliseconds.
+const LATER_TURNS: u32 = 10_000_000;
 
 const FIRST: u64 = 0;
 
 // It holds the first slot that comes until another one had a turn.
+#[derive(Drop)]
 struct FirstWaits {
     // The slot that came first, plus 1.
     first: AtomicU64,
@@ -69,6 +73,7 @@ fn two_slots_at_once(rt: HostRuntime) -> Result<(), Fail> {
 }
 
 // It holds the slot with cluster 0 until a slot comes with cluster 3.
+#[derive(Drop)]
 struct FirstClusterWaits {
     last_came: AtomicBool,
     released: AtomicBool,
@@ -112,7 +117,8 @@ fn held_cluster_comes_late(rt: HostRuntime) -> Result<(), Fail> {
     Ok(())
 }
 
-// It holds each turn with a cluster above 0 until the fault was met, and then as long again.
+// It holds each turn with a cluster above 0 until the fault was met, and a little longer.
+#[derive(Drop)]
 struct FaultIsMet {
     met: Arc<AtomicBool>,
     turns: AtomicU64,
@@ -130,7 +136,7 @@ impl Gate for FaultIsMet {
             }
         }
         let mut met = 0_u64;
-        for _ in 0..TURNS {
+        for _ in 0..LATER_TURNS {
             if self.met.load(Ordering::SeqCst) {
                 met = met.wrapping_add(1);
             }
@@ -186,7 +192,10 @@ fn bar_is_lowered(rt: HostRuntime) -> Result<(), Fail> {
     let mut sink = MemorySink::new(alloc, ROOM)?;
     let status = rdf_top(&rt, alloc, &words, &mut shelf, &mut sink, &functions, &gate);
     assert!(rt; status == Status::LoopFault);
-    assert_eq!(rt; sink.bytes(), b"fault at entry 0 in n: F8 Function\n".as_slice());
+    assert_eq!(rt;
+        sink.bytes(),
+        b"fault at entry 0 in n: F8 Function\n".as_slice()
+    );
     assert!(rt; gate.turns.load(Ordering::SeqCst) <= 10);
     Ok(())
 }
