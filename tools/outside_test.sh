@@ -99,6 +99,9 @@ judge "a script of 65,537 bytes" 6 "script refused: longer than 65536 bytes"
 { cat a.csv; head -c 67108864 /dev/zero; } >huge.csv
 run s.txt huge.csv
 judge "a table of more than 67,108,864 bytes" 7 "table refused: longer than 67108864 bytes"
+{ printf 'x:int'; head -c 67108859 /dev/zero | tr '\0' '\n'; } >huge.csv
+run s.txt huge.csv
+judge "a table of 67,108,864 bytes, most of them empty lines" 0 "n = 0"
 rm -f huge.csv
 
 : >empty

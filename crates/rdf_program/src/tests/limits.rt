@@ -55,29 +55,3 @@ fn a_257th_statement_is_refused(rt: HostRuntime) -> Result<(), Fail> {
     );
     Ok(())
 }
-
-// A table of no entries with so many bytes: empty lines are passed over.
-fn table_of_size(alloc: Global, size: usize) -> Result<Text, Fail> {
-    let mut table = Text::new(alloc);
-    table.extend(b"pt:int".as_slice())?;
-    for _ in 6..size {
-        table.push(b'\n')?;
-    }
-    Ok(table)
-}
-
-#[test]
-fn a_table_has_at_most_67108864_bytes(rt: HostRuntime) -> Result<(), Fail> {
-    let largest = table_of_size(rt.alloc(), 67_108_864)?;
-    let (status, sink) = answer(&rt, rt.alloc(), COUNT.as_bytes(), largest.as_bytes())?;
-    assert!(rt; status == Status::Done);
-    assert_eq!(rt; sink.bytes(), b"n = 0\n".as_slice());
-    let longer = table_of_size(rt.alloc(), 67_108_865)?;
-    let (status, sink) = answer(&rt, rt.alloc(), COUNT.as_bytes(), longer.as_bytes())?;
-    assert!(rt; status == Status::TableRefused);
-    assert_eq!(rt;
-        sink.bytes(),
-        b"table refused: longer than 67108864 bytes\n".as_slice()
-    );
-    Ok(())
-}
