@@ -1,4 +1,4 @@
-// The largest inputs, and one more.
+// The largest script, and one byte or one statement more. The largest table is tried in tools/outside_test.sh.
 use super::*;
 use rdf_values::Text;
 
