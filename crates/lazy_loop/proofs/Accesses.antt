@@ -21,7 +21,7 @@ use Rattle.graph_numbers.specs.Results.{result_number}
 use Rattle.graph_numbers.proofs.Listed.{kept_at, of_joined}
 use Rattle.entry_cache.specs.Jobs.{passes_in}
 use Rattle.loop_pieces.proofs.ClusterFaults.{first_cluster_has_first_fault}
-use Rattle.slot_state.specs.Jobs.{job_facts, job_spans}
+use Rattle.slot_state.specs.Jobs.{job_facts}
 use Rattle.event_loop.specs.Ends.{IsFilled}
 use Rattle.event_loop.specs.declared.end.FilledLoop.{FilledLoop}
 use Rattle.lazy_loop.specs.Places.{loop_filling}
@@ -40,7 +40,7 @@ no_pass_no_fault d e (row ∷ rows) = no_pass_no_fault d (e + 1) rows
 pub job_fault : (s : SessionView) → IsSession s → (l : ℕ) → first_in (job_facts (session_job s l)).faults ≡ first_fault s.dataset (passes_in (session_job s l))
 job_fault s is l =
     let leads = subst (λ (n : ℕ). Lead 0 n (cut s.cuts.entries s.cuts.size s.cuts.marks)) is.cuts (cuts_lead s.cuts.entries s.cuts.size s.cuts.marks) in
-    first_cluster_has_first_fault s.dataset (job_spans (session_job s l)) (passes_in (session_job s l)) leads
+    first_cluster_has_first_fault s.dataset (cut s.cuts.entries s.cuts.size s.cuts.marks) (passes_in (session_job s l)) leads
 
 -- ---- one access more
 
