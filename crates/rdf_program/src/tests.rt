@@ -1,4 +1,7 @@
 // Whole runs over files in memory.
+ghost use Rattle.std.specs.Prelude.{◌≡◌, IfOk};
+ghost use Rattle.rdf_outside.specs.Memory.{shelf_made};
+
 use super::*;
 use entry_fns::FnList;
 use rdf_outside::{Gate, MemoryShelf, MemorySink, OpenGate, WordList};
@@ -43,7 +46,9 @@ fn words_of(alloc: Global, words: &[&str], options: &[&str]) -> Result<WordList,
     Ok(list)
 }
 
-fn shelf_of(alloc: Global, script: &[u8], table: &[u8]) -> Result<MemoryShelf, Fail> {
+fn shelf_of(alloc: Global, script: &[u8], table: &[u8]) -> Result<MemoryShelf, Fail>
+    ensures { IfOk result (λ shelf. shelf_made shelf ≡ 0) }
+{
     let mut shelf = MemoryShelf::new(alloc);
     shelf.add("s.txt", script)?;
     shelf.add("a.csv", table)?;

@@ -19,13 +19,8 @@ pub(super) fn name(alloc: Global, bytes: &[u8]) -> Result<Name, Memory> {
 const SHARED: &str =
     "d = df.Define(\"z\", \"square(w)\")\ns = d.Sum(\"z\")\nt = d.Sum(\"z\")\nm = d.Max(\"z\")\nf = d.Filter(\"z > 1\")\nn = f.Count()\nPrint(s)\nPrint(t)\nPrint(m)\nPrint(n)\n";
 
-// Four results share one column: one call for each of the four entries.
-#[test]
-fn counted_closure(rt: HostRuntime) -> Result<(), Fail> {
-    let alloc = rt.alloc();
-    let calls = Arc::new(alloc, AtomicU64::new(0))?;
-    let counter = calls.clone()?;
-    let mut functions = FnList::new(alloc);
+// The square that counts its calls.
+fn counting_square(alloc: Global, counter: Arc<AtomicU64>) -> Result<Stored, Fail> {
     let square: Closure = Box::new(
         alloc,
         move |args: &[i64]| -> Option<i64>
@@ -36,10 +31,17 @@ fn counted_closure(rt: HostRuntime) -> Result<(), Fail> {
             Square::answer(args)
         },
     )?;
-    if functions
-        .add(name(alloc, b"square")?, Stored::new::<Square>(square))
-        .is_err()
-    {
+    Ok(Stored::new::<Square>(square))
+}
+
+// Four results share one column: one call for each of the four entries.
+#[test]
+fn counted_closure(rt: HostRuntime) -> Result<(), Fail> {
+    let alloc = rt.alloc();
+    let calls = Arc::new(alloc, AtomicU64::new(0))?;
+    let square = counting_square(alloc, calls.clone()?)?;
+    let mut functions = FnList::new(alloc);
+    if functions.add(name(alloc, b"square")?, square).is_err() {
         return Err(Fail::from("not added"));
     }
     let case = Case {

@@ -157,11 +157,8 @@ fn hundred_entries(alloc: Global) -> Result<Text, Fail> {
     Ok(table)
 }
 
-#[test]
-fn bar_is_lowered(rt: HostRuntime) -> Result<(), Fail> {
-    let alloc = rt.alloc();
-    let met = Arc::new(alloc, AtomicBool::new(false))?;
-    let flag = met.clone()?;
+// The square that tells when it is asked for the one that is no number of 64 bits.
+fn telling_square(alloc: Global, flag: Arc<AtomicBool>) -> Result<Stored, Fail> {
     let square: Closure = Box::new(
         alloc,
         move |args: &[i64]| -> Option<i64>
@@ -174,11 +171,16 @@ fn bar_is_lowered(rt: HostRuntime) -> Result<(), Fail> {
             Square::answer(args)
         },
     )?;
+    Ok(Stored::new::<Square>(square))
+}
+
+#[test]
+fn bar_is_lowered(rt: HostRuntime) -> Result<(), Fail> {
+    let alloc = rt.alloc();
+    let met = Arc::new(alloc, AtomicBool::new(false))?;
+    let square = telling_square(alloc, met.clone()?)?;
     let mut functions = FnList::new(alloc);
-    if functions
-        .add(name(alloc, b"square")?, Stored::new::<Square>(square))
-        .is_err()
-    {
+    if functions.add(name(alloc, b"square")?, square).is_err() {
         return Err(Fail::from("not added"));
     }
     let gate = FaultIsMet {
