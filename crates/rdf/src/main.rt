@@ -92,22 +92,23 @@ fn shipped_functions(alloc: Global) -> Result<FnList, Memory> {
     Ok(functions)
 }
 
-// Runs what the words ask for.
-fn run(rt: &HostRuntime) -> Result<Status, Memory> {
-    let alloc = rt.alloc();
-    let words = words_of(rt)?;
-    let functions = shipped_functions(alloc)?;
-    let mut shelf = DirShelf::new(rt);
-    let mut sink = StdSink::new(rt);
-    Ok(rdf_top(
-        rt, alloc, &words, &mut shelf, &mut sink, &functions, &OpenGate,
-    ))
+// The status of a run that found no memory before it began.
+fn no_memory() -> ExitCode {
+    ExitCode::from(Status::Memory.code())
 }
 
 fn main(rt: HostRuntime) -> ExitCode {
-    let status = match run(&rt) {
-        Ok(status) => status,
-        Err(Memory) => Status::Memory,
+    let alloc = rt.alloc();
+    let Ok(words) = words_of(&rt) else {
+        return no_memory();
     };
+    let Ok(functions) = shipped_functions(alloc) else {
+        return no_memory();
+    };
+    let mut shelf = DirShelf::new(&rt);
+    let mut sink = StdSink::new(&rt);
+    let status = rdf_top(
+        &rt, alloc, &words, &mut shelf, &mut sink, &functions, &OpenGate,
+    );
     ExitCode::from(status.code())
 }
