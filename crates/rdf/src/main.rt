@@ -42,56 +42,6 @@ fn add(functions: &mut FnList, alloc: Global, name: &[u8], function: Stored) -> 
     }
 }
 
-// The square of a number, where it is one of 64 bits.
-fn add_square(functions: &mut FnList, alloc: Global) -> Result<(), Memory> {
-    let square: Closure = Box::new(
-        alloc,
-        |args: &[i64]| -> Option<i64>
-            requires { length args.now ≡ 1 }
-            ensures { result ≡ square_of args.now }
-        { Square::answer(args) },
-    )?;
-    add(functions, alloc, b"square", Stored::new::<Square>(square))
-}
-
-// The sum of the squares of two numbers.
-fn add_hyp2(functions: &mut FnList, alloc: Global) -> Result<(), Memory> {
-    let hyp2: Closure = Box::new(
-        alloc,
-        |args: &[i64]| -> Option<i64>
-            requires { length args.now ≡ 2 }
-            ensures { result ≡ hyp2_of args.now }
-        { Hyp2::answer(args) },
-    )?;
-    add(functions, alloc, b"hyp2", Stored::new::<Hyp2>(hyp2))
-}
-
-// A number within two bounds.
-fn add_clampto(functions: &mut FnList, alloc: Global) -> Result<(), Memory> {
-    let clampto: Closure = Box::new(
-        alloc,
-        |args: &[i64]| -> Option<i64>
-            requires { length args.now ≡ 3 }
-            ensures { result ≡ clampto_of args.now }
-        { Clampto::answer(args) },
-    )?;
-    add(
-        functions,
-        alloc,
-        b"clampto",
-        Stored::new::<Clampto>(clampto),
-    )
-}
-
-// The functions that every script may call.
-fn shipped_functions(alloc: Global) -> Result<FnList, Memory> {
-    let mut functions = FnList::new(alloc);
-    add_square(&mut functions, alloc)?;
-    add_hyp2(&mut functions, alloc)?;
-    add_clampto(&mut functions, alloc)?;
-    Ok(functions)
-}
-
 // The status of a run that found no memory before it began.
 fn no_memory() -> ExitCode {
     ExitCode::from(Status::Memory.code())
@@ -102,9 +52,43 @@ fn main(rt: HostRuntime) -> ExitCode {
     let Ok(words) = words_of(&rt) else {
         return no_memory();
     };
-    let Ok(functions) = shipped_functions(alloc) else {
+    let Ok(square) = Box::new(
+        alloc,
+        |args: &[i64]| -> Option<i64>
+            requires { length args.now ≡ 1 }
+            ensures { result ≡ square_of args.now }
+        { Square::answer(args) },
+    ) else {
         return no_memory();
     };
+    let Ok(hyp2) = Box::new(
+        alloc,
+        |args: &[i64]| -> Option<i64>
+            requires { length args.now ≡ 2 }
+            ensures { result ≡ hyp2_of args.now }
+        { Hyp2::answer(args) },
+    ) else {
+        return no_memory();
+    };
+    let Ok(clampto) = Box::new(
+        alloc,
+        |args: &[i64]| -> Option<i64>
+            requires { length args.now ≡ 3 }
+            ensures { result ≡ clampto_of args.now }
+        { Clampto::answer(args) },
+    ) else {
+        return no_memory();
+    };
+    let mut functions = FnList::new(alloc);
+    for (name, function) in [
+        (b"square".as_slice(), Stored::new::<Square>(square)),
+        (b"hyp2".as_slice(), Stored::new::<Hyp2>(hyp2)),
+        (b"clampto".as_slice(), Stored::new::<Clampto>(clampto)),
+    ] {
+        if add(&mut functions, alloc, name, function).is_err() {
+            return no_memory();
+        }
+    }
     let mut shelf = DirShelf::new(&rt);
     let mut sink = StdSink::new(&rt);
     let status = rdf_top(

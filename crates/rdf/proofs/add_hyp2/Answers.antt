@@ -1,7 +1,0 @@
-use Rattle.std.proofs.Common.{refl}
-use Rattle.entry_fns.proofs.Made.{boxed_answers}
-use Rattle.rdf.proofs.add_hyp2.OwnLists.{own-1, at-1-1}
-use Rattle.rdf.proofs.add_hyp2.Goals as goal
-
-pub new-requires-2-clause-can : goal.new-requires-2-clause-can
-new-requires-2-clause-can g c = λ args e. boxed_answers own-1 at-1-1 _ _ _ c.into_dyn_box.ensures.1 _ _ refl
