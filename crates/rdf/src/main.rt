@@ -31,14 +31,11 @@ fn words_of(rt: &HostRuntime) -> Result<WordList, Memory> {
     }
 }
 
-// Adds a function, whose name is none of the list yet; so nothing but memory can be wanting.
-fn add(functions: &mut FnList, alloc: Global, name: &[u8], function: Stored) -> Result<(), Memory> {
-    let Some(name) = Name::read(alloc, name)? else {
-        return Err(Memory);
-    };
-    match functions.add(name, function) {
-        Ok(()) => Ok(()),
-        Err(_) => Err(Memory),
+// The name of a function, which is one of the language; so nothing but memory can be wanting.
+fn name_of(alloc: Global, name: &[u8]) -> Result<Name, Memory> {
+    match Name::read(alloc, name)? {
+        Some(name) => Ok(name),
+        None => Err(Memory),
     }
 }
 
@@ -47,6 +44,7 @@ fn no_memory() -> ExitCode {
     ExitCode::from(Status::Memory.code())
 }
 
+// The functions are made here, since a function can't hand out a boxed closure.
 fn main(rt: HostRuntime) -> ExitCode {
     let alloc = rt.alloc();
     let Ok(words) = words_of(&rt) else {
@@ -85,7 +83,10 @@ fn main(rt: HostRuntime) -> ExitCode {
         (b"hyp2".as_slice(), Stored::new::<Hyp2>(hyp2)),
         (b"clampto".as_slice(), Stored::new::<Clampto>(clampto)),
     ] {
-        if add(&mut functions, alloc, name, function).is_err() {
+        let Ok(name) = name_of(alloc, name) else {
+            return no_memory();
+        };
+        if functions.add(name, function).is_err() {
             return no_memory();
         }
     }
