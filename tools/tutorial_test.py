@@ -4,9 +4,11 @@
     tools/tutorial_test.py [PROGRAM]        RDF_PROGRAM, or crates/rdf/out/rdf, where none is named
 
 A block of `sh` is run in one folder, in order; the block of `text` that follows it, if any, is what
-it prints, to the byte. A block of another kind, as `sh not-run`, isn't run.
+it prints, to the byte. A block of `sh matplotlib` is run where /usr/bin/python3 has matplotlib. A block of
+another kind, as `python`, isn't run.
 """
 import difflib
+import functools
 import os
 import re
 import shutil
@@ -34,11 +36,19 @@ def blocks(page):
     return found
 
 
+@functools.lru_cache(None)
+def has_matplotlib():
+    found = subprocess.run(["/usr/bin/python3", "-c", "import matplotlib"], stderr=subprocess.DEVNULL).returncode == 0
+    if not found:
+        print("tutorial: no matplotlib, so nothing is drawn")
+    return found
+
+
 def commands(page):
     """Each block that is run, with its line and what it prints, or None where the page doesn't say."""
     parts = blocks(page)
     for (line, kind, text), after in zip(parts, parts[1:] + [(0, "", "")]):
-        if kind == "sh":
+        if kind == "sh" or kind == "sh matplotlib" and has_matplotlib():
             yield line, text, after[2] if after[1] == "text" else None
 
 

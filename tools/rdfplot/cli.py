@@ -90,6 +90,9 @@ def _parser() -> argparse.ArgumentParser:
     parser.add_argument(
         "--label2", action="append", default=[], metavar="NAME=TEXT", help="name of the result's y axis"
     )
+    parser.add_argument(
+        "--dpi", type=_resolution, default=150, metavar="N", help="dots of a PNG to the inch, 30 to 600 (150)"
+    )
     parser.add_argument("--list", action="store_true", help="print numbers and partial results to standard output")
     return parser
 
@@ -97,6 +100,12 @@ def _parser() -> argparse.ArgumentParser:
 def _positive(text: str) -> int:
     if not (text.isascii() and text.isdigit() and 1 <= int(text) <= 100_000):
         raise argparse.ArgumentTypeError("not a number from 1 to 100000")
+    return int(text)
+
+
+def _resolution(text: str) -> int:
+    if not (text.isascii() and text.isdigit() and 30 <= int(text) <= 600):
+        raise argparse.ArgumentTypeError("not a number from 30 to 600")
     return int(text)
 
 
@@ -189,7 +198,10 @@ def _write(args: argparse.Namespace, pictures: Iterator[Picture]) -> None:
         form = args.format or "png"
         for picture in pictures:
             file = args.out_dir / f"{picture.name}.{form}"
-            picture.figure.savefig(file, metadata=no_time if form == "pdf" else None)
+            if form == "pdf":
+                picture.figure.savefig(file, metadata=no_time)
+            else:
+                _save_png(picture.figure, file, args.dpi)
     elif args.out.suffix.lower() == ".pdf":
         from matplotlib.backends.backend_pdf import PdfPages
 
@@ -200,4 +212,8 @@ def _write(args: argparse.Namespace, pictures: Iterator[Picture]) -> None:
         first, *more = pictures
         if more:
             raise Fault(FAULTY, f"{len(more) + 1} pictures don't fit in {args.out}: take --out-dir, a PDF, or --only")
-        first.figure.savefig(args.out)
+        _save_png(first.figure, args.out, args.dpi)
+
+
+def _save_png(figure: Any, file: Path, dpi: int) -> None:
+    figure.savefig(file, dpi=dpi, pil_kwargs={"optimize": True})

@@ -7,7 +7,7 @@ import textwrap
 from collections import Counter
 from collections.abc import Iterable, Iterator, Sequence
 from dataclasses import dataclass
-from typing import Any
+from typing import Any, NamedTuple
 
 import numpy as np
 from matplotlib.axes import Axes
@@ -24,11 +24,12 @@ from matplotlib.ticker import AutoMinorLocator, FixedLocator, Locator, MaxNLocat
 from numpy.typing import NDArray
 
 from . import style
-from .read import Cell, Histo1D, Histo2D, Report, Result, Values
+from .read import Cell, Histo1D, Histo2D, Report, Result, Step, Values
 
 Floats = NDArray[np.float64]
 
 WIDTH = 6.5  # of the axes, in inches
+BARS = 4.6  # of a cutflow's axes
 BELOW = 0.88  # inches below the axes, for their numbers and name
 STEPS = (1, 2, 2.5, 5, 10)  # between ticks
 ERROR = "nominal's error"  # in the legend
@@ -294,7 +295,7 @@ def _outside(histo: Histo2D) -> str:
 
 
 def _cutflow(name: str, report: Report, look: Look) -> Figure:
-    """A bar for each filter, from above: the entries that passed, over those that reached it."""
+    """A bar for each filter, from above: the entries that passed, over those that reached it; numbers beside them."""
     steps = report.steps
     labels = [_wrapped(step.label, 32) for step in steps]
     pitch = 0.52 if len(steps) <= 40 else 0.36
@@ -302,25 +303,13 @@ def _cutflow(name: str, report: Report, look: Look) -> Figure:
     height = max(1.2, pitch * len(steps) + 0.25)
     x_name = _axis_name(f"{name}: entries", look.x_label, 0)
     below = BELOW + _more_lines(x_name)
-    figure = _figure(left + WIDTH + 0.5, below + height + 0.5)
-    main = _axes(figure, left, below, WIDTH, height, "main")
+    columns = _columns_of(steps)
+    figure = _figure(left + BARS + columns[-1].end + 0.25, below + height + 0.5)
+    main = _axes(figure, left, below, BARS, height, "main")
     places = np.arange(len(steps))
     reached = main.barh(places, [step.reached for step in steps], 0.74, color=style.REACHED, zorder=1, label="reached")
     passed = main.barh(places, [step.passed for step in steps], 0.74, color=style.PASSED, zorder=2, label="passed")
-    for place, step in zip(places, steps):
-        said = f"{step.passed} of {step.reached},  eff {_percent(step.eff)},  cumulative {_percent(step.cumulative)}"
-        _plain(
-            main.annotate(
-                said,
-                (0.0, place),
-                (6, 0),
-                xycoords=main.get_yaxis_transform(),
-                textcoords="offset points",
-                va="center_baseline",
-                size=style.SMALL,
-                zorder=3,
-            )
-        )
+    _beside(main, columns)
     main.set_xlim(0, 1.04 * max(step.reached for step in steps) or 1)
     main.set_ylim(len(steps) - 0.4, -0.6)
     main.yaxis.set_major_locator(FixedLocator(places))
@@ -328,22 +317,53 @@ def _cutflow(name: str, report: Report, look: Look) -> Figure:
     for text in main.set_yticklabels(labels):
         _plain(text)
     main.tick_params(axis="y", which="both", length=0)
-    main.xaxis.set_major_locator(MaxNLocator(nbins=6, integer=True))
+    main.xaxis.set_major_locator(MaxNLocator(nbins=5, integer=True))
     main.set_xlabel(x_name)
     if look.y_label is not None:
         main.set_ylabel(look.y_label)
     main.legend(
         [passed, reached],
         ["passed", "reached the filter"],
-        loc="lower right",
-        bbox_to_anchor=(1.0, 1.0),
+        loc="lower left",
+        bbox_to_anchor=(0.0, 1.0),
         ncol=2,
         borderaxespad=0.2,
+        handlelength=1.6,
+        columnspacing=1.4,
         fontsize=style.SMALL,
     )
     figure.draw_without_rendering()
     _clear_exponent(main)
     return figure
+
+
+class _Column(NamedTuple):
+    """Texts below each other, the first one a title, which end so many inches to the right of the axes."""
+
+    texts: tuple[str, ...]
+    end: float
+
+
+def _columns_of(steps: Sequence[Step]) -> list[_Column]:
+    """The numbers of a cutflow as columns side by side."""
+    rows = [(str(s.passed), str(s.reached), _percent(s.eff), _percent(s.cumulative)) for s in steps]
+    columns: list[_Column] = []
+    end = 0.0
+    for texts in zip(("passed", "reached", "eff", "cumulative"), *rows):
+        end += 0.2 + max(_wide(text, style.SMALL) for text in texts)
+        columns.append(_Column(texts, end))
+    return columns
+
+
+def _beside(axes: Axes, columns: Sequence[_Column]) -> None:
+    """Writes the columns to the right of the axes: titles at its top, and a row for each whole number of its y axis."""
+    for (title, *texts), end in columns:
+        at = {"textcoords": "offset points", "ha": "right", "size": style.SMALL}
+        axes.annotate(title, (1.0, 1.0), (72 * end, 5), xycoords="axes fraction", va="bottom", **at)
+        for place, text in enumerate(texts):
+            axes.annotate(
+                text, (1.0, place), (72 * end, 0), xycoords=axes.get_yaxis_transform(), va="center_baseline", **at
+            )
 
 
 def _percent(text: str) -> str:
@@ -497,7 +517,10 @@ def _quotient(part: float, whole: float) -> float:
 
 
 def _said(cell: Cell) -> str:
-    return _short(cell.sum) + (f" ± {math.sqrt(cell.squares):.3g}" if cell.squares else "")
+    if not cell.squares:
+        return _short(cell.sum)
+    error = math.sqrt(cell.squares)
+    return f"{_short(cell.sum)} ± {f'{error:.3g}' if error < 1000 else _short(round(error))}"
 
 
 def _short(number: int) -> str:

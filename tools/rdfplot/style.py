@@ -57,7 +57,7 @@ SETTINGS: dict[str, Any] = {
             "minor.size": 4,
             "major.width": 1.1,
             "minor.width": 0.9,
-            "major.pad": 6,
+            "major.pad": 8,
         }.items()
     },
     "xtick.top": True,

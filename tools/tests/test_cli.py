@@ -74,6 +74,15 @@ class Files(Case):
         self.assertTrue((self.dir / "all.pdf").read_bytes().startswith(PDF))
         self.assertEqual(pages(self.dir / "all.pdf"), 3)
 
+    def test_dots_to_the_inch(self) -> None:
+        wide = []
+        for dots in ("50", "100"):
+            self.assertEqual(self.run_words(rows.REPORT, "--out", self.at("r.png"), "--dpi", dots), (0, "", ""))
+            wide.append(int.from_bytes((self.dir / "r.png").read_bytes()[16:20], "big"))
+        self.assertAlmostEqual(wide[1], 2 * wide[0], delta=2)
+        for dots in ("29", "601", "1.5", "-1"):
+            self.assertEqual(self.run_words(rows.REPORT, "--out", self.at("r.png"), "--dpi", dots)[0], 2)
+
     def test_one_png(self) -> None:
         self.assertEqual(self.run_words(rows.REPORT, "--out", self.at("r.PNG")), (0, "", ""))
         self.assertTrue((self.dir / "r.PNG").read_bytes().startswith(PNG))

@@ -2,6 +2,7 @@
 
 from __future__ import annotations
 
+import itertools
 import math
 import unittest
 from typing import Any
@@ -70,6 +71,11 @@ class Steps(Case):
     def test_outside_as_text(self) -> None:
         self.assertEqual(texts(axes(figure(rows.WEIGHTED))), ["underflow 0\noverflow 3 ± 2.24"])
         self.assertEqual(texts(axes(figure(rows.VARIED))), ["underflow 2 ± 1.41\noverflow 1 ± 1"])
+
+    def test_errors_without_powers_of_ten(self) -> None:
+        text = "h = histo1d 3\n  under {} {}\n  [0,1) 1 1\n  over 0 0\n"
+        self.assertEqual(texts(axes(figure(text.format(6290, 6657474))))[0], "underflow 6290 ± 2580\noverflow 0")
+        self.assertEqual(texts(axes(figure(text.format(-7, 10**36))))[0], "underflow -7 ± 1e+18\noverflow 0")
 
     def test_outside_as_bins(self) -> None:
         main = axes(figure(rows.WEIGHTED, draw.Look(flow=True)))
@@ -289,11 +295,29 @@ class Cutflows(Case):
         np.testing.assert_allclose(centres, [0, 1], atol=1e-9)
         self.assertTrue(main.yaxis_inverted())
 
-    def test_efficiencies(self) -> None:
-        said = texts(axes(figure(rows.REPORT)))
-        self.assertEqual(said[0], "3 of 4,  eff 75.00%,  cumulative 75.00%")
-        self.assertEqual(said[1], "1 of 3,  eff 33.33%,  cumulative 25.00%")
-        self.assertEqual(texts(axes(figure(rows.EMPTY_REPORT)))[0], "0 of 0,  eff none,  cumulative none")
+    def test_numbers_beside_the_bars(self) -> None:
+        self.assertEqual(self.table(rows.REPORT), [
+            ["passed", "reached", "eff", "cumulative"],
+            ["3", "4", "75.00%", "75.00%"],
+            ["1", "3", "33.33%", "25.00%"],
+        ])  # fmt: skip
+        self.assertEqual(self.table(rows.EMPTY_REPORT)[1], ["0", "0", "none", "none"])
+
+    def table(self, text: str) -> list[list[str]]:
+        """The texts beside the axes as rows, from above and from the left. They lie within the figure, and apart."""
+        found = figure(text)
+        main = axes(found)
+        found.draw_without_rendering()
+        boxes = {part: part.get_window_extent() for part in main.texts}
+        self.assertGreater(min(box.x0 for box in boxes.values()), main.get_window_extent().x1)
+        self.assertLess(max(box.x1 for box in boxes.values()), found.bbox.x1)
+        for one, other in itertools.combinations(boxes.values(), 2):
+            self.assertFalse(one.overlaps(other))
+        lines: dict[int, list[str]] = {}
+        for part, box in sorted(boxes.items(), key=lambda item: item[1].x1):
+            place = main.transData.inverted().transform((0, (box.y0 + box.y1) / 2))[1]
+            lines.setdefault(round(place), []).append(part.get_text())
+        return [lines[place] for place in sorted(lines)]
 
     def test_labels(self) -> None:
         main = axes(figure(rows.REPORT))
