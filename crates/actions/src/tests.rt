@@ -42,7 +42,7 @@ fn joined(acc: Acc, other: Acc) -> Result<Acc, Fail>
     ensures entries { IfOk result (λ all. all.entries ≡ acc.entries + other.entries) }
 {
     let mut all = acc;
-    all.merge(other)?;
+    all.merge(&other)?;
     Ok(all)
 }
 
