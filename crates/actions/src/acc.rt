@@ -36,7 +36,7 @@ impl Model for Acc {
 }
 
 impl Acc {
-    ghost use Rattle.std.specs.Prelude.{◌≡◌, ◌↔◌, ◌≤◌, ◌<◌, ◌+◌, ◌++◌, [], List, None, Some, Err, IfOk, OnErr, OnOk, max};
+    ghost use Rattle.std.specs.Prelude.{◌≡◌, ◌↔◌, ◌≤◌, ◌<◌, ◌+◌, ◌++◌, [], List, None, Some, Err, IfOk, IsTrue, OnErr, OnOk, max};
     ghost use Rattle.rdf_values.specs.declared.fault.EntryFault.{EntryFault};
     ghost use Rattle.rdf_values.specs.Spread.{feed_fault, spread};
     ghost use Rattle.rdf_values.specs.Fold.{fold_items};
@@ -88,15 +88,15 @@ impl Acc {
     }
 
     /// Takes in all that was fed to another accumulator of the same action; after `Memory` nothing has changed.
-    pub fn merge(&mut self, other: Acc) -> Result<(), Memory>
-        requires kind { other.kind ≡ self.old.kind }
-        requires room { self.old.entries + other.entries ≤ 1000000 }
+    pub fn merge(&mut self, other: &Acc) -> Result<(), Memory>
+        requires kind { other.now.kind ≡ self.old.kind }
+        requires room { self.old.entries + other.now.entries ≤ 1000000 }
         ensures memory { OnErr result (IsTake self.old.kind) }
         ensures err { OnErr result (self.new ≡ self.old) }
         ensures kind { self.new.kind ≡ self.old.kind }
-        ensures entries { OnOk result (self.new.entries ≡ self.old.entries + other.entries) }
-        ensures last { OnOk result (self.new.last ≡ max self.old.last other.last) }
-        ensures fed { (fed more : List Fed) → HasFed self.old fed → HasFed other more → OnOk result (HasFed self.new (fed ++ more)) }
+        ensures entries { OnOk result (self.new.entries ≡ self.old.entries + other.now.entries) }
+        ensures last { OnOk result (self.new.last ≡ max self.old.last other.now.last) }
+        ensures fed { (fed more : List Fed) → HasFed self.old fed → HasFed other.now more → OnOk result (HasFed self.new (fed ++ more)) }
     {
         match self.state.merge(self.alloc, &other.state) {
             Ok(()) => {
@@ -106,6 +106,34 @@ impl Acc {
             }
             Err(Memory) => Err(Memory),
         }
+    }
+
+    /// How many entries were fed.
+    pub fn entries(&self) -> u32
+        ensures { result ≡ self.now.entries }
+    {
+        self.entries
+    }
+
+    /// The highest cluster that fed, or 0.
+    pub fn last(&self) -> u32
+        ensures { result ≡ self.now.last }
+    {
+        self.last
+    }
+
+    /// Whether an entry can feed these values to the action.
+    pub fn suits(&self, items: &Items<'_>) -> bool
+        ensures { IsTrue result ↔ Suits self.now.kind items.now }
+    {
+        self.state.suits(items)
+    }
+
+    /// Whether the other one is of the same action: its columns, operation and edges.
+    pub fn same_kind(&self, other: &Acc) -> bool
+        ensures { IsTrue result ↔ (other.now.kind ≡ self.now.kind) }
+    {
+        self.state.same_kind(&other.state)
     }
 
     /// What was made of the items so far.

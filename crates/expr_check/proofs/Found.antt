@@ -3,7 +3,7 @@ use Rattle.std.proofs.Common.{◌≡◌, ◌≢◌, ℕ, Bool, true, false, cond
 use Rattle.std.specs.Prelude.{find}
 use Rattle.std.specs.List.{AllByRecursion}
 use Rattle.std.proofs.lemmas.Bool.Decides.{Decides-eqb}
-use Rattle.std.proofs.lemmas.List.Elements.{All-from_recursion}
+use Rattle.std.proofs.lemmas.List.Elements.{All-from_recursion, recursion_from_All}
 use Rattle.std.proofs.lemmas.Slice.Eq.{bytes_eq-Decides}
 use Rattle.rdf_values.specs.Names.{same}
 use Rattle.rdf_values.specs.Kinds.{column_kind}
@@ -11,7 +11,7 @@ use Rattle.rdf_values.specs.Numbered.{ScopeColumn, kinds_in, number_in}
 use Rattle.rdf_values.specs.declared.value.ColType.{ColType}
 use Rattle.rdf_values.specs.declared.graph_cause.GraphCause.TheVariants.{UnknownColumn}
 use Rattle.expr_check.specs.NumKinds.{number_kind}
-use Rattle.expr_check.specs.Scopes.{LacksColumn, NumberHasKind, numbers_in}
+use Rattle.expr_check.specs.Scopes.{LacksColumn, NumberHasKind, NumbersHaveKinds, numbers_in}
 
 -- what a search by name found: nothing, or the column that the name means
 abbrev pub IsNamed : List ScopeColumn → List ℕ → Option ScopeColumn → Type 0
@@ -61,3 +61,19 @@ no_number_by_recursion (c ∷ cs) number k is = no_number_by (nat_eq c.number nu
 -- a number that isn't found may have any kind
 pub number_free : (cs : List ScopeColumn) (number : ℕ) (k : ColType) → number_kind (numbers_in cs) number ≡ Err UnknownColumn → NumberHasKind number k cs
 number_free cs number k is = All-from_recursion (λ (c : ScopeColumn). c.number ≡ number → c.kind ≡ k) cs (no_number_by_recursion cs number k is)
+
+-- the column that a search by number found has that number, and all that holds of each column
+found_holds : (cs : List ScopeColumn) (number : ℕ) (P : ScopeColumn → Type 0) → AllByRecursion P cs → (c : ScopeColumn) → Some c ≡ find (λ d. nat_eq d.number number) cs → (c.number ≡ number) × P c
+found_holds [] number P each c is = cc is
+found_holds (d ∷ ds) number P each c is = found_at (nat_eq d.number number) (λ e. (Decides-eqb d.number number).0 e) (find (λ d. nat_eq d.number number) ds) (found_holds ds number P each.1 c) is
+  where
+    found_at : (b : Bool) → (b ≡ true → d.number ≡ number) → (rest : Option ScopeColumn) → (Some c ≡ rest → (c.number ≡ number) × P c)
+        → Some c ≡ cond b (Some d) rest → (c.number ≡ number) × P c
+    found_at true here rest below is = let same_column : c ≡ d = cc is in rw same_column (here refl, each.0)
+    found_at false here rest below is = below is
+
+-- a number that is found has the kind of its column
+pub number_held : (cs : List ScopeColumn) (number : ℕ) → NumbersHaveKinds cs → (c : ScopeColumn) → Some c ≡ find (λ d. nat_eq d.number number) cs → NumberHasKind number c.kind cs
+number_held cs number one c is =
+    let held = found_holds cs number (λ (d : ScopeColumn). NumberHasKind d.number d.kind cs) (recursion_from_All (λ (d : ScopeColumn). NumberHasKind d.number d.kind cs) cs one) c is in
+    rw held.0 at held.1

@@ -1,5 +1,5 @@
 // Columns that an expression may read.
-ghost use Rattle.std.specs.Prelude.{◌≡◌, ◌≢◌, ℕ, List, [], ◌∷◌, ◌++◌, All, Ok, Err, IsOk, IfOk, IfNone, map, OnOk, OnErr, MatchOption, find, nat_eq};
+ghost use Rattle.std.specs.Prelude.{◌≡◌, ◌≢◌, ℕ, List, [], ◌∷◌, ◌++◌, All, Ok, Err, IsOk, IfOk, IfNone, IfSome, map, OnOk, OnErr, MatchOption, find, nat_eq};
 ghost use Rattle.std.specs.Option.{option_copied};
 ghost use Rattle.rdf_values.specs.Names.{same};
 ghost use Rattle.rdf_values.specs.Kinds.{column_kind};
@@ -78,7 +78,8 @@ impl Scope {
     }
 
     fn numbered(&self, number: u32) -> Option<&Known>
-        ensures { option_copied result ≡ find (λ c. nat_eq c.number number) self.now }
+        ensures found { option_copied result ≡ find (λ c. nat_eq c.number number) self.now }
+        ensures one_kind { NumbersHaveKinds self.now }
     {
         self.columns.iter().find(|c| c.number == number)
     }
@@ -95,10 +96,11 @@ impl Scope {
         }
     }
 
-    /// The kind of the columns of that number.
-    pub(crate) fn number_kind(&self, number: u32) -> Option<ColType>
+    /// The kind of the columns of that number, if there is one.
+    pub fn number_kind(&self, number: u32) -> Option<ColType>
         ensures found { MatchOption result (number_kind (numbers_in self.now) number ≡ Err UnknownColumn)
             (λ kind. number_kind (numbers_in self.now) number ≡ Ok kind) }
+        ensures kind { IfSome result (λ kind. NumberHasKind number kind self.now) }
         ensures absent { IfNone result ((kind : _) → NumberHasKind number kind self.now) }
     {
         match self.numbered(number) {

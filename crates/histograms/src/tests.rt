@@ -39,6 +39,7 @@ fn values_of_several_fills_add_up_after_a_merge(rt: HostRuntime) -> Result<(), F
     other.fill(1, 1);
     other.fill(1, 1);
     hist.merge(&other);
+    assert_eq!(rt; (hist.fills(), hist.edges()), (6, [0, 2, 50].as_slice()));
     for (i, sum, squares) in [(0, 0, 0), (1, 3, 3), (2, 2, 2), (3, 1, 1)] {
         if i < hist.cells() {
             let cell = hist.cell(i);
@@ -57,6 +58,7 @@ fn pairs_fall_into_the_cells_of_both_axes(rt: HostRuntime) -> Result<(), Fail> {
     hist.fill(25, 2, 1);
     hist.fill(40, 1, 1);
     hist.fill(5, -3, 1);
+    assert_eq!(rt; (hist.x_edges(), hist.y_edges()), ([0, 20, 50].as_slice(), [0, 2].as_slice()));
     let (rows, columns) = hist.cells();
     assert_eq!(rt; (rows, columns), (4, 3));
     for i in 0..rows {

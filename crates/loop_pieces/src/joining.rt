@@ -28,6 +28,6 @@ impl Piece for LoopPiece {
         } = other;
         self.trails.clear();
         self.flow.merge(&flow);
-        merge_accs(self.accs.as_mut_slice(), accs)
+        merge_accs(self.accs.as_mut_slice(), accs.as_slice())
     }
 }
