@@ -208,8 +208,18 @@ fn what_it_takes_is_told(rt: HostRuntime) -> Result<(), Fail> {
         x: Part::Vect(&[1]),
     };
     assert!(rt; !acc.suits(&vector) && !acc.suits(&Items::Entry));
-    let eta = fed(rt.alloc(), &ActionKind::Take(name(rt.alloc(), b"eta")?), 3, &[])?;
-    let sum = fed(rt.alloc(), &ActionKind::Sum(name(rt.alloc(), b"pt")?), 3, &[])?;
+    let eta = fed(
+        rt.alloc(),
+        &ActionKind::Take(name(rt.alloc(), b"eta")?),
+        3,
+        &[],
+    )?;
+    let sum = fed(
+        rt.alloc(),
+        &ActionKind::Sum(name(rt.alloc(), b"pt")?),
+        3,
+        &[],
+    )?;
     assert!(rt; !acc.same_kind(&eta) && !acc.same_kind(&sum));
     let pt = fed(rt.alloc(), &kind, 4, &[Part::Int(7)])?;
     merge(&mut acc, &pt)?;

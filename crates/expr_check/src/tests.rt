@@ -235,7 +235,10 @@ fn a_number_may_be_added_with_its_own_kind(rt: HostRuntime) -> Result<(), Fail> 
     let mut scope = scope(rt.alloc())?;
     add(&mut scope, &name(rt.alloc(), "k")?, ColType::Int, 3)?;
     add(&mut scope, &name(rt.alloc(), "w")?, ColType::Int, 2)?;
-    assert_eq!(rt; scope.find(&name(rt.alloc(), "k")?), Some((ColType::Int, 3)));
+    assert_eq!(rt;
+        scope.find(&name(rt.alloc(), "k")?),
+        Some((ColType::Int, 3))
+    );
     assert_eq!(rt; scope.find(&name(rt.alloc(), "w")?), None);
     assert_eq!(rt; scope.number_kind(2), Some(ColType::Vect));
     Ok(())

@@ -58,7 +58,10 @@ fn pairs_fall_into_the_cells_of_both_axes(rt: HostRuntime) -> Result<(), Fail> {
     hist.fill(25, 2, 1);
     hist.fill(40, 1, 1);
     hist.fill(5, -3, 1);
-    assert_eq!(rt; (hist.x_edges(), hist.y_edges()), ([0, 20, 50].as_slice(), [0, 2].as_slice()));
+    assert_eq!(rt;
+        (hist.x_edges(), hist.y_edges()),
+        ([0, 20, 50].as_slice(), [0, 2].as_slice())
+    );
     let (rows, columns) = hist.cells();
     assert_eq!(rt; (rows, columns), (4, 3));
     for i in 0..rows {
