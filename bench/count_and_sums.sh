@@ -1,18 +1,22 @@
 #!/bin/sh
 # Count and two Sums over the generator's table of 1,000,000 entries, by rdf and by mawk, five times each.
 # It needs mawk and GNU time (Debian: apt-get install mawk time), and takes about half a minute.
+# The program is RDF_PROGRAM, or crates/rdf/out/rdf, built where it must.
 set -eu
 
 bench=$(cd "$(dirname "$0")" && pwd -P)
+program=${RDF_PROGRAM:-$bench/../crates/rdf/out/rdf}
+case $program in /*) ;; *) program=$PWD/$program ;; esac
+if [ -z "${RDF_PROGRAM:-}" ]; then
+    "$bench/../rdf" >/dev/null || [ $? -eq 2 ]
+fi
 work=$(mktemp -d)
 trap 'rm -rf "$work"' EXIT
 
 awk -v n=1000000 -v seed=7 -f "$bench/make_table.awk" >"$work/table.csv"
 cp "$bench/count_and_sums.txt" "$work/script.txt"
 cd "$work"
-# the launcher builds the program where it must; the program itself is timed
-"$bench/../rdf" script.txt table.csv >rdf.out
-program=$bench/../crates/rdf/out/rdf
+"$program" script.txt table.csv >rdf.out
 mawk -f "$bench/count_and_sums.awk" table.csv >mawk.out
 cmp rdf.out mawk.out
 ls -l table.csv | awk '{ print "table: " $5 " bytes" }'

@@ -170,12 +170,13 @@ def attempt(seed, points):
 def main():
     count = int(sys.argv[1]) if len(sys.argv) > 1 else 10000
     seed = sys.argv[2] if len(sys.argv) > 2 else "1"
+    jobs = int(sys.argv[3]) if len(sys.argv) > 3 else os.cpu_count() or 1
     if not os.access(PROGRAM, os.X_OK):
         print("hostile: no program at %s" % PROGRAM)
         return 1
     points = starting_points()
     statuses, wrong_runs = collections.Counter(), 0
-    with concurrent.futures.ThreadPoolExecutor(os.cpu_count() or 1) as workers:
+    with concurrent.futures.ThreadPoolExecutor(jobs) as workers:
         seeds = ["%s/%d" % (seed, number) for number in range(count)]
         for name, (status, wrong, script, table) in zip(seeds, workers.map(lambda s: attempt(s, points), seeds)):
             statuses[status] += 1
