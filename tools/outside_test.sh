@@ -34,6 +34,12 @@ judge() { # NAME STATUSES OUTPUT
 
 run() { "$program" "$@" >out 2>err </dev/null; echo $? >status; }
 
+# With at most so many seconds of processor time; a run that wants more is killed.
+run_within() { # SECONDS WORDS..
+    (ulimit -t "$1" && shift && exec "$program" "$@") >out 2>err </dev/null
+    echo $? >status
+}
+
 skip() { skipped=$((skipped + 1)); echo "skipped: $1"; }
 
 printf 'n = df.Count()\nPrint(n)\n' >s.txt
@@ -147,22 +153,28 @@ l = 999999"
     { cat million.csv; echo 1,2; } >more.csv
     run sum.txt more.csv
     judge "1,000,001 entries, the last with a field too many" 7 "table refused at entry 1000000: B5 TooMany"
-    printf 'n = df.Count()\nWatch(n)\nPrint(n)\n' >watch.txt
-    run watch.txt million.csv --cluster 1
+    # The sum of the entries' own numbers tells over which clusters a line is.
+    printf 's = df.Sum("x")\nWatch(s)\nPrint(s)\n' >watch.txt
+    run_within 120 watch.txt million.csv --cluster 1
     judge "1,000,000 clusters, one slot: 1,000 partial lines" 0 "$(awk 'BEGIN {
-        for (j = 1; j <= 1000; j++) print "partial n over 0-" 1000 * j - 1 " = " 1000 * j
-        print "n = 1000000" }')"
-    run watch.txt million.csv --cluster 1 --slots 4
-    # Each line must name as many clusters as its value says, 1,000 more than the line before.
+        for (j = 1; j <= 1000; j++) { n = 1000 * j; printf "partial s over 0-%d = %.0f\n", n - 1, n * (n - 1) / 2 }
+        print "s = 499999500000" }')"
+    run_within 240 watch.txt million.csv --cluster 1 --slots 4
+    # Each line must name 1,000 clusters more than the one before, and its value be the sum over them.
     awk '$1 == "partial" {
-            named = 0
+            named = sum = 0
             parts = split($4, part, ",")
-            for (i = 1; i <= parts; i++) { ends = split(part[i], end, "-"); named += ends == 2 ? end[2] - end[1] + 1 : 1 }
+            for (i = 1; i <= parts; i++) {
+                ends = split(part[i], end, "-")
+                high = ends == 2 ? end[2] : end[1]
+                named += high - end[1] + 1
+                sum += (high - end[1] + 1) * (high + end[1]) / 2
+            }
             lines++
-            if (named != 1000 * lines || $6 != named) bad++
+            if (named != 1000 * lines || $6 != sum) bad++
         }
         END { print lines + 0 " lines, " bad + 0 " bad; " $0 }' out >counted && mv counted out
-    judge "1,000,000 clusters, four slots: 1,000 partial lines" 0 "1000 lines, 0 bad; n = 1000000"
+    judge "1,000,000 clusters, four slots: 1,000 partial lines" 0 "1000 lines, 0 bad; s = 499999500000"
     rm -f million.csv more.csv
 }
 if [ "${OUTSIDE_SMALL:-0}" = 1 ]; then skip "tables of a million entries"; else large; fi
