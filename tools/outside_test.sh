@@ -115,8 +115,12 @@ run empty a.csv
 judge "an empty script" 0 ""
 run s.txt empty
 judge "an empty table" 7 "table refused at header field 0: B1 Header"
-run /dev/null /dev/null
-judge "a device" 7 "table refused at header field 0: B1 Header"
+if [ -c /dev/null ]; then
+    run /dev/null /dev/null
+    judge "a device" 7 "table refused at header field 0: B1 Header"
+else
+    skip "a device: /dev/null is none"
+fi
 
 mkdir dir
 run dir a.csv
@@ -155,11 +159,11 @@ l = 999999"
     judge "1,000,001 entries, the last with a field too many" 7 "table refused at entry 1000000: B5 TooMany"
     # The sum of the entries' own numbers tells over which clusters a line is.
     printf 's = df.Sum("x")\nWatch(s)\nPrint(s)\n' >watch.txt
-    run_within 120 watch.txt million.csv --cluster 1
+    run_within 60 watch.txt million.csv --cluster 1
     judge "1,000,000 clusters, one slot: 1,000 partial lines" 0 "$(awk 'BEGIN {
         for (j = 1; j <= 1000; j++) { n = 1000 * j; printf "partial s over 0-%d = %.0f\n", n - 1, n * (n - 1) / 2 }
         print "s = 499999500000" }')"
-    run_within 240 watch.txt million.csv --cluster 1 --slots 4
+    run_within 120 watch.txt million.csv --cluster 1 --slots 4
     # Each line must name 1,000 clusters more than the one before, and its value be the sum over them.
     awk '$1 == "partial" {
             named = sum = 0
