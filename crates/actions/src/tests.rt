@@ -1,8 +1,12 @@
-ghost use Rattle.std.specs.Prelude.{◌≡◌};
+ghost use Rattle.std.specs.Prelude.{◌≡◌, ◌≤◌, ◌+◌, ℤ, IfOk, IsTrue, length};
+ghost use Rattle.actions.specs.declared.items.Part as value;
+ghost use Rattle.actions.specs.declared.items.Items.TheVariants as items;
+ghost use Rattle.actions.specs.declared.items.Part.TheVariants as part;
 ghost use Rattle.actions.specs.Holding.{HasEdges};
+ghost use Rattle.actions.specs.Parts.{IsNumeric, Suits, part_value};
 
 use crate::{Acc, FeedStop, Filled, Items, Part};
-use rdf_values::{ActionKind, EntryFault, IntList, Memory, Name, ReduceOp, Scalar};
+use rdf_values::{ActionKind, EntryFault, IntList, Name, ReduceOp, Scalar};
 use std::alloc::Global;
 use std::test::Fail;
 
@@ -10,43 +14,73 @@ fn name(alloc: Global, bytes: &[u8]) -> Result<Name, Fail> {
     Ok(Name::read(alloc, bytes)?.ok_or("a name")?)
 }
 
-// Feeds an entry, where the accumulator can take it.
-fn feed(acc: &mut Acc, cluster: u32, items: &Items<'_>) -> Result<(), FeedStop>
-    ensures { acc.new.kind ≡ acc.old.kind }
-{
-    if acc.suits(items) && acc.last() <= cluster && acc.entries() < 1_000_000 {
-        acc.feed(cluster, items)?;
-    }
-    Ok(())
-}
-
-// An accumulator to which each entry of a cluster fed one value.
-fn fed(alloc: Global, kind: &ActionKind, cluster: u32, parts: &[Part<'_>]) -> Result<Acc, Fail>
-    requires { HasEdges kind.now }
+// An accumulator to which entries of a cluster fed one number each.
+fn fed(alloc: Global, kind: &ActionKind, cluster: u32, numbers: &[i64]) -> Result<Acc, Fail>
+    requires edges { HasEdges kind.now }
+    requires numbers { (z : ℤ) → Suits kind.now (items.One (part.Int z)) }
+    requires few { length numbers.now ≤ 1000 }
+    ensures kind { IfOk result (λ acc. acc.kind ≡ kind.now) }
+    ensures entries { IfOk result (λ acc. acc.entries ≤ 1000) }
 {
     let mut acc = Acc::new(alloc, kind)?;
-    for x in parts {
-        feed(&mut acc, cluster, &Items::One { x: *x })?;
+    for number in numbers {
+        acc.feed(
+            cluster,
+            &Items::One {
+                x: Part::Int(*number),
+            },
+        )?;
     }
     Ok(acc)
 }
 
-// Takes in all that was fed to the other one, where it is of the same action.
-fn merge(acc: &mut Acc, other: &Acc) -> Result<(), Memory> {
-    if acc.same_kind(other) && acc.entries() + other.entries() <= 1_000_000 {
-        acc.merge(other)?;
-    }
-    Ok(())
+// Both accumulators as one.
+fn joined(acc: Acc, other: Acc) -> Result<Acc, Fail>
+    requires kind { other.kind ≡ acc.kind }
+    requires room { acc.entries + other.entries ≤ 1000000 }
+    ensures kind { IfOk result (λ all. all.kind ≡ acc.kind) }
+    ensures entries { IfOk result (λ all. all.entries ≡ acc.entries + other.entries) }
+{
+    let mut all = acc;
+    all.merge(&other)?;
+    Ok(all)
 }
 
 // Entries of three clusters, of which the last was fed and merged first.
 fn merged_last_first(alloc: Global, kind: &ActionKind) -> Result<Acc, Fail>
-    requires { HasEdges kind.now }
+    requires edges { HasEdges kind.now }
+    requires numbers { (z : ℤ) → Suits kind.now (items.One (part.Int z)) }
 {
-    let mut all = fed(alloc, kind, 2, &[Part::Int(40), Part::Int(5)])?;
-    merge(&mut all, &fed(alloc, kind, 0, &[Part::Int(10)])?)?;
-    merge(&mut all, &fed(alloc, kind, 1, &[Part::Int(25)])?)?;
-    Ok(all)
+    let last = fed(alloc, kind, 2, &[40, 5])?;
+    let first = fed(alloc, kind, 0, &[10])?;
+    let second = fed(alloc, kind, 1, &[25])?;
+    joined(joined(last, first)?, second)
+}
+
+// Whether it is a number or a vector that is short enough.
+fn is_numeric(part: &Part<'_>) -> bool
+    ensures { IsTrue result → IsNumeric (part_value part.now) }
+{
+    match part {
+        Part::Int(_) => true,
+        Part::Bool(_) => false,
+        Part::Vect(numbers) => numbers.len() <= 4096,
+    }
+}
+
+// An accumulator to which each entry fed a number or a vector.
+fn fed_parts(alloc: Global, kind: &ActionKind, parts: &[Part<'_>]) -> Result<Acc, Fail>
+    requires edges { HasEdges kind.now }
+    requires numeric { (p : value.Part) → IsNumeric (part_value p) → Suits kind.now (items.One p) }
+    requires few { length parts.now ≤ 1000 }
+{
+    let mut acc = Acc::new(alloc, kind)?;
+    for x in parts {
+        if is_numeric(x) {
+            acc.feed(0, &Items::One { x: *x })?;
+        }
+    }
+    Ok(acc)
 }
 
 // The sums of a cell of a histogram of one axis.
@@ -89,12 +123,7 @@ fn number_of(acc: &Acc) -> Option<i64> {
 #[test]
 fn xor_combines_the_numbers(rt: HostRuntime) -> Result<(), Fail> {
     let kind = ActionKind::Reduce(ReduceOp::Xor, name(rt.alloc(), b"pt")?);
-    let acc = fed(
-        rt.alloc(),
-        &kind,
-        0,
-        &[Part::Int(10), Part::Int(25), Part::Int(40), Part::Int(5)],
-    )?;
+    let acc = fed(rt.alloc(), &kind, 0, &[10, 25, 40, 5])?;
     assert_eq!(rt; number_of(&acc), Some(62));
     Ok(())
 }
@@ -129,10 +158,9 @@ fn without_entries_an_and_is_its_start(rt: HostRuntime) -> Result<(), Fail> {
 #[test]
 fn a_sum_leaves_64_bits(rt: HostRuntime) -> Result<(), Fail> {
     let kind = ActionKind::Sum(name(rt.alloc(), b"x")?);
-    let acc = fed(
+    let acc = fed_parts(
         rt.alloc(),
         &kind,
-        0,
         &[Part::Int(i64::MAX), Part::Int(i64::MAX)],
     )?;
     assert!(rt; matches!(acc.filled(), Filled::Sum(18446744073709551614)));
@@ -152,7 +180,7 @@ fn the_elements_of_vectors_are_filled(rt: HostRuntime) -> Result<(), Fail> {
         Part::Vect(&[50]),
         Part::Vect(&[1, 1, 1]),
     ];
-    let acc = fed(rt.alloc(), &kind, 0, &parts)?;
+    let acc = fed_parts(rt.alloc(), &kind, &parts)?;
     for (i, sum, squares) in [(0, 0, 0), (1, 3, 3), (2, 2, 2), (3, 1, 1)] {
         assert_eq!(rt; sums_at(&acc, i), Some((sum, squares)));
     }
@@ -196,34 +224,5 @@ fn a_fault_stops_feeding(rt: HostRuntime) -> Result<(), Fail> {
         },
     );
     assert_eq!(rt; stop, Err(FeedStop::Fault(EntryFault::Weight)));
-    Ok(())
-}
-
-#[test]
-fn what_it_takes_is_told(rt: HostRuntime) -> Result<(), Fail> {
-    let kind = ActionKind::Take(name(rt.alloc(), b"pt")?);
-    let mut acc = fed(rt.alloc(), &kind, 3, &[Part::Int(1), Part::Bool(true)])?;
-    assert_eq!(rt; (acc.entries(), acc.last()), (2, 3));
-    let vector = Items::One {
-        x: Part::Vect(&[1]),
-    };
-    assert!(rt; !acc.suits(&vector) && !acc.suits(&Items::Entry));
-    let eta = fed(
-        rt.alloc(),
-        &ActionKind::Take(name(rt.alloc(), b"eta")?),
-        3,
-        &[],
-    )?;
-    let sum = fed(
-        rt.alloc(),
-        &ActionKind::Sum(name(rt.alloc(), b"pt")?),
-        3,
-        &[],
-    )?;
-    assert!(rt; !acc.same_kind(&eta) && !acc.same_kind(&sum));
-    let pt = fed(rt.alloc(), &kind, 4, &[Part::Int(7)])?;
-    merge(&mut acc, &pt)?;
-    assert_eq!(rt; (acc.entries(), acc.last()), (3, 4));
-    assert_eq!(rt; value_at(&pt, 0), Some(Scalar::Int(7)));
     Ok(())
 }

@@ -88,11 +88,10 @@ fn expression(alloc: Global, text: &str) -> Result<Expr, Fail> {
     })
 }
 
-// Adds a column if its name isn't there, and its number isn't there with another kind.
+// Adds a column if neither its name nor its number is there.
 fn add(scope: &mut Scope, name: &Name, kind: ColType, number: u32) -> Result<(), Memory> {
     match (scope.find(name), scope.number_kind(number)) {
         (None, None) => scope.add(name, kind, number),
-        (None, Some(held)) if held == kind => scope.add(name, kind, number),
         _ => Ok(()),
     }
 }
@@ -227,19 +226,5 @@ fn reads_each_column_once_in_order(rt: HostRuntime) -> Result<(), Fail> {
     let size = checked(rt.alloc(), "7 v Size/1 +")?.ok().ok_or("refused")?;
     assert_eq!(rt; size.reads(), [2].as_slice());
     assert!(rt; !size.plain());
-    Ok(())
-}
-
-#[test]
-fn a_number_may_be_added_with_its_own_kind(rt: HostRuntime) -> Result<(), Fail> {
-    let mut scope = scope(rt.alloc())?;
-    add(&mut scope, &name(rt.alloc(), "k")?, ColType::Int, 3)?;
-    add(&mut scope, &name(rt.alloc(), "w")?, ColType::Int, 2)?;
-    assert_eq!(rt;
-        scope.find(&name(rt.alloc(), "k")?),
-        Some((ColType::Int, 3))
-    );
-    assert_eq!(rt; scope.find(&name(rt.alloc(), "w")?), None);
-    assert_eq!(rt; scope.number_kind(2), Some(ColType::Vect));
     Ok(())
 }
