@@ -1,12 +1,14 @@
 -- Evaluations without vectors.
 use Rattle.std.specs.Prelude.{◌≡◌, Bool, true, false, ℕ, ℤ, pos, nat_abs, List, [], ◌∷◌, ◌++◌, map, slice_get, Result, Ok, Err}
 use Rattle.rdf_values.specs.Functions.{Function}
-use Rattle.rdf_values.specs.Tree.{NumTree, Truth, Cond, Pick}
+use Rattle.rdf_values.specs.Tree.{NumTree, Lit, Col, Bin}
 use Rattle.rdf_values.specs.declared.num_expr.Callee.{Callee}
 use Rattle.rdf_values.specs.declared.num_expr.Callee.TheVariants as fn
 use Rattle.rdf_values.specs.declared.value.Value.{Value}
 use Rattle.rdf_values.specs.declared.value.Value.TheVariants as val
 use Rattle.rdf_model.specs.Evaluation.{Outcome, Gives, Faults, Needs, ◌>>=◌, checked, gives_int, untyped, argument, given_call}
+use Rattle.expr_eval.specs.declared.scalar_answer.ScalarAnswer.{ScalarAnswer}
+use Rattle.expr_eval.specs.declared.scalar_answer.ScalarAnswer.TheVariants as part
 use Rattle.expr_eval.specs.declared.stop.ScalarStop.{ScalarStop}
 use Rattle.expr_eval.specs.declared.stop.ScalarStop.TheVariants.{Fault, Need}
 
@@ -25,6 +27,13 @@ abbrev pub AreScalars : List Value → Type 0
 AreScalars [] = Unit {0}
 AreScalars (v ∷ vs) = IsScalar v × AreScalars vs
 
+-- what a part comes to, as an outcome
+abbrev pub answered : ScalarAnswer → Outcome ℕ Value
+answered (part.Int z) = Gives (val.Int z)
+answered (part.Bool b) = Gives (val.Bool b)
+answered (part.Fault kind) = Faults kind
+answered (part.Need c) = Needs c
+
 -- a call of a function with numbers
 abbrev pub number_call : List Function → Callee → List ℤ → Outcome ℕ Value
 number_call functions fn.Abs (z ∷ []) = checked (pos (nat_abs z)) >>= gives_int
@@ -38,9 +47,9 @@ Gathers (Err (Fault kind)) before after (Faults other) = kind ≡ other
 Gathers (Err (Need c)) before after (Needs other) = c ≡ other
 Gathers r before after o = ⊥
 
--- a truth value, a choice or an element
-abbrev pub is_rare : NumTree → Bool
-is_rare (Truth b) = true
-is_rare (Cond c a b) = true
-is_rare (Pick v i) = true
-is_rare e = false
+-- a part that is no number, no column and no operator of two sides
+abbrev pub is_other : NumTree → Bool
+is_other (Lit z) = false
+is_other (Col c) = false
+is_other (Bin o a b) = false
+is_other e = true

@@ -9,6 +9,7 @@ pub mod inputs;
 mod number;
 mod operand;
 mod scalar;
+mod scalar_answer;
 pub mod steps;
 pub mod stop;
 mod vector;

@@ -14,6 +14,7 @@ pub(crate) fn mark(b: bool) -> i64
 }
 
 /// The operator on two numbers, where a comparison gives a mark.
+#[inline(always)]
 pub(crate) fn operate(op: BinOp, x: i64, y: i64) -> Result<i64, EntryFault>
     ensures { number_outcome result ≡ number_operation op x y }
 {

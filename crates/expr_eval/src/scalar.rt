@@ -6,18 +6,20 @@ ghost use Rattle.rdf_values.specs.Tree.{Neg as NegTree, Not as NotTree, Call as 
 ghost use Rattle.rdf_values.specs.EachColumn.{EachColumn, EachArgument};
 ghost use Rattle.rdf_values.specs.Functions.{fn_names};
 ghost use Rattle.rdf_values.specs.Tables.{FitsKind};
-ghost use Rattle.rdf_model.specs.Evaluation.{evaluate, evaluate_all, call_outcome, value_operation, negation, inversion, of_numbers, argument, picked};
+ghost use Rattle.rdf_values.specs.declared.value.Value.TheVariants.{Int as ValueInt, Bool as ValueBool};
+ghost use Rattle.rdf_model.specs.Evaluation.{Gives, evaluate, evaluate_all, call_outcome, operation, value_operation, of_numbers, argument};
 ghost use Rattle.rdf_model.specs.Laws.{FitsOutcome};
 ghost use Rattle.entry_fns.specs.Lists.{functions_in};
 ghost use Rattle.expr_check.specs.NumKinds.{is_plain, CallsFit};
 ghost use Rattle.expr_eval.specs.Answers.{scalar_outcome, scalar_value, number_value};
 ghost use Rattle.expr_eval.specs.CanCall.{CallFits, CanCall, ArgumentsCanCall};
 ghost use Rattle.expr_eval.specs.Inputs.{input_outcome};
-ghost use Rattle.expr_eval.specs.Scalars.{is_rare, GivesScalar, Gathers, number_call};
+ghost use Rattle.expr_eval.specs.Scalars.{is_other, answered, GivesScalar, Gathers, number_call};
 
 use crate::calls::{Calls, answer, callable};
 use crate::inputs::{Input, Inputs};
 use crate::number::{absolute, is_arithmetic, mark, negate, operate};
+use crate::scalar_answer::ScalarAnswer;
 use crate::steps::Steps;
 use crate::stop::ScalarStop;
 use arrayvec::ArrayVec;
@@ -44,113 +46,185 @@ pub fn eval_int<I: Inputs, L: Ledger>(
     ensures step { steps.new ≡ steps.old + 1 }
 {
     steps.tick();
-    eval_node(callable(expr, functions), inputs, functions)
+    eval_node(callable(expr, functions), inputs, functions).into_result()
 }
 
-// A function fills its locals with zeros whenever it is called. So the nodes that are met most have a small one, and the
-// others one of their own.
+// What no checked expression comes to is 0, as the definition of evaluation says.
+
+// A function fills its locals with zeros whenever it is called, and what a call writes into the place of the answer keeps all
+// of the answer in memory. So the nodes that are met most have a small function, the others one of their own, and the answer
+// of a call is taken from a local.
 #[cycle(scalar)]
-fn eval_node<I: Inputs, C: Calls>(
-    node: &NumNode,
-    inputs: &I,
-    calls: &C,
-) -> Result<Scalar, ScalarStop>
+fn eval_node<I: Inputs, C: Calls>(node: &NumNode, inputs: &I, calls: &C) -> ScalarAnswer
     requires can { EachColumn (I.can inputs.now) (num_tree node.now) }
     requires scalars { EachColumn (λ c. GivesScalar (I.look inputs.now c)) (num_tree node.now) }
     requires calls { CanCall (C.functions calls.now) (num_tree node.now) }
-    ensures { scalar_outcome result ≡ evaluate (I.look inputs.now) (call_outcome (C.functions calls.now)) (num_tree node.now) }
+    ensures { answered result ≡ evaluate (I.look inputs.now) (call_outcome (C.functions calls.now)) (num_tree node.now) }
 {
     match node {
-        NumNode::Lit(z) => Ok(Scalar::Int(*z)),
+        NumNode::Lit(z) => ScalarAnswer::Int(*z),
         NumNode::Col(c) => column(*c, inputs.at(*c)),
-        NumNode::Bin(op, a, b) => {
-            let left = eval_node(a, inputs, calls)?;
-            match (*op, left) {
-                (BinOp::And, Scalar::Bool(false)) => Ok(left),
-                (BinOp::Or, Scalar::Bool(true)) => Ok(left),
-                _ => combine(*op, left, eval_node(b, inputs, calls)?),
+        NumNode::Bin(op, a, b) => match eval_side(a, inputs, calls) {
+            ScalarAnswer::Int(x) => eval_number_right(*op, x, b, inputs, calls),
+            ScalarAnswer::Bool(x) => {
+                let answer = eval_truth_right(*op, x, b, inputs, calls);
+                answer
             }
+            stop => stop,
+        },
+        _ => {
+            let answer = eval_other(node, inputs, calls);
+            answer
         }
-        NumNode::Neg(a) => eval_negative(a, inputs, calls),
-        NumNode::Not(a) => eval_inverse(a, inputs, calls),
-        NumNode::Call(callee, args) => eval_call(*callee, args, inputs, calls),
-        _ => eval_rare(node, inputs, calls),
     }
 }
 
-/// The value of a truth value, a choice or an element.
+/// The value of an operator's side. A number and a column are answered without a call.
+#[inline(always)]
 #[cycle(scalar)]
-fn eval_rare<I: Inputs, C: Calls>(
-    node: &NumNode,
-    inputs: &I,
-    calls: &C,
-) -> Result<Scalar, ScalarStop>
-    requires rare { is_rare (num_tree node.now) ≡ true }
+fn eval_side<I: Inputs, C: Calls>(node: &NumNode, inputs: &I, calls: &C) -> ScalarAnswer
     requires can { EachColumn (I.can inputs.now) (num_tree node.now) }
     requires scalars { EachColumn (λ c. GivesScalar (I.look inputs.now c)) (num_tree node.now) }
     requires calls { CanCall (C.functions calls.now) (num_tree node.now) }
-    ensures { scalar_outcome result ≡ evaluate (I.look inputs.now) (call_outcome (C.functions calls.now)) (num_tree node.now) }
+    ensures { answered result ≡ evaluate (I.look inputs.now) (call_outcome (C.functions calls.now)) (num_tree node.now) }
 {
     match node {
-        NumNode::Truth(b) => Ok(Scalar::Bool(*b)),
-        NumNode::Cond(c, a, b) => match eval_node(c, inputs, calls)? {
-            Scalar::Bool(true) => eval_node(a, inputs, calls),
-            Scalar::Bool(false) => eval_node(b, inputs, calls),
-            Scalar::Int(_) => Ok(Scalar::Int(0)),
+        NumNode::Lit(z) => ScalarAnswer::Int(*z),
+        NumNode::Col(c) => column(*c, inputs.at(*c)),
+        _ => eval_node(node, inputs, calls),
+    }
+}
+
+/// The value of an operator whose left side came to a number.
+#[inline(always)]
+#[cycle(scalar)]
+fn eval_number_right<I: Inputs, C: Calls>(
+    op: BinOp,
+    left: i64,
+    right: &NumNode,
+    inputs: &I,
+    calls: &C,
+) -> ScalarAnswer
+    requires can { EachColumn (I.can inputs.now) (num_tree right.now) }
+    requires scalars { EachColumn (λ c. GivesScalar (I.look inputs.now c)) (num_tree right.now) }
+    requires calls { CanCall (C.functions calls.now) (num_tree right.now) }
+    ensures { answered result ≡ operation op (Gives (ValueInt left)) (evaluate (I.look inputs.now) (call_outcome (C.functions calls.now)) (num_tree right.now)) }
+{
+    match eval_side(right, inputs, calls) {
+        ScalarAnswer::Int(right) => combine_numbers(op, left, right),
+        ScalarAnswer::Bool(_) => ScalarAnswer::Int(0),
+        stop => stop,
+    }
+}
+
+/// The value of an operator whose left side came to a truth value.
+#[inline(never)]
+#[cycle(scalar)]
+fn eval_truth_right<I: Inputs, C: Calls>(
+    op: BinOp,
+    left: bool,
+    right: &NumNode,
+    inputs: &I,
+    calls: &C,
+) -> ScalarAnswer
+    requires can { EachColumn (I.can inputs.now) (num_tree right.now) }
+    requires scalars { EachColumn (λ c. GivesScalar (I.look inputs.now c)) (num_tree right.now) }
+    requires calls { CanCall (C.functions calls.now) (num_tree right.now) }
+    ensures { answered result ≡ operation op (Gives (ValueBool left)) (evaluate (I.look inputs.now) (call_outcome (C.functions calls.now)) (num_tree right.now)) }
+{
+    match (op, left) {
+        (BinOp::And, false) => ScalarAnswer::Bool(false),
+        (BinOp::Or, true) => ScalarAnswer::Bool(true),
+        _ => match eval_node(right, inputs, calls) {
+            ScalarAnswer::Bool(right) => combine_truths(op, left, right),
+            ScalarAnswer::Int(_) => ScalarAnswer::Int(0),
+            stop => stop,
         },
-        NumNode::Pick(v, i) => {
-            let vector = eval_node(v, inputs, calls)?;
-            let place = eval_node(i, inputs, calls)?;
-            Ok(pick(vector, place))
-        }
+    }
+}
+
+/// The value of what is no number, no column and no operator of two sides.
+#[inline(never)]
+#[cycle(scalar)]
+fn eval_other<I: Inputs, C: Calls>(node: &NumNode, inputs: &I, calls: &C) -> ScalarAnswer
+    requires other { is_other (num_tree node.now) ≡ true }
+    requires can { EachColumn (I.can inputs.now) (num_tree node.now) }
+    requires scalars { EachColumn (λ c. GivesScalar (I.look inputs.now c)) (num_tree node.now) }
+    requires calls { CanCall (C.functions calls.now) (num_tree node.now) }
+    ensures { answered result ≡ evaluate (I.look inputs.now) (call_outcome (C.functions calls.now)) (num_tree node.now) }
+{
+    match node {
+        NumNode::Truth(b) => ScalarAnswer::Bool(*b),
+        NumNode::Neg(a) => eval_negative(a, inputs, calls),
+        NumNode::Not(a) => eval_inverse(a, inputs, calls),
+        NumNode::Cond(c, a, b) => match eval_node(c, inputs, calls) {
+            ScalarAnswer::Bool(true) => eval_node(a, inputs, calls),
+            ScalarAnswer::Bool(false) => eval_node(b, inputs, calls),
+            ScalarAnswer::Int(_) => ScalarAnswer::Int(0),
+            stop => stop,
+        },
+        NumNode::Pick(v, i) => match eval_node(v, inputs, calls) {
+            ScalarAnswer::Int(_) | ScalarAnswer::Bool(_) => match eval_node(i, inputs, calls) {
+                ScalarAnswer::Int(_) | ScalarAnswer::Bool(_) => ScalarAnswer::Int(0),
+                stop => stop,
+            },
+            stop => stop,
+        },
+        NumNode::Call(callee, args) => eval_call(*callee, args, inputs, calls),
         _ => unreachable!(),
     }
 }
 
+#[inline(never)]
 #[cycle(scalar)]
-fn eval_negative<I: Inputs, C: Calls>(
-    a: &NumNode,
-    inputs: &I,
-    calls: &C,
-) -> Result<Scalar, ScalarStop>
+fn eval_negative<I: Inputs, C: Calls>(a: &NumNode, inputs: &I, calls: &C) -> ScalarAnswer
     requires can { EachColumn (I.can inputs.now) (num_tree a.now) }
     requires scalars { EachColumn (λ c. GivesScalar (I.look inputs.now c)) (num_tree a.now) }
     requires calls { CanCall (C.functions calls.now) (num_tree a.now) }
-    ensures { scalar_outcome result ≡ evaluate (I.look inputs.now) (call_outcome (C.functions calls.now)) (NegTree (num_tree a.now)) }
+    ensures { answered result ≡ evaluate (I.look inputs.now) (call_outcome (C.functions calls.now)) (NegTree (num_tree a.now)) }
 {
-    negative(eval_node(a, inputs, calls)?)
+    match eval_node(a, inputs, calls) {
+        ScalarAnswer::Int(x) => number_answer(negate(x)),
+        ScalarAnswer::Bool(_) => ScalarAnswer::Int(0),
+        stop => stop,
+    }
 }
 
+#[inline(never)]
 #[cycle(scalar)]
-fn eval_inverse<I: Inputs, C: Calls>(
-    a: &NumNode,
-    inputs: &I,
-    calls: &C,
-) -> Result<Scalar, ScalarStop>
+fn eval_inverse<I: Inputs, C: Calls>(a: &NumNode, inputs: &I, calls: &C) -> ScalarAnswer
     requires can { EachColumn (I.can inputs.now) (num_tree a.now) }
     requires scalars { EachColumn (λ c. GivesScalar (I.look inputs.now c)) (num_tree a.now) }
     requires calls { CanCall (C.functions calls.now) (num_tree a.now) }
-    ensures { scalar_outcome result ≡ evaluate (I.look inputs.now) (call_outcome (C.functions calls.now)) (NotTree (num_tree a.now)) }
+    ensures { answered result ≡ evaluate (I.look inputs.now) (call_outcome (C.functions calls.now)) (NotTree (num_tree a.now)) }
 {
-    inverse(eval_node(a, inputs, calls)?)
+    match eval_node(a, inputs, calls) {
+        ScalarAnswer::Int(_) => ScalarAnswer::Int(0),
+        ScalarAnswer::Bool(b) => ScalarAnswer::Bool(!b),
+        stop => stop,
+    }
 }
 
-/// The value of a call. It has a frame of its own, since the room for its arguments is filled with zeros at each entry.
+/// The value of a call.
+#[inline(never)]
 #[cycle(scalar)]
 fn eval_call<I: Inputs, C: Calls>(
     callee: Callee,
     args: &NumArgs,
     inputs: &I,
     calls: &C,
-) -> Result<Scalar, ScalarStop>
+) -> ScalarAnswer
     requires can { EachArgument (I.can inputs.now) (num_trees args.now) }
     requires scalars { EachArgument (λ c. GivesScalar (I.look inputs.now c)) (num_trees args.now) }
     requires calls { CallFits (C.functions calls.now) callee (args_count (num_trees args.now)) × (args_count (num_trees args.now) ≤ 8) × ArgumentsCanCall (C.functions calls.now) (num_trees args.now) }
-    ensures { scalar_outcome result ≡ evaluate (I.look inputs.now) (call_outcome (C.functions calls.now)) (CallTree callee (num_trees args.now)) }
+    ensures { answered result ≡ evaluate (I.look inputs.now) (call_outcome (C.functions calls.now)) (CallTree callee (num_trees args.now)) }
 {
     let mut numbers = ArrayVec::new();
-    gather(args, inputs, calls, &mut numbers)?;
-    call(callee, numbers.as_slice(), calls)
+    match gather(args, inputs, calls, &mut numbers) {
+        Ok(()) => call(callee, numbers.as_slice(), calls),
+        Err(ScalarStop::Fault(kind)) => ScalarAnswer::Fault(kind),
+        Err(ScalarStop::Need(number)) => ScalarAnswer::Need(number),
+    }
 }
 
 /// Appends the values of the arguments as numbers.
@@ -171,7 +245,7 @@ fn gather<I: Inputs, C: Calls>(
     match args {
         NumArgs::End => Ok(()),
         NumArgs::More(a, rest) => {
-            let value = eval_node(a, inputs, calls)?;
+            let value = eval_node(a, inputs, calls).into_result()?;
             numbers.push(number(value));
             gather(rest, inputs, calls, numbers)
         }
@@ -179,69 +253,48 @@ fn gather<I: Inputs, C: Calls>(
 }
 
 /// The value of a column that is no vector.
-fn column(number: u32, input: Input<'_>) -> Result<Scalar, ScalarStop>
+#[inline(always)]
+fn column(number: u32, input: Input<'_>) -> ScalarAnswer
     requires { GivesScalar (input_outcome number input) }
-    ensures { scalar_outcome result ≡ input_outcome number input.entry }
+    ensures { answered result ≡ input_outcome number input.entry }
 {
     match input {
-        Input::Int(z) => Ok(Scalar::Int(z)),
-        Input::Bool(b) => Ok(Scalar::Bool(b)),
+        Input::Int(z) => ScalarAnswer::Int(z),
+        Input::Bool(b) => ScalarAnswer::Bool(b),
         Input::Vect(_) => unreachable!(),
-        Input::Faulted(kind) => Err(ScalarStop::Fault(kind)),
-        Input::Missing => Err(ScalarStop::Need(number)),
+        Input::Faulted(kind) => ScalarAnswer::Fault(kind),
+        Input::Missing => ScalarAnswer::Need(number),
     }
 }
 
-// What no checked expression comes to is 0, as the definition of evaluation says.
-
-fn negative(value: Scalar) -> Result<Scalar, ScalarStop>
-    ensures { scalar_outcome result ≡ negation (scalar_value value) }
+#[inline(always)]
+fn combine_numbers(op: BinOp, left: i64, right: i64) -> ScalarAnswer
+    ensures { answered result ≡ value_operation op (ValueInt left) (ValueInt right) }
 {
-    match value {
-        Scalar::Int(x) => number_answer(negate(x)),
-        Scalar::Bool(_) => Ok(Scalar::Int(0)),
+    match operate(op, left, right) {
+        Ok(z) => operation_value(op, z),
+        Err(kind) => ScalarAnswer::Fault(kind),
     }
 }
 
-fn inverse(value: Scalar) -> Result<Scalar, ScalarStop>
-    ensures { scalar_outcome result ≡ inversion (scalar_value value) }
+fn combine_truths(op: BinOp, left: bool, right: bool) -> ScalarAnswer
+    ensures { answered result ≡ value_operation op (ValueBool left) (ValueBool right) }
 {
-    match value {
-        Scalar::Int(_) => Ok(Scalar::Int(0)),
-        Scalar::Bool(b) => Ok(Scalar::Bool(!b)),
+    match operate(op, mark(left), mark(right)) {
+        Ok(z) => ScalarAnswer::Bool(z != 0),
+        Err(kind) => ScalarAnswer::Fault(kind),
     }
 }
 
-fn combine(op: BinOp, left: Scalar, right: Scalar) -> Result<Scalar, ScalarStop>
-    ensures { scalar_outcome result ≡ value_operation op (scalar_value left) (scalar_value right) }
-{
-    match (left, right) {
-        (Scalar::Int(x), Scalar::Int(y)) => match operate(op, x, y) {
-            Ok(z) => Ok(operation_value(op, z)),
-            Err(kind) => Err(ScalarStop::Fault(kind)),
-        },
-        (Scalar::Bool(a), Scalar::Bool(b)) => match operate(op, mark(a), mark(b)) {
-            Ok(z) => Ok(Scalar::Bool(z != 0)),
-            Err(kind) => Err(ScalarStop::Fault(kind)),
-        },
-        _ => Ok(Scalar::Int(0)),
-    }
-}
-
-fn operation_value(op: BinOp, z: i64) -> Scalar
-    ensures { scalar_value result ≡ of_numbers op z }
+#[inline(always)]
+fn operation_value(op: BinOp, z: i64) -> ScalarAnswer
+    ensures { answered result ≡ Gives (of_numbers op z) }
 {
     if is_arithmetic(op) {
-        Scalar::Int(z)
+        ScalarAnswer::Int(z)
     } else {
-        Scalar::Bool(z != 0)
+        ScalarAnswer::Bool(z != 0)
     }
-}
-
-fn pick(_vector: Scalar, _place: Scalar) -> Scalar
-    ensures { scalar_outcome (Ok result) ≡ picked (scalar_value _vector) (scalar_value _place) }
-{
-    Scalar::Int(0)
 }
 
 fn number(value: Scalar) -> i64
@@ -253,23 +306,23 @@ fn number(value: Scalar) -> i64
     }
 }
 
-fn call<C: Calls>(callee: Callee, numbers: &[i64], calls: &C) -> Result<Scalar, ScalarStop>
+fn call<C: Calls>(callee: Callee, numbers: &[i64], calls: &C) -> ScalarAnswer
     requires { CallFits (C.functions calls.now) callee (length numbers.now) }
-    ensures { scalar_outcome result ≡ number_call (C.functions calls.now) callee numbers.now }
+    ensures { answered result ≡ number_call (C.functions calls.now) callee numbers.now }
 {
     match (callee, numbers) {
         (Callee::Abs, [z]) => number_answer(absolute(*z)),
         (Callee::Given(i), _) => number_answer(answer(calls, i, numbers)),
-        _ => Ok(Scalar::Int(0)),
+        _ => ScalarAnswer::Int(0),
     }
 }
 
 /// A number, or the fault that there was.
-fn number_answer(number: Result<i64, EntryFault>) -> Result<Scalar, ScalarStop>
-    ensures { scalar_outcome result ≡ number_value number }
+fn number_answer(number: Result<i64, EntryFault>) -> ScalarAnswer
+    ensures { answered result ≡ number_value number }
 {
     match number {
-        Ok(z) => Ok(Scalar::Int(z)),
-        Err(kind) => Err(ScalarStop::Fault(kind)),
+        Ok(z) => ScalarAnswer::Int(z),
+        Err(kind) => ScalarAnswer::Fault(kind),
     }
 }

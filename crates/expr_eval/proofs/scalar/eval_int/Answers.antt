@@ -1,3 +1,4 @@
+use Rattle.std.proofs.Common.{◌∙◌}
 use Rattle.expr_eval.proofs.KnownColumns.{known_columns, plain_columns}
 use Rattle.expr_eval.proofs.OfItsKind.{scalar_fits}
 use Rattle.expr_eval.proofs.scalar.eval_int.Goals as goal
@@ -13,4 +14,4 @@ eval_node-requires-clause-scalars g c =
 pub returns-clause-kind : goal.returns-clause-kind
 returns-clause-kind g c =
     let value = rw c.callable.ensures.node at c.eval_node.ensures in
-    scalar_fits _ (g.I.Inputs.look c.args.inputs.now) c.args.expr.now c.callable.ensures.typed c.requires.fit c.eval_node.result value
+    scalar_fits _ (g.I.Inputs.look c.args.inputs.now) c.args.expr.now c.callable.ensures.typed c.requires.fit c.into_result.result (c.into_result.ensures ∙ value)

@@ -1,1 +1,0 @@
-use Rattle.expr_eval.proofs.scalar.+scalar.Goals as goal
