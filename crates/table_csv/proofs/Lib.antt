@@ -1,4 +1,5 @@
 pub mod CellSteps
+pub mod Cut
 pub mod Examples
 pub mod Fields
 pub mod HeaderSteps
