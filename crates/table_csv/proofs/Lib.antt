@@ -1,5 +1,6 @@
 pub mod CellSteps
 pub mod Cut
+pub mod CutLines
 pub mod Examples
 pub mod Fields
 pub mod HeaderSteps
