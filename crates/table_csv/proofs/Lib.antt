@@ -7,6 +7,7 @@ pub mod HeaderSteps
 pub mod MarkAnswers
 pub mod Onto
 pub mod Parts
+pub mod ShiftedRows
 pub mod Steps
 pub mod TableSteps
 pub mod VectorSteps
