@@ -3,6 +3,7 @@ pub mod Cut
 pub mod CutLines
 pub mod Examples
 pub mod Fields
+pub mod Headed
 pub mod HeaderSteps
 pub mod MarkAnswers
 pub mod Onto

@@ -12,6 +12,7 @@ use Rattle.rdf_values.specs.declared.table_cause.TableCause.TheVariants as cause
 use Rattle.rdf_values.specs.declared.value.ColType.{ColType}
 use Rattle.rdf_values.specs.declared.value.ColType.TheVariants as k
 use Rattle.rdf_values.specs.declared.value.Value.TheVariants as v
+use Rattle.table_csv.specs.Entries.{entries_of}
 use Rattle.table_csv.specs.Joins.{marked_joined, marks_behind}
 use Rattle.table_csv.proofs.Onto.{result_onto, result_onto-none}
 
@@ -144,10 +145,6 @@ marks_shift (x ∷ rows) n e =
     go false h = h
 
 -- ---- tables
-
--- what the entries behind a header come to
-abbrev pub entries_of : Header → List (List (List ℕ)) → Result MarkedTable TableCause
-entries_of h entries = on_ok (rows_from 0 h entries) (table_with h.columns)
 
 -- the table of these rows
 abbrev view : Header → List MarkedRow → MarkedTable

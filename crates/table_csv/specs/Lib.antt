@@ -1,3 +1,4 @@
 pub mod Csv
+pub mod Entries
 pub mod Joins
 pub mod Lines

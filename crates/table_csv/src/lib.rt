@@ -2,6 +2,7 @@
 #![tactic(auto)]
 
 mod cells;
+mod entries;
 mod header;
 mod marked;
 mod reading;
