@@ -5,6 +5,8 @@ pub mod Examples
 pub mod Fields
 pub mod Headed
 pub mod HeaderSteps
+pub mod JoinedCells
+pub mod LineCuts
 pub mod MarkAnswers
 pub mod Onto
 pub mod Parts

@@ -1,10 +1,13 @@
 //! Reads a table from CSV bytes. The records are those of the crate `csv`; what they mean as a table is `table_of` of `rdf_values`.
 #![tactic(auto)]
 
+mod appending;
 mod cells;
 mod entries;
 mod header;
+mod lines;
 mod marked;
+mod pieces;
 mod reading;
 mod records;
 mod refusal;
