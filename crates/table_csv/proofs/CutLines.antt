@@ -75,7 +75,7 @@ lines_end (c ∷ front) s h n =
 
 -- ---- the byte order mark
 
-no_quote : (bytes : List ℕ) → list_any is_special bytes ≡ false → list_any is_quote bytes ≡ false
+pub no_quote : (bytes : List ℕ) → list_any is_special bytes ≡ false → list_any is_quote bytes ≡ false
 no_quote [] n = refl
 no_quote (c ∷ bytes) n =
     let p = or_none (is_special c) (list_any is_special bytes) n in

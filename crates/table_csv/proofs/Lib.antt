@@ -10,6 +10,7 @@ pub mod LineCuts
 pub mod MarkAnswers
 pub mod Onto
 pub mod Parts
+pub mod PieceSteps
 pub mod ShiftedRows
 pub mod Steps
 pub mod TableSteps

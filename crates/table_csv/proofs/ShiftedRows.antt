@@ -187,3 +187,14 @@ table_join header xs ys a b p q few =
     let r = ok_by (header_from 0 [] header) (λ h. entries_of h xs) a p in
     let s = rw r.1 at q in
     rw r.1 (entries_join r.0 xs ys a b r.2 s few)
+
+columns_of : (h : Header) (entries : List (List (List ℕ))) (t : MarkedTable) → entries_of h entries ≡ Ok t → t.table.columns ≡ h.columns
+columns_of h entries t q = let r = read_by h (rows_from 0 h entries) t q in sym (ap (λ m. m.table.columns) r.2)
+
+-- tables of one header have its columns
+pub table_columns : (header : List (List ℕ)) (xs ys : List (List (List ℕ))) (a b : MarkedTable) → table_of (header ∷ xs) ≡ Ok a → table_of (header ∷ ys) ≡ Ok b → b.table.columns ≡ a.table.columns
+unfolding table_of
+table_columns header xs ys a b p q =
+    let r = ok_by (header_from 0 [] header) (λ h. entries_of h xs) a p in
+    let s = rw r.1 at q in
+    columns_of r.0 ys b s ∙ sym (columns_of r.0 xs a r.2)

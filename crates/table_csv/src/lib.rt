@@ -11,11 +11,13 @@ mod pieces;
 mod reading;
 mod records;
 mod refusal;
+mod slots;
 mod vectors;
 
 pub use crate::marked::Marked;
 pub use crate::reading::read_table;
 pub use crate::refusal::TableRefusal;
+pub use crate::slots::read_table_in_slots;
 
 #[cfg(test)]
 mod tests;

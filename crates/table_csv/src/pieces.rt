@@ -20,7 +20,10 @@ pub(crate) fn is_head(alloc: Global, bytes: &[u8]) -> Result<bool, Memory>
 {
     let mut reader = open(alloc, bytes);
     let mut fields = ByteRecord::new(alloc);
-    Ok(next(&mut reader, &mut fields)? && !next(&mut reader, &mut fields)?)
+    if !next(&mut reader, &mut fields)? {
+        return Ok(false);
+    }
+    Ok(!next(&mut reader, &mut fields)?)
 }
 
 /// The table of a header line and of lines behind it, where these can be read without the others.
@@ -31,7 +34,9 @@ pub(crate) fn read_piece(alloc: Global, head: &[u8], lines: &[u8]) -> Option<Mar
     if has_special(lines) {
         return None;
     }
-    let heading = read_heading(alloc, &mut open(alloc, head)).ok()?;
+    let Ok(heading) = read_heading(alloc, &mut open(alloc, head)) else {
+        return None;
+    };
     read_entries(alloc, heading, &mut open(alloc, lines)).ok()
 }
 
