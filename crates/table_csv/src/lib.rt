@@ -21,3 +21,5 @@ pub use crate::slots::read_table_in_slots;
 
 #[cfg(test)]
 mod tests;
+#[cfg(test)]
+mod tests_slots;

@@ -60,8 +60,8 @@ fn read_pieces<R: Threads + Sync>(
     append_pieces(first?, second?)
 }
 
-// The table of the bytes, where it can be read in pieces.
-fn read_side_by_side<R: Threads + Sync>(
+/// The table of the bytes, where it can be read in pieces.
+pub(crate) fn read_side_by_side<R: Threads + Sync>(
     rt: &R,
     alloc: Global,
     bytes: &[u8],
