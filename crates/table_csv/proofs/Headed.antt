@@ -1,11 +1,10 @@
 -- Answers behind a header.
-use Rattle.std.proofs.Common.{◌≡◌, ◌<◌, ◌∙◌, ℕ, List, [], ◌∷◌, length, Result, Ok, Err, inl, inr, sym}
+use Rattle.std.proofs.Common.{◌≡◌, ◌<◌, ℕ, List, [], ◌∷◌, length, Result, Ok, Err, inl, inr}
 use Rattle.std.specs.Borrow.{Bor}
 use Rattle.std.specs.Prelude.{MatchResult}
 use Rattle.csv.specs.declared.reader.Reader.{Reader}
 use Rattle.rdf_values.specs.Answers.{Refuses}
-use Rattle.rdf_values.specs.TableText.{Header, MarkedTable, header_from, table_of}
-use Rattle.rdf_values.specs.declared.table_cause.TableCause.{TableCause}
+use Rattle.rdf_values.specs.TableText.{Header, header_from, table_of}
 use Rattle.table_csv.specs.Csv.{Leaves}
 use Rattle.table_csv.specs.Entries.{IsHeaded, entries_of}
 use Rattle.table_csv.specs.declared.header.Heading.{Heading}

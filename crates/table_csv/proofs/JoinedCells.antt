@@ -1,7 +1,7 @@
 -- Columns of a table with those of another behind them.
 use Rattle.std.proofs.Common.{◌≡◌, ◌≤◌, ◌<◌, ◌+◌, ℕ, zero, suc, pos, List, [], ◌∷◌, ◌++◌, length, get_or, set, take, drop, map, All, Some, arith, refl, ap, ap₂, ◌∙◌, sym, subst, length-append, length-take, add-one, append-nil, append_assoc}
 use Rattle.std.specs.Prelude.{slice_get}
-use Rattle.std.proofs.lemmas.List.{drop_all, get_or-append-add, get_or_append_left, get_or-take, length-map, map-append, take_all, take_more}
+use Rattle.std.proofs.lemmas.List.{drop_all, get_or-append-add, get_or_append_left, get_or-take, map-append, take_all, take_more}
 use Rattle.std.proofs.lemmas.List.Elements.{All-append, All-map}
 use Rattle.std.proofs.lemmas.List.Kept.{AllPairs-from_increasing}
 use Rattle.std.proofs.lemmas.Option.{get_or_from_slice_get, slice_get_within}

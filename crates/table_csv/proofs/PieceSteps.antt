@@ -1,5 +1,5 @@
 -- Answers about pieces of a table.
-use Rattle.std.proofs.Common.{◌≡◌, ◌<◌, ◌≤◌, ◌+◌, ◌∙◌, ◌++◌, ℕ, Bool, true, false, not, All, List, [], ◌∷◌, length, None, Option, Some, Result, Ok, Err, ap, append_assoc, length-append, arith, refl, subst, sym}
+use Rattle.std.proofs.Common.{◌≡◌, ◌<◌, ◌≤◌, ◌+◌, ◌∙◌, ◌++◌, ℕ, Bool, true, false, not, All, List, [], ◌∷◌, length, None, Option, Some, Result, Ok, Err, ap, length-append, arith, sym}
 use Rattle.std.specs.Borrow.{Bor}
 use Rattle.std.specs.Prelude.{IfOk, IfSome, MatchResult}
 use Rattle.std.specs.List.{list_any}

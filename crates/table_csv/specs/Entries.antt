@@ -4,7 +4,6 @@ use Rattle.std.specs.Borrow.{Bor}
 use Rattle.csv.specs.declared.reader.Reader.{Reader}
 use Rattle.rdf_values.specs.Tables.{IsHeader}
 use Rattle.rdf_values.specs.TableText.{Header, MarkedTable, header_from, on_ok, rows_from, table_with}
-use Rattle.rdf_values.specs.declared.column.Column.{Column}
 use Rattle.rdf_values.specs.declared.table_cause.TableCause.{TableCause}
 use Rattle.table_csv.specs.Csv.{Leaves}
 

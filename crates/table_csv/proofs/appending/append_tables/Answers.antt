@@ -1,7 +1,6 @@
 use Rattle.std.proofs.Common.{◌≡◌, ◌≤◌, ◌+◌, ◌∙◌, ap, length, refl, rules, sym}
-use Rattle.rdf_values.specs.Kept.{HoldsTable, rows_kept}
+use Rattle.rdf_values.specs.Kept.{rows_kept}
 use Rattle.rdf_values.proofs.RowPushed.{length-rows_kept}
-use Rattle.table_csv.specs.Joins.{columns_joined}
 use Rattle.table_csv.proofs.JoinedCells.{holds_joined, joined_back, rows_joined, same_count}
 use Rattle.table_csv.proofs.appending.append_tables.Goals as goal
 

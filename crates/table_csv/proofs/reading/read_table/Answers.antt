@@ -1,4 +1,3 @@
-use Rattle.std.proofs.Common.{inl, inr}
 use Rattle.std.proofs.lemmas.Result.{err_from_is_err_and}
 use Rattle.table_csv.specs.Csv.{csv_records}
 use Rattle.table_csv.proofs.Headed.{headed_table}

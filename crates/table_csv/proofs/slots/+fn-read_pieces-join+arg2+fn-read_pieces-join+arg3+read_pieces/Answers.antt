@@ -1,6 +1,3 @@
-use Rattle.std.proofs.Common.{◌++◌}
-use Rattle.std.specs.Prelude.{IfSome}
-use Rattle.table_csv.specs.Pieces.{IsPiece}
 use Rattle.table_csv.proofs.PieceSteps.{pieces_answer, same_columns}
 use Rattle.table_csv.proofs.slots.+fn-read_pieces-join+arg2+fn-read_pieces-join+arg3+read_pieces.Goals as goal
 
