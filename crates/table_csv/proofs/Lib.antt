@@ -1,10 +1,17 @@
 pub mod CellSteps
+pub mod Cut
+pub mod CutLines
 pub mod Examples
 pub mod Fields
+pub mod Headed
 pub mod HeaderSteps
+pub mod JoinedCells
+pub mod LineCuts
 pub mod MarkAnswers
 pub mod Onto
 pub mod Parts
+pub mod PieceSteps
+pub mod ShiftedRows
 pub mod Steps
 pub mod TableSteps
 pub mod VectorSteps

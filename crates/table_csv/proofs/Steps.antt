@@ -77,7 +77,7 @@ leads (c ∷ rest) s fields field =
     (λ e. leads_more (length rest) (length (c ∷ rest)) _ (omega arith) (leads rest q.0 (fields_after q.1 fields field) (field_after q.1 c field)))
 
 -- from a state between records a read takes a byte or more
-abbrev Shrinks : ℕ → Option Read → Type 0
+abbrev pub Shrinks : ℕ → Option Read → Type 0
 Shrinks size None = Unit {0}
 Shrinks size (Some p) = (length p.2 < size) × (ends_at_end p.1 ≡ false) × (0 < length p.0)
 
@@ -89,7 +89,7 @@ shrinks_if : (b : Bool) (size : ℕ) (x y : Option Read) → (b ≡ true → Shr
 shrinks_if true size x y h k = h refl
 shrinks_if false size x y h k = k refl
 
-shrinks : (s : State) (xs : List ℕ) → ends_at_end s ≡ false → Shrinks (length xs) (next_record default_config s [] [] xs)
+pub shrinks : (s : State) (xs : List ℕ) → ends_at_end s ≡ false → Shrinks (length xs) (next_record default_config s [] [] xs)
 unfolding next_record
 shrinks s [] h = rw h tt
 shrinks s (c ∷ rest) h =

@@ -8,6 +8,7 @@ use Rattle.rdf_values.specs.declared.column.Column.{Column}
 use Rattle.rdf_values.specs.declared.table_cause.TableCause.{TableCause}
 use Rattle.rdf_values.specs.declared.table_cause.TableCause.TheVariants as cause
 use Rattle.rdf_values.specs.declared.value.Value.{Value}
+use Rattle.table_csv.specs.Entries.{entries_of}
 use Rattle.table_csv.proofs.Onto.{result_onto, result_onto-cons, result_onto-none}
 
 -- the table, where these rows are read and these entries are left
@@ -23,10 +24,14 @@ pub table_bad : (records : List (List (List ℕ))) (header : List (List ℕ)) (l
 unfolding table_of
 table_bad records header left bad h b = rw (h, b) refl
 
-start : (records : List (List (List ℕ))) (header : List (List ℕ)) (left : List (List (List ℕ))) (h : Header) → records ≡ header ∷ left
-    → header_from 0 [] header ≡ Ok h → table_of records ≡ table_from h [] left
-unfolding table_of table_from
-start records header left h r b = rw (r, b, result_onto-none (rows_from 0 h left)) refl
+pub table_good : (records : List (List (List ℕ))) (header : List (List ℕ)) (left : List (List (List ℕ))) (h : Header) → records ≡ header ∷ left
+    → header_from 0 [] header ≡ Ok h → table_of records ≡ entries_of h left
+unfolding table_of
+table_good records header left h r b = rw (r, b) refl
+
+start : (h : Header) (left : List (List (List ℕ))) → entries_of h left ≡ table_from h [] left
+unfolding table_from
+start h left = rw (result_onto-none (rows_from 0 h left)) refl
 
 end : (h : Header) (rows : List MarkedRow) → table_from h rows [] ≡ Ok (record { table = record { columns = h.columns; rows = map (λ (r : MarkedRow). r.row) rows }; marks = marks_from 0 rows })
 unfolding table_from rows_from
@@ -70,44 +75,42 @@ marks_below (r ∷ rs) e n l = go r.marked (marks_below rs (e + 1) n (omega (ari
 -- ---- a table that is read
 
 -- so many entries are read: the table's rows and marks are theirs, and the answer is that for what is left
-pub record Reading (records : List (List (List ℕ))) (marked : Bool) (table : TableView) (marks : List ℕ) (entry : ℕ) (left : List (List (List ℕ))) : Type 0 where
+pub record Reading (answer : Result MarkedTable TableCause) (marked : Bool) (table : TableView) (marks : List ℕ) (entry : ℕ) (left : List (List (List ℕ))) : Type 0 where
   pub read : List MarkedRow
-  pub so_far : table_of records ≡ table_from (record { columns = table.columns; marked = marked }) read left
+  pub so_far : answer ≡ table_from (record { columns = table.columns; marked = marked }) read left
   pub rows : map (λ (r : MarkedRow). r.row) read ≡ table.rows
   pub marks_read : marks_from 0 read ≡ marks
   pub count : length read ≡ entry
 
-pub reading_start : (records : List (List (List ℕ))) (header : List (List ℕ)) (left : List (List (List ℕ))) (columns : List Column) (marked : Bool) → records ≡ header ∷ left
-    → header_from 0 [] header ≡ Ok (record { columns = columns; marked = marked }) → Reading records marked (record { columns = columns; rows = [] }) [] 0 left
-reading_start records header left columns marked r h =
-    record { read = []; so_far = start records header left (record { columns = columns; marked = marked }) r h; rows = refl; marks_read = refl; count = refl }
+pub reading_start : (columns : List Column) (marked : Bool) (left : List (List (List ℕ))) → Reading (entries_of (record { columns = columns; marked = marked }) left) marked (record { columns = columns; rows = [] }) [] 0 left
+reading_start columns marked left = record { read = []; so_far = start (record { columns = columns; marked = marked }) left; rows = refl; marks_read = refl; count = refl }
 
-pub reading_rows : (records : List (List (List ℕ))) (marked : Bool) (table : TableView) (marks : List ℕ) (entry : ℕ) (left : List (List (List ℕ))) → Reading records marked table marks entry left → length table.rows ≡ entry
-reading_rows records marked table marks entry left r = sym (ap length r.rows) ∙ length-map r.read (λ (m : MarkedRow). m.row) ∙ r.count
+pub reading_rows : (answer : Result MarkedTable TableCause) (marked : Bool) (table : TableView) (marks : List ℕ) (entry : ℕ) (left : List (List (List ℕ))) → Reading answer marked table marks entry left → length table.rows ≡ entry
+reading_rows answer marked table marks entry left r = sym (ap length r.rows) ∙ length-map r.read (λ (m : MarkedRow). m.row) ∙ r.count
 
-pub reading_marks : (records : List (List (List ℕ))) (marked : Bool) (table : TableView) (marks : List ℕ) (entry : ℕ) (left : List (List (List ℕ))) → Reading records marked table marks entry left → All (λ m. m < entry) marks
-reading_marks records marked table marks entry left r = let n = r.count in subst (λ (l : List ℕ). All (λ m. m < entry) l) r.marks_read (marks_below r.read 0 entry (omega (arith, n)))
+pub reading_marks : (answer : Result MarkedTable TableCause) (marked : Bool) (table : TableView) (marks : List ℕ) (entry : ℕ) (left : List (List (List ℕ))) → Reading answer marked table marks entry left → All (λ m. m < entry) marks
+reading_marks answer marked table marks entry left r = let n = r.count in subst (λ (l : List ℕ). All (λ m. m < entry) l) r.marks_read (marks_below r.read 0 entry (omega (arith, n)))
 
-pub reading_stop : (records : List (List (List ℕ))) (marked : Bool) (table : TableView) (marks : List ℕ) (entry : ℕ) (left : List (List (List ℕ))) (fields : List (List ℕ)) (rest : List (List (List ℕ))) (bad : TableCause)
-    → Reading records marked table marks entry left → left ≡ fields ∷ rest → row_of entry (record { columns = table.columns; marked = marked }) fields ≡ Err bad → table_of records ≡ Err bad
-reading_stop records marked table marks entry left fields rest bad r l b =
-    stop (table_of records) (record { columns = table.columns; marked = marked }) r.read left fields rest entry bad r.so_far l r.count b
+pub reading_stop : (answer : Result MarkedTable TableCause) (marked : Bool) (table : TableView) (marks : List ℕ) (entry : ℕ) (left : List (List (List ℕ))) (fields : List (List ℕ)) (rest : List (List (List ℕ))) (bad : TableCause)
+    → Reading answer marked table marks entry left → left ≡ fields ∷ rest → row_of entry (record { columns = table.columns; marked = marked }) fields ≡ Err bad → answer ≡ Err bad
+reading_stop answer marked table marks entry left fields rest bad r l b =
+    stop answer (record { columns = table.columns; marked = marked }) r.read left fields rest entry bad r.so_far l r.count b
 
-pub reading_more : (records : List (List (List ℕ))) (marked : Bool) (table new : TableView) (marks : List ℕ) (entry : ℕ) (left : List (List (List ℕ))) (fields : List (List ℕ)) (rest : List (List (List ℕ))) (row : List Value) (begins : Bool)
-    → Reading records marked table marks entry left → left ≡ fields ∷ rest → row_of entry (record { columns = table.columns; marked = marked }) fields ≡ Ok (record { row = row; marked = begins })
-    → new ≡ record { columns = table.columns; rows = table.rows ++ row ∷ [] } → Reading records marked new (marks ++ mark_if begins entry) (entry + 1) rest
-reading_more records marked table new marks entry left fields rest row begins r l b q = rw q (
+pub reading_more : (answer : Result MarkedTable TableCause) (marked : Bool) (table new : TableView) (marks : List ℕ) (entry : ℕ) (left : List (List (List ℕ))) (fields : List (List ℕ)) (rest : List (List (List ℕ))) (row : List Value) (begins : Bool)
+    → Reading answer marked table marks entry left → left ≡ fields ∷ rest → row_of entry (record { columns = table.columns; marked = marked }) fields ≡ Ok (record { row = row; marked = begins })
+    → new ≡ record { columns = table.columns; rows = table.rows ++ row ∷ [] } → Reading answer marked new (marks ++ mark_if begins entry) (entry + 1) rest
+reading_more answer marked table new marks entry left fields rest row begins r l b q = rw q (
     let n = r.count in
     record {
       read = r.read ++ record { row = row; marked = begins } ∷ [];
-      so_far = more (table_of records) (record { columns = table.columns; marked = marked }) r.read left fields rest entry (record { row = row; marked = begins }) r.so_far l r.count b;
+      so_far = more answer (record { columns = table.columns; marked = marked }) r.read left fields rest entry (record { row = row; marked = begins }) r.so_far l r.count b;
       rows = map-append (λ (m : MarkedRow). m.row) r.read (record { row = row; marked = begins } ∷ []) ∙ ap (λ l. l ++ row ∷ []) r.rows;
       marks_read = marks_more r.read 0 entry (record { row = row; marked = begins }) (omega (arith, n)) ∙ ap (λ l. l ++ mark_if begins entry) r.marks_read;
       count = (let k = length-append r.read (record { row = row; marked = begins } ∷ []) in omega (arith, n, k));
     })
 
-pub reading_end : (records : List (List (List ℕ))) (marked : Bool) (table : TableView) (marks : List ℕ) (entry : ℕ) (left : List (List (List ℕ))) → Reading records marked table marks entry left → left ≡ []
-    → table_of records ≡ Ok (record { table = table; marks = marks })
-reading_end records marked table marks entry left r l =
+pub reading_end : (answer : Result MarkedTable TableCause) (marked : Bool) (table : TableView) (marks : List ℕ) (entry : ℕ) (left : List (List (List ℕ))) → Reading answer marked table marks entry left → left ≡ []
+    → answer ≡ Ok (record { table = table; marks = marks })
+reading_end answer marked table marks entry left r l =
     r.so_far ∙ ap (table_from (record { columns = table.columns; marked = marked }) r.read) l ∙ end (record { columns = table.columns; marked = marked }) r.read
     ∙ ap₂ (λ rows ms. Ok (record { table = record { columns = table.columns; rows = rows }; marks = ms })) r.rows r.marks_read

@@ -1,1 +1,5 @@
 pub mod Csv
+pub mod Entries
+pub mod Joins
+pub mod Lines
+pub mod Pieces

@@ -1,17 +1,25 @@
 //! Reads a table from CSV bytes. The records are those of the crate `csv`; what they mean as a table is `table_of` of `rdf_values`.
 #![tactic(auto)]
 
+mod appending;
 mod cells;
+mod entries;
 mod header;
+mod lines;
 mod marked;
+mod pieces;
 mod reading;
 mod records;
 mod refusal;
+mod slots;
 mod vectors;
 
 pub use crate::marked::Marked;
 pub use crate::reading::read_table;
 pub use crate::refusal::TableRefusal;
+pub use crate::slots::read_table_in_slots;
 
 #[cfg(test)]
 mod tests;
+#[cfg(test)]
+mod tests_slots;

@@ -1,90 +1,22 @@
-use Rattle.std.proofs.Common.{◌≡◌, ◌∙◌, ◌++◌, ◌∷◌, [], arith, inl, inr, rules, refl, append-nil}
 use Rattle.std.proofs.lemmas.Result.{err_from_is_err_and}
-use Rattle.csv.specs.Records.{fields_of}
-use Rattle.rdf_values.proofs.CellWords.{row_fits_columns}
 use Rattle.table_csv.specs.Csv.{csv_records}
-use Rattle.table_csv.proofs.CellSteps.{row_early}
-use Rattle.table_csv.proofs.HeaderSteps.{header_is}
-use Rattle.table_csv.proofs.TableSteps.{mark_if, reading_end, reading_marks, reading_more, reading_rows, reading_start, reading_stop, table_bad, table_none}
+use Rattle.table_csv.proofs.Headed.{headed_table}
 use Rattle.table_csv.proofs.reading.read_table.Goals as goal
-use Rattle.table_csv.proofs.reading.read_table.Goals.{then-begins+in_ok-push-2, else-begins}
-
-pub returns-then-not-branch-clause-value : goal.returns-then-not-branch-clause-value
-returns-then-not-branch-clause-value c =
-    let none = rw c.if-not-branch.true at (c.in_ok-next.ensures _ c.open-reader.ensures) in
-    inr (_, refl, table_none (csv_records c.args.bytes.now) none)
 
 pub returns-in_err-heading-clause-value : goal.returns-in_err-heading-clause-value
 returns-in_err-heading-clause-value c =
-    let first = rw c.if-not-branch.false at (c.in_ok-next.ensures _ c.open-reader.ensures) in
-    let p = err_from_is_err_and c.from_residual-in_err-heading.result c.from_residual-in_err-heading.ensures.1 in
-    rw (p.1, p.2) (elim c.in_err-heading.ensures.value [
-      | inl memory ↦ inl memory
-      | inr bad ↦ inr (bad.0, bad.1, table_bad (csv_records c.args.bytes.now) _ first.0 _ first.1 bad.2)
-    ])
+    let p = err_from_is_err_and c.from_residual.result c.from_residual.ensures.1 in
+    rw (p.1, p.2) (c.in_err-heading.ensures _ c.open-reader.ensures)
 
-pub new-requires : goal.new-requires
-new-requires c =
-    let first = rw c.if-not-branch.false at (c.in_ok-next.ensures _ c.open-reader.ensures) in
-    header_is _ _ first.3 c.in_ok-heading.ensures.value
+pub read_entries-requires-clause-header : goal.read_entries-requires-clause-header
+read_entries-requires-clause-header c = (c.in_ok-heading.ensures _ c.open-reader.ensures).header
 
-pub loop-row-init : goal.loop-row-init
-loop-row-init c =
-    let first = rw c.if-not-branch.false at (c.in_ok-next.ensures _ c.open-reader.ensures) in
-    rw (c.in_ok-table.ensures, c.new-marks.ensures) (first.0, first.2, reading_start (csv_records c.args.bytes.now) _ first.0 c.in_ok-heading.heading.columns c.in_ok-heading.heading.marked first.1 c.in_ok-heading.ensures.value, omega arith, c.in_ok-heading.ensures.few)
-
-pub returns-in_err-begins-clause-value : goal.returns-in_err-begins-clause-value
-returns-in_err-begins-clause-value c =
-    let inv = c.loop-row.invariant in
-    let took = rw c.if-branch.true at (c.in_ok-next-2.ensures _ inv.1) in
-    let p = err_from_is_err_and c.from_residual-in_err-begins.result c.from_residual-in_err-begins.ensures.1 in
-    rw (p.1, p.2) (elim c.in_err-begins.ensures [
-      | inl memory ↦ inl memory
-      | inr bad ↦ inr (bad.0, bad.1, reading_stop _ _ _ _ _ _ _ _ _ inv.2 took.1 (rw (← c.columns.ensures.value) bad.2))
-    ])
-
-pub push-requires-clause-fits : goal.push-requires-clause-fits
-push-requires-clause-fits c =
-    let read = rw c.columns.ensures.value at c.in_ok-begins.ensures in
-    rw read at (row_fits_columns c.loop-row.entry (record { columns = c.loop-row.table.columns; marked = c.in_ok-heading.heading.marked }) (fields_of c.next-in-loop-row.new.fields))
-
-pub push-requires-clause-room : goal.push-requires-clause-room
-push-requires-clause-room c =
-    let read = rw c.columns.ensures.value at c.in_ok-begins.ensures in
-    let early = row_early c.loop-row.entry (record { columns = c.loop-row.table.columns; marked = c.in_ok-heading.heading.marked }) (fields_of c.next-in-loop-row.new.fields) _ read in
-    let rows = reading_rows _ _ _ _ _ _ c.loop-row.invariant.2 in
-    omega (arith, early, rows)
-
-pub push-requires-then-begins-clause-above : goal.push-requires-then-begins-clause-above
-push-requires-then-begins-clause-above c = reading_marks _ _ _ _ _ _ c.loop-row.invariant.2
-
-pub push-requires-then-begins-clause-few : goal.push-requires-then-begins-clause-few
-push-requires-then-begins-clause-few c =
-    let read = rw c.columns.ensures.value at c.in_ok-begins.ensures in
-    row_early c.loop-row.entry (record { columns = c.loop-row.table.columns; marked = c.in_ok-heading.heading.marked }) (fields_of c.next-in-loop-row.new.fields) _ read
-
-pub loop-row-preserved : goal.loop-row-preserved
-loop-row-preserved c =
-    let inv = c.loop-row.invariant in
-    let took = rw c.if-branch.true at (c.in_ok-next-2.ensures _ inv.1) in
-    let read = rw c.columns.ensures.value at c.in_ok-begins.ensures in
-    let early = row_early c.loop-row.entry (record { columns = c.loop-row.table.columns; marked = c.in_ok-heading.heading.marked }) (fields_of c.next-in-loop-row.new.fields) _ read in
-    let pushed : c.push.new.self ≡ record { columns = c.loop-row.table.columns; rows = c.loop-row.table.rows ++ c.read_row.new.row ∷ [] } = search rules in
-    let more = reading_more _ _ _ _ _ _ _ _ _ _ _ inv.2 took.1 read pushed in
-    let marks : c.if-begins.marks ≡ c.loop-row.marks ++ mark_if c.in_ok-begins.begins c.loop-row.entry = elim c.if-begins.branch [
-      | then-begins+in_ok-push-2 w ↦ w.marks-is ∙ w.in_ok-push-2.ensures.ok ∙ rw w.if-begins.true refl
-      | else-begins w ↦ w.marks-is ∙ rw (w.if-begins.false, append-nil) refl
-    ] in
-    let narrow = inv.4 in
-    (took.0, took.2, rw marks more, omega (arith, early), rw pushed narrow)
+pub read_entries-requires-clause-left : goal.read_entries-requires-clause-left
+read_entries-requires-clause-left c =
+    let i = c.in_ok-heading.ensures _ c.open-reader.ensures in
+    (i.left, i.leaves)
 
 pub returns-clause-value : goal.returns-clause-value
 returns-clause-value c =
-    let inv = c.loop-row.invariant in
-    let none = rw c.if-branch.false at (c.in_ok-next-2.ensures _ inv.1) in
-    reading_end _ _ _ _ _ _ inv.2 none
-
-pub returns-clause-within : goal.returns-clause-within
-returns-clause-within c =
-    let rows = reading_rows _ _ _ _ _ _ c.loop-row.invariant.2 in
-    rw rows (reading_marks _ _ _ _ _ _ c.loop-row.invariant.2)
+    let i = c.in_ok-heading.ensures _ c.open-reader.ensures in
+    rw (headed_table (csv_records c.args.bytes.now) _ _ i) (c.read_entries.ensures.value i.left i.leaves)

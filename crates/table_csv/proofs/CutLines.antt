@@ -1,0 +1,165 @@
+-- Records of bytes without a double quote that are cut behind a line's end.
+use Rattle.std.proofs.Common.{◌≡◌, ◌+◌, ℕ, List, [], ◌∷◌, ◌++◌, length, Bool, true, false, arith, refl, sym, ◌∙◌, append_assoc, append-nil, inl, inr}
+use Rattle.std.specs.Prelude.{if◌then◌else◌, ◌==◌, ◌&&◌, ◌||◌, nat_eq}
+use Rattle.std.specs.List.{list_any}
+use Rattle.csv.specs.Machine.{ends_with, next_record, step, in_field, start_field, start_record}
+use Rattle.csv.specs.Reading.{default_config, is_bom, records_from, strip_bom}
+use Rattle.csv.specs.declared.parser.Action.{Action}
+use Rattle.csv.specs.declared.parser.State.{State}
+use Rattle.csv.specs.declared.parser.State.TheVariants as st
+use Rattle.table_csv.specs.Csv.{csv_records}
+use Rattle.table_csv.specs.Lines.{IsCut, is_quote, is_special}
+use Rattle.table_csv.proofs.Cut.{records_cut, state_after}
+
+-- the states that are met where no double quote was
+abbrev unquoted : State → Bool
+unquoted st.StartRecord = true
+unquoted st.StartField = true
+unquoted st.InField = true
+unquoted st.AfterCr = true
+unquoted st.InQuoted = false
+unquoted st.AfterQuote = false
+unquoted st.InEscape = false
+unquoted st.InComment = false
+
+abbrev Stays : State × Action → Type 0
+Stays q = unquoted q.0 ≡ true
+
+stays_if : (t : Bool) (x y : State × Action) → Stays x → Stays y → Stays (if t then x else y)
+stays_if true x y h k = h
+stays_if false x y h k = k
+
+after : (t : Bool) → unquoted (if t then st.AfterCr else st.StartRecord) ≡ true
+after true = refl
+after false = refl
+
+in_field_stays : (c : ℕ) → Stays (in_field default_config c)
+in_field_stays c = stays_if (c == 44) _ _ refl (stays_if (ends_with default_config.terminator c) _ _ (after (c == 13)) refl)
+
+start_field_stays : (c : ℕ) → (c == 34) ≡ false → Stays (start_field default_config c)
+start_field_stays c n = rw n (in_field_stays c)
+
+start_record_stays : (c : ℕ) → (c == 34) ≡ false → Stays (start_record default_config c)
+start_record_stays c n = stays_if (ends_with default_config.terminator c) _ _ refl (start_field_stays c n)
+
+step_stays : (s : State) (c : ℕ) → unquoted s ≡ true → (c == 34) ≡ false → Stays (step default_config s c)
+step_stays st.StartRecord c h n = start_record_stays c n
+step_stays st.StartField c h n = start_field_stays c n
+step_stays st.InField c h n = in_field_stays c
+step_stays st.AfterCr c h n = stays_if (c == 10) _ _ refl (start_record_stays c n)
+step_stays st.InQuoted c h n = cc h
+step_stays st.AfterQuote c h n = cc h
+step_stays st.InEscape c h n = cc h
+step_stays st.InComment c h n = cc h
+
+line_ends : (s : State) → unquoted s ≡ true → (step default_config s 10).0 ≡ st.StartRecord
+line_ends st.StartRecord h = refl
+line_ends st.StartField h = refl
+line_ends st.InField h = refl
+line_ends st.AfterCr h = refl
+line_ends st.InQuoted h = cc h
+line_ends st.AfterQuote h = cc h
+line_ends st.InEscape h = cc h
+line_ends st.InComment h = cc h
+
+or_none : (a b : Bool) → (a || b) ≡ false → (a ≡ false) × (b ≡ false)
+or_none false b e = (refl, e)
+or_none true b e = cc e
+
+lines_end : (front : List ℕ) (s : State) → unquoted s ≡ true → list_any is_quote front ≡ false → state_after s (front ++ 10 ∷ []) ≡ st.StartRecord
+unfolding state_after
+lines_end [] s h n = line_ends s h
+lines_end (c ∷ front) s h n =
+    let p = or_none (is_quote c) (list_any is_quote front) n in
+    lines_end front (step default_config s c).0 (step_stays s c h p.0) p.1
+
+-- ---- the byte order mark
+
+pub no_quote : (bytes : List ℕ) → list_any is_special bytes ≡ false → list_any is_quote bytes ≡ false
+no_quote [] n = refl
+no_quote (c ∷ bytes) n =
+    let p = or_none (is_special c) (list_any is_special bytes) n in
+    rw ((or_none (nat_eq c 34) (nat_eq c 239) p.0).0) (no_quote bytes p.1)
+
+no_mark : (bytes : List ℕ) → list_any is_special bytes ≡ false → strip_bom bytes ≡ bytes
+unfolding strip_bom
+no_mark [] n = refl
+no_mark (a ∷ []) n = refl
+no_mark (a ∷ b ∷ []) n = refl
+no_mark (a ∷ b ∷ c ∷ rest) n =
+    let p = or_none (is_special a) (list_any is_special (b ∷ c ∷ rest)) n in
+    rw ((or_none (nat_eq a 34) (nat_eq a 239) p.0).1) refl
+
+no_third : (b : Bool) → (b && false) ≡ false
+no_third true = refl
+no_third false = refl
+
+no_second : (b c : Bool) → ((b && false) && c) ≡ false
+no_second true c = refl
+no_second false c = refl
+
+no_mark_if : (t : Bool) (x y : List ℕ) → t ≡ false → (if t then x else y) ≡ y
+no_mark_if true x y e = cc e
+no_mark_if false x y e = refl
+
+line_kept : (rest : List ℕ) → strip_bom (10 ∷ rest) ≡ 10 ∷ rest
+unfolding strip_bom
+line_kept [] = refl
+line_kept (b ∷ []) = refl
+line_kept (b ∷ c ∷ rest) = refl
+
+-- a byte order mark stands before the first line's end, if there is one
+record Stripped (front : List ℕ) : Type 0 where
+  kept : List ℕ
+  plain : list_any is_quote kept ≡ false
+  same : (rest : List ℕ) → strip_bom (front ++ 10 ∷ rest) ≡ kept ++ 10 ∷ rest
+
+second_kept : (a : ℕ) (rest : List ℕ) → strip_bom (a ∷ 10 ∷ rest) ≡ a ∷ 10 ∷ rest
+unfolding strip_bom
+second_kept a [] = refl
+second_kept a (c ∷ rest) = no_mark_if (is_bom a 10 c) rest (a ∷ 10 ∷ c ∷ rest) (no_second (a == 239) (c == 191))
+
+stripped : (front : List ℕ) → list_any is_quote front ≡ false → Stripped front
+unfolding strip_bom
+stripped [] n = record { kept = []; plain = refl; same = line_kept }
+stripped (a ∷ []) n = record { kept = a ∷ []; plain = n; same = second_kept a }
+stripped (a ∷ b ∷ []) n =
+    record { kept = a ∷ b ∷ []; plain = n; same = λ rest. no_mark_if (is_bom a b 10) rest (a ∷ b ∷ 10 ∷ rest) (no_third ((a == 239) && (b == 187))) }
+stripped (a ∷ b ∷ c ∷ front) n = go (is_bom a b c) refl
+  where
+    go : (t : Bool) → is_bom a b c ≡ t → Stripped (a ∷ b ∷ c ∷ front)
+    go true e =
+        let p = or_none (is_quote a) (list_any is_quote (b ∷ c ∷ front)) n in
+        let q = or_none (is_quote b) (list_any is_quote (c ∷ front)) p.1 in
+        let r = or_none (is_quote c) (list_any is_quote front) q.1 in
+        record { kept = front; plain = r.1; same = λ rest. rw e refl }
+    go false e = record { kept = a ∷ b ∷ c ∷ front; plain = n; same = λ rest. rw e refl }
+
+-- ---- the records
+
+line_cut : (front rest : List ℕ) → list_any is_quote front ≡ false → list_any is_special rest ≡ false → csv_records (front ++ 10 ∷ rest) ≡ csv_records (front ++ 10 ∷ []) ++ csv_records rest
+unfolding csv_records
+line_cut front rest n m =
+    let s = stripped front n in
+    let a = s.kept ++ 10 ∷ [] in
+    let whole : strip_bom (front ++ 10 ∷ rest) ≡ a ++ rest = s.same rest ∙ sym (append_assoc s.kept (10 ∷ []) rest) in
+    rw (whole, s.same [], no_mark rest m)
+    (records_cut (length a + 1) (length (a ++ rest) + 1) (length rest + 1) st.StartRecord a rest refl (lines_end s.kept st.StartRecord refl s.plain) (omega arith) (omega arith) (omega arith))
+
+front_plain : (front rest : List ℕ) → list_any is_quote (front ++ rest) ≡ false → list_any is_quote front ≡ false
+front_plain [] rest n = refl
+front_plain (c ∷ front) rest n =
+    let p = or_none (is_quote c) (list_any is_quote (front ++ rest)) n in
+    rw p.0 (front_plain front rest p.1)
+
+no_records : csv_records [] ≡ []
+unfolding csv_records strip_bom records_from next_record
+no_records = refl
+
+-- the records of bytes that are cut behind a line's end are those of the two parts
+pub csv_cut : (lines rest : List ℕ) → IsCut lines rest → list_any is_quote lines ≡ false → list_any is_special rest ≡ false → csv_records (lines ++ rest) ≡ csv_records lines ++ csv_records rest
+csv_cut lines rest (inl (inl none)) n m = rw (none, no_records) refl
+csv_cut lines rest (inl (inr l)) n m =
+    let plain = rw l.1 at n in
+    rw (l.1, append_assoc l.0 (10 ∷ []) rest) (line_cut l.0 rest (front_plain l.0 (10 ∷ []) plain) m)
+csv_cut lines rest (inr none) n m = rw (none, append-nil lines, no_records, append-nil (csv_records lines)) refl

@@ -1,0 +1,200 @@
+-- The table of two parts, from that of each.
+use Rattle.std.proofs.Common.{◌≡◌, ◌≤◌, ◌<◌, ◌+◌, ℕ, suc, List, [], ◌∷◌, ◌++◌, length, map, drop, Bool, true, false, None, Some, Option, Result, Ok, Err, arith, refl, ap, sym, ◌∙◌}
+use Rattle.std.specs.Prelude.{if◌then◌else◌, codes, nat_eq, nat_le, ok_or, option_map}
+use Rattle.std.proofs.lemmas.List.{length-map, map-append}
+use Rattle.std.proofs.lemmas.Bool.Decides.{nat_tests}
+use Rattle.rdf_values.specs.Integers.{integer_of}
+use Rattle.rdf_values.specs.Names.{same}
+use Rattle.rdf_values.specs.TableText.{Header, MarkedRow, MarkedTable, cell_of, cells_from, field_count, header_from, mark_in, mark_of, marks_from, on_ok, result_cons, row_of, rows_from, table_of, table_with, vector_of}
+use Rattle.rdf_values.specs.declared.column.Column.{Column}
+use Rattle.rdf_values.specs.declared.table_cause.TableCause.{TableCause}
+use Rattle.rdf_values.specs.declared.table_cause.TableCause.TheVariants as cause
+use Rattle.rdf_values.specs.declared.value.ColType.{ColType}
+use Rattle.rdf_values.specs.declared.value.ColType.TheVariants as k
+use Rattle.rdf_values.specs.declared.value.Value.TheVariants as v
+use Rattle.table_csv.specs.Entries.{entries_of}
+use Rattle.table_csv.specs.Joins.{marked_joined, marks_behind}
+use Rattle.table_csv.proofs.Onto.{result_onto, result_onto-none}
+
+-- where the one has a value, the other has the same
+abbrev Keeps : {A E : Type 0} → Result A E → Result A E → Type 0
+Keeps (Err e) other = Unit {0}
+Keeps (Ok x) other = other ≡ Ok x
+
+keeps_cons : {A E : Type 0} (x y : Result A E) (xs ys : Result (List A) E) → Keeps x y → Keeps xs ys → Keeps (result_cons x xs) (result_cons y ys)
+keeps_cons (Err e) y xs ys h k = tt
+keeps_cons (Ok x) y (Err e) ys h k = tt
+keeps_cons (Ok x) y (Ok xs) ys h k = rw (h, k) refl
+
+keeps_on : {A B E : Type 0} (x y : Result A E) (f g : A → Result B E) → Keeps x y → ((a : A) → Keeps (f a) (g a)) → Keeps (on_ok x f) (on_ok y g)
+keeps_on (Err e) y f g h k = tt
+keeps_on (Ok x) y f g h k = rw h (k x)
+
+keeps_same : {A E : Type 0} (x : Result A E) → Keeps x x
+keeps_same (Err e) = tt
+keeps_same (Ok x) = refl
+
+keeps_or : {A E : Type 0} (o : Option A) (c d : E) → Keeps (ok_or o c) (ok_or o d)
+keeps_or None c d = tt
+keeps_or (Some x) c d = refl
+
+keeps_if : {A E : Type 0} (t : Bool) (x y v w : Result A E) → Keeps x v → Keeps y w → Keeps (if t then x else y) (if t then v else w)
+keeps_if true x y v w h k = h
+keeps_if false x y v w h k = k
+
+-- ---- an entry has the same row at any number
+
+cell_keeps : (e f i : ℕ) (kind : ColType) (text : List ℕ) → Keeps (cell_of e i kind text) (cell_of f i kind text)
+unfolding cell_of
+cell_keeps e f i k.Int text = keeps_or (option_map v.Int (integer_of text)) _ _
+cell_keeps e f i k.Vect text = keeps_or (option_map v.Vect (vector_of text)) _ _
+cell_keeps e f i k.Bool text = tt
+
+cells_keep : (columns : List Column) (fields : List (List ℕ)) (e f i : ℕ) → Keeps (cells_from e i columns fields) (cells_from f i columns fields)
+unfolding cells_from
+cells_keep [] fields e f i = refl
+cells_keep (c ∷ cs) [] e f i = refl
+cells_keep (c ∷ cs) (x ∷ fields) e f i = keeps_cons _ _ _ _ (cell_keeps e f i c.kind x) (cells_keep cs fields e f (i + 1))
+
+mark_keeps : (e f i : ℕ) (marked : Bool) (fields : List (List ℕ)) → Keeps (mark_in e i marked fields) (mark_in f i marked fields)
+unfolding mark_of
+mark_keeps e f i false fields = refl
+mark_keeps e f i true [] = refl
+mark_keeps e f i true (x ∷ fields) = keeps_if (same x (codes "0")) _ _ _ _ refl (keeps_if (same x (codes "1")) _ _ _ _ refl tt)
+
+row_keeps : (e f : ℕ) (h : Header) (fields : List (List ℕ)) → f < 1000000 → Keeps (row_of e h fields) (row_of f h fields)
+unfolding row_of
+row_keeps e f h fields l = go (nat_le 1000000 e)
+  where
+    few : nat_le 1000000 f ≡ false
+    few = grind (arith, nat_tests)
+
+    inner : ℕ → Result MarkedRow TableCause
+    inner n =
+        if nat_eq (length fields) (field_count h) then on_ok (cells_from n 0 h.columns fields) (λ row. on_ok (mark_in n (length h.columns) h.marked (drop (length h.columns) fields)) (λ marked. Ok (record { row = row; marked = marked })))
+        else Err (cause.FieldCount n)
+
+    whole : Keeps (inner e) (inner f)
+    whole =
+        keeps_if (nat_eq (length fields) (field_count h)) _ _ _ _
+        (keeps_on _ _ _ _ (cells_keep h.columns fields e f 0) (λ row. keeps_on _ _ _ _ (mark_keeps e f (length h.columns) h.marked (drop (length h.columns) fields)) (λ marked. refl)))
+        tt
+
+    go : (t : Bool) → Keeps (if t then Err (cause.TooMany e) else inner e) (if nat_le 1000000 f then Err (cause.TooMany f) else inner f)
+    go true = tt
+    go false = rw few whole
+
+rows_keep : (entries : List (List (List ℕ))) (e f : ℕ) (h : Header) → f + length entries ≤ 1000000 → Keeps (rows_from e h entries) (rows_from f h entries)
+unfolding rows_from
+rows_keep [] e f h l = refl
+rows_keep (x ∷ entries) e f h l = keeps_cons _ _ _ _ (row_keeps e f h x (omega arith)) (rows_keep entries (e + 1) (f + 1) h (omega arith))
+
+-- ---- rows one behind the other
+
+onto_cons : {A E : Type 0} (x : Result A E) (xs ys : Result (List A) E) → result_cons x (on_ok xs (λ zs. result_onto zs ys)) ≡ on_ok (result_cons x xs) (λ zs. result_onto zs ys)
+onto_cons (Err e) xs ys = refl
+onto_cons (Ok x) (Err e) ys = refl
+onto_cons (Ok x) (Ok xs) (Err e) = refl
+onto_cons (Ok x) (Ok xs) (Ok ys) = refl
+
+rows_append : (xs ys : List (List (List ℕ))) (e : ℕ) (h : Header) → rows_from e h (xs ++ ys) ≡ on_ok (rows_from e h xs) (λ zs. result_onto zs (rows_from (e + length xs) h ys))
+unfolding rows_from
+rows_append [] ys e h =
+    let none : e + 0 ≡ e = omega arith in
+    rw none (sym (result_onto-none (rows_from e h ys)))
+rows_append (x ∷ xs) ys e h =
+    let next : e + suc (length xs) ≡ e + 1 + length xs = omega arith in
+    rw next (ap (λ r. result_cons (row_of e h x) r) (rows_append xs ys (e + 1) h) ∙ onto_cons (row_of e h x) (rows_from (e + 1) h xs) (rows_from (e + 1 + length xs) h ys))
+
+-- an entry each
+cons_length : (x : Result MarkedRow TableCause) (xs : Result (List MarkedRow) TableCause) (rows : List MarkedRow) (n : ℕ) → result_cons x xs ≡ Ok rows
+    → ((zs : List MarkedRow) → xs ≡ Ok zs → length zs ≡ n) → length rows ≡ suc n
+cons_length (Err e) xs rows n q h = cc q
+cons_length (Ok x) (Err e) rows n q h = cc q
+cons_length (Ok x) (Ok xs) rows n q h = let equal : x ∷ xs ≡ rows = cc q in sym (ap length equal) ∙ ap suc (h xs refl)
+
+rows_length : (entries : List (List (List ℕ))) (e : ℕ) (h : Header) (rows : List MarkedRow) → rows_from e h entries ≡ Ok rows → length rows ≡ length entries
+unfolding rows_from
+rows_length [] e h rows q = let equal : [] ≡ rows = cc q in sym (ap length equal)
+rows_length (x ∷ entries) e h rows q = cons_length (row_of e h x) (rows_from (e + 1) h entries) rows (length entries) q (λ zs. rows_length entries (e + 1) h zs)
+
+-- ---- marks one behind the other
+
+marks_append : (xs ys : List MarkedRow) (e : ℕ) → marks_from e (xs ++ ys) ≡ marks_from e xs ++ marks_from (e + length xs) ys
+marks_append [] ys e =
+    let none : e + 0 ≡ e = omega arith in
+    rw none refl
+marks_append (x ∷ xs) ys e =
+    let next : e + suc (length xs) ≡ e + 1 + length xs = omega arith in
+    rw next (go x.marked (marks_append xs ys (e + 1)))
+  where
+    go : (b : Bool) → marks_from (e + 1) (xs ++ ys) ≡ marks_from (e + 1) xs ++ marks_from (e + 1 + length xs) ys
+        → (if b then e ∷ marks_from (e + 1) (xs ++ ys) else marks_from (e + 1) (xs ++ ys)) ≡ (if b then e ∷ marks_from (e + 1) xs else marks_from (e + 1) xs) ++ marks_from (e + 1 + length xs) ys
+    go true h = ap (λ l. e ∷ l) h
+    go false h = h
+
+marks_shift : (rows : List MarkedRow) (n e : ℕ) → marks_from (n + e) rows ≡ marks_behind n (marks_from e rows)
+marks_shift [] n e = refl
+marks_shift (x ∷ rows) n e =
+    let next : n + e + 1 ≡ n + (e + 1) = omega arith in
+    rw next (go x.marked (marks_shift rows n (e + 1)))
+  where
+    go : (b : Bool) → marks_from (n + (e + 1)) rows ≡ marks_behind n (marks_from (e + 1) rows)
+        → (if b then (n + e) ∷ marks_from (n + (e + 1)) rows else marks_from (n + (e + 1)) rows) ≡ marks_behind n (if b then e ∷ marks_from (e + 1) rows else marks_from (e + 1) rows)
+    go true h = ap (λ l. (n + e) ∷ l) h
+    go false h = h
+
+-- ---- tables
+
+-- the table of these rows
+abbrev view : Header → List MarkedRow → MarkedTable
+view h rows = record { table = record { columns = h.columns; rows = map (λ (r : MarkedRow). r.row) rows }; marks = marks_from 0 rows }
+
+rows_join : (h : Header) (xs ys : List (List (List ℕ))) (u w : List MarkedRow) → rows_from 0 h xs ≡ Ok u → rows_from 0 h ys ≡ Ok w → length (view h u).table.rows + length (view h w).table.rows ≤ 1000000
+    → entries_of h (xs ++ ys) ≡ Ok (marked_joined (view h u) (view h w))
+rows_join h xs ys u w p q few =
+    let row_in = λ (m : MarkedRow). m.row in
+    let m = rows_length xs 0 h u p in
+    let n = rows_length ys 0 h w q in
+    let size = length-map u row_in in
+    let later : rows_from (0 + length xs) h ys ≡ Ok w = rw q at (rows_keep ys 0 (0 + length xs) h (omega (arith, m, n, size, length-map w row_in, few))) in
+    let whole : rows_from 0 h (xs ++ ys) ≡ Ok (u ++ w) = rows_append xs ys 0 h ∙ rw (p, later) refl in
+    let place : 0 + length u ≡ length (map row_in u) + 0 = omega (arith, size) in
+    let behind : marks_from (0 + length u) w ≡ marks_behind (length (map row_in u)) (marks_from 0 w) = rw place (marks_shift w (length (map row_in u)) 0) in
+    rw (whole, map-append row_in u w, marks_append u w 0, behind) refl
+
+read_by : (h : Header) (r : Result (List MarkedRow) TableCause) (t : MarkedTable) → on_ok r (table_with h.columns) ≡ Ok t → (rows : List MarkedRow) × (r ≡ Ok rows) × (view h rows ≡ t)
+read_by h (Err e) t q = cc q
+read_by h (Ok rows) t q = (rows, refl, cc q)
+
+entries_join : (h : Header) (xs ys : List (List (List ℕ))) (a b : MarkedTable) → entries_of h xs ≡ Ok a → entries_of h ys ≡ Ok b → length a.table.rows + length b.table.rows ≤ 1000000
+    → entries_of h (xs ++ ys) ≡ Ok (marked_joined a b)
+entries_join h xs ys a b p q few =
+    let r = read_by h (rows_from 0 h xs) a p in
+    let s = read_by h (rows_from 0 h ys) b q in
+    let count = rw (← r.2, ← s.2) at few in
+    rw (← r.2, ← s.2) (rows_join h xs ys r.0 s.0 r.1 s.1 count)
+
+ok_by : {A B E : Type 0} (x : Result A E) (f : A → Result B E) (b : B) → on_ok x f ≡ Ok b → (a : A) × (x ≡ Ok a) × (f a ≡ Ok b)
+ok_by (Err e) f b q = cc q
+ok_by (Ok x) f b q = (x, refl, q)
+
+-- the table of a header and two parts of its entries
+pub table_join : (header : List (List ℕ)) (xs ys : List (List (List ℕ))) (a b : MarkedTable) → table_of (header ∷ xs) ≡ Ok a → table_of (header ∷ ys) ≡ Ok b
+    → length a.table.rows + length b.table.rows ≤ 1000000 → table_of (header ∷ (xs ++ ys)) ≡ Ok (marked_joined a b)
+unfolding table_of
+table_join header xs ys a b p q few =
+    let r = ok_by (header_from 0 [] header) (λ h. entries_of h xs) a p in
+    let s = rw r.1 at q in
+    rw r.1 (entries_join r.0 xs ys a b r.2 s few)
+
+columns_of : (h : Header) (entries : List (List (List ℕ))) (t : MarkedTable) → entries_of h entries ≡ Ok t → t.table.columns ≡ h.columns
+columns_of h entries t q = let r = read_by h (rows_from 0 h entries) t q in sym (ap (λ m. m.table.columns) r.2)
+
+-- tables of one header have its columns
+pub table_columns : (header : List (List ℕ)) (xs ys : List (List (List ℕ))) (a b : MarkedTable) → table_of (header ∷ xs) ≡ Ok a → table_of (header ∷ ys) ≡ Ok b → b.table.columns ≡ a.table.columns
+unfolding table_of
+table_columns header xs ys a b p q =
+    let r = ok_by (header_from 0 [] header) (λ h. entries_of h xs) a p in
+    let s = rw r.1 at q in
+    columns_of r.0 ys b s ∙ sym (columns_of r.0 xs a r.2)

@@ -1,0 +1,62 @@
+// Tables from records, one after another.
+ghost use Rattle.std.specs.Prelude.{◌≡◌, ◌<◌, All, IfOk, List, ℕ, MatchResult, Ok, length};
+ghost use Rattle.rdf_values.specs.Answers.{Refuses};
+ghost use Rattle.rdf_values.specs.Tables.{IsHeader};
+ghost use Rattle.rdf_values.specs.TableText.{table_of};
+ghost use Rattle.table_csv.specs.Csv.{Leaves};
+ghost use Rattle.table_csv.specs.Entries.{IsHeaded, entries_of};
+
+use crate::cells::read_row;
+use crate::header::{Heading, read_header};
+use crate::marked::Marked;
+use crate::records::next;
+use crate::refusal::TableRefusal;
+use csv::{ByteRecord, Reader};
+use rdf_values::{ListOf, Marks, Table, TableCause};
+use std::alloc::Global;
+
+/// The header that the next record spells.
+pub(crate) fn read_heading(
+    alloc: Global,
+    reader: &mut Reader<&[u8]>,
+) -> Result<Heading, TableRefusal>
+    requires { (left : List (List (List ℕ))) × Leaves reader.old left }
+    ensures { (left : List (List (List ℕ))) → Leaves reader.old left → MatchResult result (λ h. IsHeaded left (record { columns = h.columns; marked = h.marked }) reader.new)
+        (Refuses TableRefusal.At TableRefusal.Memory (table_of left)) }
+{
+    let mut fields = ByteRecord::new(alloc);
+    if !next(reader, &mut fields)? {
+        return Err(TableRefusal::At(TableCause::Header { field: 0 }));
+    }
+    read_header(alloc, &fields)
+}
+
+/// The table of a header and of all records that are left, with its marks.
+pub(crate) fn read_entries(
+    alloc: Global,
+    heading: Heading,
+    reader: &mut Reader<&[u8]>,
+) -> Result<Marked, TableRefusal>
+    requires header { IsHeader heading.columns }
+    requires left { (left : List (List (List ℕ))) × Leaves reader.old left }
+    ensures value { (left : List (List (List ℕ))) → Leaves reader.old left → MatchResult result
+        (λ m. entries_of (record { columns = heading.columns; marked = heading.marked }) left ≡ Ok (record { table = m.table; marks = m.marks }))
+        (Refuses TableRefusal.At TableRefusal.Memory (entries_of (record { columns = heading.columns; marked = heading.marked }) left)) }
+    ensures within { IfOk result (λ m. All (λ e. e < length m.table.rows) m.marks) }
+{
+    let marked = heading.marked;
+    let mut table = Table::new(alloc, heading.columns)?;
+    let mut marks = Marks::new(alloc);
+    let mut fields = ByteRecord::new(alloc);
+    let mut row = ListOf::new(alloc);
+    let mut entry = 0;
+    while next(reader, &mut fields)? {
+        let begins = read_row(alloc, entry, table.columns(), marked, &fields, &mut row)?;
+        table.push(&mut row)?;
+        if begins {
+            marks.push(entry)?;
+        }
+        entry += 1;
+    }
+    Ok(Marked { table, marks })
+}

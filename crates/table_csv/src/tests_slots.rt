@@ -1,0 +1,152 @@
+use crate::slots::read_side_by_side;
+use crate::{Marked, TableRefusal, read_table_in_slots};
+use rdf_values::{Cell, TableCause};
+use std::alloc::{AllocError, Global};
+use std::test::Fail;
+
+// A column of these lines, with so many lines of 0 before and behind them.
+fn padded(alloc: Global, before: u32, lines: &str, behind: u32) -> Result<String, AllocError> {
+    let mut text = String::from_str(alloc, "x:int\n")?;
+    for _ in 0..before {
+        text.push_str("0\n")?;
+    }
+    text.push_str(lines)?;
+    for _ in 0..behind {
+        text.push_str("0\n")?;
+    }
+    Ok(text)
+}
+
+// Whether the column has these numbers, with so many of 0 before them and behind them.
+fn holds(marked: &Marked, before: u32, numbers: &[i64], behind: u32) -> bool {
+    let table = &marked.table;
+    let entries = table.entries();
+    if table.columns().len() != 1
+        || entries as usize != before as usize + numbers.len() + behind as usize
+    {
+        return false;
+    }
+    for entry in 0..entries {
+        let wanted = match entry.checked_sub(before) {
+            Some(i) => numbers.get(i as usize).copied().unwrap_or(0),
+            None => 0,
+        };
+        if !matches!(table.value(entry, 0), Cell::Int(n) if n == wanted) {
+            return false;
+        }
+    }
+    true
+}
+
+// The middle of the bytes passes over each byte of the lines.
+#[test]
+fn cuts_at_each_byte(rt: HostRuntime) -> Result<(), Fail> {
+    let alloc = rt.alloc();
+    let lines = "1\r\n22\n\n\r\n-333\r\n4\n";
+    for pad in 0..12 {
+        for slots in 2..5 {
+            let text = padded(alloc, pad, lines, 0)?;
+            let marked = read_side_by_side(&rt, alloc, text.as_bytes(), slots).expect(&rt, "plain");
+            assert!(rt;
+                holds(&marked, pad, [1, 22, -333, 4].as_slice(), 0),
+                "{pad} before, {slots} slots"
+            );
+            let text = padded(alloc, 0, lines, pad)?;
+            let marked = read_side_by_side(&rt, alloc, text.as_bytes(), slots).expect(&rt, "plain");
+            assert!(rt;
+                holds(&marked, 0, [1, 22, -333, 4].as_slice(), pad),
+                "{pad} behind, {slots} slots"
+            );
+        }
+    }
+    Ok(())
+}
+
+// More slots than lines, a byte order mark, and a last line without its end.
+#[test]
+fn reads_marks_and_vectors_in_pieces(rt: HostRuntime) -> Result<(), Fail> {
+    let text = "\u{feff}x:int,v:vec,k:cut\n1,,1\r\n\n2,7;8,0\n3,9,1\r\n4,,0\n5,1,1\n\n6,,0";
+    for slots in 1..20 {
+        let marked = read_side_by_side(&rt, rt.alloc(), text.as_bytes(), slots).expect(
+            &rt, "plain",
+        );
+        assert_eq!(rt; marked.table.columns().len(), 2);
+        assert_eq!(rt; marked.table.entries(), 6);
+        assert_eq!(rt; marked.marks.as_slice(), [0, 2, 4].as_slice());
+        assert!(rt; matches!(marked.table.value(5, 0), Cell::Int(6)));
+        let Cell::Vect(jets) = marked.table.value(1, 1) else {
+            panic!(rt; "no vector");
+        };
+        assert_eq!(rt; jets, [7, 8].as_slice());
+    }
+    Ok(())
+}
+
+#[test]
+fn leaves_other_bytes_to_one_reader(rt: HostRuntime) -> Result<(), Fail> {
+    let cases = [
+        "",
+        "\nx:int\n1\n",
+        "x:int\r1\n2\n",
+        "\"x:int\"\n1\n",
+        "x:int\n1\n\"2\"\n",
+        "x:int\n\u{feff}1\n2\n",
+        "x:int\n1\n2\nx\n",
+        "x:bool\n1\n",
+    ];
+    for text in cases {
+        for slots in 1..4 {
+            let answer = read_side_by_side(&rt, rt.alloc(), text.as_bytes(), slots);
+            assert!(rt; answer.is_none(), "at {text:?}");
+        }
+    }
+    Ok(())
+}
+
+#[test]
+fn reads_a_table_in_slots(rt: HostRuntime) -> Result<(), Fail> {
+    let alloc = rt.alloc();
+    let text = padded(alloc, 40_000, "1\n", 30_000)?;
+    for slots in 0..6 {
+        let marked = read_table_in_slots(&rt, alloc, text.as_bytes(), slots)?;
+        assert!(rt;
+            holds(&marked, 40_000, [1].as_slice(), 30_000),
+            "{slots} slots"
+        );
+    }
+    let quoted = padded(alloc, 40_000, "\"1\"\n", 30_000)?;
+    let marked = read_table_in_slots(&rt, alloc, quoted.as_bytes(), 4)?;
+    assert!(rt; holds(&marked, 40_000, [1].as_slice(), 30_000));
+    Ok(())
+}
+
+#[test]
+fn refuses_the_first_entry_of_all_pieces(rt: HostRuntime) -> Result<(), Fail> {
+    let alloc = rt.alloc();
+    let mut both = padded(alloc, 10_000, "1,2\n", 60_000)?;
+    both.push_str("x\n")?;
+    let bad_int = |entry| TableCause::BadInt { entry, field: 0 };
+    let cases = [
+        (padded(alloc, 60_000, "05\n", 10_000)?, bad_int(60_000)),
+        (padded(alloc, 60_000, "+1\nx", 0)?, bad_int(60_000)),
+        (both, TableCause::FieldCount { entry: 10_000 }),
+    ];
+    for (text, cause) in cases {
+        let answer = read_table_in_slots(&rt, alloc, text.as_bytes(), 4).err();
+        assert_eq!(rt; answer, Some(TableRefusal::At(cause)));
+    }
+    Ok(())
+}
+
+#[test]
+fn takes_a_million_entries_of_all_pieces(rt: HostRuntime) -> Result<(), Fail> {
+    let alloc = rt.alloc();
+    let text = padded(alloc, 999_999, "7\n", 0)?;
+    let marked = read_table_in_slots(&rt, alloc, text.as_bytes(), 4)?;
+    assert!(rt; holds(&marked, 999_999, [7].as_slice(), 0));
+    let text = padded(alloc, 1_000_000, "7\n", 0)?;
+    let answer = read_table_in_slots(&rt, alloc, text.as_bytes(), 4).err();
+    let cause = TableCause::TooMany { entry: 1_000_000 };
+    assert_eq!(rt; answer, Some(TableRefusal::At(cause)));
+    Ok(())
+}
