@@ -21,7 +21,7 @@ use rdf_values::{Memory, Script};
 use result_text::Refusal;
 use std::alloc::Global;
 use std::thread::Threads;
-use table_csv::{Marked, TableRefusal, read_table};
+use table_csv::{Marked, TableRefusal, read_table_in_slots};
 use transcripts::run_prints;
 
 /// The most bytes of a table.
@@ -118,7 +118,7 @@ pub(crate) fn answer_over<R: Threads + Sync, G: Gate>(
     if bytes.len() > MAX_TABLE {
         return Answer::refused(alloc, Status::TableRefused, &Refusal::TableLong);
     }
-    match read_table(alloc, bytes) {
+    match read_table_in_slots(rt, alloc, bytes, settings.slots) {
         Ok(marked) => answer_script(rt, alloc, script, marked, functions, settings, gate),
         Err(TableRefusal::Memory) => Err(Memory),
         Err(TableRefusal::At(cause)) => {
