@@ -1,6 +1,32 @@
 // Files and outputs that fail.
 use super::*;
 
+// A read that fails is named with its file, whichever call it is: the first to find the file, or the last to find its end.
+#[test]
+fn a_failed_read_is_named_at_each_call(rt: HostRuntime) -> Result<(), Fail> {
+    let alloc = rt.alloc();
+    let functions = FnList::new(alloc);
+    let words = words_of(alloc, TWO_FILES, &[])?;
+    for (call, output) in [
+        (0, "read failed: s.txt\n"),
+        (1, "read failed: s.txt\n"),
+        (2, "read failed: s.txt\n"),
+        (3, "read failed: a.csv\n"),
+        (4, "read failed: a.csv\n"),
+        (5, "read failed: a.csv\n"),
+    ] {
+        let mut shelf = shelf_of(alloc, COUNT.as_bytes(), TABLE.as_bytes())?;
+        shelf.fail_at(call)?;
+        let mut sink = MemorySink::new(alloc, ROOM)?;
+        let status = rdf_top(
+            &rt, alloc, &words, &mut shelf, &mut sink, &functions, &OpenGate,
+        );
+        assert!(rt; status == Status::ReadFault, "call {call}");
+        assert_eq!(rt; sink.bytes(), output.as_bytes(), "call {call}");
+    }
+    Ok(())
+}
+
 #[test]
 fn a_failed_write_leaves_a_first_part(rt: HostRuntime) -> Result<(), Fail> {
     let alloc = rt.alloc();

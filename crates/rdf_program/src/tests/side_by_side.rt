@@ -116,3 +116,86 @@ fn held_cluster_comes_late(rt: HostRuntime) -> Result<(), Fail> {
     assert!(rt; gate.released.load(Ordering::SeqCst));
     Ok(())
 }
+
+// It holds each turn with a cluster above 0 until the fault was met, and a little longer.
+#[derive(Drop)]
+struct FaultIsMet {
+    met: Arc<AtomicBool>,
+    turns: AtomicU64,
+}
+
+impl Gate for FaultIsMet {
+    fn turn(&self, _slot: u32, cluster: u32) {
+        self.turns.fetch_add(1, Ordering::SeqCst);
+        if cluster == 0 {
+            return;
+        }
+        for _ in 0..TURNS {
+            if self.met.load(Ordering::SeqCst) {
+                break;
+            }
+        }
+        let mut met = 0_u64;
+        for _ in 0..LATER_TURNS {
+            if self.met.load(Ordering::SeqCst) {
+                met = met.wrapping_add(1);
+            }
+        }
+        self.turns.fetch_add(met / u64::MAX, Ordering::SeqCst);
+    }
+}
+
+// The square of the first entry is no number of 64 bits.
+const OVERFLOWING: i64 = 4_000_000_000;
+
+fn hundred_entries(alloc: Global) -> Result<Text, Fail> {
+    let mut table = Text::new(alloc);
+    table.extend(b"x:int\n4000000000\n")?;
+    for _ in 1..100 {
+        table.extend(b"1\n")?;
+    }
+    Ok(table)
+}
+
+#[test]
+fn bar_is_lowered(rt: HostRuntime) -> Result<(), Fail> {
+    let alloc = rt.alloc();
+    let met = Arc::new(alloc, AtomicBool::new(false))?;
+    let flag = met.clone()?;
+    let square: Closure = Box::new(
+        alloc,
+        move |args: &[i64]| -> Option<i64>
+            requires { length args.now ≡ 1 }
+            ensures { result ≡ square_of args.now }
+        {
+            if args[0] == OVERFLOWING {
+                flag.store(true, Ordering::SeqCst);
+            }
+            Square::answer(args)
+        },
+    )?;
+    let mut functions = FnList::new(alloc);
+    if functions
+        .add(name(alloc, b"square")?, Stored::new::<Square>(square))
+        .is_err()
+    {
+        return Err(Fail::from("not added"));
+    }
+    let gate = FaultIsMet {
+        met,
+        turns: AtomicU64::new(0),
+    };
+    let table = hundred_entries(alloc)?;
+    let script = "f = df.Filter(\"square(x) > 0\")\nn = f.Count()\nPrint(n)\n";
+    let words = words_of(alloc, TWO_FILES, &["--slots", "2", "--cluster", "1"])?;
+    let mut shelf = shelf_of(alloc, script.as_bytes(), table.as_bytes())?;
+    let mut sink = MemorySink::new(alloc, ROOM)?;
+    let status = rdf_top(&rt, alloc, &words, &mut shelf, &mut sink, &functions, &gate);
+    assert!(rt; status == Status::LoopFault);
+    assert_eq!(rt;
+        sink.bytes(),
+        b"fault at entry 0 in n: F8 Function\n".as_slice()
+    );
+    assert!(rt; gate.turns.load(Ordering::SeqCst) <= 10);
+    Ok(())
+}
