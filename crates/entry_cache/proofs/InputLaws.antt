@@ -33,7 +33,7 @@ module _ (j : JobView) (entry : ℕ) (u : Option ℕ) where
   rest_read : (c : ℕ) (cs : List ℕ) (v : Value) → version_in {M = ⊥} j entry u c ≡ Gives v → (D : ℕ → Bool) → HasRead j entry u (c ∷ cs) D → HasRead j entry u cs D
   rest_read c cs v e D h = subst (λ (o : Outcome ⊥ Value). IfGiven o (HasRead j entry u cs D)) e h.1
 
-  all_by : (c : ℕ) (cs : List ℕ) (o : Outcome ⊥ Value) (p : Outcome ⊥ (List Value)) → version_in {M = ⊥} j entry u c ≡ o → for_all (version_in {M = ⊥} j entry u) cs ≡ p
+  pub all_by : (c : ℕ) (cs : List ℕ) (o : Outcome ⊥ Value) (p : Outcome ⊥ (List Value)) → version_in {M = ⊥} j entry u c ≡ o → for_all (version_in {M = ⊥} j entry u) cs ≡ p
       → for_all (version_in {M = ⊥} j entry u) (c ∷ cs) ≡ (o >>= λ y. p >>= λ ys. Gives (y ∷ ys))
   all_by c cs o p e f = λ i. e i >>= λ y. f i >>= λ ys. Gives (y ∷ ys)
 

@@ -7,7 +7,7 @@ use Rattle.variation_sets.specs.declared.var_set.VarSet.{VarSet}
 use Rattle.graph_numbers.specs.Graphs.{GraphView, graph_sites, graph_variations, holds_at, site_depends_at}
 use Rattle.graph_numbers.specs.Sites.{SiteAt, depends_on}
 use Rattle.graph_numbers.proofs.Listed.{of_joined}
-use Rattle.entry_cache.specs.Keys.{AreKeys, AreKeysAt, key, key_count, keys_before, own_keys, slot, slot_at, slot_in}
+use Rattle.entry_cache.specs.Keys.{AreKeysAt, AreSiteKeys, key, key_count, keys_before, own_keys, slot, slot_at, slot_in}
 use Rattle.entry_cache.specs.declared.keys.SiteKeys.{SiteKeys}
 use Rattle.entry_cache.proofs.FillLaws.{there}
 use Rattle.entry_cache.proofs.KeyLaws.{counted, key_below, keys_next}
@@ -65,9 +65,9 @@ module _ (g : GraphView) (s : ℕ) (k : SiteKeys) (kept : AreKeysAt g s k) (x : 
   pub own_is : ((v : ℕ) → 128 ≤ v → has k.depends v ≡ false) → suc (members_below k.depends 128) ≡ own_keys (graph_variations g) x
   own_is none = ap suc (members_all (depends_on x) (graph_variations g) k.depends depends_is none)
 
-module _ (g : GraphView) (ks : List SiteKeys) (kept : AreKeys g ks) (s : ℕ) (inside : s < length (graph_sites g)) (d : SiteKeys) (u : Option ℕ) (n : ℕ) (is : n ≡ slot_in (get_or ks s d).depends u) where
+module _ (g : GraphView) (ks : List SiteKeys) (kept : AreSiteKeys g ks) (s : ℕ) (inside : s < length (graph_sites g)) (d : SiteKeys) (u : Option ℕ) (n : ℕ) (is : n ≡ slot_in (get_or ks s d).depends u) where
   at : AreKeysAt g s (get_or ks s d)
-  at = kept.each s (get_or ks s d) (slice_get-get_or ks s d (let c = kept.count in omega (arith, c, inside)))
+  at = kept.sites.each s (get_or ks s d) (slice_get-get_or ks s d (let c = kept.sites.many in omega (arith, c, inside)))
 
   -- the key that is read
   pub kept_key : (get_or ks s d).first + n ≡ key g s u

@@ -12,6 +12,7 @@ pub mod HandLaws
 pub mod InputLaws
 pub mod KeptKeys
 pub mod KeyLaws
+pub mod KnownLaws
 pub mod NamedFilters
 pub mod NamedLaws
 pub mod PassNumbers
@@ -19,6 +20,7 @@ pub mod PassTies
 pub mod PlainLaws
 pub mod PublicLaws
 pub mod RoundLaws
+pub mod RowLaws
 pub mod ServeLaws
 pub mod SuitsLaws
 pub mod TableLaws

@@ -77,7 +77,7 @@ module _ (j : JobView) (entry : ℕ) (u : Option ℕ) where
   rest_tried : (s : ℕ) (ss : List ℕ) → (site_in {M = ⊥} j entry u s >>= truth_of) ≡ Gives true → (D : ℕ → Bool) → HasTried j entry u (s ∷ ss) D → HasTried j entry u ss D
   rest_tried s ss e D h = subst (λ (o : Outcome ⊥ Bool). IfPassed o (HasFilters (λ s. D s ≡ true) (site_in j entry u) ss)) e h.1
 
-  through_first : (s : ℕ) (ss : List ℕ) (o : Outcome ⊥ Bool) → (site_in {M = ⊥} j entry u s >>= truth_of) ≡ o → through_sites {M = ⊥} (site_in j entry u) (s ∷ ss) ≡ (o >>= λ passed. if passed then through_sites (site_in j entry u) ss else Gives false)
+  pub through_first : (s : ℕ) (ss : List ℕ) (o : Outcome ⊥ Bool) → (site_in {M = ⊥} j entry u s >>= truth_of) ≡ o → through_sites {M = ⊥} (site_in j entry u) (s ∷ ss) ≡ (o >>= λ passed. if passed then through_sites (site_in j entry u) ss else Gives false)
   through_first s ss o e = ap (λ p. p >>= λ passed. if passed then through_sites (site_in j entry u) ss else Gives false) e
 
   -- the first filter stops the entry, faults, or memory was wanted

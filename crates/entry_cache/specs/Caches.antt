@@ -20,17 +20,17 @@ use Rattle.entry_cache.specs.Passes.{AreAtHand}
 use Rattle.entry_cache.specs.Plain.{ArePlain, IsPlainVersion}
 use Rattle.entry_cache.specs.Store.{is_held, held_in, held_count, Grows, HasHeld, keys_in, IsSound}
 use Rattle.entry_cache.specs.declared.held.Held.{Held}
-use Rattle.entry_cache.specs.declared.keys.SiteKeys.{SiteKeys}
+use Rattle.entry_cache.specs.declared.rows.Row.{Row}
 use Rattle.entry_cache.specs.declared.outcome.Outcome.{Outcome as Answered}
 use Rattle.entry_cache.specs.declared.outcome.Outcome.TheVariants as answer
 use Rattle.entry_cache.specs.declared.outcome.OutcomeStop.{OutcomeStop}
 use Rattle.entry_cache.specs.declared.outcome.OutcomeStop.TheVariants as stop
 
--- the entry that was begun, if one was, what is held at each key, and the keys of each site
+-- the entry that was begun, if one was, what is held at each key, and the rows of nominal and each variation
 pub record CacheView : Type 0 where
   pub entry : Option ℕ
   pub cells : List Held
-  pub keys : List SiteKeys
+  pub keys : List Row
 
 -- ---- what is held
 
@@ -41,7 +41,7 @@ pub record IsBegun (j : JobView) (c : CacheView) : Type 0 where
   pub within : entry < length j.dataset.rows
   pub sound : IsSound j entry c.cells
 
--- the keys are those of the job's sites, and there is a cell for each of them
+-- the rows are those of the job's graph, and there is a cell for each key
 pub record IsSized (j : JobView) (c : CacheView) : Type 0 where
   pub cells : length c.cells ≡ key_count (job_graph j)
   pub keys : AreKeys (job_graph j) c.keys

@@ -5,7 +5,7 @@ ghost use Rattle.graph_numbers.specs.Graphs.{graph_loops, graph_results};
 ghost use Rattle.graph_numbers.specs.Results.{kind_of_booking};
 ghost use Rattle.entry_cache.specs.Caches.{HasDemands, IsActionPass, IsFedBy, IsOutcome, IsPaidUnless, IsPlainLoop, numbered_in};
 ghost use Rattle.entry_cache.specs.Jobs.{Fits, job_graph, job_of};
-ghost use Rattle.entry_cache.specs.Keys.{AreKeys};
+ghost use Rattle.entry_cache.specs.Keys.{IsRow};
 ghost use Rattle.entry_cache.specs.Passes.{CanAct, IsActed, IsActionAt, IsRead};
 ghost use Rattle.entry_cache.specs.Plain.{ArePlain, ArePlainVersions};
 ghost use Rattle.entry_cache.specs.Store.{CanLook, IsSound};
@@ -100,7 +100,7 @@ fn read<L: Ledger>(
     steps: &mut Steps<L>,
 ) -> Result<Outcome, OutcomeStop>
     requires job { Fits at.now.job.now }
-    requires keys { AreKeys (job_graph (job_of at.now.job.now)) at.now.keys.now }
+    requires row { IsRow (job_graph (job_of at.now.job.now)) at.now.under at.now.row.now }
     requires can { CanLook (job_of at.now.job.now) at.now.entry store.old }
     requires sound { IsSound (job_of at.now.job.now) at.now.entry store.old }
     requires action { CanAct (job_of at.now.job.now) at.now.entry at.now.under action.now.kind.now action.now.path.now action.now.inputs.now }
@@ -126,7 +126,7 @@ pub(crate) fn act<L: Ledger>(
     steps: &mut Steps<L>,
 ) -> Result<Outcome, OutcomeStop>
     requires job { Fits at.now.job.now }
-    requires keys { AreKeys (job_graph (job_of at.now.job.now)) at.now.keys.now }
+    requires row { IsRow (job_graph (job_of at.now.job.now)) at.now.under at.now.row.now }
     requires can { CanLook (job_of at.now.job.now) at.now.entry store.old }
     requires sound { IsSound (job_of at.now.job.now) at.now.entry store.old }
     requires action { CanAct (job_of at.now.job.now) at.now.entry at.now.under action.now.kind.now action.now.path.now action.now.inputs.now }
@@ -153,7 +153,7 @@ pub(crate) fn try_pass<L: Ledger>(
     steps: &mut Steps<L>,
 ) -> Result<Outcome, OutcomeStop>
     requires job { Fits at.now.job.now }
-    requires keys { AreKeys (job_graph (job_of at.now.job.now)) at.now.keys.now }
+    requires row { IsRow (job_graph (job_of at.now.job.now)) at.now.under at.now.row.now }
     requires can { CanLook (job_of at.now.job.now) at.now.entry store.old }
     requires sound { IsSound (job_of at.now.job.now) at.now.entry store.old }
     requires pass { numbered_in (job_of at.now.job.now) _pass ≡ Some _own }

@@ -15,10 +15,10 @@ ghost use Rattle.entry_cache.specs.declared.held.Held.{Held};
 use crate::action::{action_of, pass_of, try_pass};
 use crate::inputs::gather;
 use crate::job::Job;
-use crate::keys::{SiteKeys, keys_of};
 use crate::named::try_named;
 use crate::outcome::{Outcome, OutcomeStop};
 use crate::reading::Reading;
+use crate::rows::{Row, row_at, rows_of};
 use crate::store::Store;
 use actions::Items;
 use expr_eval::Steps;
@@ -28,12 +28,13 @@ use std::alloc::Global;
 use std::marker::Model;
 use std::sync::ledger::Ledger;
 
-/// What was evaluated of one entry. Contracts see the entry that was begun, what is held at each key, and the keys of each site.
+/// What was evaluated of one entry. Contracts see the entry that was begun, what is held at each key,
+/// and the rows.
 #[derive(Drop)]
 pub struct EntryCache {
     entry: Option<u32>,
     store: Store,
-    keys: ListOf<SiteKeys>,
+    rows: ListOf<Row>,
 }
 
 impl Model for EntryCache {
@@ -41,7 +42,7 @@ impl Model for EntryCache {
 
     ghost Value = { CacheView };
 
-    ghost view = { λ c. record { entry = c.entry; cells = c.store; keys = c.keys } };
+    ghost view = { λ c. record { entry = c.entry; cells = c.store; keys = c.rows } };
 }
 
 impl EntryCache {
@@ -50,10 +51,10 @@ impl EntryCache {
         requires job { Fits job.now }
         ensures { IfOk result (λ c. (c.entry ≡ None) × IsSized (job_of job.now) c) }
     {
-        let (keys, count) = keys_of(alloc, job.graph)?;
+        let (rows, count) = rows_of(alloc, job.graph)?;
         let store = Store::new(alloc, count)?;
         let entry = None;
-        Ok(EntryCache { entry, store, keys })
+        Ok(EntryCache { entry, store, rows })
     }
 
     /// Begins an entry, of which nothing is held yet.
@@ -98,7 +99,7 @@ impl EntryCache {
         let action = action_of(job, own, pass);
         let at = Reading {
             job,
-            keys: self.keys.as_slice(),
+            row: row_at(self.rows.as_slice(), job.graph, own.variation),
             entry,
             under: own.variation,
         };
@@ -125,7 +126,7 @@ impl EntryCache {
         let action = action_of(job, own, pass);
         let at = Reading {
             job,
-            keys: self.keys.as_slice(),
+            row: row_at(self.rows.as_slice(), job.graph, own.variation),
             entry,
             under: own.variation,
         };
@@ -161,7 +162,7 @@ impl EntryCache {
         };
         let at = Reading {
             job,
-            keys: self.keys.as_slice(),
+            row: row_at(self.rows.as_slice(), job.graph, None),
             entry,
             under: None,
         };

@@ -7,7 +7,7 @@ ghost use Rattle.expr_check.specs.NumKinds.{CallsFit, is_plain};
 ghost use Rattle.expr_eval.specs.Answers.{scalar_value};
 ghost use Rattle.graph_numbers.specs.Graphs.{graph_sites};
 ghost use Rattle.entry_cache.specs.Jobs.{Fits, job_graph, job_of};
-ghost use Rattle.entry_cache.specs.Keys.{AreKeys, key as key_of};
+ghost use Rattle.entry_cache.specs.Keys.{IsRow, key as key_of};
 ghost use Rattle.entry_cache.specs.Plain.{ArePlain};
 ghost use Rattle.entry_cache.specs.Store.{CanEvaluate, CanLook, IsAttempted, IsBounded, IsEvaluated, IsFilled, IsMissing, IsSiteOf, IsSiteServed, IsSound, IsTried, held_count, held_in, held_or_need, is_held, source_at};
 
@@ -59,7 +59,7 @@ fn evaluate<L: Ledger>(
     steps: &mut Steps<L>,
 ) -> Result<Held, EvalStop>
     requires job { Fits view.now.at.now.job.now }
-    requires keys { AreKeys (job_graph (job_of view.now.at.now.job.now)) view.now.at.now.keys.now }
+    requires row { IsRow (job_graph (job_of view.now.at.now.job.now)) view.now.at.now.under view.now.at.now.row.now }
     requires can { CanLook (job_of view.now.at.now.job.now) view.now.at.now.entry view.now.store.now }
     requires columns { CanEvaluate (job_of view.now.at.now.job.now) view.now.at.now.entry view.now.at.now.under view.now.store.now expr.now }
     requires calls { CallsFit (fn_names (functions_in view.now.at.now.job.now.functions.now)) expr.now.tree }
@@ -106,7 +106,7 @@ fn try_site<L: Ledger>(
     steps: &mut Steps<L>,
 ) -> Tried
     requires job { Fits at.now.job.now }
-    requires keys { AreKeys (job_graph (job_of at.now.job.now)) at.now.keys.now }
+    requires row { IsRow (job_graph (job_of at.now.job.now)) at.now.under at.now.row.now }
     requires can { CanLook (job_of at.now.job.now) at.now.entry store.now }
     requires sound { IsSound (job_of at.now.job.now) at.now.entry store.now }
     requires site { site < length (graph_sites (job_graph (job_of at.now.job.now))) }
@@ -132,7 +132,7 @@ fn attempt<L: Ledger>(
     steps: &mut Steps<L>,
 ) -> Result<Option<u32>, Memory>
     requires job { Fits at.now.job.now }
-    requires keys { AreKeys (job_graph (job_of at.now.job.now)) at.now.keys.now }
+    requires row { IsRow (job_graph (job_of at.now.job.now)) at.now.under at.now.row.now }
     requires can { CanLook (job_of at.now.job.now) at.now.entry store.old }
     requires sound { IsSound (job_of at.now.job.now) at.now.entry store.old }
     requires site { site < length (graph_sites (job_graph (job_of at.now.job.now))) }
@@ -161,7 +161,7 @@ fn fill<L: Ledger>(
     steps: &mut Steps<L>,
 ) -> Result<(), Memory>
     requires job { Fits at.now.job.now }
-    requires keys { AreKeys (job_graph (job_of at.now.job.now)) at.now.keys.now }
+    requires row { IsRow (job_graph (job_of at.now.job.now)) at.now.under at.now.row.now }
     requires can { CanLook (job_of at.now.job.now) at.now.entry store.old }
     requires sound { IsSound (job_of at.now.job.now) at.now.entry store.old }
     requires site { site < length (graph_sites (job_graph (job_of at.now.job.now))) }
@@ -194,7 +194,7 @@ pub(crate) fn serve<L: Ledger>(
     steps: &mut Steps<L>,
 ) -> Result<(), Memory>
     requires job { Fits at.now.job.now }
-    requires keys { AreKeys (job_graph (job_of at.now.job.now)) at.now.keys.now }
+    requires row { IsRow (job_graph (job_of at.now.job.now)) at.now.under at.now.row.now }
     requires can { CanLook (job_of at.now.job.now) at.now.entry store.old }
     requires sound { IsSound (job_of at.now.job.now) at.now.entry store.old }
     requires site { site < length (graph_sites (job_graph (job_of at.now.job.now))) }

@@ -9,7 +9,8 @@ ghost use Rattle.rdf_model.specs.Laws.{FitsFeed};
 ghost use Rattle.actions.specs.Parts.{Suits, part_value, values_of};
 ghost use Rattle.expr_eval.specs.Inputs.{input_outcome};
 ghost use Rattle.entry_cache.specs.Jobs.{Fits, job_graph, job_of};
-ghost use Rattle.entry_cache.specs.Keys.{AreKeys};
+ghost use Rattle.entry_cache.specs.Keys.{IsRow};
+ghost use Rattle.entry_cache.specs.Known.{AreHeld, IsHeld};
 ghost use Rattle.entry_cache.specs.Passes.{AreInputsServed, AreReadable, IsFaultOf, IsInput, IsInputServed};
 ghost use Rattle.entry_cache.specs.Plain.{ArePlain, ArePlainVersions};
 ghost use Rattle.entry_cache.specs.Store.{CanLook, IsReadable, IsSound, IsSourceIn, IsSourceServed, source_at, version_in};
@@ -35,7 +36,7 @@ fn serve_version<L: Ledger>(
     steps: &mut Steps<L>,
 ) -> Result<(), Memory>
     requires job { Fits at.now.job.now }
-    requires keys { AreKeys (job_graph (job_of at.now.job.now)) at.now.keys.now }
+    requires row { IsRow (job_graph (job_of at.now.job.now)) at.now.under at.now.row.now }
     requires can { CanLook (job_of at.now.job.now) at.now.entry store.old }
     requires sound { IsSound (job_of at.now.job.now) at.now.entry store.old }
     requires version { IsReadable (job_of at.now.job.now) at.now.under version }
@@ -69,7 +70,7 @@ fn serve_input<L: Ledger>(
     steps: &mut Steps<L>,
 ) -> Result<(), OutcomeStop>
     requires job { Fits at.now.job.now }
-    requires keys { AreKeys (job_graph (job_of at.now.job.now)) at.now.keys.now }
+    requires row { IsRow (job_graph (job_of at.now.job.now)) at.now.under at.now.row.now }
     requires can { CanLook (job_of at.now.job.now) at.now.entry store.old }
     requires sound { IsSound (job_of at.now.job.now) at.now.entry store.old }
     requires version { IsReadable (job_of at.now.job.now) at.now.under version }
@@ -86,8 +87,48 @@ fn serve_input<L: Ledger>(
     }
 }
 
+/// What is known of versions by what is held: that their values are at hand, the first fault, or that one is missing.
+#[derive(Clone, Copy, Debug)]
+pub enum Hand {
+    Held,
+    Faulted(EntryFault),
+    Missing,
+}
+
+/// What is known of a version.
+fn in_hand(input: Input<'_>) -> Hand
+    ensures { (c : ℕ) → IsHeld (input_outcome c input.entry) result }
+{
+    match input {
+        Input::Int(_) => Hand::Held,
+        Input::Bool(_) => Hand::Held,
+        Input::Vect(_) => Hand::Held,
+        Input::Faulted(kind) => Hand::Faulted(kind),
+        Input::Missing => Hand::Missing,
+    }
+}
+
+/// What is known of these versions, in order.
+fn inputs_in_hand(at: &Reading<'_>, store: &Store, inputs: &[u32]) -> Hand
+    requires job { Fits at.now.job.now }
+    requires row { IsRow (job_graph (job_of at.now.job.now)) at.now.under at.now.row.now }
+    requires can { CanLook (job_of at.now.job.now) at.now.entry store.now }
+    requires sound { IsSound (job_of at.now.job.now) at.now.entry store.now }
+    requires inputs { AreReadable (job_of at.now.job.now) at.now.under inputs.now }
+    ensures { AreHeld (job_of at.now.job.now) at.now.entry at.now.under store.now inputs.now result }
+{
+    let Some((first, rest)) = inputs.split_first() else {
+        return Hand::Held;
+    };
+    match in_hand(look(at, store, *first)) {
+        Hand::Held => inputs_in_hand(at, store, rest),
+        Hand::Faulted(kind) => Hand::Faulted(kind),
+        Hand::Missing => Hand::Missing,
+    }
+}
+
 /// Fills what an action reads, in order, up to the first fault.
-pub(crate) fn serve_inputs<L: Ledger>(
+fn fill_inputs<L: Ledger>(
     alloc: Global,
     at: &Reading<'_>,
     store: &mut Store,
@@ -95,7 +136,7 @@ pub(crate) fn serve_inputs<L: Ledger>(
     steps: &mut Steps<L>,
 ) -> Result<(), OutcomeStop>
     requires job { Fits at.now.job.now }
-    requires keys { AreKeys (job_graph (job_of at.now.job.now)) at.now.keys.now }
+    requires row { IsRow (job_graph (job_of at.now.job.now)) at.now.under at.now.row.now }
     requires can { CanLook (job_of at.now.job.now) at.now.entry store.old }
     requires sound { IsSound (job_of at.now.job.now) at.now.entry store.old }
     requires inputs { AreReadable (job_of at.now.job.now) at.now.under inputs.now }
@@ -108,7 +149,31 @@ pub(crate) fn serve_inputs<L: Ledger>(
     };
     match serve_input(alloc, at, store, *first, steps) {
         Err(stop) => Err(stop),
-        Ok(()) => serve_inputs(alloc, at, store, rest, steps),
+        Ok(()) => fill_inputs(alloc, at, store, rest, steps),
+    }
+}
+
+/// Finds what an action reads, in order, up to the first fault, and fills it where it is missing.
+pub(crate) fn serve_inputs<L: Ledger>(
+    alloc: Global,
+    at: &Reading<'_>,
+    store: &mut Store,
+    inputs: &[u32],
+    steps: &mut Steps<L>,
+) -> Result<(), OutcomeStop>
+    requires job { Fits at.now.job.now }
+    requires row { IsRow (job_graph (job_of at.now.job.now)) at.now.under at.now.row.now }
+    requires can { CanLook (job_of at.now.job.now) at.now.entry store.old }
+    requires sound { IsSound (job_of at.now.job.now) at.now.entry store.old }
+    requires inputs { AreReadable (job_of at.now.job.now) at.now.under inputs.now }
+    ensures served { AreInputsServed (job_of at.now.job.now) at.now.entry at.now.under inputs.now store.old store.new steps.old steps.new result }
+    ensures sized { length store.new ≡ length store.old }
+    ensures plain { (used : ℕ → Bool) → ArePlain (job_of at.now.job.now) used → ArePlainVersions (job_of at.now.job.now) used at.now.under inputs.now → result ≢ Err OutcomeStop.Memory }
+{
+    match inputs_in_hand(at, store, inputs) {
+        Hand::Held => Ok(()),
+        Hand::Faulted(kind) => Err(OutcomeStop::Fault(kind)),
+        Hand::Missing => fill_inputs(alloc, at, store, inputs, steps),
     }
 }
 
@@ -128,7 +193,7 @@ fn part_of<'a>(input: Input<'a>) -> Part<'a>
 /// The value of a version that is at hand.
 fn part<'a: 's, 's>(at: &Reading<'a>, store: &'s Store, version: u32) -> Part<'s>
     requires job { Fits at.now.job.now }
-    requires keys { AreKeys (job_graph (job_of at.now.job.now)) at.now.keys.now }
+    requires row { IsRow (job_graph (job_of at.now.job.now)) at.now.under at.now.row.now }
     requires can { CanLook (job_of at.now.job.now) at.now.entry store.now }
     requires sound { IsSound (job_of at.now.job.now) at.now.entry store.now }
     requires input { IsInput (job_of at.now.job.now) at.now.entry at.now.under store.now version }
@@ -145,7 +210,7 @@ pub(crate) fn gather<'a: 's, 's>(
     inputs: &[u32],
 ) -> Items<'s>
     requires job { Fits at.now.job.now }
-    requires keys { AreKeys (job_graph (job_of at.now.job.now)) at.now.keys.now }
+    requires row { IsRow (job_graph (job_of at.now.job.now)) at.now.under at.now.row.now }
     requires can { CanLook (job_of at.now.job.now) at.now.entry store.now }
     requires sound { IsSound (job_of at.now.job.now) at.now.entry store.now }
     requires inputs { AllByRecursion (IsInput (job_of at.now.job.now) at.now.entry at.now.under store.now) inputs.now }

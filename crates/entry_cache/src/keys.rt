@@ -1,6 +1,6 @@
 // The keys of a graph's sites.
 ghost use Rattle.std.specs.Prelude.{◌≡◌, ◌≤◌, List, IfOk};
-ghost use Rattle.entry_cache.specs.Keys.{AreKeys, key_count, slot_in};
+ghost use Rattle.entry_cache.specs.Keys.{AreSiteKeys, key_count, slot_in};
 
 use node_graph::Graph;
 use rdf_values::{ListOf, Memory};
@@ -32,7 +32,7 @@ pub(crate) fn slot(depends: VarSet, under: Option<u32>) -> usize
 
 /// The keys of a graph's sites, and how many keys there are.
 pub(crate) fn keys_of(alloc: Global, graph: &Graph) -> Result<(ListOf<SiteKeys>, usize), Memory>
-    ensures { IfOk result (λ r. AreKeys graph.now r.0 × (r.1 ≡ key_count graph.now)) }
+    ensures { IfOk result (λ r. AreSiteKeys graph.now r.0 × (r.1 ≡ key_count graph.now)) }
 {
     let mut keys = ListOf::new(alloc);
     let mut first = 0;

@@ -1,5 +1,6 @@
-//! What the passes of an event loop share of one entry: each expression is evaluated at most once under each variation on which
-//! it depends. It stands on `node_graph`, whose numbers it reads, on `expr_eval`, `columns` and `actions`.
+//! What the passes of an event loop share of one entry: what an expression comes to is kept once for all variations under which it
+//! comes to the same, and there are at most twice as many evaluations as the passes demand of such outcomes. It stands on
+//! `node_graph`, whose numbers it reads, on `expr_eval`, `columns` and `actions`.
 #![tactic(auto)]
 
 mod action;
@@ -13,6 +14,7 @@ pub mod keys;
 mod named;
 pub mod outcome;
 mod reading;
+pub mod rows;
 mod store;
 mod view;
 

@@ -3,7 +3,7 @@ ghost use Rattle.std.specs.Prelude.{◌≡◌, ◌≢◌, ◌<◌, Some, Err, le
 ghost use Rattle.graph_numbers.specs.Graphs.{graph_filters};
 ghost use Rattle.entry_cache.specs.Caches.{HasFilterDemands, IsCovered, IsPaidUnless, IsPlainLoop, IsReach};
 ghost use Rattle.entry_cache.specs.Jobs.{Fits, job_graph, job_of};
-ghost use Rattle.entry_cache.specs.Keys.{AreKeys};
+ghost use Rattle.entry_cache.specs.Keys.{IsRow};
 ghost use Rattle.entry_cache.specs.Store.{CanLook, IsSound};
 
 use crate::filters::{pass_filters, try_filter};
@@ -33,7 +33,7 @@ pub(crate) fn try_named<L: Ledger>(
     steps: &mut Steps<L>,
 ) -> Result<Reach, OutcomeStop>
     requires job { Fits at.now.job.now }
-    requires keys { AreKeys (job_graph (job_of at.now.job.now)) at.now.keys.now }
+    requires row { IsRow (job_graph (job_of at.now.job.now)) at.now.under at.now.row.now }
     requires can { CanLook (job_of at.now.job.now) at.now.entry store.old }
     requires sound { IsSound (job_of at.now.job.now) at.now.entry store.old }
     requires nominal { at.now.under ≡ None }

@@ -3,32 +3,31 @@ ghost use Rattle.std.specs.Prelude.{◌≡◌, ◌<◌, length, Some, slice_get,
 ghost use Rattle.rdf_values.specs.Path.{history};
 ghost use Rattle.graph_numbers.specs.Graphs.{IsSiteExpr, graph_filters, graph_results, graph_sites, graph_versions};
 ghost use Rattle.entry_cache.specs.Jobs.{Fits, job_graph, job_of};
-ghost use Rattle.entry_cache.specs.Keys.{AreKeys, key as key_of, key_count};
+ghost use Rattle.entry_cache.specs.Keys.{IsRow, key as key_of, key_count, key_under, place_of};
 ghost use Rattle.entry_cache.specs.Store.{source_at};
 
 use crate::job::Job;
-use crate::keys::{SiteKeys, slot};
+use crate::rows::{Place, Row};
 use expr_check::Checked;
 use graph_numbers::Source;
 
-/// An entry of a job, under nominal or a variation, and the keys of the job's sites.
+/// An entry of a job, under nominal or a variation, and where what is read of it stands.
 #[derive(Clone, Copy)]
 pub(crate) struct Reading<'a> {
     pub(crate) job: &'a Job<'a>,
-    pub(crate) keys: &'a [SiteKeys],
+    pub(crate) row: &'a Row,
     pub(crate) entry: u32,
     pub(crate) under: Option<u32>,
 }
 
 /// The key of a site.
 pub(crate) fn key(at: &Reading<'_>, site: u32) -> usize
-    requires keys { AreKeys (job_graph (job_of at.now.job.now)) at.now.keys.now }
+    requires row { IsRow (job_graph (job_of at.now.job.now)) at.now.under at.now.row.now }
     requires site { site < length (graph_sites (job_graph (job_of at.now.job.now))) }
     ensures key { result ≡ key_of (job_graph (job_of at.now.job.now)) site at.now.under }
     ensures small { result < key_count (job_graph (job_of at.now.job.now)) }
 {
-    let own = &at.keys[site as usize];
-    own.first + slot(own.depends, at.under)
+    at.row.keys.as_slice()[site as usize]
 }
 
 /// A site's expression.
@@ -47,4 +46,13 @@ pub(crate) fn source_of(at: &Reading<'_>, version: u32) -> Source
     ensures { source_at (job_of at.now.job.now) at.now.under version ≡ result }
 {
     at.job.graph.source(version, at.under)
+}
+
+/// Where the value of a version stands.
+pub(crate) fn place(at: &Reading<'_>, version: u32) -> Place
+    requires row { IsRow (job_graph (job_of at.now.job.now)) at.now.under at.now.row.now }
+    requires version { version < length (graph_versions (job_graph (job_of at.now.job.now))) }
+    ensures { place_of (key_under (job_graph (job_of at.now.job.now)) at.now.under) (source_at (job_of at.now.job.now) at.now.under version) ≡ result }
+{
+    at.row.places.as_slice()[version as usize]
 }

@@ -5,16 +5,16 @@ ghost use Rattle.expr_eval.specs.Inputs.{input_outcome};
 ghost use Rattle.graph_numbers.specs.Sources.{IsBelow, cell_value};
 ghost use Rattle.graph_numbers.specs.Graphs.{graph_sites, graph_versions};
 ghost use Rattle.entry_cache.specs.Jobs.{Fits, job_graph, job_of};
-ghost use Rattle.entry_cache.specs.Keys.{AreKeys};
+ghost use Rattle.entry_cache.specs.Keys.{IsRow};
 ghost use Rattle.rdf_values.specs.declared.value.Value.{Value};
 ghost use Rattle.entry_cache.specs.Store.{CanLook, IsReadable, held_element, held_or_need, look_at, row_in};
 
 use crate::held::Held;
-use crate::reading::{Reading, key, source_of};
+use crate::reading::{Reading, place};
+use crate::rows::Place;
 use crate::store::Store;
 use columns::Columns;
 use expr_eval::{Input, Inputs};
-use graph_numbers::Source;
 use rdf_values::{ColType, EntryFault};
 
 /// What is read of an entry over what is held.
@@ -25,7 +25,7 @@ pub(crate) struct View<'a> {
 }
 
 impl<'a> Inputs for View<'a> {
-    ghost can = { λ v c. Fits v.at.now.job.now × AreKeys (job_graph (job_of v.at.now.job.now)) v.at.now.keys.now × CanLook (job_of v.at.now.job.now) v.at.now.entry v.store.now × IsReadable (job_of v.at.now.job.now) v.at.now.under c };
+    ghost can = { λ v c. Fits v.at.now.job.now × IsRow (job_graph (job_of v.at.now.job.now)) v.at.now.under v.at.now.row.now × CanLook (job_of v.at.now.job.now) v.at.now.entry v.store.now × IsReadable (job_of v.at.now.job.now) v.at.now.under c };
 
     ghost look = { λ v c. look_at (job_of v.at.now.job.now) v.at.now.entry v.at.now.under v.store.now c };
 
@@ -37,15 +37,15 @@ impl<'a> Inputs for View<'a> {
 /// What is known of a version.
 pub(crate) fn look<'a: 's, 's>(at: &Reading<'a>, store: &'s Store, version: u32) -> Input<'s>
     requires job { Fits at.now.job.now }
-    requires keys { AreKeys (job_graph (job_of at.now.job.now)) at.now.keys.now }
+    requires row { IsRow (job_graph (job_of at.now.job.now)) at.now.under at.now.row.now }
     requires can { CanLook (job_of at.now.job.now) at.now.entry store.now }
     requires version { IsReadable (job_of at.now.job.now) at.now.under version }
     ensures { input_outcome version result ≡ look_at (job_of at.now.job.now) at.now.entry at.now.under store.now version }
 {
-    match source_of(at, version) {
-        Source::Cell { col } => cell(at.job.columns, at.entry, col),
-        Source::Site { site } => known(store.at(key(at, site))),
-        Source::Element { site, place, tags } => element(store.at(key(at, site)), place, tags),
+    match place(at, version) {
+        Place::Cell { col } => cell(at.job.columns, at.entry, col),
+        Place::Key { key } => known(store.at(key)),
+        Place::Element { key, place, tags } => element(store.at(key), place, tags),
     }
 }
 

@@ -36,8 +36,7 @@ returns c =
     let done : c.loop-site.site ≡ length (graph_sites c.args.graph.now) = (let a = c.loop-site-test.false in let b = c.loop-site.auto.site-end in let e = c.sites-site-end.ensures in omega (arith, a, b, e)) in
     let all : c.loop-site.first ≡ key_count c.args.graph.now = c.loop-site.invariant.next ∙ ap (keys_before (graph_variations c.args.graph.now) (graph_sites c.args.graph.now)) done in (
       record {
-        count = c.loop-site.invariant.many ∙ done;
-        each = c.loop-site.invariant.each;
+        sites = record { many = c.loop-site.invariant.many ∙ done; each = c.loop-site.invariant.each };
         small = (let a = c.loop-site.invariant.small in let b = c.loop-site.auto.site-end in let e = c.sites-site-end.type_inv in omega (arith, a, b, e, all));
       },
       all,

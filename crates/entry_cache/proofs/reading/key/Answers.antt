@@ -1,15 +1,10 @@
-use Rattle.std.proofs.Common.{arith}
+use Rattle.std.proofs.Common.{◌<◌, ℕ, List, get_or, subst, sym}
 use Rattle.entry_cache.specs.Jobs.{job_graph, job_of}
-use Rattle.entry_cache.proofs.KeptKeys.{kept_key, kept_small}
+use Rattle.entry_cache.specs.Keys.{key_count}
+use Rattle.entry_cache.proofs.RowLaws.{key_read}
 use Rattle.entry_cache.proofs.reading.key.Goals as goal
 
-pub overflow_add-result : goal.overflow_add-result
-overflow_add-result g c =
-    let a = kept_small (job_graph (job_of c.args.at.now.job.now)) c.args.at.now.keys.now c.requires.keys c.args.site c.requires.site _ c.args.at.now.under _ c.slot.ensures.value in
-    let b = c.requires.keys.small in omega (arith, a, b)
-
-pub returns-clause-key : goal.returns-clause-key
-returns-clause-key g c = kept_key (job_graph (job_of c.args.at.now.job.now)) c.args.at.now.keys.now c.requires.keys c.args.site c.requires.site _ c.args.at.now.under _ c.slot.ensures.value
-
 pub returns-clause-small : goal.returns-clause-small
-returns-clause-small g c = kept_small (job_graph (job_of c.args.at.now.job.now)) c.args.at.now.keys.now c.requires.keys c.args.site c.requires.site _ c.args.at.now.under _ c.slot.ensures.value
+returns-clause-small g c =
+    subst (λ (ks : List ℕ). get_or ks c.args.site 0 < key_count (job_graph (job_of c.args.at.now.job.now))) (sym c.as_slice.ensures)
+    (key_read (job_graph (job_of c.args.at.now.job.now)) c.args.at.now.under c.args.at.now.row.now c.requires.row c.args.site c.requires.site 0)

@@ -1,6 +1,6 @@
 use Rattle.entry_cache.specs.Jobs.{job_of}
 use Rattle.entry_cache.proofs.ServeLaws.{right_read}
-use Rattle.entry_cache.proofs.filters.try_filter.Goals as goal
+use Rattle.entry_cache.proofs.filters.fill_filter.Goals as goal
 
 pub returns-in-Err-lets_through-clause-tried : goal.returns-in-Err-lets_through-clause-tried
 returns-in-Err-lets_through-clause-tried g c = (

@@ -2,7 +2,7 @@ use Rattle.std.proofs.Common.{subst, ◌≡◌, true, List, ℕ}
 use Rattle.std.specs.List.{AllByRecursion}
 use Rattle.entry_cache.specs.Jobs.{job_of}
 use Rattle.entry_cache.proofs.ServeLaws.{first_false, first_stops}
-use Rattle.entry_cache.proofs.filters.+pass_filters.Goals as goal
+use Rattle.entry_cache.proofs.filters.+try_filters.Goals as goal
 
 pub returns-in-Err-clause-filtered : goal.returns-in-Err-clause-filtered
 returns-in-Err-clause-filtered g t c =

@@ -1,5 +1,0 @@
-use Rattle.std.proofs.Common.{length}
-use Rattle.entry_cache.proofs.filters.+pass_filters.Given as goal
-
-abbrev pub decreases-pass_filters : goal.decreases-pass_filters
-decreases-pass_filters g l = length l.path.now
