@@ -9,6 +9,3 @@ mod tallies;
 
 pub use crate::progress::{Phase, Progress, SlotStop};
 pub use crate::state::SlotState;
-
-#[cfg(test)]
-mod tests;
