@@ -1,5 +1,5 @@
 -- What is known by what is held, where nothing has to be filled.
-use Rattle.std.proofs.Common.{◌≡◌, ℕ, Bool, true, false, List, [], ◌∷◌, Option, Some, None, Result, Ok, Err, refl, sym, ◌∙◌, ap, subst, inl, arith, if◌then◌else◌}
+use Rattle.std.proofs.Common.{◌≡◌, ℕ, Bool, true, false, List, [], ◌∷◌, Option, Ok, Err, refl, sym, ◌∙◌, ap, subst, inl, arith, if◌then◌else◌}
 use Rattle.rdf_values.specs.declared.fault.EntryFault.{EntryFault}
 use Rattle.rdf_values.specs.declared.value.Value.{Value}
 use Rattle.rdf_model.specs.ColumnValues.{tag_element}
@@ -12,15 +12,14 @@ use Rattle.graph_numbers.specs.declared.source.Source.TheVariants as from
 use Rattle.entry_cache.specs.Jobs.{JobView, job_graph}
 use Rattle.entry_cache.specs.Keys.{key}
 use Rattle.entry_cache.specs.Known.{AreHeld, IsHeld, IsKnown}
-use Rattle.entry_cache.specs.Passes.{AreAtHand, AreInputsServed, HasRead}
-use Rattle.entry_cache.specs.Store.{HasTried, IsAtHand, IsFiltered, IsReadable, IsServed, IsSound, IsTriedFilter, held_element, held_in, held_or_need, is_held, look_at, looked_source, site_in, source_at, version_in}
+use Rattle.entry_cache.specs.Passes.{AreInputsServed, HasRead}
+use Rattle.entry_cache.specs.Store.{HasTried, IsAtHand, IsFiltered, IsReadable, IsServed, IsSound, IsTriedFilter, held_in, held_or_need, is_held, look_at, looked_source, site_in, source_at, version_in}
 use Rattle.entry_cache.specs.declared.filters.Known.{Known}
 use Rattle.entry_cache.specs.declared.filters.Known.TheVariants as known
 use Rattle.entry_cache.specs.declared.inputs.Hand.{Hand}
 use Rattle.entry_cache.specs.declared.inputs.Hand.TheVariants as hand
 use Rattle.entry_cache.specs.declared.held.Held.{Held}
 use Rattle.entry_cache.specs.declared.held.Held.TheVariants as held
-use Rattle.entry_cache.specs.declared.outcome.OutcomeStop.{OutcomeStop}
 use Rattle.entry_cache.specs.declared.outcome.OutcomeStop.TheVariants as stop
 use Rattle.entry_cache.proofs.HandLaws.{known_version}
 use Rattle.entry_cache.proofs.InputLaws.{all_by}

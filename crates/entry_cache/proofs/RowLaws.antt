@@ -1,19 +1,19 @@
 -- Where what is read of an entry stands, and how it is found there.
-use Rattle.std.proofs.Common.{◌≡◌, ◌⊎◌, inl, inr, ℕ, zero, suc, ◌+◌, ◌<◌, ◌≤◌, Bool, true, false, List, [], ◌∷◌, ◌++◌, length, Option, Some, None, refl, sym, ◌∙◌, ap, subst, arith, get_or, slice_get, if◌then◌else◌}
-use Rattle.std.specs.Prelude.{count_by, slice_index_or, take}
+use Rattle.std.proofs.Common.{◌≡◌, ◌⊎◌, inl, inr, ℕ, zero, suc, ◌+◌, ◌<◌, ◌≤◌, List, [], ◌∷◌, ◌++◌, length, Option, Some, None, refl, sym, ◌∙◌, ap, subst, arith, get_or, slice_get, if◌then◌else◌}
+use Rattle.std.specs.Prelude.{count_by, take}
 use Rattle.std.proofs.lemmas.List.{get_or_past, length_push}
 use Rattle.std.proofs.lemmas.Option.{get_or_from_slice_get, slice_get-get_or}
 use Rattle.rdf_values.specs.Path.{Variation}
 use Rattle.rdf_values.specs.declared.value.Value.{Value}
 use Rattle.rdf_model.specs.Evaluation.{Outcome}
-use Rattle.graph_numbers.specs.Graphs.{GraphView, booked_statements, graph_sites, graph_sources, graph_variations, graph_versions, holds_at}
+use Rattle.graph_numbers.specs.Graphs.{GraphView, booked_statements, graph_sites, graph_sources, graph_variations, holds_at}
 use Rattle.graph_numbers.specs.Sites.{SiteAt, depends_on}
 use Rattle.graph_numbers.specs.Sources.{IsBelow, cell_value, source_in, sources}
 use Rattle.graph_numbers.specs.declared.source.Source.{Source}
 use Rattle.graph_numbers.specs.declared.source.Source.TheVariants as from
 use Rattle.graph_numbers.proofs.Listed.{of_joined}
 use Rattle.entry_cache.specs.Jobs.{JobView, job_graph}
-use Rattle.entry_cache.specs.Keys.{AreEach, AreKeys, AreSiteKeys, AreUnder, ArePlaces, IsRow, key, key_count, key_or_count, key_under, keys_before, place_of, row_under, slot, slot_at, slot_in}
+use Rattle.entry_cache.specs.Keys.{AreEach, AreKeys, AreSiteKeys, AreUnder, IsRow, key, key_count, key_or_count, key_under, keys_before, place_of, row_under, slot, slot_at, slot_in}
 use Rattle.entry_cache.specs.Store.{CanLook, IsReadable, held_element, held_in, held_or_need, look_at, looked_source, row_of, source_at}
 use Rattle.entry_cache.specs.declared.held.Held.{Held}
 use Rattle.entry_cache.specs.declared.keys.SiteKeys.{SiteKeys}

@@ -1,4 +1,4 @@
-use Rattle.std.proofs.Common.{◌≡◌, suc}
+use Rattle.std.proofs.Common.{suc}
 use Rattle.entry_cache.specs.Keys.{AreEach, IsRow, row_under}
 use Rattle.entry_cache.proofs.rows.rows_of.Given as goal
 
