@@ -80,12 +80,12 @@ fn the_function_of_the_name_is_called(rt: HostRuntime) -> Result<(), Fail> {
     Ok(())
 }
 
-// How often the text calls its function, and what it comes to: by `eval`, and by `eval_int` where no part is a vector.
+// How often the text calls its functions, and what it comes to: by `eval`, and by `eval_int` where no part is a vector.
 #[test]
 fn each_call_that_is_met_calls_the_closure_once(rt: HostRuntime) -> Result<(), Fail> {
     let alloc = rt.alloc();
     let calls = Arc::new(alloc, AtomicU64::new(0))?;
-    let counter = calls.clone()?;
+    let (counter, pairs) = (calls.clone()?, calls.clone()?);
     let mut functions = FnList::new(alloc);
     let square: Closure = Box::new(
         alloc,
@@ -99,6 +99,22 @@ fn each_call_that_is_met_calls_the_closure_once(rt: HostRuntime) -> Result<(), F
     )?;
     if functions
         .add(name(alloc, b"square")?, Stored::new::<Square>(square))
+        .is_err()
+    {
+        return Err(Fail::from("not added"));
+    }
+    let hyp2: Closure = Box::new(
+        alloc,
+        move |args: &[i64]| -> Option<i64>
+            requires { length args.now ≡ 2 }
+            ensures { result ≡ hyp2_of args.now }
+        {
+            pairs.fetch_add(1, Ordering::SeqCst);
+            Hyp2::answer(args)
+        },
+    )?;
+    if functions
+        .add(name(alloc, b"hyp2")?, Stored::new::<Hyp2>(hyp2))
         .is_err()
     {
         return Err(Fail::from("not added"));
@@ -121,6 +137,12 @@ fn each_call_that_is_met_calls_the_closure_once(rt: HostRuntime) -> Result<(), F
         ("square(x)", "need x", 0),
         ("square(w) + x", "need x", 1),
         ("v * square(w)", "[9 18 27]", 1),
+        ("hyp2(square(w), square(2))", "97", 3),
+        ("hyp2(1 / 0, square(w))", "F2 ZeroDivisor", 0),
+        ("hyp2(square(w), 1 / 0)", "F2 ZeroDivisor", 1),
+        ("hyp2(x, square(w))", "need x", 0),
+        ("(v / 0)[square(w)]", "F2 ZeroDivisor", 0),
+        ("v[square(w)]", "F3 Index", 1),
     ] {
         let before = calls.load(Ordering::SeqCst);
         let value = value_answer(alloc, text, &cells, &functions)?;
