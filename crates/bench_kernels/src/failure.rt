@@ -8,7 +8,7 @@ use thiserror::Error;
 
 #[derive(Debug, Drop, Error)]
 pub(crate) enum Failure {
-    #[error("usage: bench_kernels filter|histogram ENTRIES")]
+    #[error("usage: bench_kernels filter|histogram|plain|packed|cluster ENTRIES [ROUNDS]")]
     Words,
     #[error("the filter isn't taken")]
     Filter,

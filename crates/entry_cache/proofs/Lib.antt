@@ -5,6 +5,7 @@ pub mod DemandKeys
 pub mod DemandSets
 pub mod EvaluateLaws
 pub mod FeedKinds
+pub mod FewValues
 pub mod FillLaws
 pub mod FilterTies
 pub mod GatherLaws

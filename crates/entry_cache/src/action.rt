@@ -1,14 +1,17 @@
 // Trying an action's pass.
-ghost use Rattle.std.specs.Prelude.{◌≡◌, ◌≢◌, ◌<◌, ℕ, Bool, Some, true, Err, length, option_map, slice_get};
+ghost use Rattle.std.specs.Prelude.{◌≡◌, ◌≢◌, ◌<◌, ℕ, Bool, List, Some, true, Err, length, option_map, slice_get};
 ghost use Rattle.std.specs.List.{AllByRecursion};
+ghost use Rattle.rdf_values.specs.Spread.{feed_fault};
+ghost use Rattle.rdf_values.specs.declared.value.Value.{Value};
+ghost use Rattle.rdf_model.specs.Evaluation.{Gives, for_all};
 ghost use Rattle.graph_numbers.specs.Graphs.{graph_loops, graph_results};
 ghost use Rattle.graph_numbers.specs.Results.{kind_of_booking};
 ghost use Rattle.entry_cache.specs.Caches.{HasDemands, IsActionPass, IsFedBy, IsOutcome, IsPaidUnless, IsPlainLoop, numbered_in};
 ghost use Rattle.entry_cache.specs.Jobs.{Fits, job_graph, job_of};
 ghost use Rattle.entry_cache.specs.Keys.{IsRow};
-ghost use Rattle.entry_cache.specs.Passes.{CanAct, IsActed, IsActionAt, IsRead};
+ghost use Rattle.entry_cache.specs.Passes.{CanAct, IsActed, IsActionAt, IsInput, IsRead};
 ghost use Rattle.entry_cache.specs.Plain.{ArePlain, ArePlainVersions};
-ghost use Rattle.entry_cache.specs.Store.{CanLook, IsSound};
+ghost use Rattle.entry_cache.specs.Store.{CanLook, IsSound, version_in};
 
 use crate::filters::pass_filters;
 use crate::inputs::{gather, serve_inputs};
@@ -18,7 +21,7 @@ use crate::reading::Reading;
 use crate::store::Store;
 use expr_eval::Steps;
 use graph_numbers::{Pass, ResultKind};
-use rdf_values::ActionKind;
+use rdf_values::{ActionKind, EntryFault};
 use std::alloc::Global;
 use std::sync::ledger::Ledger;
 
@@ -91,6 +94,22 @@ pub(crate) fn action_of<'a>(job: &Job<'a>, own: Pass, _pass: u32) -> Action<'a>
     }
 }
 
+/// The fault of lengths or weights among what an action reads, where all of it is at hand. One value alone has none.
+fn fault_among(at: &Reading<'_>, store: &Store, action: &Action<'_>) -> Option<EntryFault>
+    requires job { Fits at.now.job.now }
+    requires row { IsRow (job_graph (job_of at.now.job.now)) at.now.under at.now.row.now }
+    requires can { CanLook (job_of at.now.job.now) at.now.entry store.now }
+    requires sound { IsSound (job_of at.now.job.now) at.now.entry store.now }
+    requires action { CanAct (job_of at.now.job.now) at.now.entry at.now.under action.now.kind.now action.now.path.now action.now.inputs.now }
+    requires inputs { AllByRecursion (IsInput (job_of at.now.job.now) at.now.entry at.now.under store.now) action.now.inputs.now }
+    ensures { (vs : List Value) → for_all (version_in {M = ⊥} (job_of at.now.job.now) at.now.entry at.now.under) action.now.inputs.now ≡ Gives vs → result ≡ feed_fault action.now.kind.now vs }
+{
+    if action.inputs.len() < 2 {
+        return None;
+    }
+    gather(at, store, action.kind, action.inputs).fault()
+}
+
 /// Fills what an action reads, and tests it for lengths and weights.
 fn read<L: Ledger>(
     alloc: Global,
@@ -110,7 +129,7 @@ fn read<L: Ledger>(
 {
     match serve_inputs(alloc, at, store, action.inputs, steps) {
         Err(stop) => Err(stop),
-        Ok(()) => match gather(at, store, action.kind, action.inputs).fault() {
+        Ok(()) => match fault_among(at, store, action) {
             Some(kind) => Err(OutcomeStop::Fault(kind)),
             None => Ok(Outcome::Feed),
         },

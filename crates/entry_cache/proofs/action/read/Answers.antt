@@ -10,20 +10,14 @@ returns-in-Err-clause-read g c = read_stops (job_of c.args.at.now.job.now) c.arg
 pub returns-in-Err-clause-plain : goal.returns-in-Err-clause-plain
 returns-in-Err-clause-plain g c = λ used p q e. c.in-Err.ensures.plain used p q (err_as _ _ e)
 
-pub gather-requires-clause-inputs : goal.gather-requires-clause-inputs
-gather-requires-clause-inputs g c =
+pub fault_among-requires-clause-inputs : goal.fault_among-requires-clause-inputs
+fault_among-requires-clause-inputs g c =
     are_inputs (job_of c.args.at.now.job.now) c.args.at.now.entry c.args.at.now.under c.serve_inputs.new.store c.args.action.now.inputs.now c.requires.action.inputs c.in-Ok.ensures.served.1 c.in-Ok.ensures.served.0.0 c.in-Ok.ensures.served.0.1
-
-pub gather-requires-clause-count : goal.gather-requires-clause-count
-gather-requires-clause-count g c = c.requires.action.count
-
-pub gather-requires-clause-fits : goal.gather-requires-clause-fits
-gather-requires-clause-fits g c = c.requires.action.fits
 
 pub returns-in-Some-clause-read : goal.returns-in-Some-clause-read
 returns-in-Some-clause-read g c =
-    read_faults (job_of c.args.at.now.job.now) c.args.at.now.entry c.args.at.now.under c.args.action.now.kind.now c.args.action.now.path.now c.args.action.now.inputs.now c.args.store.now c.serve_inputs.new.store c.args.steps.now c.serve_inputs.new.steps c.in-Ok.field-0 _ c.fault.result c.in-Some.kind c.in-Ok.ensures.served c.gather.ensures.values (c.fault.ensures c.args.action.now.kind.now c.gather.ensures.suits) c.in-Some.is
+    read_faults (job_of c.args.at.now.job.now) c.args.at.now.entry c.args.at.now.under c.args.action.now.kind.now c.args.action.now.path.now c.args.action.now.inputs.now c.args.store.now c.serve_inputs.new.store c.args.steps.now c.serve_inputs.new.steps c.in-Ok.field-0 _ c.fault_among.result c.in-Some.kind c.in-Ok.ensures.served c.in-Ok.ensures.served.0.1 (c.fault_among.ensures c.in-Ok.ensures.served.0.0 c.in-Ok.ensures.served.0.1) c.in-Some.is
 
 pub returns-in-None-clause-read : goal.returns-in-None-clause-read
 returns-in-None-clause-read g c =
-    read_feeds (job_of c.args.at.now.job.now) c.args.at.now.entry c.args.at.now.under c.args.action.now.kind.now c.args.action.now.path.now c.args.action.now.inputs.now c.args.store.now c.serve_inputs.new.store c.args.steps.now c.serve_inputs.new.steps c.in-Ok.field-0 _ c.fault.result c.in-Ok.ensures.served c.gather.ensures.values (c.fault.ensures c.args.action.now.kind.now c.gather.ensures.suits) c.in-None.is
+    read_feeds (job_of c.args.at.now.job.now) c.args.at.now.entry c.args.at.now.under c.args.action.now.kind.now c.args.action.now.path.now c.args.action.now.inputs.now c.args.store.now c.serve_inputs.new.store c.args.steps.now c.serve_inputs.new.steps c.in-Ok.field-0 _ c.fault_among.result c.in-Ok.ensures.served c.in-Ok.ensures.served.0.1 (c.fault_among.ensures c.in-Ok.ensures.served.0.0 c.in-Ok.ensures.served.0.1) c.in-None.is
