@@ -9,3 +9,6 @@ mod tallies;
 
 pub use crate::progress::{Phase, Progress, SlotStop};
 pub use crate::state::SlotState;
+
+#[cfg(test)]
+mod tests;
