@@ -2,4 +2,5 @@ pub mod Accepting
 pub mod Adding
 pub mod Beginning
 pub mod ClusterTurns
+pub mod Orders
 pub mod SlotLemmas
