@@ -1,5 +1,5 @@
 -- Clusters that a slot finished in order, and unions of three sets of them.
-use Rattle.std.proofs.Common.{◌≡◌, ℕ, ◌+◌, ◌<◌, ◌≤◌, List, [], ◌∷◌, ◌++◌, length, refl, sym, ◌∙◌, subst, arith, cond, take, Some, slice_get}
+use Rattle.std.proofs.Common.{◌≡◌, ℕ, ◌+◌, ◌<◌, ◌≤◌, List, [], ◌∷◌, ◌++◌, length, refl, sym, ap, ◌∙◌, subst, arith, cond}
 use Rattle.std.specs.Prelude.{◌==◌, All}
 use Rattle.std.specs.List.{sum_by}
 use Rattle.std.specs.List.Sorted.{IsStrictlyIncreasing}
@@ -12,15 +12,22 @@ use Rattle.rdf_values.specs.Times.{times}
 use Rattle.rdf_values.proofs.Below.{length-below}
 use Rattle.rdf_values.proofs.DrawCounts.{rises_push, times_cons}
 use Rattle.rdf_values.proofs.UnionLemmas.{by_counts, none_rises}
+use Rattle.rdf_values.specs.Kinds.{FunctionNames}
+use Rattle.rdf_values.specs.declared.column.Column.{Column}
+use Rattle.graph_numbers.specs.Graphs.{GraphView}
 use Rattle.entry_cache.specs.Jobs.{JobView, passes_in}
 use Rattle.entry_passes.specs.Entries.{job_spans}
-use Rattle.cluster_tally.proofs.ListPlaces.{take_next}
 use Rattle.loop_pieces.specs.Whole.{cluster_fault}
+use Rattle.merge_core.specs.Pieces.{Stand}
 use Rattle.slot_state.specs.Jobs.{job_facts}
 
 -- as many first faults, or none, as clusters
 pub many_faults : (j : JobView) → length (job_facts j).faults ≡ length (job_spans j)
 many_faults j = length-map (below (length (job_spans j))) (cluster_fault j.dataset (job_spans j) (passes_in j)) ∙ length-below (length (job_spans j))
+
+pub graph_of_parts : (g : GraphView) (header : List Column) (names : FunctionNames) → g.header ≡ header → g.names ≡ names → g ≡ record { script = g.script; header = header; names = names }
+graph_of_parts g header names of_header of_names =
+    ap (λ (h : List Column). record { script = g.script; header = h; names = g.names }) of_header ∙ ap (λ (n : FunctionNames). record { script = g.script; header = header; names = n }) of_names
 
 -- ---- clusters in order
 
@@ -74,3 +81,11 @@ turned_round = united (2 ∷ []) (1 ∷ []) (0 ∷ []) (one_rises 2) (one_rises 
 
 pub two_in_one : IsUnion ((1 ∷ []) ∷ (0 ∷ 2 ∷ []) ∷ [] ∷ []) (0 ∷ 1 ∷ 2 ∷ [])
 two_in_one = united (1 ∷ []) (0 ∷ 2 ∷ []) [] (one_rises 1) (two_rise 0 2 (omega arith)) none_rises (λ x. omega (arith, three_times x, one_time x 1, two_times x 0 2, no_times x))
+
+-- ---- three pieces
+
+pub three_stand : {P : Type 0} (stands : List ℕ → P → Type 0) (a b c : List ℕ) (x y z : P) (none one two three : List P)
+    → none ≡ [] → one ≡ none ++ x ∷ [] → two ≡ one ++ y ∷ [] → three ≡ two ++ z ∷ [] → stands a x → stands b y → stands c z → Stand stands (a ∷ b ∷ c ∷ []) three
+three_stand stands a b c x y z none one two three is_none is_one is_two is_three of_x of_y of_z =
+    let pushed : three ≡ x ∷ y ∷ z ∷ [] = is_three ∙ ap (λ l. l ++ z ∷ []) (is_two ∙ ap (λ l. l ++ y ∷ []) (is_one ∙ ap (λ l. l ++ x ∷ []) is_none)) in
+    subst (Stand stands (a ∷ b ∷ c ∷ [])) (sym pushed) (of_x, of_y, of_z, tt)

@@ -88,9 +88,10 @@ fn book(alloc: Global, script: &str, table: &str, cluster: u32) -> Result<Booked
 fn first_loop<'a>(booked: &'a Booked) -> Job<'a>
     requires header { booked.now.graph.header ≡ booked.now.columns.table.columns }
     requires names { booked.now.graph.names ≡ fn_names (functions_in booked.now.functions) }
+    requires words { StatementsHaveWords (history booked.now.graph.script) }
     requires has_loop { 0 < length (graph_loops booked.now.graph) }
     ensures fits { Fits result }
-    ensures script { (job_of result).script ≡ booked.now.graph.script }
+    ensures words { StatementsHaveWords (history (job_of result).script) }
 {
     booked.graph.is_booked();
     let _columns = booked.columns.columns();

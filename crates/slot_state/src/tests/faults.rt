@@ -1,5 +1,8 @@
 // The first fault of a cluster.
 ghost use Rattle.std.specs.Prelude.{◌≡◌, ◌<◌};
+ghost use Rattle.rdf_values.specs.Path.{history};
+ghost use Rattle.rdf_values.specs.Words.{StatementsHaveWords};
+ghost use Rattle.entry_cache.specs.Jobs.{Fits, job_of};
 
 use super::*;
 use expr_eval::Steps;

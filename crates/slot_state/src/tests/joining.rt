@@ -1,7 +1,9 @@
 // The joining of what slots came to.
 ghost use Rattle.std.specs.Prelude.{◌≡◌, ◌<◌, [], ◌∷◌, ℕ, IfOk, List};
-ghost use Rattle.std.specs.List.Sorted.{IsStrictlyIncreasing};
 ghost use Rattle.rdf_values.specs.Draws.{IsUnion};
+ghost use Rattle.rdf_values.specs.Path.{history};
+ghost use Rattle.rdf_values.specs.Words.{StatementsHaveWords};
+ghost use Rattle.entry_cache.specs.Jobs.{Fits, job_of};
 ghost use Rattle.entry_passes.specs.Entries.{facts_in};
 ghost use Rattle.loop_pieces.specs.LoopPieces.{StandsFor};
 
