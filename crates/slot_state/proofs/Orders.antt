@@ -88,4 +88,4 @@ pub three_stand : {P : Type 0} (stands : List ℕ → P → Type 0) (a b c : Lis
     → none ≡ [] → one ≡ none ++ x ∷ [] → two ≡ one ++ y ∷ [] → three ≡ two ++ z ∷ [] → stands a x → stands b y → stands c z → Stand stands (a ∷ b ∷ c ∷ []) three
 three_stand stands a b c x y z none one two three is_none is_one is_two is_three of_x of_y of_z =
     let pushed : three ≡ x ∷ y ∷ z ∷ [] = is_three ∙ ap (λ l. l ++ z ∷ []) (is_two ∙ ap (λ l. l ++ y ∷ []) (is_one ∙ ap (λ l. l ++ x ∷ []) is_none)) in
-    subst (Stand stands (a ∷ b ∷ c ∷ [])) (sym pushed) (of_x, of_y, of_z, tt)
+    subst (Stand stands (a ∷ b ∷ c ∷ [])) (sym pushed) (of_x, (of_y, (of_z, tt)))

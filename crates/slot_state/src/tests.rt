@@ -14,7 +14,6 @@ use entry_cache::Job;
 use entry_fns::FnList;
 use node_graph::Graph;
 use rdf_model::laws::{scripts_are_bookable, scripts_have_words};
-use rdf_values::Script;
 use script_read::read_script;
 use std::alloc::Global;
 use std::test::Fail;
@@ -30,7 +29,6 @@ const LONGEST_SCRIPT: usize = 65_536;
 struct Booked {
     graph: Graph,
     columns: Columns,
-    functions: FnList,
 }
 
 fn columns_of(alloc: Global, table: &str, cluster: u32) -> Result<Columns, Fail>
@@ -64,30 +62,31 @@ fn graph_of(
 }
 
 // The script over the table, cut into clusters of that size.
-fn book(alloc: Global, script: &str, table: &str, cluster: u32) -> Result<Booked, Fail>
+fn book(
+    alloc: Global,
+    script: &str,
+    table: &str,
+    cluster: u32,
+    functions: &FnList,
+) -> Result<Booked, Fail>
     requires size { 1 ≤ cluster }
     ensures header { IfOk result (λ b. b.graph.header ≡ b.columns.table.columns) }
-    ensures names { IfOk result (λ b. b.graph.names ≡ fn_names (functions_in b.functions)) }
+    ensures names { IfOk result (λ b. b.graph.names ≡ fn_names (functions_in functions.now)) }
     ensures words { IfOk result (λ b. StatementsHaveWords (history b.graph.script)) }
     ensures has_loop { IfOk result (λ b. 0 < length (graph_loops b.graph)) }
 {
     let columns = columns_of(alloc, table, cluster)?;
-    let functions = FnList::new(alloc);
-    let graph = graph_of(alloc, script, &columns, &functions)?;
+    let graph = graph_of(alloc, script, &columns, functions)?;
     if graph.loops() == 0 {
         return Err(Fail::from("no loop"));
     }
-    Ok(Booked {
-        graph,
-        columns,
-        functions,
-    })
+    Ok(Booked { graph, columns })
 }
 
 // The first loop.
-fn first_loop<'a>(booked: &'a Booked) -> Job<'a>
+fn first_loop<'a>(booked: &'a Booked, functions: &'a FnList) -> Job<'a>
     requires header { booked.now.graph.header ≡ booked.now.columns.table.columns }
-    requires names { booked.now.graph.names ≡ fn_names (functions_in booked.now.functions) }
+    requires names { booked.now.graph.names ≡ fn_names (functions_in functions.now) }
     requires words { StatementsHaveWords (history booked.now.graph.script) }
     requires has_loop { 0 < length (graph_loops booked.now.graph) }
     ensures fits { Fits result }
@@ -100,7 +99,7 @@ fn first_loop<'a>(booked: &'a Booked) -> Job<'a>
         loop_index: 0,
         columns: &booked.columns,
         cuts: booked.columns.cuts(),
-        functions: &booked.functions,
+        functions,
     }
 }
 

@@ -39,7 +39,7 @@ const TWO_ENTRIES: &str =
     "f = df.Filter(\"6 / (x - 3) > 0\")\ng = df.Filter(\"6 / x > 0\")\nn = f.Count()\nm = g.Count()\nPrint(n)\n";
 
 // The first cluster that faults, in the order of the clusters, and its fault.
-fn first_fault_in<L: Ledger>(
+fn counted_first_fault<L: Ledger>(
     blank: Blank,
     alloc: Global,
     job: &Job<'_>,
@@ -62,10 +62,19 @@ fn first_fault_in<L: Ledger>(
     Ok(None)
 }
 
+// The same, with a count of its own.
+fn first_fault_in(alloc: Global, job: &Job<'_>) -> Result<Option<(u32, Fault)>, Fail>
+    requires job { Fits job.now }
+    requires words { StatementsHaveWords (history (job_of job.now).script) }
+{
+    counted_first_fault::<Brand>(Blank::new(1), alloc, job)
+}
+
 fn first_fault(alloc: Global, script: &str, table: &str) -> Result<Option<(u32, Fault)>, Fail> {
-    let booked = book(alloc, script, table, 2)?;
-    let job = first_loop(&booked);
-    let first = first_fault_in::<Brand>(Blank::new(1), alloc, &job);
+    let functions = FnList::new(alloc);
+    let booked = book(alloc, script, table, 2, &functions)?;
+    let job = first_loop(&booked, &functions);
+    let first = first_fault_in(alloc, &job);
     let_go(job);
     first
 }

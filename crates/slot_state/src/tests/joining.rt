@@ -23,7 +23,7 @@ const SCRIPT: &str =
     "t = df.Take(\"pt\")\nh = df.Histo1D([0, 20], \"pt\", \"w\")\ns = df.Sum(\"w\")\nn = df.Count()\nPrint(n)\n";
 
 // The piece of a slot that processed these clusters, which rise.
-fn piece_of<L: Ledger>(
+fn counted_piece<L: Ledger>(
     blank: Blank,
     alloc: Global,
     job: &Job<'_>,
@@ -52,6 +52,15 @@ fn piece_of<L: Ledger>(
     Ok(slot.into_piece())
 }
 
+// The same, with a count of its own.
+fn piece_of(alloc: Global, job: &Job<'_>, clusters: &[u32]) -> Result<LoopPiece, Fail>
+    requires job { Fits job.now }
+    requires words { StatementsHaveWords (history (job_of job.now).script) }
+    ensures { IfOk result (StandsFor (facts_in (job_of job.now)) clusters.now) }
+{
+    counted_piece::<Brand>(Blank::new(1), alloc, job, clusters)
+}
+
 // The pieces of three slots as one.
 fn joined(
     alloc: Global,
@@ -65,9 +74,9 @@ fn joined(
     requires union { (all : List ℕ) × IsUnion (first.now ∷ second.now ∷ third.now ∷ []) all }
 {
     let mut pieces = ListOf::new(alloc);
-    pieces.push(piece_of::<Brand>(Blank::new(1), alloc, job, first)?)?;
-    pieces.push(piece_of::<Brand>(Blank::new(1), alloc, job, second)?)?;
-    pieces.push(piece_of::<Brand>(Blank::new(1), alloc, job, third)?)?;
+    pieces.push(piece_of(alloc, job, first)?)?;
+    pieces.push(piece_of(alloc, job, second)?)?;
+    pieces.push(piece_of(alloc, job, third)?)?;
     Ok(merge_all(pieces)?)
 }
 
@@ -120,8 +129,9 @@ fn has_count(acc: &Acc, count: u64) -> bool {
 #[test]
 fn pieces_are_joined_in_any_order(rt: HostRuntime) -> Result<(), Fail> {
     let alloc = rt.alloc();
-    let booked = book(alloc, SCRIPT, TABLE, 2)?;
-    let job = first_loop(&booked);
+    let functions = FnList::new(alloc);
+    let booked = book(alloc, SCRIPT, TABLE, 2, &functions)?;
+    let job = first_loop(&booked, &functions);
     let joined = joined_in_four_orders(alloc, &job);
     let_go(job);
     let pieces = joined?;

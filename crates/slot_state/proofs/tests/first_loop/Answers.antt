@@ -10,8 +10,8 @@ returns-clause-fits g c =
       graph = graph;
       job = record {
         graph = subst IsGraph graph c.is_booked.ensures;
-        table = c.columns-_columns.ensures.valid;
-        cuts = c.cuts-result.ensures.valid;
+        table = c.columns-columns.ensures.valid;
+        cuts = c.cuts.ensures.valid;
         loop = subst (λ g. 0 < length (graph_loops g)) graph c.requires.has_loop;
       };
     }

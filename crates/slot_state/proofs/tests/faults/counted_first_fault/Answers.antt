@@ -1,7 +1,7 @@
 use Rattle.std.proofs.Common.{Ok, ap, sym, ◌∙◌}
 use Rattle.entry_cache.specs.Jobs.{job_of}
 use Rattle.slot_state.proofs.Orders.{many_faults, none_done, one_more_done}
-use Rattle.slot_state.proofs.tests.faults.first_fault_in.Goals as goal
+use Rattle.slot_state.proofs.tests.faults.counted_first_fault.Goals as goal
 
 pub loop-cluster-init : goal.loop-cluster-init
 loop-cluster-init g c = record {
