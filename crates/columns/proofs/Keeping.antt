@@ -1,15 +1,14 @@
 -- What is kept gives the table's columns.
-use Rattle.std.proofs.Common.{◌≡◌, ◌≤◌, ◌<◌, ◌-◌, ◌+◌, ℕ, zero, suc, ℤ, List, [], ◌∷◌, ◌++◌, append_assoc, length, get_or, drop, take, map, Some, refl, sym, ap, ap₂, ◌∙◌, subst, arith, slice_get}
+use Rattle.std.proofs.Common.{◌≡◌, ◌≤◌, ◌<◌, ◌-◌, ◌+◌, ℕ, zero, suc, ℤ, List, [], ◌∷◌, ◌++◌, append_assoc, length, get_or, drop, take, map, Some, refl, sym, ap, ap₂, ◌∙◌, arith, slice_get}
 use Rattle.std.specs.List.{AllByRecursion}
-use Rattle.std.proofs.lemmas.List.{length-drop, length-map, length-take}
+use Rattle.std.proofs.lemmas.List.{length-drop, length-map, length-take, map-append, take-append-drop}
 use Rattle.std.proofs.lemmas.Option.{slice_get-get_or, slice_get-map, slice_get_within}
-use Rattle.rdf_values.specs.Kept.{AreKept, HoldsTable, Keep, count, rows_kept}
+use Rattle.rdf_values.specs.Kept.{AreKept, Keep, count, rows_kept}
 use Rattle.rdf_values.specs.declared.cells.Cells.{Cells}
 use Rattle.rdf_values.specs.Cuts.{cut}
 use Rattle.rdf_values.proofs.Leading.{cuts_lead}
 use Rattle.clusters.specs.Ranges.{Holds}
 use Rattle.rdf_values.specs.Tables.{IsIntColumn, TableView, kind_at}
-use Rattle.rdf_values.specs.declared.cells.Cells.TheVariants as cells
 use Rattle.rdf_values.specs.declared.column.Column.{Column}
 use Rattle.rdf_values.specs.declared.span.Span.{Span}
 use Rattle.rdf_values.specs.declared.value.ColType.{ColType}
@@ -133,3 +132,25 @@ keep_next n taken x rest all h e = go taken (rw e at h)
 
 pub taken_next : (taken : List Cells) (x : Cells) (left rest all : List Cells) → all ≡ taken ++ left → left ≡ x ∷ rest → all ≡ (taken ++ x ∷ []) ++ rest
 taken_next taken x left rest all h e = h ∙ ap (λ l. taken ++ l) e ∙ sym (append_assoc taken (x ∷ []) rest)
+
+-- ---- columns in two halves
+
+pub keep_front : (n k : ℕ) (all : List Cells) → Keep n all → Keep n (take k all)
+keep_front n zero all h = tt
+keep_front n (suc k) [] h = tt
+keep_front n (suc k) (x ∷ xs) h = (h.0, keep_front n k xs h.1)
+
+pub keep_back : (n k : ℕ) (all : List Cells) → Keep n all → Keep n (drop k all)
+keep_back n zero all h = h
+keep_back n (suc k) [] h = tt
+keep_back n (suc k) (x ∷ xs) h = keep_back n k xs h.1
+
+pub halves_joined : (k : ℕ) (all : List Cells) (front back both : List Kept) → map cells_of front ≡ take k all → map cells_of back ≡ drop k all → both ≡ front ++ back → map cells_of both ≡ all
+halves_joined k all front back both f b e = ap (map cells_of) e ∙ map-append cells_of front back ∙ ap₂ (λ xs ys. xs ++ ys) f b ∙ take-append-drop k all
+
+all_behind : (P : Kept → Type 0) (front back : List Kept) → AllByRecursion P front → AllByRecursion P back → AllByRecursion P (front ++ back)
+all_behind P [] back f b = b
+all_behind P (x ∷ xs) back f b = (f.0, all_behind P xs back f.1 b)
+
+pub halves_by_cluster : (spans : List Span) (front back both : List Kept) → AllByRecursion (IsByCluster spans) front → AllByRecursion (IsByCluster spans) back → both ≡ front ++ back → AllByRecursion (IsByCluster spans) both
+halves_by_cluster spans front back both f b e = rw e (all_behind (IsByCluster spans) front back f b)

@@ -9,13 +9,14 @@ ghost use Rattle.columns.specs.Blocks.{cluster_values};
 ghost use Rattle.columns.specs.KeptColumns.{joined};
 ghost use Rattle.columns.specs.Packings.{packed_of, packing_of};
 
-use crate::kept::{Kept, keep_all};
+use crate::kept::{Kept, keep_all, keep_in_slots};
 use crate::packed_ints::PackedInts;
 use crate::packing::Packing;
 use clusters::Cuts;
 use rdf_values::{Column, ListOf, Memory, Table, Vects};
 use std::alloc::Global;
 use std::marker::Model;
+use std::thread::Threads;
 
 /// The columns of a table, and the cuts of its entries. The numbers of an int column are packed cluster by cluster.
 #[derive(Drop)]
@@ -46,6 +47,26 @@ impl Columns {
     {
         let parts = table.into_parts();
         let kept = keep_all(alloc, parts.cells, &cuts)?;
+        Ok(Columns {
+            columns: parts.columns,
+            kept,
+            cuts,
+        })
+    }
+
+    /// What `build` makes, its columns packed by so many slots side by side.
+    pub fn build_in_slots<R: Threads + Sync>(
+        rt: &R,
+        alloc: Global,
+        table: Table,
+        cuts: Cuts,
+        slots: u32,
+    ) -> Result<Columns, Memory>
+        requires { cuts.entries ≡ length table.rows }
+        ensures { IfOk result (λ columns. columns ≡ record { table = table; cuts = cuts }) }
+    {
+        let parts = table.into_parts();
+        let kept = keep_in_slots(rt, alloc, parts.cells, &cuts, slots)?;
         Ok(Columns {
             columns: parts.columns,
             kept,

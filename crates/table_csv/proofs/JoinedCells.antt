@@ -1,7 +1,7 @@
 -- Columns of a table with those of another behind them.
 use Rattle.std.proofs.Common.{◌≡◌, ◌≤◌, ◌<◌, ◌+◌, ℕ, zero, suc, pos, List, [], ◌∷◌, ◌++◌, length, get_or, set, take, drop, map, All, Some, arith, refl, ap, ap₂, ◌∙◌, sym, subst, length-append, length-take, add-one, append-nil, append_assoc}
 use Rattle.std.specs.Prelude.{slice_get}
-use Rattle.std.proofs.lemmas.List.{drop_all, get_or-append-add, get_or_append_left, get_or-take, map-append, take_all, take_more}
+use Rattle.std.proofs.lemmas.List.{get_or-append-add, get_or_append_left, get_or-take, length-drop, map-append, take_all, take_more}
 use Rattle.std.proofs.lemmas.List.Elements.{All-append, All-map}
 use Rattle.std.proofs.lemmas.List.Kept.{AllPairs-from_increasing}
 use Rattle.std.proofs.lemmas.Option.{get_or_from_slice_get, slice_get_within}
@@ -171,22 +171,24 @@ holds_joined columns xs ys at n m t h l few a s = rw (a, s) (record {
   few = few;
 })
 
--- ---- a table's columns, written over
+-- ---- a table's columns in two halves
 
-take_length : (xs : List Cells) → take (length xs) xs ≡ xs
-take_length [] = refl
-take_length (x ∷ xs) = ap (λ ys. x ∷ ys) (take_length xs)
+pub halves_joined : (k : ℕ) (xs more front back all : List Cells) → length more ≡ length xs → front ≡ columns_joined (take k xs) (take k more) → back ≡ columns_joined (drop k xs) (drop k more) → all ≡ front ++ back → all ≡ columns_joined xs more
+halves_joined k xs more front back all l f b e = e ∙ ap₂ (λ us vs. us ++ vs) f b ∙ go k xs more l
+  where
+    go : (k : ℕ) (xs more : List Cells) → length more ≡ length xs → columns_joined (take k xs) (take k more) ++ columns_joined (drop k xs) (drop k more) ≡ columns_joined xs more
+    go zero xs more l = refl
+    go (suc k) [] more l = refl
+    go (suc k) (x ∷ xs) [] l = absurd (omega (arith, l))
+    go (suc k) (x ∷ xs) (y ∷ more) l = ap (λ t. cells_joined x y ∷ t) (go k xs more (omega (arith, l)))
 
-length-joined : (xs more : List Cells) → length (columns_joined xs more) ≡ length xs
-length-joined [] more = refl
-length-joined (x ∷ xs) [] = refl
-length-joined (x ∷ xs) (y ∷ more) = ap suc (length-joined xs more)
+pub same_count_taken : (k : ℕ) (xs more : List Cells) → length more ≡ length xs → length (take k more) ≡ length (take k xs)
+same_count_taken k xs more l = omega (arith, l, length-take k xs, length-take k more)
 
-pub joined_back : (n : ℕ) (new old more : List Cells) → new ≡ columns_joined old more → n ≡ length old → take n (new ++ drop (length new) old) ≡ columns_joined old more
-joined_back n new old more e m =
-    let size : length new ≡ length old = ap length e ∙ length-joined old more in
-    let past : length old ≤ length new = omega arith in
-    rw (drop_all (length new) old past, append-nil new, m, ← size, take_length new) e
+pub same_count_dropped : (k : ℕ) (xs more : List Cells) → length more ≡ length xs → length (drop k more) ≡ length (drop k xs)
+same_count_dropped k xs more l = omega (arith, l, length-drop k xs, length-drop k more)
+
+-- ---- two tables of one header
 
 pub same_count : (columns others : List Column) (xs ys : List Cells) (n m : ℕ) → AreKept n columns xs → AreKept m others ys → others ≡ columns → length ys ≡ length xs
 same_count columns others xs ys n m h l e = kept_length others ys m l ∙ ap length e ∙ sym (kept_length columns xs n h)

@@ -1,8 +1,10 @@
 // Tables that are put behind others.
 ghost use Rattle.std.specs.Prelude.{◌≡◌, ◌+◌, ◌++◌, ◌<◌, ◌≤◌, All, IfOk, OnOk, length};
+ghost use Rattle.std.specs.Thread.{IsSync};
 ghost use Rattle.table_csv.specs.Joins.{cells_joined, columns_joined, marks_behind, table_joined};
 
 use rdf_values::{Cells, Marks, Memory, Table, TableParts, Vects};
+use std::thread::{Threads, join};
 
 fn append_vectors(vectors: &mut Vects, more: &Vects) -> Result<(), Memory>
     ensures { OnOk result (vectors.new ≡ vectors.old ++ more.now) }
@@ -35,17 +37,59 @@ fn append_columns(columns: &mut [Cells], more: &[Cells]) -> Result<(), Memory>
     Ok(())
 }
 
-/// Puts the rows of the second table behind those of the first.
-pub(crate) fn append_tables(first: Table, second: Table) -> Result<Table, Memory>
+// The same side by side: the first half of the columns by half of the slots, the others by the other slots.
+fn append_in_slots<R: Threads + Sync>(
+    rt: &R,
+    mut columns: Vec<Cells>,
+    mut more: Vec<Cells>,
+    slots: u32,
+) -> Result<Vec<Cells>, Memory>
+    requires { length more.items ≡ length columns.items }
+    ensures { IfOk result (λ all. all.items ≡ columns_joined columns.items more.items) }
+{
+    if slots < 2 || columns.len() < 2 {
+        append_columns(&mut columns, more.as_slice())?;
+        return Ok(columns);
+    }
+    let half = slots / 2;
+    let others = slots - half;
+    let middle = columns.len() / 2;
+    let last = columns.split_off(middle)?;
+    let more_last = more.split_off(middle)?;
+    let (front, back) = join(
+        rt,
+        move || -> Result<Vec<Cells>, Memory>
+            requires { IsSync R.row × (length more.items ≡ length columns.items) }
+            ensures { IfOk result (λ all. all.items ≡ columns_joined columns.items more.items) }
+        { append_in_slots(rt, columns, more, half) },
+        move || -> Result<Vec<Cells>, Memory>
+            requires { IsSync R.row × (length more_last.items ≡ length last.items) }
+            ensures { IfOk result (λ all. all.items ≡ columns_joined last.items more_last.items) }
+        { append_in_slots(rt, last, more_last, others) },
+    );
+    let mut all = front?;
+    all.append(&mut back?)?;
+    Ok(all)
+}
+
+/// Puts the rows of the second table behind those of the first, column by column in so many slots.
+pub(crate) fn append_tables<R: Threads + Sync>(
+    rt: &R,
+    first: Table,
+    second: Table,
+    slots: u32,
+) -> Result<Table, Memory>
     requires same { second.columns ≡ first.columns }
     requires few { length first.rows + length second.rows ≤ 1000000 }
     ensures { IfOk result (λ t. t ≡ table_joined first second) }
 {
-    let mut parts = first.into_parts();
+    let parts = first.into_parts();
     let more = second.into_parts();
-    append_columns(&mut parts.cells, more.cells.as_slice())?;
-    parts.entries += more.entries;
-    Ok(Table::from_parts(parts))
+    Ok(Table::from_parts(TableParts {
+        columns: parts.columns,
+        cells: append_in_slots(rt, parts.cells, more.cells, slots)?,
+        entries: parts.entries + more.entries,
+    }))
 }
 
 /// Puts the marks of entries behind those of so many entries before them.

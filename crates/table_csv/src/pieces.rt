@@ -11,6 +11,7 @@ use crate::records::{next, open};
 use csv::ByteRecord;
 use rdf_values::Memory;
 use std::alloc::Global;
+use std::thread::Threads;
 
 const MAX_ENTRIES: u32 = 1_000_000;
 
@@ -40,8 +41,14 @@ pub(crate) fn read_piece(alloc: Global, head: &[u8], lines: &[u8]) -> Option<Mar
     read_entries(alloc, heading, &mut open(alloc, lines)).ok()
 }
 
-/// Puts the entries of a piece behind those of the piece before it, where a table holds so many.
-pub(crate) fn append_pieces(first: Marked, second: Marked) -> Option<Marked>
+/// Puts the entries of a piece behind those of the piece before it, where a table holds so many: column by column in so
+/// many slots.
+pub(crate) fn append_pieces<R: Threads + Sync>(
+    rt: &R,
+    first: Marked,
+    second: Marked,
+    slots: u32,
+) -> Option<Marked>
     requires same { second.table.columns ≡ first.table.columns }
     requires before { All (λ e. e < length first.table.rows) first.marks }
     requires within { All (λ e. e < length second.table.rows) second.marks }
@@ -55,6 +62,6 @@ pub(crate) fn append_pieces(first: Marked, second: Marked) -> Option<Marked>
     }
     let mut marks = first.marks;
     append_marks(&mut marks, entries, &second.marks).ok()?;
-    let table = append_tables(first.table, second.table).ok()?;
+    let table = append_tables(rt, first.table, second.table, slots).ok()?;
     Some(Marked { table, marks })
 }

@@ -57,7 +57,7 @@ fn read_pieces<R: Threads + Sync>(
             ensures { IfSome result (λ m. IsPiece head.entry.now back.entry.now m) }
         { read_pieces(rt, alloc, head, back, others) },
     );
-    append_pieces(first?, second?)
+    append_pieces(rt, first?, second?, slots)
 }
 
 /// The table of the bytes, where it can be read in pieces.
