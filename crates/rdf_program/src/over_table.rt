@@ -28,13 +28,23 @@ use transcripts::run_prints;
 pub(crate) const MAX_TABLE: usize = 67_108_864;
 
 // The columns of a table over its clusters.
-fn columns_of(alloc: Global, marked: Marked, cluster: u32) -> Result<Columns, Memory>
+fn columns_of<R: Threads + Sync>(
+    rt: &R,
+    alloc: Global,
+    marked: Marked,
+    settings: Settings,
+) -> Result<Columns, Memory>
     requires within { All (λ e. e < length marked.table.rows) marked.marks }
-    requires size { 1 ≤ cluster }
-    ensures { IfOk result (λ columns. columns ≡ columns_over marked.table marked.marks cluster) }
+    requires size { 1 ≤ settings.cluster }
+    ensures { IfOk result (λ columns. columns ≡ columns_over marked.table marked.marks settings.cluster) }
 {
-    let cuts = cut(alloc, marked.table.entries(), cluster, &marked.marks)?;
-    Columns::build(alloc, marked.table, cuts)
+    let cuts = cut(
+        alloc,
+        marked.table.entries(),
+        settings.cluster,
+        &marked.marks,
+    )?;
+    Columns::build_in_slots(rt, alloc, marked.table, cuts, settings.slots)
 }
 
 // The answer of a graph's Prints.
@@ -88,7 +98,7 @@ fn answer_script<R: Threads + Sync, G: Gate>(
     requires settings { AreSettings settings }
     ensures { IfOk result (Answers (IsDueOver (functions_in functions.now) settings.cluster settings.watch script (record { table = marked.table; marks = marked.marks }))) }
 {
-    let columns = columns_of(alloc, marked, settings.cluster)?;
+    let columns = columns_of(rt, alloc, marked, settings)?;
     match Graph::book(alloc, script, columns.columns(), functions.names()) {
         Ok(graph) => answer_prints(rt, alloc, graph, columns, functions, settings, gate),
         Err(GraphRefusal::Memory) => Err(Memory),
