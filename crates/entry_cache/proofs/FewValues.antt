@@ -35,7 +35,3 @@ pub few_values : (k : ActionKind) (f : ℕ → Outcome ⊥ Value) (cs : List ℕ
 few_values k f [] l vs e = let same : [] ≡ vs = cc e in subst (λ (ws : List Value). None ≡ feed_fault k ws) same (no_value k)
 few_values k f (c ∷ []) l vs e = one_given k (f c) vs e
 few_values k f (c ∷ d ∷ cs) l vs e = absurd (omega (arith, l))
-
--- an outcome gives one list
-pub same_values : (k : ActionKind) (o : Outcome ⊥ (List Value)) (us vs : List Value) → o ≡ Gives us → o ≡ Gives vs → feed_fault k us ≡ feed_fault k vs
-same_values k o us vs p q = let same : us ≡ vs = cc (p, q) in subst (λ (ws : List Value). feed_fault k us ≡ feed_fault k ws) same refl
