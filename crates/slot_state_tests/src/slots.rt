@@ -7,7 +7,6 @@ ghost use Rattle.rdf_values.specs.Words.{StatementsHaveWords};
 ghost use Rattle.graph_numbers.specs.Graphs.{graph_loops};
 ghost use Rattle.entry_cache.specs.Jobs.{Fits, job_of};
 
-use slot_state::{Progress, SlotState, SlotStop};
 use clusters::cut;
 use columns::Columns;
 use entry_cache::Job;
@@ -15,6 +14,7 @@ use entry_fns::FnList;
 use node_graph::Graph;
 use rdf_model::laws::{scripts_are_bookable, scripts_have_words};
 use script_read::read_script;
+use slot_state::{Progress, SlotState, SlotStop};
 use std::alloc::Global;
 use std::test::Fail;
 use table_csv::read_table;
