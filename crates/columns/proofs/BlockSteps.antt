@@ -14,7 +14,7 @@ use Rattle.columns.specs.Blocks.{AreBlocks, IsBlock, block_values}
 use Rattle.columns.specs.Widths.{IsWidth}
 use Rattle.columns.specs.declared.block.Block.{Block}
 use Rattle.columns.specs.declared.packing.Packing.{Packing}
-use Rattle.columns.proofs.Unpacking.{drop_two, length-packed, low_of_eight, packing_fits, packing_width, packing_word, value_at, values_back}
+use Rattle.columns.proofs.Unpacking.{drop_two, length-packed, packing_fits, packing_width, packing_word, value_at, values_back}
 
 same_least : (b : Block) (p : Packing) → record { least = b.least; width = b.width } ≡ p → b.least ≡ p.least
 same_least b p e = ap (λ (q : Packing). q.least) e
@@ -145,13 +145,12 @@ packed_more : (p : Packing) (zs : List ℤ) (z : ℤ) → packed_by p (zs ++ z �
 packed_more p [] z = append-nil (low_bytes p.width (unsigned_abs (z -ℤ p.least)))
 packed_more p (x ∷ xs) z = ap (λ l. low_bytes p.width (unsigned_abs (x -ℤ p.least)) ++ l) (packed_more p xs z) ∙ sym (append_assoc (low_bytes p.width (unsigned_abs (x -ℤ p.least))) (packed_by p xs) (low_bytes p.width (unsigned_abs (z -ℤ p.least))))
 
-pub pack_step : (begin old new low : List ℕ) (p : Packing) (values : List ℤ) (i d : ℕ) → i < length values → old ≡ begin ++ packed_by p (take i values) → new ≡ old ++ take p.width low → low ≡ low_bytes 8 d
-    → d ≡ unsigned_abs (get_or values i (pos 0) -ℤ p.least) → IsWidth p.width → new ≡ begin ++ packed_by p (take (i + 1) values)
-pack_step begin old new low p values i d h o e l q w =
+pub pack_step : (begin old new : List ℕ) (p : Packing) (values : List ℤ) (i d : ℕ) → i < length values → old ≡ begin ++ packed_by p (take i values) → new ≡ old ++ low_bytes p.width d
+    → d ≡ unsigned_abs (get_or values i (pos 0) -ℤ p.least) → new ≡ begin ++ packed_by p (take (i + 1) values)
+pack_step begin old new p values i d h o e q =
     let z = get_or values i (pos 0) in
-    let last : take p.width low ≡ low_bytes p.width (unsigned_abs (z -ℤ p.least)) = ap (take p.width) l ∙ low_of_eight p.width d w ∙ ap (low_bytes p.width) q in
     let next : take (i + 1) values ≡ take i values ++ z ∷ [] = take_more values i (pos 0) h in
-    e ∙ ap₂ (λ a b. a ++ b) o last ∙ append_assoc begin (packed_by p (take i values)) (low_bytes p.width (unsigned_abs (z -ℤ p.least))) ∙ ap (λ b. begin ++ b) (sym (packed_more p (take i values) z) ∙ ap (packed_by p) (sym next))
+    e ∙ ap₂ (λ a b. a ++ b) o (ap (low_bytes p.width) q) ∙ append_assoc begin (packed_by p (take i values)) (low_bytes p.width (unsigned_abs (z -ℤ p.least))) ∙ ap (λ b. begin ++ b) (sym (packed_more p (take i values) z) ∙ ap (packed_by p) (sym next))
 
 pub words_step : (values : List ℤ) (i : ℕ) → i < length values → All (FitsSigned w64) (take i values) → FitsSigned w64 (get_or values i (pos 0)) → All (FitsSigned w64) (take (i + 1) values)
 words_step values i h all one =

@@ -1,8 +1,10 @@
 // Numbers in bytes.
-ghost use Rattle.std.specs.Prelude.{◌≡◌, ◌≤◌, ◌<◌, ◌+◌, drop, length};
+ghost use Rattle.std.specs.Prelude.{◌≡◌, ◌≤◌, ◌<◌, ◌+◌, ◌++◌, OnOk, drop, length};
 ghost use Rattle.std.specs.Int.{from_le_bytes, w16, w32, w64};
-ghost use Rattle.columns.specs.Packings.{number_in};
+ghost use Rattle.columns.specs.Packings.{low_bytes, number_in};
 ghost use Rattle.columns.specs.Widths.{IsWidth};
+
+use rdf_values::Memory;
 
 fn two_at(bytes: &[u8], at: usize) -> u64
     requires { at + 2 ≤ length bytes.now }
@@ -47,4 +49,20 @@ pub(crate) fn number_at(bytes: &[u8], at: usize, width: u32) -> u64
         4 => four_at(bytes, at),
         _ => eight_at(bytes, at),
     }
+}
+
+/// Appends so many bytes of a number, lowest first. Each width has a copy of its own, which takes no call.
+pub(crate) fn push_low(bytes: &mut Vec<u8>, number: u64, width: u32) -> Result<(), Memory>
+    requires { IsWidth width }
+    ensures { OnOk result (bytes.new.items ≡ bytes.old.items ++ low_bytes width number) }
+{
+    let low = number.to_le_bytes();
+    match width {
+        0 => {}
+        1 => bytes.extend_from_slice(&low[..1])?,
+        2 => bytes.extend_from_slice(&low[..2])?,
+        4 => bytes.extend_from_slice(&low[..4])?,
+        _ => bytes.extend_from_slice(&low)?,
+    }
+    Ok(())
 }

@@ -5,7 +5,7 @@ ghost use Rattle.columns.specs.Blocks.{IsBlock, cluster_values};
 ghost use Rattle.columns.specs.Packings.{packed_of, packing_of};
 
 use crate::block::Block;
-use crate::bytes::number_at;
+use crate::bytes::{number_at, push_low};
 use crate::packing::Packing;
 use clusters::Cuts;
 use rdf_values::Memory;
@@ -40,8 +40,7 @@ fn pack_cluster(values: &[i64], bytes: &mut Vec<u8>) -> Result<Block, Memory>
     let packing = Packing::of(values);
     let begin = bytes.len();
     for value in values {
-        let low = value.abs_diff(packing.least).to_le_bytes();
-        bytes.extend_from_slice(&low[..packing.width as usize])?;
+        push_low(bytes, value.abs_diff(packing.least), packing.width)?;
     }
     Ok(Block {
         least: packing.least,

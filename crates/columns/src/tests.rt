@@ -26,20 +26,28 @@ fn ints(alloc: Global) -> Result<Option<Table>, Memory>
     Ok(Some(table))
 }
 
-// A vec column of two entries.
-fn vects(alloc: Global) -> Result<Option<Table>, Memory>
-    ensures { IfOk result (λ o. MatchOption o ⊤ (λ t. (kind_at t.columns 0 ≡ Some ColType.Vect) × (length t.rows ≡ 2))) }
+// An int column and a vec column of two entries.
+fn ints_and_vects(alloc: Global) -> Result<Option<Table>, Memory>
+    ensures { IfOk result (λ o. MatchOption o ⊤ (λ t. (kind_at t.columns 0 ≡ Some ColType.Int) × (kind_at t.columns 1 ≡ Some ColType.Vect) × (length t.rows ≡ 2))) }
 {
-    let Some(name) = Name::read(alloc, b"jets")? else {
+    let (Some(pt), Some(jets)) = (Name::read(alloc, b"pt")?, Name::read(alloc, b"jets")?) else {
         return Ok(None);
     };
-    let kind = ColType::Vect;
     let mut columns = ListOf::new(alloc);
-    columns.push(Column { name, kind })?;
+    columns.push(Column {
+        name: pt,
+        kind: ColType::Int,
+    })?;
+    columns.push(Column {
+        name: jets,
+        kind: ColType::Vect,
+    })?;
     let mut table = Table::new(alloc, columns)?;
     let mut row = ListOf::new(alloc);
+    row.push(Value::Int(10))?;
     row.push(Value::Vect(IntList::from_slice(alloc, &[3, 4])?))?;
     table.push(&mut row)?;
+    row.push(Value::Int(-3))?;
     row.push(Value::Vect(IntList::new(alloc)))?;
     table.push(&mut row)?;
     Ok(Some(table))
@@ -77,12 +85,26 @@ fn packs_the_numbers_of_a_cluster(rt: HostRuntime) -> Result<(), Fail> {
 
 #[test]
 fn gives_the_vectors_of_a_table(rt: HostRuntime) -> Result<(), Fail> {
-    let Some(table) = vects(rt.alloc())? else {
+    let Some(table) = ints_and_vects(rt.alloc())? else {
         panic!(rt; "no name");
     };
     let cuts = cut(rt.alloc(), 2, 1, &Marks::new(rt.alloc()))?;
     let columns = Columns::build(rt.alloc(), table, cuts)?;
-    assert_eq!(rt; columns.vec_at(0, 0), [3, 4].as_slice());
-    assert!(rt; columns.vec_at(1, 0).is_empty());
+    assert_eq!(rt; columns.vec_at(0, 1), [3, 4].as_slice());
+    assert!(rt; columns.vec_at(1, 1).is_empty());
+    Ok(())
+}
+
+#[test]
+fn two_slots_pack_a_column_each(rt: HostRuntime) -> Result<(), Fail> {
+    let Some(table) = ints_and_vects(rt.alloc())? else {
+        panic!(rt; "no name");
+    };
+    let cuts = cut(rt.alloc(), 2, 1, &Marks::new(rt.alloc()))?;
+    let columns = Columns::build_in_slots(&rt, rt.alloc(), table, cuts, 2)?;
+    assert_eq!(rt; columns.int_at(0, 0), 10);
+    assert_eq!(rt; columns.int_at(1, 0), -3);
+    assert_eq!(rt; columns.vec_at(0, 1), [3, 4].as_slice());
+    assert!(rt; columns.vec_at(1, 1).is_empty());
     Ok(())
 }

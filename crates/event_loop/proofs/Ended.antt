@@ -1,6 +1,6 @@
 -- What the slots of a loop tell once all have stopped.
 use Rattle.std.proofs.Common.{◌≡◌, ◌⊎◌, ℕ, zero, suc, ◌<◌, ◌≤◌, min, List, [], ◌∷◌, ◌++◌, length, map, Option, None, Some, refl, sym, ap, ◌∙◌, subst, inl, inr, ⊎_elim, arith}
-use Rattle.std.specs.Prelude.{slice_get, IfSome, IsSomeAnd}
+use Rattle.std.specs.Prelude.{flat_map, slice_get, IfSome, IsSomeAnd}
 use Rattle.std.specs.List.{All, concat}
 use Rattle.std.proofs.lemmas.Bool.{cases_lt}
 use Rattle.std.proofs.lemmas.List.Elements.{All-nil, All-cons, All-head, All-tail}
@@ -16,12 +16,13 @@ use Rattle.merge_core.proofs.Holding.{only}
 use Rattle.cluster_claims.specs.Seats.{ClaimsSeen, SeatSeen, IsLeast, IsPassed, last_of}
 use Rattle.partial_watch.specs.Shares.{BookSeen}
 use Rattle.slot_state.specs.Jobs.{JobFacts}
+use Rattle.slot_state.specs.Slots.{SlotView}
 use Rattle.event_loop.specs.declared.workers.Finished.{Finished}
 use Rattle.event_loop.specs.declared.workers.Slot.{Slot}
 use Rattle.event_loop.specs.declared.workers.End.{End}
 use Rattle.event_loop.specs.declared.workers.End.TheVariants.{Over, Faulted, NoMemory}
 use Rattle.event_loop.specs.Workers.{HasWorked, MetBar, RanOut, Stopped}
-use Rattle.event_loop.specs.Gathered.{AreDone, AreFacts, HasMemory, HasStopped, IsDone, IsServed, done_in, end_faults, fault_of, finished_by, seat_in}
+use Rattle.event_loop.specs.Gathered.{AreDone, AreFacts, HasMemory, HasStopped, IsDone, IsServed, done_in, done_or_none, end_faults, fault_of, finished_by, seat_in}
 
 -- the clusters that each slot drew
 abbrev pub drawn_in : List Finished → List (List ℕ)
@@ -42,30 +43,29 @@ module _ (c : ClaimsSeen) (b : Option BookSeen) (job : JobFacts) (bar : ℕ) whe
   passed_above : (seat : SeatSeen) (last : ℕ) → seat.passed ≡ Some last → IsPassed bar seat → bar ≤ last
   passed_above seat last is h = (subst (λ (o : Option ℕ). IfSome o (λ p. (bar ≤ p) × (0 < length seat.drawn) × (p ≡ last_of seat.drawn))) is h).0
 
-  over_sound : (s : Slot) (k : ℕ) → HasWorked b job s → RanOut c s.seat s.state.done ⊎ MetBar c s.seat s.state.done → IsPassed bar s.seat → 0 < times k s.seat.drawn → k < bar → slice_get job.faults k ≡ Some None
-  over_sound s k worked how passed some lt = ⊎_elim
-      (λ (r : RanOut c s.seat s.state.done). worked.sound k (subst (λ (l : List ℕ). 0 < times k l) r.all some))
-      (λ (m : MetBar c s.seat s.state.done). ⊎_elim
-      (λ (here : 0 < times k s.state.done). worked.sound k here)
-      (λ (none : times k s.state.done ≤ 0).
-      let same = last_is k m.last s.state.done s.seat.drawn m.others some none in
+  over_sound : (s : Slot) (state : SlotView) (k : ℕ) → HasWorked b job s.share state → RanOut c s.seat state.done ⊎ MetBar c s.seat state.done → IsPassed bar s.seat → 0 < times k s.seat.drawn → k < bar → slice_get job.faults k ≡ Some None
+  over_sound s state k worked how passed some lt = ⊎_elim
+      (λ (r : RanOut c s.seat state.done). worked.sound k (subst (λ (l : List ℕ). 0 < times k l) r.all some))
+      (λ (m : MetBar c s.seat state.done). ⊎_elim
+      (λ (here : 0 < times k state.done). worked.sound k here)
+      (λ (none : times k state.done ≤ 0).
+      let same = last_is k m.last state.done s.seat.drawn m.others some none in
       let above = passed_above s.seat m.last m.passed passed in
       absurd (omega arith))
-      (cases_lt 0 (times k s.state.done)))
+      (cases_lt 0 (times k state.done)))
       how
 
   slot_told : (end : End) (s : Slot) → Stopped c b job end s → IsServed end → IsPassed bar s.seat → Told job.faults bar s.seat.drawn (fault_of end)
-  slot_told Over s stopped served passed = record { sound = λ k some lt. inl (over_sound s k stopped.0 stopped.1 passed some lt); own = λ f a. elim a [ ] }
-  slot_told (Faulted g) s stopped served passed =
-      let met = stopped.1 in
+  slot_told (Over state) s stopped served passed = record { sound = λ k some lt. inl (over_sound s state k stopped.0 stopped.1 passed some lt); own = λ f a. elim a [ ] }
+  slot_told (Faulted g) s met served passed =
       record {
         sound = λ k some lt. ⊎_elim
-            (λ (here : 0 < times k s.state.done). inl (stopped.0.sound k here))
-            (λ (none : times k s.state.done ≤ 0).
-            inr (g, inl refl, subst (λ (j : ℕ). slice_get job.faults j ≡ Some (Some g)) (last_is k met.last s.state.done s.seat.drawn met.others some none) met.its_fault))
-            (cases_lt 0 (times k s.state.done));
+            (λ (here : 0 < times k met.others). inl (met.sound k here))
+            (λ (none : times k met.others ≤ 0).
+            inr (g, inl refl, subst (λ (j : ℕ). slice_get job.faults j ≡ Some (Some g)) (last_is k met.last met.others s.seat.drawn met.drawn some none) met.its_fault))
+            (cases_lt 0 (times k met.others));
         own = λ f a. ⊎_elim
-            (λ (e : f ≡ g). (met.last, omega (arith, ap (times met.last) met.others, times_push met.last s.state.done met.last, times_push met.last [] met.last, times_self met.last []), met.its_fault ∙ ap (λ (k : Fault). Some (Some k)) (sym e)))
+            (λ (e : f ≡ g). (met.last, omega (arith, ap (times met.last) met.drawn, times_push met.last met.others met.last, times_push met.last [] met.last, times_self met.last []), met.its_fault ∙ ap (λ (k : Fault). Some (Some k)) (sym e)))
             (λ (n : ⊥). absurd n)
             a;
       }
@@ -83,9 +83,8 @@ module _ (c : ClaimsSeen) (b : Option BookSeen) (job : JobFacts) (bar : ℕ) whe
   IsReached mine = (g : Fault) × Among g mine × (slice_get job.faults bar ≡ Some (Some g))
 
   one_lowered : (end : End) (s : Slot) → Stopped c b job end s → IsServed end → s.seat.lowered ≡ Some bar → IsReached (fault_of end)
-  one_lowered Over s stopped served is = (let none = stopped.2 in absurd (cc))
-  one_lowered (Faulted g) s stopped served is =
-      let met = stopped.1 in
+  one_lowered (Over state) s stopped served is = (let none = stopped.2 in absurd (cc))
+  one_lowered (Faulted g) s met served is =
       let same : met.last ≡ bar = told_same met.last (sym met.lowered ∙ is) in
       (g, inl refl, subst (λ (j : ℕ). slice_get job.faults j ≡ Some (Some g)) same met.its_fault)
     where
@@ -117,13 +116,14 @@ module _ (c : ClaimsSeen) (b : Option BookSeen) (job : JobFacts) (bar : ℕ) whe
 
   -- ---- where no slot faulted
 
-  is_over : (end : End) (rest : List Fault) → IsServed end → fault_of end ++ rest ≡ [] → (end ≡ Over) × (rest ≡ [])
-  is_over Over rest served none = (refl, none)
+  -- the state with which a slot is over
+  abbrev pub IsOver : Finished → Type 0
+  IsOver f = (state : SlotView) × (f.end ≡ Over state)
+
+  is_over : (end : End) (rest : List Fault) → IsServed end → fault_of end ++ rest ≡ [] → ((state : SlotView) × (end ≡ Over state)) × (rest ≡ [])
+  is_over (Over state) rest served none = ((state, refl), none)
   is_over (Faulted f) rest served none = absurd (cc)
   is_over NoMemory rest served none = elim served [ ]
-
-  abbrev pub IsOver : Finished → Type 0
-  IsOver f = f.end ≡ Over
 
   pub all_over : (fs : List Finished) → All HasMemory fs → end_faults fs ≡ [] → All IsOver fs
   all_over [] memory none = All-nil IsOver
@@ -131,17 +131,21 @@ module _ (c : ClaimsSeen) (b : Option BookSeen) (job : JobFacts) (bar : ℕ) whe
       let first = is_over f.end (end_faults fs) (All-head HasMemory f fs memory) none in
       All-cons IsOver f fs first.0 (all_over fs (All-tail HasMemory f fs memory) first.1)
 
-  -- what a slot that is over is
-  abbrev WasOver : Finished → Type 0
-  WasOver f = Stopped c b job Over f.slot
+  was_over : (f : Finished) → Ran f → (over : IsOver f) → Stopped c b job (Over over.0) f.slot
+  was_over f ran over = subst (λ (e : End). Stopped c b job e f.slot) over.1 ran.stopped
 
-  was_over : (f : Finished) → Ran f → IsOver f → WasOver f
-  was_over f ran over = subst (λ (e : End). Stopped c b job e f.slot) over ran.stopped
+  -- the slots that are over, where the first one is
+  over_first : (f : Finished) (fs : List Finished) (over : IsOver f) → flat_map done_in (f ∷ fs) ≡ record { state = over.0; share = f.slot.share } ∷ flat_map done_in fs
+  over_first f fs over = ap (λ (e : End). done_or_none e f.slot.share ++ flat_map done_in fs) over.1
 
-  ran_out : (s : Slot) → c.clusters ≤ bar → RanOut c s.seat s.state.done ⊎ MetBar c s.seat s.state.done → IsPassed bar s.seat → RanOut c s.seat s.state.done
-  ran_out s high how passed = ⊎_elim
-      (λ (r : RanOut c s.seat s.state.done). r)
-      (λ (m : MetBar c s.seat s.state.done).
+  pub as_many : (fs : List Finished) → All IsOver fs → length (flat_map done_in fs) ≡ length fs
+  as_many [] over = refl
+  as_many (f ∷ fs) over = (let rest = as_many fs (All-tail IsOver f fs over) in omega (arith, rest, ap length (over_first f fs (All-head IsOver f fs over))))
+
+  ran_out : (s : Slot) (state : SlotView) → c.clusters ≤ bar → RanOut c s.seat state.done ⊎ MetBar c s.seat state.done → IsPassed bar s.seat → RanOut c s.seat state.done
+  ran_out s state high how passed = ⊎_elim
+      (λ (r : RanOut c s.seat state.done). r)
+      (λ (m : MetBar c s.seat state.done).
       let above = passed_above s.seat m.last m.passed passed in
       let inside = m.cluster in
       absurd (omega arith))
@@ -154,23 +158,27 @@ module _ (c : ClaimsSeen) (b : Option BookSeen) (job : JobFacts) (bar : ℕ) whe
   pub all_drawn : (fs : List Finished) (word : ℕ) → 0 < length fs → c.clusters ≤ bar → All Ran fs → All IsOver fs → All (IsPassed bar) (map seat_in fs) → All (IsKept c.clusters word) (map seat_in fs) → c.clusters ≤ word
   all_drawn [] word some high ran over passed kept = absurd (omega arith)
   all_drawn (f ∷ fs) word some high ran over passed kept =
-      let was = was_over f (All-head Ran f fs ran) (All-head IsOver f fs over) in
-      let out = ran_out f.slot high was.1 (All-head (IsPassed bar) (seat_in f) (map seat_in fs) passed) in
+      let first = All-head IsOver f fs over in
+      let was = was_over f (All-head Ran f fs ran) first in
+      let out = ran_out f.slot first.0 high was.1 (All-head (IsPassed bar) (seat_in f) (map seat_in fs) passed) in
       kept_more f.slot.seat.kept word out.past (All-head (IsKept c.clusters word) (seat_in f) (map seat_in fs) kept)
 
-  done_lists : (fs : List Finished) → c.clusters ≤ bar → All Ran fs → All IsOver fs → All (IsPassed bar) (map seat_in fs) → drawn_in fs ≡ map finished_by (map done_in fs)
+  done_lists : (fs : List Finished) → c.clusters ≤ bar → All Ran fs → All IsOver fs → All (IsPassed bar) (map seat_in fs) → drawn_in fs ≡ map finished_by (flat_map done_in fs)
   done_lists [] high ran over passed = refl
   done_lists (f ∷ fs) high ran over passed =
-      let was = was_over f (All-head Ran f fs ran) (All-head IsOver f fs over) in
-      let out = ran_out f.slot high was.1 (All-head (IsPassed bar) (seat_in f) (map seat_in fs) passed) in
-      ap (λ (l : List ℕ). l ∷ drawn_in fs) out.all ∙ ap (λ (l : List (List ℕ)). f.slot.state.done ∷ l) (done_lists fs high (All-tail Ran f fs ran) (All-tail IsOver f fs over) (All-tail (IsPassed bar) (seat_in f) (map seat_in fs) passed))
+      let first = All-head IsOver f fs over in
+      let was = was_over f (All-head Ran f fs ran) first in
+      let out = ran_out f.slot first.0 high was.1 (All-head (IsPassed bar) (seat_in f) (map seat_in fs) passed) in
+      let rest = done_lists fs high (All-tail Ran f fs ran) (All-tail IsOver f fs over) (All-tail (IsPassed bar) (seat_in f) (map seat_in fs) passed) in
+      ap (λ (l : List ℕ). l ∷ drawn_in fs) out.all ∙ ap (λ (l : List (List ℕ)). first.0.done ∷ l) rest ∙ sym (ap (map finished_by) (over_first f fs first))
 
-  each_done : (fs : List Finished) → All Ran fs → All IsOver fs → All (IsDone b job) (map done_in fs)
+  each_done : (fs : List Finished) → All Ran fs → All IsOver fs → All (IsDone b job) (flat_map done_in fs)
   each_done [] ran over = All-nil (IsDone b job)
   each_done (f ∷ fs) ran over =
-      let first = All-head Ran f fs ran in
-      let was = was_over f first (All-head IsOver f fs over) in
-      All-cons (IsDone b job) (done_in f) (map done_in fs) record { slot = first.slot; going = was.3; noted = was.0.noted } (each_done fs (All-tail Ran f fs ran) (All-tail IsOver f fs over))
+      let first = All-head IsOver f fs over in
+      let worked = (was_over f (All-head Ran f fs ran) first).0 in
+      subst (All (IsDone b job)) (sym (over_first f fs first))
+      (All-cons (IsDone b job) (record { state = first.0; share = f.slot.share }) (flat_map done_in fs) record { slot = worked.slot; going = worked.going; noted = worked.noted } (each_done fs (All-tail Ran f fs ran) (All-tail IsOver f fs over)))
 
   module _ (fs : List Finished) (word : ℕ) (facts : AreFacts c.clusters job) (some : 0 < length fs) (ran : All Ran fs) (memory : All HasMemory fs)
       (drawn : DrawnBy (drawn_in fs) (min word c.clusters)) (least : IsLeast c.clusters (map seat_in fs) bar) (passed : All (IsPassed bar) (map seat_in fs)) (kept : All (IsKept c.clusters word) (map seat_in fs)) where
@@ -194,14 +202,14 @@ module _ (c : ClaimsSeen) (b : Option BookSeen) (job : JobFacts) (bar : ℕ) whe
         (λ none. let w = full none in let f = facts.faults in omega arith)
 
     -- where no slot faulted, they finished all clusters
-    pub are_done : end_faults fs ≡ [] → AreDone b job (map done_in fs)
+    pub are_done : end_faults fs ≡ [] → AreDone b job (flat_map done_in fs)
     are_done none =
         let over = all_over fs memory none in
         let whole : min word c.clusters ≡ length job.faults = (let w = full none in let f = facts.faults in omega arith) in
         record {
           each = each_done fs ran over;
-          unite = drawn_lists_unite (map finished_by (map done_in fs)) (length job.faults)
-              (subst (DrawnBy (map finished_by (map done_in fs))) whole (subst (λ (l : List (List ℕ)). DrawnBy l (min word c.clusters)) (done_lists fs (high_bar none) ran over passed) drawn));
+          unite = drawn_lists_unite (map finished_by (flat_map done_in fs)) (length job.faults)
+              (subst (DrawnBy (map finished_by (flat_map done_in fs))) whole (subst (λ (l : List (List ℕ)). DrawnBy l (min word c.clusters)) (done_lists fs (high_bar none) ran over passed) drawn));
         }
 
 -- the least of no faults is none

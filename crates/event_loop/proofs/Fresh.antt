@@ -7,10 +7,8 @@ use Rattle.std.proofs.lemmas.List.FromFn.{length-range_with_len}
 use Rattle.std.proofs.lemmas.List.Elements.{All-map, All-nil, All-push, All-pop}
 use Rattle.cluster_claims.specs.Seats.{ClaimsSeen, SeatSeen, fresh_seat, fresh_seats}
 use Rattle.partial_watch.specs.Shares.{BookSeen, ShareSeen, fresh_share, fresh_shares}
-use Rattle.slot_state.specs.Jobs.{JobFacts}
-use Rattle.slot_state.specs.Slots.{IsFreshSlot, SlotView}
 use Rattle.event_loop.specs.declared.workers.Slot.{Slot}
-use Rattle.event_loop.specs.Seated.{AreBlank, AreFreshStates, IsBlank}
+use Rattle.event_loop.specs.Seated.{AreBlank, IsBlank}
 use Rattle.event_loop.specs.Workers.{HasNoted, IsFresh, IsReady}
 
 pub many_seats : (c : ClaimsSeen) (n : ℕ) → length (fresh_seats c n) ≡ n
@@ -41,34 +39,27 @@ next_share (Some b) n old new (Some s) blank popped =
     ((all.1.of, ap length all.1.unnoted), (omega (arith, ap length popped, length-append new (s ∷ [])), all.0))
 
 -- what is left, and what is seated
-pub record AreSeated (c : ClaimsSeen) (b : Option BookSeen) (job : JobFacts) (seats : List SeatSeen) (shares : List ShareSeen) (states : List SlotView) (slots : List Slot) : Type 0 where
+pub record AreSeated (c : ClaimsSeen) (b : Option BookSeen) (seats : List SeatSeen) (shares : List ShareSeen) (slots : List Slot) : Type 0 where
   pub ready : All (IsReady c) seats
   pub blank : AreBlank b (length seats) shares
-  pub fresh : AreFreshStates job states
-  pub done : All (IsFresh c b job) slots
+  pub done : All (IsFresh c b) slots
 
-pub none_seated : (c : ClaimsSeen) (b : Option BookSeen) (job : JobFacts) (seats : List SeatSeen) (shares : List ShareSeen) (states : List SlotView)
-    → All (IsReady c) seats → AreBlank b (length seats) shares → AreFreshStates job states → AreSeated c b job seats shares states []
-none_seated c b job seats shares states ready blank fresh = record { ready = ready; blank = blank; fresh = fresh; done = All-nil (IsFresh c b job) }
+pub none_seated : (c : ClaimsSeen) (b : Option BookSeen) (seats : List SeatSeen) (shares : List ShareSeen) → All (IsReady c) seats → AreBlank b (length seats) shares → AreSeated c b seats shares []
+none_seated c b seats shares ready blank = record { ready = ready; blank = blank; done = All-nil (IsFresh c b) }
 
-pub next_seated : (c : ClaimsSeen) (b : Option BookSeen) (job : JobFacts) (seats seats' : List SeatSeen) (shares shares' : List ShareSeen) (states states' : List SlotView) (slots slots' : List Slot)
-    (seat : SeatSeen) (share : Option ShareSeen) (state : SlotView) (slot : Slot)
-    → AreSeated c b job seats shares states slots
-    → seats ≡ seats' ++ seat ∷ [] → MatchOption share ((shares ≡ []) × (shares' ≡ [])) (λ s. shares ≡ shares' ++ s ∷ []) → states ≡ states' ++ state ∷ []
-    → slots' ≡ slots ++ slot ∷ [] → slot.seat ≡ seat → slot.share ≡ share → slot.state ≡ state
-    → AreSeated c b job seats' shares' states' slots'
-next_seated c b job seats seats' shares shares' states states' slots slots' seat share state slot h seats_are shares_are states_are slots_are seat_is share_is state_is =
+pub next_seated : (c : ClaimsSeen) (b : Option BookSeen) (seats seats' : List SeatSeen) (shares shares' : List ShareSeen) (slots slots' : List Slot) (seat : SeatSeen) (share : Option ShareSeen) (slot : Slot)
+    → AreSeated c b seats shares slots → seats ≡ seats' ++ seat ∷ [] → MatchOption share ((shares ≡ []) × (shares' ≡ [])) (λ s. shares ≡ shares' ++ s ∷ [])
+    → slots' ≡ slots ++ slot ∷ [] → slot.seat ≡ seat → slot.share ≡ share
+    → AreSeated c b seats' shares' slots'
+next_seated c b seats seats' shares shares' slots slots' seat share slot h seats_are shares_are slots_are seat_is share_is =
     let ready = All-pop (IsReady c) seats seats' (Some seat) seats_are h.ready in
-    let fresh = All-pop (IsFreshSlot job) states states' (Some state) states_are h.fresh in
     let many : length seats ≡ length seats' + 1 = omega (arith, ap length seats_are, length-append seats' (seat ∷ [])) in
     let noted = next_share b (length seats') shares shares' share (subst (λ (n : ℕ). AreBlank b n shares) many h.blank) shares_are in
     record {
       ready = ready.0;
       blank = noted.1;
-      fresh = fresh.0;
-      done = subst (All (IsFresh c b job)) (sym slots_are) (All-push (IsFresh c b job) slots slot h.done record {
+      done = subst (All (IsFresh c b)) (sym slots_are) (All-push (IsFresh c b) slots slot h.done record {
         seat = subst (IsReady c) (sym seat_is) ready.1;
         share = subst (HasNoted b 0) (sym share_is) noted.0;
-        state = subst (IsFreshSlot job) (sym state_is) fresh.1;
       });
     }

@@ -4,6 +4,7 @@ use Rattle.std.specs.List.{All}
 use Rattle.std.proofs.lemmas.List.Elements.{All-cons}
 use Rattle.rdf_values.specs.declared.fault.Fault.{Fault}
 use Rattle.rdf_values.specs.Machine.{least_fault, lesser_fault}
+use Rattle.slot_state.specs.Slots.{SlotView}
 use Rattle.event_loop.specs.declared.workers.Finished.{Finished}
 use Rattle.event_loop.specs.declared.workers.End.{End}
 use Rattle.event_loop.specs.declared.workers.End.TheVariants.{Over, Faulted}
@@ -18,8 +19,8 @@ pub record IsLeast (fs : List Finished) (i : ℕ) (least : Option Fault) : Type 
 one_more : (fs : List Finished) (i : ℕ) (d : Finished) → 0 < i → i ≤ length fs → drop (i - 1) fs ≡ get_or fs (i - 1) d ∷ drop i fs
 one_more fs i d some within = drop-cons fs (i - 1) d (omega arith) ∙ (let e : suc (i - 1) ≡ i = omega arith in ap (λ k. get_or fs (i - 1) d ∷ drop k fs) e)
 
-pub next_over : (fs : List Finished) (i : ℕ) (d : Finished) (least : Option Fault) → 0 < i → IsLeast fs i least → (get_or fs (i - 1) d).end ≡ Over → IsLeast fs (i - 1) least
-next_over fs i d least some h is =
+pub next_over : (fs : List Finished) (i : ℕ) (d : Finished) (least : Option Fault) (state : SlotView) → 0 < i → IsLeast fs i least → (get_or fs (i - 1) d).end ≡ Over state → IsLeast fs (i - 1) least
+next_over fs i d least state some h is =
     let more = one_more fs i d some h.within in
     let f = get_or fs (i - 1) d in
     record {

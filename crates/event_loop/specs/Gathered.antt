@@ -5,7 +5,7 @@ use Rattle.rdf_values.specs.Draws.{IsUnion}
 use Rattle.rdf_values.specs.Machine.{AreInEntryOrder, first_in}
 use Rattle.rdf_values.specs.declared.fault.Fault.{Fault}
 use Rattle.cluster_claims.specs.Seats.{ClaimsSeen, SeatSeen}
-use Rattle.partial_watch.specs.Shares.{BookSeen}
+use Rattle.partial_watch.specs.Shares.{BookSeen, ShareSeen}
 use Rattle.slot_state.specs.Jobs.{JobFacts}
 use Rattle.slot_state.specs.Slots.{IsSlotOf}
 use Rattle.slot_state.specs.declared.progress.Phase.TheVariants as phase
@@ -19,7 +19,7 @@ use Rattle.event_loop.specs.declared.workers.End.TheVariants.{Over, Faulted, NoM
 
 -- the fault with which a slot stopped
 abbrev pub fault_of : End → List Fault
-fault_of Over = []
+fault_of (Over state) = []
 fault_of (Faulted fault) = fault ∷ []
 fault_of NoMemory = []
 
@@ -40,9 +40,15 @@ HasMemory f = IsServed f.end
 abbrev pub seat_in : Finished → SeatSeen
 seat_in f = f.slot.seat
 
--- the rest of a slot
-abbrev pub done_in : Finished → Done
-done_in f = record { state = f.slot.state; share = f.slot.share }
+-- the slot that stopped so, where it is over
+abbrev pub done_or_none : End → Option ShareSeen → List Done
+done_or_none (Over state) share = record { state = state; share = share } ∷ []
+done_or_none (Faulted fault) share = []
+done_or_none NoMemory share = []
+
+-- of a slot that stopped
+abbrev pub done_in : Finished → List Done
+done_in f = done_or_none f.end f.slot.share
 
 -- the slot ran and stopped
 abbrev pub HasStopped : ClaimsSeen → Option BookSeen → JobFacts → Finished → Type 0

@@ -2,12 +2,6 @@
 use Rattle.std.specs.Prelude.{◌≡◌, ℕ, List, [], Option, Some, None, All, length}
 use Rattle.partial_watch.specs.Shares.{BookSeen, ShareSeen}
 use Rattle.partial_watch.specs.Shares as book
-use Rattle.slot_state.specs.Jobs.{JobFacts}
-use Rattle.slot_state.specs.Slots.{IsFreshSlot, SlotView}
-
--- states for the job that finished no cluster
-abbrev pub AreFreshStates : JobFacts → List SlotView → Type 0
-AreFreshStates job states = All (IsFreshSlot job) states
 
 -- a share of this book that noted nothing
 pub record IsBlank (b : BookSeen) (s : ShareSeen) : Type 0 where

@@ -7,7 +7,7 @@ use Rattle.cluster_claims.specs.Seats as claims
 use Rattle.partial_watch.specs.Shares.{BookSeen, ShareSeen}
 use Rattle.partial_watch.specs.Shares as book
 use Rattle.slot_state.specs.Jobs.{JobFacts}
-use Rattle.slot_state.specs.Slots.{IsFreshSlot, IsSlotOf}
+use Rattle.slot_state.specs.Slots.{IsSlotOf, SlotView}
 use Rattle.slot_state.specs.declared.progress.Phase.TheVariants as phase
 use Rattle.event_loop.specs.declared.workers.Slot.{Slot}
 use Rattle.event_loop.specs.declared.workers.End.{End}
@@ -36,16 +36,17 @@ pub record IsReady (c : ClaimsSeen) (s : SeatSeen) : Type 0 where
   pub unpassed : s.passed ≡ None
   pub unlowered : s.lowered ≡ None
 
--- the slot has a seat of these claims, a share of the book and a state for the job, and none has begun
-pub record IsFresh (c : ClaimsSeen) (b : Option BookSeen) (job : JobFacts) (s : Slot) : Type 0 where
+-- the slot has a seat of these claims and a share of the book, and did nothing with them yet
+pub record IsFresh (c : ClaimsSeen) (b : Option BookSeen) (s : Slot) : Type 0 where
   pub seat : IsReady c s.seat
   pub share : HasNoted b 0 s.share
-  pub state : IsFreshSlot job s.state
 
--- the slot finished these clusters, each of them sound and noted
-pub record HasWorked (b : Option BookSeen) (job : JobFacts) (s : Slot) : Type 0 where
-  pub sound : AreSound job.faults s.state.done
-  pub noted : HasNoted b (length s.state.done) s.share
+-- the slot's state goes on, and the clusters that it finished are sound and noted
+pub record HasWorked (b : Option BookSeen) (job : JobFacts) (share : Option ShareSeen) (state : SlotView) : Type 0 where
+  pub slot : IsSlotOf job state
+  pub going : state.phase ≡ phase.Going
+  pub sound : AreSound job.faults state.done
+  pub noted : HasNoted b (length state.done) share
 
 -- no number is left that is a cluster, and the slot finished all that it drew
 pub record RanOut (c : ClaimsSeen) (seat : SeatSeen) (done : List ℕ) : Type 0 where
@@ -59,21 +60,22 @@ pub record MetBar (c : ClaimsSeen) (seat : SeatSeen) (done : List ℕ) : Type 0 
   pub others : seat.drawn ≡ done ++ last ∷ []
   pub passed : seat.passed ≡ Some last
 
--- the last cluster that the slot drew has that fault, and the bar was lowered to it
-pub record MetFault (job : JobFacts) (seat : SeatSeen) (done : List ℕ) (fault : Fault) : Type 0 where
+-- the last cluster that the slot drew has that fault, the others are sound, and the bar was lowered to it
+pub record MetFault (job : JobFacts) (seat : SeatSeen) (fault : Fault) : Type 0 where
   pub last : ℕ
-  pub others : seat.drawn ≡ done ++ last ∷ []
+  pub others : List ℕ
+  pub drawn : seat.drawn ≡ others ++ last ∷ []
+  pub sound : AreSound job.faults others
   pub its_fault : slice_get job.faults last ≡ Some (Some fault)
   pub lowered : seat.lowered ≡ Some last
 
 -- how the slot stopped
 abbrev pub Stopped : ClaimsSeen → Option BookSeen → JobFacts → End → Slot → Type 0
-Stopped c b job Over s = HasWorked b job s × (RanOut c s.seat s.state.done ⊎ MetBar c s.seat s.state.done) × (s.seat.lowered ≡ None) × (s.state.phase ≡ phase.Going)
-Stopped c b job (Faulted f) s = HasWorked b job s × MetFault job s.seat s.state.done f
+Stopped c b job (Over state) s = HasWorked b job s.share state × (RanOut c s.seat state.done ⊎ MetBar c s.seat state.done) × (s.seat.lowered ≡ None)
+Stopped c b job (Faulted f) s = MetFault job s.seat f
 Stopped c b job NoMemory s = ⊤
 
 -- the slot stopped in that way
 pub record HasRun (c : ClaimsSeen) (b : Option BookSeen) (job : JobFacts) (end : End) (s : Slot) : Type 0 where
   pub seat_of : claims.IsOf c s.seat
-  pub slot : IsSlotOf job s.state
   pub stopped : Stopped c b job end s

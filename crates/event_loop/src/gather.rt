@@ -1,10 +1,10 @@
 // What the slots of a loop give back.
-ghost use Rattle.std.specs.Prelude.{◌≡◌, ◌<◌, All, map, IfOk, vec_len, Option};
+ghost use Rattle.std.specs.Prelude.{◌≡◌, ◌<◌, ◌++◌, All, flat_map, map, IfOk, OnOk, vec_len, Option};
 ghost use Rattle.rdf_values.specs.Machine.{least_fault, lesser_fault};
 ghost use Rattle.cluster_claims.specs.Seats.{IsOf};
 ghost use Rattle.partial_watch.specs.Shares.{BookSeen};
 ghost use Rattle.slot_state.specs.Jobs.{JobFacts};
-ghost use Rattle.event_loop.specs.Gathered.{AreFacts, HasMemory, HasStopped, IsOutcome, done_in, end_faults, seat_in};
+ghost use Rattle.event_loop.specs.Gathered.{AreFacts, HasMemory, HasStopped, IsOutcome, done_in, done_or_none, end_faults, seat_in};
 
 use crate::workers::{End, Finished, Slot};
 use cluster_claims::{Claims, SeatList};
@@ -40,7 +40,7 @@ pub fn least_of(finished: &[Finished]) -> Result<Option<Fault>, Memory>
     while i > 0 {
         i -= 1;
         match finished[i].end {
-            End::Over => {}
+            End::Over(_) => {}
             End::Faulted(fault) => least = Some(lesser(fault, least)),
             End::NoMemory => return Err(Memory),
         }
@@ -48,21 +48,31 @@ pub fn least_of(finished: &[Finished]) -> Result<Option<Fault>, Memory>
     Ok(least)
 }
 
-/// The seats of the slots, and what is left of them, in their order.
+// Appends the slot that stopped so, where it is over.
+fn keep_done(slots: &mut Vec<Done>, end: End, share: Option<Share>) -> Result<(), Memory>
+    ensures { OnOk result (slots.new.items ≡ slots.old.items ++ done_or_none end share) }
+{
+    if let End::Over(state) = end {
+        slots.push(Done { state, share })?;
+    }
+    Ok(())
+}
+
+/// The seats of all slots, and the slots that are over, in their order.
 pub fn taken_apart(alloc: Global, finished: Vec<Finished>) -> Result<(SeatList, Vec<Done>), Memory>
     ensures seats { IfOk result (λ r. r.0 ≡ map seat_in finished.items) }
-    ensures rest { IfOk result (λ r. r.1.items ≡ map done_in finished.items) }
+    ensures done { IfOk result (λ r. r.1.items ≡ flat_map done_in finished.items) }
 {
     let mut left = finished;
     let mut seats = SeatList::new(alloc);
-    let mut rest = Vec::new(alloc);
+    let mut slots = Vec::new(alloc);
     while !left.is_empty() {
-        let Finished { end: _, slot } = left.remove(0);
-        let Slot { seat, state, share } = slot;
+        let Finished { end, slot } = left.remove(0);
+        let Slot { seat, share } = slot;
         seats.push(seat)?;
-        rest.push(Done { state, share })?;
+        keep_done(&mut slots, end, share)?;
     }
-    Ok((seats, rest))
+    Ok((seats, slots))
 }
 
 /// What the slots of a loop came to: all clusters are processed, or there is a first fault.

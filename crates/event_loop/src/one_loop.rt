@@ -9,12 +9,13 @@ ghost use Rattle.event_loop.specs.Ends.{HasEnded};
 use crate::end::LoopEnd;
 use crate::filling::filled;
 use crate::gather::{Outcome, gathered};
-use crate::seating::{fresh_states, opened, seated, watched_in};
+use crate::seating::{opened, seated};
 use crate::workers::run_slots;
 use cluster_claims::Claims;
 use entry_cache::Job;
 use rdf_outside::Gate;
 use rdf_values::Memory;
+use slot_state::watched_in;
 use std::alloc::Global;
 use std::thread::Threads;
 
@@ -34,11 +35,10 @@ pub fn run_loop<R: Threads + Sync, G: Gate>(
     ensures { IfOk result (λ end. HasEnded (job_facts (job_of job.now)) watch end) }
 {
     let clusters = job.cuts.count();
-    let states = fresh_states(alloc, job, slots)?;
-    let watched = watched_in(states.as_slice());
+    let watched = watched_in(job);
     let (book, shares) = opened(alloc, watched, slots, clusters)?;
     let (claims, seats) = Claims::new(alloc, clusters, slots)?;
-    let fresh = seated(alloc, states, seats, shares)?;
+    let fresh = seated(alloc, seats, shares)?;
     let finished = run_slots(rt, alloc, job, &claims, &book, fresh, gate)?;
     match gathered(alloc, claims, finished)? {
         Outcome::Faulted(fault) => Ok(LoopEnd::Faulted(fault)),

@@ -1,6 +1,8 @@
 // The work of one slot, and the slots side by side.
 ghost use Rattle.std.specs.Prelude.{◌≡◌, ℕ, ◌<◌, ◌+◌, List, length, IfOk, vec_len, slice_index_or};
 ghost use Rattle.std.specs.List.{All};
+ghost use Rattle.rdf_values.specs.Path.{history};
+ghost use Rattle.rdf_values.specs.Words.{StatementsHaveWords};
 ghost use Rattle.entry_fns.specs.Lists.{functions_in};
 ghost use Rattle.entry_cache.specs.Jobs.{Fits, IsJob, job_graph, job_of};
 ghost use Rattle.slot_state.specs.Jobs.{job_facts};
@@ -21,18 +23,17 @@ use std::marker::Brand;
 use std::sync::ledger::{Blank, Ledger};
 use std::thread::{Threads, map_vec};
 
-/// What one slot of a loop owns: its right to draw clusters, its state, and its right to note them, where a result is watched.
+/// What one slot of a loop is given: its right to draw clusters and, where a result is watched, its right to note them.
 #[derive(Drop)]
 pub struct Slot {
     pub seat: ClaimSeat,
-    pub state: SlotState,
     pub share: Option<Share>,
 }
 
-/// Why a slot stopped: no cluster is left for it, its first fault, or want of memory.
-#[derive(Clone, Copy, Debug, PartialEq, Eq)]
+/// Why a slot stopped: no cluster is left for it, and this is what it came to; its first fault; or want of memory.
+#[derive(Drop)]
 pub enum End {
-    Over,
+    Over(SlotState),
     Faulted(Fault),
     NoMemory,
 }
@@ -54,7 +55,8 @@ fn note(book: &Option<Book>, share: &mut Option<Share>)
     }
 }
 
-// Processes each cluster that the slot draws, up to the slot's first fault.
+// Processes each cluster that the slot draws, up to the slot's first fault. The state is made here, in the slot's own thread, so
+// that its memory lies apart from that of the other slots.
 fn work<L: Ledger, G: Gate>(
     blank: Blank,
     alloc: Global,
@@ -68,15 +70,19 @@ fn work<L: Ledger, G: Gate>(
     requires parts { blank.parts ≡ L.parts }
     requires some { 0 < L.parts }
     requires job { Fits job.now }
-    requires fresh { IsFresh claims.now book.now (job_facts (job_of job.now)) slot.old }
+    requires words { StatementsHaveWords (history (job_of job.now).script) }
+    requires fresh { IsFresh claims.now book.now slot.old }
     requires clusters { claims.now.clusters ≡ length (job_facts (job_of job.now)).faults }
     requires room { HasRoom claims.now.clusters book.now }
     ensures { HasRun claims.now book.now (job_facts (job_of job.now)) result slot.new }
 {
+    let Ok(mut state) = SlotState::new(alloc, job) else {
+        return End::NoMemory;
+    };
     let mut steps: Steps<L> = Steps::open(blank);
     while let Some(cluster) = claims.claim(&mut slot.seat) {
         gate.turn(slot.seat.slot(), cluster);
-        match slot.state.process(alloc, job, cluster, &mut steps) {
+        match state.process(alloc, job, cluster, &mut steps) {
             Ok(Progress::Done) => note(book, &mut slot.share),
             Ok(Progress::Faulted(fault)) => {
                 claims.lower(&mut slot.seat, cluster);
@@ -85,7 +91,7 @@ fn work<L: Ledger, G: Gate>(
             Err(SlotStop::Memory) => return End::NoMemory,
         }
     }
-    End::Over
+    End::Over(state)
 }
 
 // Runs one slot. Its evaluations are counted in a ledger of its own.
@@ -98,7 +104,8 @@ fn run_slot<G: Gate>(
     gate: &G,
 ) -> Finished
     requires job { Fits job.now }
-    requires fresh { IsFresh claims.now book.now (job_facts (job_of job.now)) slot }
+    requires words { StatementsHaveWords (history (job_of job.now).script) }
+    requires fresh { IsFresh claims.now book.now slot }
     requires clusters { claims.now.clusters ≡ length (job_facts (job_of job.now)).faults }
     requires room { HasRoom claims.now.clusters book.now }
     ensures { HasRun claims.now book.now (job_facts (job_of job.now)) result.end result.slot }
@@ -119,7 +126,8 @@ pub fn run_slots<R: Threads + Sync, G: Gate>(
     gate: &G,
 ) -> Result<Vec<Finished>, Memory>
     requires job { Fits job.now }
-    requires fresh { All (IsFresh claims.now book.now (job_facts (job_of job.now))) slots.items }
+    requires words { StatementsHaveWords (history (job_of job.now).script) }
+    requires fresh { All (IsFresh claims.now book.now) slots.items }
     requires clusters { claims.now.clusters ≡ length (job_facts (job_of job.now)).faults }
     requires room { HasRoom claims.now.clusters book.now }
     ensures len { IfOk result (λ v. vec_len v ≡ vec_len slots) }
@@ -138,7 +146,8 @@ pub fn run_slots<R: Threads + Sync, G: Gate>(
         &|slot: Slot| -> Finished
             requires { (graph.now ≡ job_graph (job_with graph.now loop_index columns.now cuts.now (functions_in functions.now)))
                 × IsJob (job_with graph.now loop_index columns.now cuts.now (functions_in functions.now))
-                × IsFresh claims.now book.now (job_facts (job_with graph.now loop_index columns.now cuts.now (functions_in functions.now))) slot
+                × StatementsHaveWords (history graph.now.script)
+                × IsFresh claims.now book.now slot
                 × (claims.now.clusters ≡ length (job_facts (job_with graph.now loop_index columns.now cuts.now (functions_in functions.now))).faults)
                 × HasRoom claims.now.clusters book.now }
             ensures { HasRun claims.entry.now book.entry.now (job_facts (job_with graph.entry.now loop_index columns.entry.now cuts.entry.now (functions_in functions.entry.now))) result.end result.slot }

@@ -27,7 +27,7 @@ use Rattle.cluster_tally.proofs.Stagings.{fresh_holds}
 use Rattle.loop_pieces.specs.Trails.{watched_places}
 use Rattle.loop_pieces.specs.Whole.{cluster_fault}
 use Rattle.slot_state.specs.Jobs.{job_facts}
-use Rattle.slot_state.specs.Passes.{IsOfPasses, watched_before}
+use Rattle.slot_state.specs.Passes.{IsOfPasses}
 use Rattle.slot_state.specs.Slots.{IsFreshSlot, SlotView}
 use Rattle.slot_state.specs.declared.progress.Phase.TheVariants.{Going}
 
@@ -46,9 +46,9 @@ module _ (j : JobView) (job : IsJob j) where
       (loops_meet_limits j.dataset j.script (named_before (history j.script)) (job_spans j) j.number one.0 answers words job.table.fit job.table.few (cuts_are_in_order j.cuts.entries j.cuts.size j.cuts.marks) one.1)
 
   pub begun : AnswerIn64Bits j.dataset.fns → StatementsHaveWords (history j.script) → (s : SlotView) → IsSized j s.cache → s.plan ≡ covered_in j → IsOfPasses j (length (passes_in j)) s.tally
-      → s.tally.flow ≡ replicate (length (named_before (history j.script))) nothing → s.watched ≡ watched_before j (length (passes_in j)) → length (job_spans j) ≤ s.room → s.done ≡ [] → s.phase ≡ Going
+      → s.tally.flow ≡ replicate (length (named_before (history j.script))) nothing → length (job_spans j) ≤ s.room → s.done ≡ [] → s.phase ≡ Going
       → IsFreshSlot (job_facts j) s
-  begun answers words s sized plan fresh flow watched room none going =
+  begun answers words s sized plan fresh flow room none going =
       let all = all_taken (passes_in j) in
       let of_all = subst (λ ps. IsFresh (kinds_in ps) (watched_places (history j.script) ps) s.tally) all fresh in
       record {
@@ -56,7 +56,6 @@ module _ (j : JobView) (job : IsJob j) where
           cells = sized.cells;
           keys = sized.keys;
           plan = plan;
-          watched = watched ∙ ap (λ ps. length (watched_places (history j.script) ps)) all;
           room = (let m = length-map (below (length (job_spans j))) (cluster_fault j.dataset (job_spans j) (passes_in j)) in omega (arith, room, m, length-below (length (job_spans j))));
           holds = λ on c high. subst (λ d. Holds (facts_in j) (job_facts j).watched (at_begin d c) s.tally) (sym none)
               (fresh_holds (facts_in j) (job_facts j).watched s.tally c (is_loop_facts answers words) of_all flow);

@@ -65,12 +65,11 @@ module _ (j : JobView) (s : SlotView) (h : IsSlotOf (job_facts j) s) where
   is_sized = record { cells = h.cells; keys = h.keys }
 
   -- one that doesn't go on
-  pub stopped : (t : SlotView) → IsSized j t.cache → t.plan ≡ s.plan → t.watched ≡ s.watched → t.room ≡ s.room → (t.phase ≡ phase.Going → ⊥) → IsSlotOf (job_facts j) t
-  stopped t sized plan watched room ended = record {
+  pub stopped : (t : SlotView) → IsSized j t.cache → t.plan ≡ s.plan → t.room ≡ s.room → (t.phase ≡ phase.Going → ⊥) → IsSlotOf (job_facts j) t
+  stopped t sized plan room ended = record {
     cells = sized.cells;
     keys = sized.keys;
     plan = plan ∙ h.plan;
-    watched = watched ∙ h.watched;
     room = (let r = h.room in omega (arith, room));
     holds = λ going. absurd (ended going);
   }
@@ -83,13 +82,12 @@ module _ (j : JobView) (s : SlotView) (h : IsSlotOf (job_facts j) s) where
     has_room = let few = fewer s.done cluster begins.rises above in let r = h.room in omega arith
 
     -- after the cluster
-    pub went_on : (t : SlotView) → IsSized j t.cache → t.plan ≡ s.plan → t.watched ≡ s.watched → t.room ≡ s.room → t.done ≡ s.done ++ cluster ∷ []
+    pub went_on : (t : SlotView) → IsSized j t.cache → t.plan ≡ s.plan → t.room ≡ s.room → t.done ≡ s.done ++ cluster ∷ []
         → ((next : ℕ) → cluster < next → Holds (facts_in j) (job_facts j).watched (at_begin (s.done ++ cluster ∷ []) next) t.tally) → IsSlotOf (job_facts j) t
-    went_on t sized plan watched room done holds = record {
+    went_on t sized plan room done holds = record {
       cells = sized.cells;
       keys = sized.keys;
       plan = plan ∙ h.plan;
-      watched = watched ∙ h.watched;
       room = (let r = h.room in omega (arith, room));
       holds = λ on c high. (
           let all = subst (All (λ d. d < c)) done high in

@@ -16,13 +16,12 @@ use Rattle.slot_state.specs.Jobs.{JobFacts, job_facts}
 use Rattle.slot_state.specs.declared.progress.Phase.{Phase}
 use Rattle.slot_state.specs.declared.progress.Phase.TheVariants.{Going}
 
--- the evaluations of an entry, which named filters are covered, what the clusters gave, how many results are watched, room for so
--- many clusters, those that the slot finished, and whether it goes on
+-- the evaluations of an entry, which named filters are covered, what the clusters gave, room for so many clusters, those
+-- that the slot finished, and whether it goes on
 pub record SlotView : Type 0 where
   pub cache : CacheView
   pub plan : List Bool
   pub tally : TallyView
-  pub watched : ℕ
   pub room : ℕ
   pub done : List ℕ
   pub phase : Phase
@@ -32,7 +31,6 @@ pub record IsSlotOf (job : JobFacts) (s : SlotView) : Type 0 where
   pub cells : length s.cache.cells ≡ key_count job.graph
   pub keys : AreKeys job.graph s.cache.keys
   pub plan : s.plan ≡ job.covered
-  pub watched : s.watched ≡ length job.watched
   pub room : length job.faults ≤ s.room
   pub holds : s.phase ≡ Going → (c : ℕ) → All (λ d. d < c) s.done → Holds job.facts job.watched (at_begin s.done c) s.tally
 

@@ -3,9 +3,11 @@
 #![tactic(auto)]
 
 mod cluster;
+pub mod passes;
 pub mod progress;
 pub mod state;
 mod tallies;
 
+pub use crate::passes::watched_in;
 pub use crate::progress::{Phase, Progress, SlotStop};
 pub use crate::state::SlotState;

@@ -28,7 +28,6 @@ pub struct SlotState {
     cache: EntryCache,
     plan: EntryPlan,
     tally: Tally,
-    watched: u32,
     done: Vec<u32>,
     phase: Phase,
 }
@@ -39,7 +38,7 @@ impl Model for SlotState {
 
     ghost Value = { SlotView };
 
-    ghost view = { λ s. record { cache = s.cache; plan = s.plan; tally = s.tally; watched = s.watched; room = vec_capacity s.done; done = s.done.items; phase = s.phase } };
+    ghost view = { λ s. record { cache = s.cache; plan = s.plan; tally = s.tally; room = vec_capacity s.done; done = s.done.items; phase = s.phase } };
 }
 
 impl SlotState {
@@ -52,23 +51,15 @@ impl SlotState {
         job.functions.answers_have_64_bits();
         let cache = EntryCache::new(alloc, job)?;
         let plan = EntryPlan::new(alloc, job)?;
-        let (tally, watched) = tally_of(alloc, job)?;
+        let tally = tally_of(alloc, job)?;
         let done = Vec::with_capacity(alloc, job.cuts.count() as usize)?;
         Ok(SlotState {
             cache,
             plan,
             tally,
-            watched,
             done,
             phase: Phase::Going,
         })
-    }
-
-    /// How many results of the loop are watched.
-    pub fn watched(&self) -> u32
-        ensures { (job : JobFacts) → IsSlotOf job self.now → result ≡ length job.watched }
-    {
-        self.watched
     }
 
     /// Processes a cluster above all that the slot finished.

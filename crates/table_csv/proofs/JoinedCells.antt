@@ -24,12 +24,6 @@ use Rattle.table_csv.specs.Joins.{cells_joined, columns_joined, marks_behind}
 take_got : {A : Type 0} (xs : List A) (i : ℕ) (x : A) → slice_get xs i ≡ Some x → take (i + 1) xs ≡ take i xs ++ x ∷ []
 take_got xs i x s = take_more xs i x (slice_get_within xs i x s) ∙ ap (λ y. take i xs ++ y ∷ []) (get_or_from_slice_get xs i x x s)
 
-pub behind_more : {A : Type 0} (old now more : List A) (i : ℕ) (x : A) → now ≡ old ++ take i more → slice_get more i ≡ Some x → now ++ x ∷ [] ≡ old ++ take (i + 1) more
-behind_more old now more i x n s = rw (n, take_got more i x s) (append_assoc old (take i more) (x ∷ []))
-
-pub behind_all : {A : Type 0} (old now more : List A) (i : ℕ) → now ≡ old ++ take i more → length more ≤ i → now ≡ old ++ more
-behind_all old now more i n l = n ∙ ap (λ t. old ++ t) (take_all i more l)
-
 -- ---- marks
 
 pub marks_more : (old now more : List ℕ) (n i mark : ℕ) → now ≡ old ++ marks_behind n (take i more) → slice_get more i ≡ Some mark → now ++ (n + mark) ∷ [] ≡ old ++ marks_behind n (take (i + 1) more)

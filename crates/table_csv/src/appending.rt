@@ -3,17 +3,8 @@ ghost use Rattle.std.specs.Prelude.{◌≡◌, ◌+◌, ◌++◌, ◌<◌, ◌�
 ghost use Rattle.std.specs.Thread.{IsSync};
 ghost use Rattle.table_csv.specs.Joins.{cells_joined, columns_joined, marks_behind, table_joined};
 
-use rdf_values::{Cells, Marks, Memory, Table, TableParts, Vects};
+use rdf_values::{Cells, Marks, Memory, Table, TableParts};
 use std::thread::{Threads, join};
-
-fn append_vectors(vectors: &mut Vects, more: &Vects) -> Result<(), Memory>
-    ensures { OnOk result (vectors.new ≡ vectors.old ++ more.now) }
-{
-    for i in 0..more.len() {
-        vectors.push(more.at(i))?;
-    }
-    Ok(())
-}
 
 // Puts values behind those of a column; those of another type are left out.
 fn append_cells(cells: &mut Cells, more: &Cells) -> Result<(), Memory>
@@ -21,7 +12,7 @@ fn append_cells(cells: &mut Cells, more: &Cells) -> Result<(), Memory>
 {
     match (cells, more) {
         (Cells::Ints(numbers), Cells::Ints(more)) => numbers.extend_from_slice(more.as_slice()),
-        (Cells::Vects(vectors), Cells::Vects(more)) => append_vectors(vectors, more),
+        (Cells::Vects(vectors), Cells::Vects(more)) => vectors.extend_from(more),
         _ => Ok(()),
     }
 }

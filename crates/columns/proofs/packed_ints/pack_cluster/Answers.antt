@@ -8,14 +8,16 @@ use Rattle.columns.proofs.BlockSteps.{block_made, pack_step, words_step}
 use Rattle.columns.proofs.Unpacking.{packing_width}
 use Rattle.columns.proofs.packed_ints.pack_cluster.Goals as goal
 
+pub push_low-requires : goal.push_low-requires
+push_low-requires c = rw c.of-packing.ensures (packing_width c.args.values.now)
+
 pub loop-value-preserved : goal.loop-value-preserved
 loop-value-preserved c =
     let value : FitsSigned w64 (get_or c.args.values.now c.loop-value.value-index (pos 0)) = search rules in
     let least : FitsSigned w64 c.of-packing.result.least = search rules in
     let d = rw c.of-packing.ensures at (rw (to_z-of_z value, to_z-of_z least) at c.abs_diff.ensures) in
-    let e = rw c.of-packing.ensures at c.in_ok-extend_from_slice.ensures.items in (
-      pack_step c.args.bytes.now.items c.loop-value.bytes.items c.extend_from_slice.new.self.items c.to_le_bytes-low.result (packing_of c.args.values.now) c.args.values.now c.loop-value.value-index c.abs_diff.result
-          c.loop-value-test.true c.loop-value.invariant.0 e c.to_le_bytes-low.ensures d (packing_width c.args.values.now),
+    let e = rw c.of-packing.ensures at c.in_ok-push_low.ensures in (
+      pack_step c.args.bytes.now.items c.loop-value.bytes.items c.push_low.new.bytes.items (packing_of c.args.values.now) c.args.values.now c.loop-value.value-index c.abs_diff.result c.loop-value-test.true c.loop-value.invariant.0 e d,
       words_step c.args.values.now c.loop-value.value-index c.loop-value-test.true c.loop-value.invariant.1 value,
     )
 

@@ -1,12 +1,11 @@
 use Rattle.std.proofs.Common.{◌≡◌, ◌<◌, length, map, min, sym, ap, ◌∙◌, subst, arith}
 use Rattle.std.specs.List.{All}
-use Rattle.std.proofs.lemmas.List.{length-map}
 use Rattle.std.proofs.lemmas.List.Elements.{All-map}
 use Rattle.rdf_values.specs.Draws.{DrawnBy}
 use Rattle.rdf_values.specs.Machine.{least_fault}
 use Rattle.cluster_claims.specs.Seats.{IsOf, IsLeast, IsPassed, SeatSeen}
-use Rattle.event_loop.specs.Gathered.{AreDone, HasMemory, end_faults, seat_in, done_in}
-use Rattle.event_loop.proofs.Ended.{drawn_in, IsKept, least_is_first, are_done, left_none}
+use Rattle.event_loop.specs.Gathered.{AreDone, HasMemory, end_faults, seat_in}
+use Rattle.event_loop.proofs.Ended.{drawn_in, IsKept, least_is_first, all_over, are_done, as_many, left_none}
 use Rattle.event_loop.proofs.gather.gathered.Goals as goal
 
 pub finish-requires-clause-of : goal.finish-requires-clause-of
@@ -45,6 +44,6 @@ returns-in-None c = λ b job facts ran.
     let kept : All (IsKept claims.clusters word) (map seat_in fs) = subst (All (IsKept claims.clusters word)) seats c.finish.ensures.kept in
     let none = left_none (end_faults fs) (sym c.in-None.is ∙ least) in (
       sym (least_is_first claims b job bar fs word facts some ran memory drawn lowest passed kept) ∙ sym least ∙ c.in-None.is,
-      subst (AreDone b job) (sym c.in_ok-seats.ensures.rest) (are_done claims b job bar fs word facts some ran memory drawn lowest passed kept none),
-      ap length c.in_ok-seats.ensures.rest ∙ length-map fs done_in ∙ omega arith,
+      subst (AreDone b job) (sym c.in_ok-seats.ensures.done) (are_done claims b job bar fs word facts some ran memory drawn lowest passed kept none),
+      ap length c.in_ok-seats.ensures.done ∙ as_many claims b job bar fs (all_over claims b job bar fs memory none) ∙ omega arith,
     )

@@ -2,19 +2,19 @@ use Rattle.std.proofs.Common.{◌≡◌, ◌+◌, ◌∷◌, ◌++◌, List, [],
 use Rattle.cluster_claims.specs.Seats.{IsOf, SeatSeen}
 use Rattle.entry_cache.specs.Jobs.{job_of}
 use Rattle.slot_state.specs.Jobs.{job_facts}
-use Rattle.event_loop.specs.Workers.{AreSound, HasNoted}
+use Rattle.event_loop.specs.Workers.{HasNoted}
 use Rattle.event_loop.proofs.Growing.{sound_more}
 use Rattle.event_loop.proofs.Rising.{below_drawn}
 use Rattle.event_loop.proofs.workers.work.Goals as goal
 
 pub process-requires-clause-above : goal.process-requires-clause-above
-process-requires-clause-above g c = below_drawn c.loop-cluster.slot.seat.drawn c.loop-cluster.slot.state.done c.claim.new.seat.drawn c.in-Some.cluster c.in-Some.ensures.some.1 c.loop-cluster.invariant.done c.in-Some.ensures.rises
+process-requires-clause-above g c = below_drawn c.loop-cluster.slot.seat.drawn c.loop-cluster.state.done c.claim.new.seat.drawn c.in-Some.cluster c.in-Some.ensures.some.1 c.loop-cluster.invariant.done c.in-Some.ensures.rises
 
 pub loop-cluster-preserved : goal.loop-cluster-preserved
 loop-cluster-preserved g c =
     let inv = c.loop-cluster.invariant in
     let faults = (job_facts (job_of c.args.job.now)).faults in
-    let done = c.loop-cluster.slot.state.done in
+    let done = c.loop-cluster.state.done in
     let cluster = c.in-Some.cluster in
     let d = c.process.ensures.done (c.in-Ok-Done.is ∙ ap Ok c.in-Ok-Done.field-0-is) in
     let more : length c.process.new.self.done ≡ length done + 1 = ap length d.2 ∙ length-append done (cluster ∷ []) in
@@ -33,22 +33,16 @@ loop-cluster-preserved g c =
 pub returns-in-Ok-Faulted : goal.returns-in-Ok-Faulted
 returns-in-Ok-Faulted g c =
     let inv = c.loop-cluster.invariant in
-    let faults = (job_facts (job_of c.args.job.now)).faults in
     let cluster = c.in-Some.cluster in
     let f = c.process.ensures.faulted c.in-Ok-Faulted.fault (c.in-Ok-Faulted.is ∙ ap Ok c.in-Ok-Faulted.field-0-is) in
     record {
       seat_of = subst (IsOf c.args.claims.now) (sym c.lower.ensures) c.in-Some.ensures.of.0;
-      slot = c.process.ensures.slot;
-      stopped = (
-        record {
-          sound = subst (AreSound faults) (sym f.2) inv.sound;
-          noted = subst (λ (n : ℕ). HasNoted c.args.book.now n c.loop-cluster.slot.share) (sym (ap length f.2)) inv.noted;
-        },
-        record {
-          last = cluster;
-          others = ap (λ (s : SeatSeen). s.drawn) c.lower.ensures ∙ c.in-Some.ensures.some.1 ∙ ap (λ (l : List ℕ). l ++ cluster ∷ []) (sym inv.done ∙ sym f.2);
-          its_fault = f.1;
-          lowered = ap (λ (s : SeatSeen). s.lowered) c.lower.ensures;
-        },
-      );
+      stopped = record {
+        last = cluster;
+        others = c.loop-cluster.state.done;
+        drawn = ap (λ (s : SeatSeen). s.drawn) c.lower.ensures ∙ c.in-Some.ensures.some.1 ∙ ap (λ (l : List ℕ). l ++ cluster ∷ []) (sym inv.done);
+        sound = inv.sound;
+        its_fault = f.1;
+        lowered = ap (λ (s : SeatSeen). s.lowered) c.lower.ensures;
+      };
     }

@@ -13,11 +13,11 @@ invariant-loop-cluster g l = record {
   unkept : l.slot.seat.kept ≡ None;
   unpassed : l.slot.seat.passed ≡ None;
   unlowered : l.slot.seat.lowered ≡ None;
-  slot : IsSlotOf (job_facts (job_of l.job)) l.slot.state;
-  noted : HasNoted l.book (length l.slot.state.done) l.slot.share;
-  sound : AreSound (job_facts (job_of l.job)).faults l.slot.state.done;
-  done : l.slot.state.done ≡ l.slot.seat.drawn;
-  going : l.slot.state.phase ≡ phase.Going;
+  slot : IsSlotOf (job_facts (job_of l.job)) l.state;
+  noted : HasNoted l.book (length l.state.done) l.slot.share;
+  sound : AreSound (job_facts (job_of l.job)).faults l.state.done;
+  done : l.state.done ≡ l.slot.seat.drawn;
+  going : l.state.phase ≡ phase.Going;
 }
 
 abbrev pub decreases-loop-cluster : goal.decreases-loop-cluster

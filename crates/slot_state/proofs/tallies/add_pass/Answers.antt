@@ -1,9 +1,9 @@
-use Rattle.std.proofs.Common.{◌+◌, ◌++◌, ◌∷◌, [], ◌∙◌, None, ap, arith, subst, sym, take}
+use Rattle.std.proofs.Common.{◌+◌, ◌++◌, ◌∷◌, [], ◌∙◌, None, arith, subst, sym, take}
 use Rattle.rdf_model.specs.LoopFacts.{kinds_in}
 use Rattle.entry_cache.specs.Jobs.{job_of, passes_in}
 use Rattle.cluster_tally.specs.Feedings.{IsFresh, place_if}
-use Rattle.slot_state.specs.Passes.{places_before, watched_before}
-use Rattle.slot_state.proofs.Adding.{added, can_watch, counted, edges, its_pass, kept, none_more, numbered_at, of_action, of_report, one_more, read, result_within}
+use Rattle.slot_state.specs.Passes.{places_before}
+use Rattle.slot_state.proofs.Adding.{added, can_watch, counted, edges, its_pass, kept, numbered_at, of_action, of_report, read, result_within}
 use Rattle.slot_state.proofs.tallies.add_pass.Goals as goal
 
 pub bounds-passes-number : goal.bounds-passes-number
@@ -40,13 +40,6 @@ returns-in-Report-clause-fresh g c =
     (of_report (job_of c.args.job.now) c.args.number _ its c.kind.result.now c.args.job.now.graph.now c.requires.job.graph c.kind.ensures
     c.in-Report.is) c.args.tally.now c.requires.fresh
 
-pub returns-in-Report-clause-watched : goal.returns-in-Report-clause-watched
-returns-in-Report-clause-watched g c =
-    let its = numbered_at (job_of c.args.job.now) c.args.job.now.graph.now c.passes.result.now c.requires.job.graph c.passes.ensures c.args.number c.requires.number (record { result = 0; variation = None }) in
-    none_more (job_of c.args.job.now) c.args.number _ (its_pass (job_of c.args.job.now) c.args.number _ its)
-    (of_report (job_of c.args.job.now) c.args.number _ its c.kind.result.now c.args.job.now.graph.now c.requires.job.graph c.kind.ensures
-    c.in-Report.is)
-
 pub returns-in_ok-add_pass-in-Action-clause-fresh : goal.returns-in_ok-add_pass-in-Action-clause-fresh
 returns-in_ok-add_pass-in-Action-clause-fresh g c =
     let j = job_of c.args.job.now in
@@ -58,13 +51,3 @@ returns-in_ok-add_pass-in-Action-clause-fresh g c =
     added j c.args.number _ here c.in-Action.kind b.0 b.1 c.add_pass.new.self
     (subst (λ w. IsFresh (kinds_in (take c.args.number (passes_in j)) ++ c.in-Action.kind ∷ []) (places_before j c.args.number ++ place_if w (kinds_in (take c.args.number (passes_in j)))) c.add_pass.new.self) told
     (c.in_ok-add_pass-in-Action.ensures.fresh (kinds_in (take c.args.number (passes_in j))) (places_before j c.args.number) c.requires.fresh))
-
-pub returns-in_ok-add_pass-in-Action-clause-watched : goal.returns-in_ok-add_pass-in-Action-clause-watched
-returns-in_ok-add_pass-in-Action-clause-watched g c =
-    let j = job_of c.args.job.now in
-    let its = numbered_at j c.args.job.now.graph.now c.passes.result.now c.requires.job.graph c.passes.ensures c.args.number c.requires.number (record { result = 0; variation = None }) in
-    let here = its_pass j c.args.number _ its in
-    let told = c.is_watched-is_watched.ensures c.args.number _ its here in
-    let b = of_action j c.args.number _ its c.kind.result.now c.args.job.now.graph.now c.requires.job.graph c.kind.ensures
-    c.in-Action.kind c.in-Action.is in
-    one_more j c.args.number _ here c.in-Action.kind b.0 b.1 c.is_watched-is_watched.result told ∙ ap (λ m. watched_before j c.args.number + m) (sym c.from.ensures)

@@ -3,12 +3,11 @@ use Rattle.rdf_values.specs.Bookings.{named_before}
 use Rattle.rdf_values.specs.Path.{history}
 use Rattle.filters_report.specs.Flows.{nothing}
 use Rattle.entry_cache.specs.Jobs.{job_of, passes_in}
-use Rattle.slot_state.specs.Passes.{IsOfPasses, watched_before}
+use Rattle.slot_state.specs.Passes.{IsOfPasses}
 use Rattle.slot_state.proofs.tallies.tally_of.Given as goal
 
 abbrev pub invariant-loop-number : goal.invariant-loop-number
 invariant-loop-number g l =
     IsOfPasses (job_of l.job) l.number l.tally
     × (l.tally.flow ≡ replicate (length (named_before (history (job_of l.job).script))) nothing)
-    × (l.watched ≡ watched_before (job_of l.job) l.number)
     × (l.number-end ≡ length (passes_in (job_of l.job)))

@@ -1,7 +1,7 @@
 use Rattle.entry_cache.specs.Jobs.{job_of}
 use Rattle.std.proofs.Common.{sym}
 use Rattle.slot_state.proofs.Adding.{flag_is, not_nominal, result_within}
-use Rattle.slot_state.proofs.tallies.is_watched.Goals as goal
+use Rattle.slot_state.proofs.passes.is_watched.Goals as goal
 
 pub watched-requires : goal.watched-requires
 watched-requires g c = let p = c.requires.pass in result_within (job_of c.args.job.now) p.0 c.args.pass p.1 c.args.job.now.graph.now c.requires.job.graph

@@ -1,7 +1,7 @@
 use Rattle.std.proofs.Common.{◌∙◌, ap, arith, length}
 use Rattle.entry_cache.specs.Jobs.{job_of}
 use Rattle.slot_state.proofs.Adding.{counted, fewer, read}
-use Rattle.slot_state.proofs.tallies.pass_count.Goals as goal
+use Rattle.slot_state.proofs.passes.pass_count.Goals as goal
 
 pub overflow_cast-result : goal.overflow_cast-result
 overflow_cast-result g c =

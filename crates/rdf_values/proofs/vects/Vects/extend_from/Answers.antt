@@ -1,0 +1,23 @@
+use Rattle.std.proofs.Common.{◌<◌, ◌+◌, ◌^◌, All, arith, length, rules, subst, sym}
+use Rattle.rdf_values.proofs.PieceLemmas.{ascend_joined, ends_within, pieces_after_more}
+use Rattle.rdf_values.proofs.vects.Vects.extend_from.Goals as goal
+
+pub push_further-requires-clause-few : goal.push_further-requires-clause-few
+push_further-requires-clause-few c =
+    let ends = c.more.inside.ends.items in
+    let begin = c.len-begin.result in
+    subst (All (λ e. begin + e < 2 ^ 64)) (sym c.as_slice-2.ensures.value) (λ k d lt.
+    let here = ends_within ends 0 (length c.more.inside.elements.items) c.more.invariant k d lt in
+    let grown = c.in_ok-extend_from_slice.ensures.len in
+    let ok = c.extend_from_slice.new.self.ok in
+    omega (arith, here, grown, ok))
+
+pub invariant_of-self-2 : goal.invariant_of-self-2
+invariant_of-self-2 c =
+    ascend_joined c.self.inside.ends.items c.push_further.new.ends.items c.more.inside.ends.items c.self.inside.elements.items c.extend_from_slice.new.self.items c.more.inside.elements.items c.len-begin.result
+    c.self.invariant c.more.invariant (search rules) (search rules) (search rules)
+
+pub returns-clause-ok : goal.returns-clause-ok
+returns-clause-ok c = rw (← c.self.view_is, ← c.more.view_is) (
+    pieces_after_more c.self.inside.ends.items c.push_further.new.ends.items c.more.inside.ends.items c.self.inside.elements.items c.extend_from_slice.new.self.items c.more.inside.elements.items c.len-begin.result
+    c.self.invariant (search rules) (search rules) (search rules))
