@@ -1,3 +1,4 @@
+pub mod ByteSearch
 pub mod CellSteps
 pub mod Cut
 pub mod CutLines

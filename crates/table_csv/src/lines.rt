@@ -3,18 +3,20 @@ ghost use Rattle.std.specs.Prelude.{◌≡◌, ◌≤◌, ◌++◌, length, posi
 ghost use Rattle.std.specs.List.{list_any};
 ghost use Rattle.table_csv.specs.Lines.{IsCut, is_line_end, is_quote, is_special};
 
+use memchr::{memchr, memchr2};
+
 /// Whether a double quote stands in the bytes.
 pub(crate) fn has_quote(bytes: &[u8]) -> bool
     ensures { result ≡ list_any is_quote bytes.now }
 {
-    bytes.iter().any(|b| *b == b'"')
+    memchr(b'"', bytes).is_some()
 }
 
 /// Whether a double quote stands in the bytes, or the byte with which a byte order mark begins.
 pub(crate) fn has_special(bytes: &[u8]) -> bool
     ensures { result ≡ list_any is_special bytes.now }
 {
-    bytes.iter().any(|b| *b == b'"' || *b == 0xEF)
+    memchr2(b'"', 0xEF, bytes).is_some()
 }
 
 fn find_line_end(bytes: &[u8]) -> Option<usize>
