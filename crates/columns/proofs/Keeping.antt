@@ -4,7 +4,6 @@ use Rattle.std.specs.List.{AllByRecursion}
 use Rattle.std.proofs.lemmas.List.{length-drop, length-map, length-take, map-append, take-append-drop}
 use Rattle.std.proofs.lemmas.Option.{slice_get-get_or, slice_get-map, slice_get_within}
 use Rattle.rdf_values.specs.Kept.{AreKept, Keep, count, rows_kept}
-use Rattle.rdf_values.specs.declared.cells.Cells.{Cells}
 use Rattle.rdf_values.specs.Cuts.{cut}
 use Rattle.rdf_values.proofs.Leading.{cuts_lead}
 use Rattle.clusters.specs.Ranges.{Holds}
@@ -15,6 +14,8 @@ use Rattle.rdf_values.specs.declared.value.ColType.{ColType}
 use Rattle.rdf_values.specs.declared.value.ColType.TheVariants as k
 use Rattle.rdf_values.specs.declared.value.Value.TheVariants as v
 use Rattle.rdf_values.proofs.KeptLemmas.{ints_column, kept_within, no_ints, no_vects, vects_column}
+use Rattle.table_pieces.specs.Wholes.{whole}
+use Rattle.table_pieces.specs.declared.column_pieces.ColumnPieces.{ColumnPieces}
 use Rattle.columns.specs.Blocks.{cluster_values}
 use Rattle.columns.specs.KeptColumns.{IsByCluster, cells_of, joined}
 use Rattle.columns.specs.declared.kept.Kept.{Kept}
@@ -123,30 +124,32 @@ cluster_numbers table col spans values numbers c s h k e at =
     ap (λ (vs : List (List ℤ)). get_or vs c []) (e ∙ ap (cluster_values spans) same) ∙ cluster_at spans numbers c s at
 
 -- each of the columns that are taken in turn keeps so many values
-pub keep_next : (n : ℕ) (taken : List Cells) (x : Cells) (rest all : List Cells) → Keep n all → all ≡ taken ++ x ∷ rest → count x ≡ n
+pub keep_next : (n : ℕ) (taken : List ColumnPieces) (x : ColumnPieces) (rest all : List ColumnPieces) → Keep n (map whole all) → all ≡ taken ++ x ∷ rest → count (whole x) ≡ n
 keep_next n taken x rest all h e = go taken (rw e at h)
   where
-    go : (ys : List Cells) → Keep n (ys ++ x ∷ rest) → count x ≡ n
+    go : (ys : List ColumnPieces) → Keep n (map whole (ys ++ x ∷ rest)) → count (whole x) ≡ n
     go [] k = k.0
     go (y ∷ ys) k = go ys k.1
 
-pub taken_next : (taken : List Cells) (x : Cells) (left rest all : List Cells) → all ≡ taken ++ left → left ≡ x ∷ rest → all ≡ (taken ++ x ∷ []) ++ rest
+pub taken_next : (taken : List ColumnPieces) (x : ColumnPieces) (left rest all : List ColumnPieces) → all ≡ taken ++ left → left ≡ x ∷ rest → all ≡ (taken ++ x ∷ []) ++ rest
 taken_next taken x left rest all h e = h ∙ ap (λ l. taken ++ l) e ∙ sym (append_assoc taken (x ∷ []) rest)
 
 -- ---- columns in two halves
 
-pub keep_front : (n k : ℕ) (all : List Cells) → Keep n all → Keep n (take k all)
+pub keep_front : (n k : ℕ) (all : List ColumnPieces) → Keep n (map whole all) → Keep n (map whole (take k all))
 keep_front n zero all h = tt
 keep_front n (suc k) [] h = tt
 keep_front n (suc k) (x ∷ xs) h = (h.0, keep_front n k xs h.1)
 
-pub keep_back : (n k : ℕ) (all : List Cells) → Keep n all → Keep n (drop k all)
+pub keep_back : (n k : ℕ) (all : List ColumnPieces) → Keep n (map whole all) → Keep n (map whole (drop k all))
 keep_back n zero all h = h
 keep_back n (suc k) [] h = tt
 keep_back n (suc k) (x ∷ xs) h = keep_back n k xs h.1
 
-pub halves_joined : (k : ℕ) (all : List Cells) (front back both : List Kept) → map cells_of front ≡ take k all → map cells_of back ≡ drop k all → both ≡ front ++ back → map cells_of both ≡ all
-halves_joined k all front back both f b e = ap (map cells_of) e ∙ map-append cells_of front back ∙ ap₂ (λ xs ys. xs ++ ys) f b ∙ take-append-drop k all
+pub halves_joined : (k : ℕ) (all first last : List ColumnPieces) (front back both : List Kept) → first ≡ take k all → last ≡ drop k all → map cells_of front ≡ map whole first → map cells_of back ≡ map whole last → both ≡ front ++ back
+    → map cells_of both ≡ map whole all
+halves_joined k all first last front back both t d f b e =
+    ap (map cells_of) e ∙ map-append cells_of front back ∙ ap₂ (λ xs ys. xs ++ ys) (f ∙ ap (map whole) t) (b ∙ ap (map whole) d) ∙ sym (map-append whole (take k all) (drop k all)) ∙ ap (map whole) (take-append-drop k all)
 
 all_behind : (P : Kept → Type 0) (front back : List Kept) → AllByRecursion P front → AllByRecursion P back → AllByRecursion P (front ++ back)
 all_behind P [] back f b = b

@@ -51,16 +51,6 @@ length_by w n (inr (inr (inr (inr h)))) = rw h refl
 pub length-low_bytes : (w n : ℕ) → IsWidth w → length (low_bytes w n) ≡ w
 length-low_bytes w n h = length_by w n h.one_of
 
-low_by : (w n : ℕ) → OneOf w → take w (low_bytes 8 n) ≡ low_bytes w n
-low_by w n (inl h) = rw h refl
-low_by w n (inr (inl h)) = rw h refl
-low_by w n (inr (inr (inl h))) = rw h refl
-low_by w n (inr (inr (inr (inl h)))) = rw h refl
-low_by w n (inr (inr (inr (inr h)))) = rw h refl
-
-pub low_of_eight : (w n : ℕ) → IsWidth w → take w (low_bytes 8 n) ≡ low_bytes w n
-low_of_eight w n h = low_by w n h.one_of
-
 pub width_few : (w : ℕ) → IsWidth w → w ≤ 8
 width_few w h = go h.one_of
   where

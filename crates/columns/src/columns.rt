@@ -17,6 +17,7 @@ use rdf_values::{Column, ListOf, Memory, Table, Vects};
 use std::alloc::Global;
 use std::marker::Model;
 use std::thread::Threads;
+use table_pieces::TablePieces;
 
 /// The columns of a table, and the cuts of its entries. The numbers of an int column are packed cluster by cluster.
 #[derive(Drop)]
@@ -45,8 +46,8 @@ impl Columns {
         requires { cuts.entries ≡ length table.rows }
         ensures { IfOk result (λ columns. columns ≡ record { table = table; cuts = cuts }) }
     {
-        let parts = table.into_parts();
-        let kept = keep_all(alloc, parts.cells, &cuts)?;
+        let parts = TablePieces::of(alloc, table)?.into_parts();
+        let kept = keep_all(alloc, parts.pieces, &cuts)?;
         Ok(Columns {
             columns: parts.columns,
             kept,
@@ -54,11 +55,11 @@ impl Columns {
         })
     }
 
-    /// What `build` makes, its columns packed by so many slots side by side.
+    /// What `build` makes, of a table in pieces, its columns packed by so many slots side by side.
     pub fn build_in_slots<R: Threads + Sync>(
         rt: &R,
         alloc: Global,
-        table: Table,
+        table: TablePieces,
         cuts: Cuts,
         slots: u32,
     ) -> Result<Columns, Memory>
@@ -66,7 +67,7 @@ impl Columns {
         ensures { IfOk result (λ columns. columns ≡ record { table = table; cuts = cuts }) }
     {
         let parts = table.into_parts();
-        let kept = keep_in_slots(rt, alloc, parts.cells, &cuts, slots)?;
+        let kept = keep_in_slots(rt, alloc, parts.pieces, &cuts, slots)?;
         Ok(Columns {
             columns: parts.columns,
             kept,

@@ -1,16 +1,18 @@
 // Columns as they are kept.
-ghost use Rattle.std.specs.Prelude.{◌≡◌, IfOk, map};
+ghost use Rattle.std.specs.Prelude.{◌≡◌, ◌≤◌, IfOk, map};
 ghost use Rattle.std.specs.List.{AllByRecursion};
 ghost use Rattle.std.specs.Thread.{IsSync};
 ghost use Rattle.rdf_values.specs.Cuts.{cut};
 ghost use Rattle.rdf_values.specs.Kept.{Keep, count};
 ghost use Rattle.columns.specs.KeptColumns.{IsByCluster, cells_of};
+ghost use Rattle.table_pieces.specs.Wholes.{joined, whole};
 
 use crate::packed_ints::{PackedInts, pack};
 use clusters::Cuts;
-use rdf_values::{Cells, Memory, Vects};
+use rdf_values::{Memory, Vects};
 use std::alloc::Global;
 use std::thread::{Threads, join};
+use table_pieces::ColumnPieces;
 
 /// The numbers of an int column, packed by cluster, or the vectors of a vec column.
 #[derive(Drop)]
@@ -19,25 +21,41 @@ pub(crate) enum Kept {
     Vects(Vects),
 }
 
-fn keep(alloc: Global, cells: Cells, cuts: &Cuts) -> Result<Kept, Memory>
-    requires { count cells ≡ cuts.now.entries }
-    ensures same { IfOk result (λ kept. cells_of kept ≡ cells) }
+// The vectors of all pieces; the first piece grows, and no other is copied twice.
+fn join_vectors(alloc: Global, pieces: Vec<Vects>) -> Result<Vects, Memory>
+    ensures { IfOk result (λ vectors. vectors ≡ joined pieces.items) }
+{
+    let mut pieces = pieces.into_iter();
+    let Some(mut vectors) = pieces.next() else {
+        return Ok(Vects::new(alloc));
+    };
+    for more in pieces {
+        vectors.extend_from(&more)?;
+    }
+    Ok(vectors)
+}
+
+fn keep(alloc: Global, pieces: ColumnPieces, cuts: &Cuts) -> Result<Kept, Memory>
+    requires size { count (whole pieces) ≡ cuts.now.entries }
+    requires few { cuts.now.entries ≤ 1000000 }
+    ensures same { IfOk result (λ kept. cells_of kept ≡ whole pieces) }
     ensures clusters { IfOk result (IsByCluster (cut cuts.now.entries cuts.now.size cuts.now.marks)) }
 {
-    match cells {
-        Cells::Ints(numbers) => Ok(Kept::Ints(pack(alloc, numbers.as_slice(), cuts)?)),
-        Cells::Vects(vectors) => Ok(Kept::Vects(vectors)),
+    match pieces {
+        ColumnPieces::Ints(numbers) => Ok(Kept::Ints(pack(alloc, numbers.as_slice(), cuts)?)),
+        ColumnPieces::Vects(vectors) => Ok(Kept::Vects(join_vectors(alloc, vectors)?)),
     }
 }
 
-/// The columns as they are kept; each one's cells go as soon as it is packed.
-pub(crate) fn keep_all(alloc: Global, cells: Vec<Cells>, cuts: &Cuts) -> Result<Vec<Kept>, Memory>
-    requires { Keep cuts.now.entries cells.items }
-    ensures same { IfOk result (λ kept. map cells_of kept.items ≡ cells.items) }
+/// The columns as they are kept; each one's pieces go as soon as it is packed.
+pub(crate) fn keep_all(alloc: Global, pieces: Vec<ColumnPieces>, cuts: &Cuts) -> Result<Vec<Kept>, Memory>
+    requires keep { Keep cuts.now.entries (map whole pieces.items) }
+    requires few { cuts.now.entries ≤ 1000000 }
+    ensures same { IfOk result (λ kept. map cells_of kept.items ≡ map whole pieces.items) }
     ensures clusters { IfOk result (λ kept. AllByRecursion (IsByCluster (cut cuts.now.entries cuts.now.size cuts.now.marks)) kept.items) }
 {
     let mut kept = Vec::new(alloc);
-    for column in cells {
+    for column in pieces {
         kept.push(keep(alloc, column, cuts)?)?;
     }
     Ok(kept)
@@ -48,31 +66,32 @@ pub(crate) fn keep_all(alloc: Global, cells: Vec<Cells>, cuts: &Cuts) -> Result<
 pub(crate) fn keep_in_slots<R: Threads + Sync>(
     rt: &R,
     alloc: Global,
-    mut cells: Vec<Cells>,
+    mut pieces: Vec<ColumnPieces>,
     cuts: &Cuts,
     slots: u32,
 ) -> Result<Vec<Kept>, Memory>
-    requires { Keep cuts.now.entries cells.items }
-    ensures same { IfOk result (λ kept. map cells_of kept.items ≡ cells.items) }
+    requires keep { Keep cuts.now.entries (map whole pieces.items) }
+    requires few { cuts.now.entries ≤ 1000000 }
+    ensures same { IfOk result (λ kept. map cells_of kept.items ≡ map whole pieces.items) }
     ensures clusters { IfOk result (λ kept. AllByRecursion (IsByCluster (cut cuts.now.entries cuts.now.size cuts.now.marks)) kept.items) }
 {
-    if slots < 2 || cells.len() < 2 {
-        return keep_all(alloc, cells, cuts);
+    if slots < 2 || pieces.len() < 2 {
+        return keep_all(alloc, pieces, cuts);
     }
     let half = slots / 2;
     let others = slots - half;
-    let back = cells.split_off(cells.len() / 2)?;
-    let front = cells;
+    let back = pieces.split_off(pieces.len() / 2)?;
+    let front = pieces;
     let (first, second) = join(
         rt,
         move || -> Result<Vec<Kept>, Memory>
-            requires { IsSync R.row × Keep cuts.now.entries front.items }
-            ensures same { IfOk result (λ kept. map cells_of kept.items ≡ front.items) }
+            requires { IsSync R.row × Keep cuts.now.entries (map whole front.items) × (cuts.now.entries ≤ 1000000) }
+            ensures same { IfOk result (λ kept. map cells_of kept.items ≡ map whole front.items) }
             ensures clusters { IfOk result (λ kept. AllByRecursion (IsByCluster (cut cuts.entry.now.entries cuts.entry.now.size cuts.entry.now.marks)) kept.items) }
         { keep_in_slots(rt, alloc, front, cuts, half) },
         move || -> Result<Vec<Kept>, Memory>
-            requires { IsSync R.row × Keep cuts.now.entries back.items }
-            ensures same { IfOk result (λ kept. map cells_of kept.items ≡ back.items) }
+            requires { IsSync R.row × Keep cuts.now.entries (map whole back.items) × (cuts.now.entries ≤ 1000000) }
+            ensures same { IfOk result (λ kept. map cells_of kept.items ≡ map whole back.items) }
             ensures clusters { IfOk result (λ kept. AllByRecursion (IsByCluster (cut cuts.entry.now.entries cuts.entry.now.size cuts.entry.now.marks)) kept.items) }
         { keep_in_slots(rt, alloc, back, cuts, others) },
     );

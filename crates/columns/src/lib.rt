@@ -1,4 +1,4 @@
-//! The columns of a table over its clusters, as an event loop reads them. Stands on `rdf_values` and `clusters`.
+//! The columns of a table over its clusters, as an event loop reads them. Stands on `rdf_values`, `table_pieces` and `clusters`.
 #![tactic(auto)]
 
 mod block;
@@ -8,6 +8,7 @@ mod kept;
 pub mod over;
 mod packed_ints;
 pub mod packing;
+mod pieces;
 
 pub use crate::columns::Columns;
 pub use crate::over::Over;

@@ -1,14 +1,16 @@
 // The numbers of an int column, packed.
-ghost use Rattle.std.specs.Prelude.{◌≡◌, ◌≤◌, ◌<◌, ◌++◌, [], IfOk, Some, length, slice_get, slice_index_or};
+ghost use Rattle.std.specs.Prelude.{◌≡◌, ◌≤◌, ◌<◌, ◌++◌, [], IfOk, Some, length, slice_get, slice_index_or, slice_range};
 ghost use Rattle.rdf_values.specs.Cuts.{cut};
 ghost use Rattle.columns.specs.Blocks.{IsBlock, cluster_values};
 ghost use Rattle.columns.specs.Packings.{packed_of, packing_of};
+ghost use Rattle.table_pieces.specs.Wholes.{joined};
 
 use crate::block::Block;
 use crate::bytes::{number_at, push_low};
 use crate::packing::Packing;
+use crate::pieces::{gather, in_one_piece};
 use clusters::Cuts;
-use rdf_values::Memory;
+use rdf_values::{IntList, Memory, Span};
 use std::alloc::Global;
 use std::marker::Model;
 
@@ -50,17 +52,41 @@ fn pack_cluster(values: &[i64], bytes: &mut Vec<u8>) -> Result<Block, Memory>
     })
 }
 
-/// The numbers of a column, packed by cluster.
-pub(crate) fn pack(alloc: Global, numbers: &[i64], cuts: &Cuts) -> Result<PackedInts, Memory>
-    requires { length numbers.now ≡ cuts.now.entries }
-    ensures { IfOk result (λ p. p ≡ cluster_values (cut cuts.now.entries cuts.now.size cuts.now.marks) numbers.now) }
+// Appends the bytes of a range's numbers, and tells where they stand. `gathered` is where numbers of several pieces
+// are put together.
+fn pack_range(
+    pieces: &[IntList],
+    range: Span,
+    gathered: &mut Vec<i64>,
+    bytes: &mut Vec<u8>,
+) -> Result<Block, Memory>
+    requires some { range.lo < range.hi }
+    requires within { range.hi ≤ length (joined pieces.now) }
+    requires few { length (joined pieces.now) ≤ 1000000 }
+    ensures block { IfOk result (λ block. IsBlock bytes.new.items block (slice_range (joined pieces.now) range.lo range.hi)) }
+    ensures grown { IfOk result (λ _. bytes.new.items ≡ bytes.old.items ++ packed_of (slice_range (joined pieces.now) range.lo range.hi)) }
+{
+    let lo = range.lo as usize;
+    let hi = range.hi as usize;
+    if let Some(numbers) = in_one_piece(pieces, lo, hi) {
+        return pack_cluster(numbers, bytes);
+    }
+    gather(pieces, lo, hi, gathered)?;
+    pack_cluster(gathered.as_slice(), bytes)
+}
+
+/// The numbers of a column in pieces, packed by cluster.
+pub(crate) fn pack(alloc: Global, pieces: &[IntList], cuts: &Cuts) -> Result<PackedInts, Memory>
+    requires size { length (joined pieces.now) ≡ cuts.now.entries }
+    requires few { length (joined pieces.now) ≤ 1000000 }
+    ensures { IfOk result (λ p. p ≡ cluster_values (cut cuts.now.entries cuts.now.size cuts.now.marks) (joined pieces.now)) }
 {
     let mut blocks = Vec::new(alloc);
     let mut bytes = Vec::new(alloc);
+    let mut gathered = Vec::new(alloc);
     for cluster in 0..cuts.count() {
-        let span = cuts.range(cluster);
-        let values = &numbers[span.lo as usize..span.hi as usize];
-        blocks.push(pack_cluster(values, &mut bytes)?)?;
+        let range = cuts.range(cluster);
+        blocks.push(pack_range(pieces, range, &mut gathered, &mut bytes)?)?;
     }
     Ok(PackedInts { blocks, bytes })
 }

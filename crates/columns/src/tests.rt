@@ -6,6 +6,7 @@ use clusters::cut;
 use rdf_values::{ColType, Column, IntList, ListOf, Marks, Memory, Name, Table, Value};
 use std::alloc::Global;
 use std::test::Fail;
+use table_pieces::TablePieces;
 
 // An int column of two entries.
 fn ints(alloc: Global) -> Result<Option<Table>, Memory>
@@ -101,6 +102,7 @@ fn two_slots_pack_a_column_each(rt: HostRuntime) -> Result<(), Fail> {
         panic!(rt; "no name");
     };
     let cuts = cut(rt.alloc(), 2, 1, &Marks::new(rt.alloc()))?;
+    let table = TablePieces::of(rt.alloc(), table)?;
     let columns = Columns::build_in_slots(&rt, rt.alloc(), table, cuts, 2)?;
     assert_eq!(rt; columns.int_at(0, 0), 10);
     assert_eq!(rt; columns.int_at(1, 0), -3);

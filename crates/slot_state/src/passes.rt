@@ -33,13 +33,22 @@ pub(crate) fn is_watched(job: &Job<'_>, pass: Pass) -> bool
     }
 }
 
+/// The pass of that number in the loop.
+pub(crate) fn pass_at(job: &Job<'_>, number: u32) -> Pass
+    requires job { Fits job.now }
+    requires number { number < length (passes_in (job_of job.now)) }
+    ensures { numbered_in (job_of job.now) number ≡ Some result }
+{
+    job.graph.passes(job.loop_index)[number as usize]
+}
+
 // How many watched results the pass of that number adds: one or none.
 fn watched_at(job: &Job<'_>, number: u32) -> u32
     requires job { Fits job.now }
     requires number { number < length (passes_in (job_of job.now)) }
     ensures { watched_before (job_of job.now) (number + 1) ≡ watched_before (job_of job.now) number + result }
 {
-    let pass = job.graph.passes(job.loop_index)[number as usize];
+    let pass = pass_at(job, number);
     match job.graph.kind(pass.result) {
         ResultKind::Report => 0,
         ResultKind::Action(_) => {

@@ -6,7 +6,7 @@ ghost use Rattle.filters_report.specs.Flows.{nothing};
 ghost use Rattle.entry_cache.specs.Jobs.{Fits, job_of, passes_in};
 ghost use Rattle.slot_state.specs.Passes.{IsOfPasses};
 
-use crate::passes::{is_watched, pass_count};
+use crate::passes::{is_watched, pass_at, pass_count};
 use cluster_tally::Tally;
 use entry_cache::Job;
 use graph_numbers::ResultKind;
@@ -21,7 +21,7 @@ fn add_pass(tally: &mut Tally, job: &Job<'_>, number: u32) -> Result<(), Memory>
     ensures fresh { OnOk result (IsOfPasses (job_of job.now) (number + 1) tally.new) }
     ensures flow { tally.new.flow ≡ tally.old.flow }
 {
-    let pass = job.graph.passes(job.loop_index)[number as usize];
+    let pass = pass_at(job, number);
     match job.graph.kind(pass.result) {
         ResultKind::Report => Ok(()),
         ResultKind::Action(kind) => {

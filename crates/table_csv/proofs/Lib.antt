@@ -6,7 +6,7 @@ pub mod Examples
 pub mod Fields
 pub mod Headed
 pub mod HeaderSteps
-pub mod JoinedCells
+pub mod MarksBehind
 pub mod LineCuts
 pub mod MarkAnswers
 pub mod Onto

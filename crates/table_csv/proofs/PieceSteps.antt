@@ -1,24 +1,23 @@
 -- Answers about pieces of a table.
 use Rattle.std.proofs.Common.{◌≡◌, ◌<◌, ◌≤◌, ◌+◌, ◌∙◌, ◌++◌, ℕ, Bool, true, false, not, All, List, [], ◌∷◌, length, None, Option, Some, Result, Ok, Err, ap, length-append, arith, sym}
 use Rattle.std.specs.Borrow.{Bor}
-use Rattle.std.specs.Prelude.{IfOk, IfSome, MatchResult}
+use Rattle.std.specs.Prelude.{IfOk, IfSome}
 use Rattle.std.specs.List.{list_any}
 use Rattle.std.specs.Result.{result_ok}
 use Rattle.std.proofs.lemmas.List.Elements.{All-append, All-map}
 use Rattle.std.proofs.lemmas.List.Folds.{list_any-append}
 use Rattle.csv.specs.declared.reader.Reader.{Reader}
-use Rattle.rdf_values.specs.Answers.{Refuses}
 use Rattle.rdf_values.specs.TableText.{Header, MarkedTable, table_of}
+use Rattle.rdf_values.specs.declared.memory.Memory.{Memory}
 use Rattle.rdf_values.specs.declared.table_cause.TableCause.{TableCause}
 use Rattle.rdf_values.specs.declared.value.Value.{Value}
 use Rattle.table_csv.specs.Csv.{Took, csv_records}
 use Rattle.table_csv.specs.Entries.{IsHeaded, entries_of}
-use Rattle.table_csv.specs.Joins.{marks_behind, table_joined}
+use Rattle.table_csv.specs.Joins.{marks_behind}
+use Rattle.table_pieces.specs.Joins.{table_joined}
 use Rattle.table_csv.specs.Lines.{IsCut, is_quote, is_special}
 use Rattle.table_csv.specs.Pieces.{IsHead, IsPiece}
-use Rattle.table_csv.specs.declared.marked.Marked.{Marked}
-use Rattle.table_csv.specs.declared.refusal.TableRefusal.{TableRefusal}
-use Rattle.table_csv.specs.declared.refusal.TableRefusal.TheVariants as refusal
+use Rattle.table_csv.specs.declared.marked_pieces.MarkedPieces.{MarkedPieces}
 use Rattle.table_csv.proofs.CutLines.{csv_cut, no_quote}
 use Rattle.table_csv.proofs.ShiftedRows.{table_columns, table_join}
 use Rattle.table_csv.proofs.TableSteps.{table_good}
@@ -35,15 +34,14 @@ behind_head head records h after one i =
     table_good (csv_records head ++ records) i.fields records h (ap (λ l. l ++ records) (i.first ∙ ap (λ l. i.fields ∷ l) none)) i.spells
 
 -- the answer for a piece
-pub piece_of : (head lines : List ℕ) (answer : Result Marked TableRefusal) (wanted : Result MarkedTable TableCause) → list_any is_special lines ≡ false → table_of (csv_records head ++ csv_records lines) ≡ wanted
-    → MatchResult answer (λ m. wanted ≡ Ok (record { table = m.table; marks = m.marks })) (Refuses refusal.At refusal.Memory wanted) → IfOk answer (λ m. All (λ e. e < length m.table.rows) m.marks)
-    → IfSome (result_ok answer) (λ m. IsPiece head lines m)
-piece_of head lines (Ok m) wanted plain whole read within = record { plain = plain; read = whole ∙ read; within = within }
-piece_of head lines (Err e) wanted plain whole read within = tt
+pub piece_of : (head lines : List ℕ) (answer : Result MarkedPieces Memory) (wanted : Result MarkedTable TableCause) (whole : MarkedTable) → list_any is_special lines ≡ false → table_of (csv_records head ++ csv_records lines) ≡ wanted
+    → wanted ≡ Ok whole → All (λ e. e < length whole.table.rows) whole.marks → IfOk answer (λ m. m.table ≡ whole.table) → IfOk answer (λ m. m.marks ≡ whole.marks) → IfSome (result_ok answer) (λ m. IsPiece head lines m)
+piece_of head lines (Ok m) wanted whole plain w read within t k = record { plain = plain; read = rw (t, k) (w ∙ read); within = rw (t, k) within }
+piece_of head lines (Err e) wanted whole plain w read within t k = tt
 
 -- ---- two pieces
 
-pub same_columns : (head front back : List ℕ) (a b : Marked) → IsHead head → IsPiece head front a → IsPiece head back b → b.table.columns ≡ a.table.columns
+pub same_columns : (head front back : List ℕ) (a b : MarkedPieces) → IsHead head → IsPiece head front a → IsPiece head back b → b.table.columns ≡ a.table.columns
 same_columns head front back a b one p q =
     let first = rw one.1 at p.read in
     let second = rw one.1 at q.read in
@@ -56,7 +54,7 @@ within_joined first second marks more h k =
     (λ i d l. let b = h i d l in omega (arith, b, size))
     (All-map (λ e. e < length (first ++ second)) (λ e. length first + e) more (λ i d l. let b = k i d l in omega (arith, b, size)))
 
-pub pieces_join : (head front back lines : List ℕ) (a b m : Marked) → IsHead head → front ++ back ≡ lines → IsCut front back → IsPiece head front a → IsPiece head back b → length a.table.rows + length b.table.rows ≤ 1000000
+pub pieces_join : (head front back lines : List ℕ) (a b m : MarkedPieces) → IsHead head → front ++ back ≡ lines → IsCut front back → IsPiece head front a → IsPiece head back b → length a.table.rows + length b.table.rows ≤ 1000000
     → m.table ≡ table_joined a.table b.table → m.marks ≡ a.marks ++ marks_behind (length a.table.rows) b.marks → IsPiece head lines m
 pieces_join head front back lines a b m one whole cut p q few t k =
     let first = rw one.1 at p.read in
@@ -70,18 +68,18 @@ pieces_join head front back lines a b m one whole cut p q few t k =
     }
 
 -- a table whose first line is the header
-pub table_by_head : (head lines bytes : List ℕ) (m : Marked) → head ++ lines ≡ bytes → IsCut head lines → list_any is_quote head ≡ false → IsPiece head lines m → table_of (csv_records bytes) ≡ Ok (record { table = m.table; marks = m.marks })
+pub table_by_head : (head lines bytes : List ℕ) (m : MarkedPieces) → head ++ lines ≡ bytes → IsCut head lines → list_any is_quote head ≡ false → IsPiece head lines m → table_of (csv_records bytes) ≡ Ok (record { table = m.table; marks = m.marks })
 table_by_head head lines bytes m whole cut plain p = rw (← whole, csv_cut head lines cut plain p.plain) p.read
 
 -- ---- answers that may be none
 
-pub pieces_answer : (head front back lines : List ℕ) (a b : Marked) (answer : Option Marked) → IsHead head → front ++ back ≡ lines → IsCut front back → IsPiece head front a → IsPiece head back b
+pub pieces_answer : (head front back lines : List ℕ) (a b : MarkedPieces) (answer : Option MarkedPieces) → IsHead head → front ++ back ≡ lines → IsCut front back → IsPiece head front a → IsPiece head back b
     → IfSome answer (λ m. length a.table.rows + length b.table.rows ≤ 1000000) → IfSome answer (λ m. m.table ≡ table_joined a.table b.table) → IfSome answer (λ m. m.marks ≡ a.marks ++ marks_behind (length a.table.rows) b.marks)
     → IfSome answer (λ m. IsPiece head lines m)
 pieces_answer head front back lines a b None one whole cut p q few t k = tt
 pieces_answer head front back lines a b (Some m) one whole cut p q few t k = pieces_join head front back lines a b m one whole cut p q few t k
 
-pub head_answer : (head lines bytes : List ℕ) (answer : Option Marked) → head ++ lines ≡ bytes → IsCut head lines → list_any is_quote head ≡ false → IfSome answer (λ m. IsPiece head lines m)
+pub head_answer : (head lines bytes : List ℕ) (answer : Option MarkedPieces) → head ++ lines ≡ bytes → IsCut head lines → list_any is_quote head ≡ false → IfSome answer (λ m. IsPiece head lines m)
     → IfSome answer (λ m. table_of (csv_records bytes) ≡ Ok (record { table = m.table; marks = m.marks }))
 head_answer head lines bytes None whole cut plain p = tt
 head_answer head lines bytes (Some m) whole cut plain p = table_by_head head lines bytes m whole cut plain p

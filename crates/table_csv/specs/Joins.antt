@@ -1,30 +1,12 @@
 -- Parts of a table, one behind the other.
-use Rattle.std.specs.Prelude.{ℕ, ◌+◌, List, [], ◌∷◌, ◌++◌, length, map}
-use Rattle.rdf_values.specs.Tables.{TableView}
+use Rattle.std.specs.Prelude.{ℕ, ◌+◌, List, ◌++◌, length, map}
 use Rattle.rdf_values.specs.TableText.{MarkedTable}
-use Rattle.rdf_values.specs.declared.cells.Cells.{Cells}
-use Rattle.rdf_values.specs.declared.cells.Cells.TheVariants as kept
-
--- the values of a column, with more of its type behind them
-abbrev pub cells_joined : Cells → Cells → Cells
-cells_joined (kept.Ints ns) (kept.Ints more) = kept.Ints (ns ++ more)
-cells_joined (kept.Ints ns) (kept.Vects more) = kept.Ints ns
-cells_joined (kept.Vects vs) (kept.Ints more) = kept.Vects vs
-cells_joined (kept.Vects vs) (kept.Vects more) = kept.Vects (vs ++ more)
-
--- the same of each column
-abbrev pub columns_joined : List Cells → List Cells → List Cells
-columns_joined [] more = []
-columns_joined (x ∷ xs) [] = x ∷ xs
-columns_joined (x ∷ xs) (y ∷ more) = cells_joined x y ∷ columns_joined xs more
+use Rattle.table_pieces.specs.Joins.{table_joined}
 
 -- marks of entries that stand behind n others
 abbrev pub marks_behind : ℕ → List ℕ → List ℕ
 marks_behind n marks = map (λ m. n + m) marks
 
--- the rows of the second behind those of the first
-abbrev pub table_joined : TableView → TableView → TableView
-table_joined a b = record a { rows = a.rows ++ b.rows }
-
+-- the entries of the second behind those of the first, and its marks with them
 abbrev pub marked_joined : MarkedTable → MarkedTable → MarkedTable
 marked_joined a b = record { table = table_joined a.table b.table; marks = a.marks ++ marks_behind (length a.table.rows) b.marks }

@@ -4,14 +4,14 @@ use Rattle.std.specs.List.{list_any}
 use Rattle.rdf_values.specs.TableText.{table_of}
 use Rattle.table_csv.specs.Csv.{csv_records}
 use Rattle.table_csv.specs.Lines.{is_special}
-use Rattle.table_csv.specs.declared.marked.Marked.{Marked}
+use Rattle.table_csv.specs.declared.marked_pieces.MarkedPieces.{MarkedPieces}
 
 -- the bytes hold one record
 abbrev pub IsHead : List ℕ → Type 0
 IsHead bytes = (header : List (List ℕ)) × (csv_records bytes ≡ header ∷ [])
 
 -- the table is that of the header line and these lines, which need no look at the others
-pub record IsPiece (head lines : List ℕ) (m : Marked) : Type 0 where
+pub record IsPiece (head lines : List ℕ) (m : MarkedPieces) : Type 0 where
   pub plain : list_any is_special lines ≡ false
   pub read : table_of (csv_records head ++ csv_records lines) ≡ Ok (record { table = m.table; marks = m.marks })
   pub within : All (λ e. e < length m.table.rows) m.marks

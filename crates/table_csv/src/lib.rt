@@ -7,6 +7,7 @@ mod entries;
 mod header;
 mod lines;
 mod marked;
+mod marked_pieces;
 mod pieces;
 mod reading;
 mod records;
@@ -15,6 +16,7 @@ mod slots;
 mod vectors;
 
 pub use crate::marked::Marked;
+pub use crate::marked_pieces::MarkedPieces;
 pub use crate::reading::read_table;
 pub use crate::refusal::TableRefusal;
 pub use crate::slots::read_table_in_slots;

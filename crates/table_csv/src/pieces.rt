@@ -1,17 +1,19 @@
 // Pieces of a table: a header line, and some of the lines behind it.
 ghost use Rattle.std.specs.Prelude.{◌≡◌, ◌≤◌, ◌+◌, ◌<◌, ◌++◌, true, All, IfOk, IfSome, length};
-ghost use Rattle.table_csv.specs.Joins.{marks_behind, table_joined};
+ghost use Rattle.table_csv.specs.Joins.{marks_behind};
 ghost use Rattle.table_csv.specs.Pieces.{IsHead, IsPiece};
+ghost use Rattle.table_pieces.specs.Joins.{table_joined};
 
-use crate::appending::{append_marks, append_tables};
+use crate::appending::append_marks;
 use crate::entries::{read_entries, read_heading};
 use crate::lines::has_special;
 use crate::marked::Marked;
+use crate::marked_pieces::MarkedPieces;
 use crate::records::{next, open};
 use csv::ByteRecord;
 use rdf_values::Memory;
 use std::alloc::Global;
-use std::thread::Threads;
+use table_pieces::TablePieces;
 
 const MAX_ENTRIES: u32 = 1_000_000;
 
@@ -27,8 +29,19 @@ pub(crate) fn is_head(alloc: Global, bytes: &[u8]) -> Result<bool, Memory>
     Ok(!next(&mut reader, &mut fields)?)
 }
 
+/// A table in one piece.
+pub(crate) fn in_one_piece(alloc: Global, marked: Marked) -> Result<MarkedPieces, Memory>
+    ensures table { IfOk result (λ m. m.table ≡ marked.table) }
+    ensures marks { IfOk result (λ m. m.marks ≡ marked.marks) }
+{
+    Ok(MarkedPieces {
+        table: TablePieces::of(alloc, marked.table)?,
+        marks: marked.marks,
+    })
+}
+
 /// The table of a header line and of lines behind it, where these can be read without the others.
-pub(crate) fn read_piece(alloc: Global, head: &[u8], lines: &[u8]) -> Option<Marked>
+pub(crate) fn read_piece(alloc: Global, head: &[u8], lines: &[u8]) -> Option<MarkedPieces>
     requires { IsHead head.now }
     ensures { IfSome result (λ m. IsPiece head.now lines.now m) }
 {
@@ -38,17 +51,14 @@ pub(crate) fn read_piece(alloc: Global, head: &[u8], lines: &[u8]) -> Option<Mar
     let Ok(heading) = read_heading(alloc, &mut open(alloc, head)) else {
         return None;
     };
-    read_entries(alloc, heading, &mut open(alloc, lines)).ok()
+    let Ok(marked) = read_entries(alloc, heading, &mut open(alloc, lines)) else {
+        return None;
+    };
+    in_one_piece(alloc, marked).ok()
 }
 
-/// Puts the entries of a piece behind those of the piece before it, where a table holds so many: column by column in so
-/// many slots.
-pub(crate) fn append_pieces<R: Threads + Sync>(
-    rt: &R,
-    first: Marked,
-    second: Marked,
-    slots: u32,
-) -> Option<Marked>
+/// Puts the entries of a piece behind those of the piece before it, where a table holds so many.
+pub(crate) fn append_pieces(first: MarkedPieces, second: MarkedPieces) -> Option<MarkedPieces>
     requires same { second.table.columns ≡ first.table.columns }
     requires before { All (λ e. e < length first.table.rows) first.marks }
     requires within { All (λ e. e < length second.table.rows) second.marks }
@@ -62,6 +72,6 @@ pub(crate) fn append_pieces<R: Threads + Sync>(
     }
     let mut marks = first.marks;
     append_marks(&mut marks, entries, &second.marks).ok()?;
-    let table = append_tables(rt, first.table, second.table, slots).ok()?;
-    Some(Marked { table, marks })
+    let table = first.table.append(second.table).ok()?;
+    Some(MarkedPieces { table, marks })
 }

@@ -7,8 +7,8 @@ ghost use Rattle.table_csv.specs.Csv.{csv_records};
 ghost use Rattle.table_csv.specs.Pieces.{IsHead, IsPiece};
 
 use crate::lines::{cut_lines, has_quote};
-use crate::marked::Marked;
-use crate::pieces::{append_pieces, is_head, read_piece};
+use crate::marked_pieces::MarkedPieces;
+use crate::pieces::{append_pieces, in_one_piece, is_head, read_piece};
 use crate::reading::read_table;
 use crate::refusal::TableRefusal;
 use std::alloc::Global;
@@ -36,7 +36,7 @@ fn read_pieces<R: Threads + Sync>(
     head: &[u8],
     lines: &[u8],
     slots: u32,
-) -> Option<Marked>
+) -> Option<MarkedPieces>
     requires { IsHead head.now }
     ensures { IfSome result (λ m. IsPiece head.now lines.now m) }
 {
@@ -48,16 +48,16 @@ fn read_pieces<R: Threads + Sync>(
     let (front, back) = cut_lines(lines, share(lines.len(), half, slots));
     let (first, second) = join(
         rt,
-        || -> Option<Marked>
+        || -> Option<MarkedPieces>
             requires { IsSync R.row × IsHead head.now }
             ensures { IfSome result (λ m. IsPiece head.entry.now front.entry.now m) }
         { read_pieces(rt, alloc, head, front, half) },
-        || -> Option<Marked>
+        || -> Option<MarkedPieces>
             requires { IsSync R.row × IsHead head.now }
             ensures { IfSome result (λ m. IsPiece head.entry.now back.entry.now m) }
         { read_pieces(rt, alloc, head, back, others) },
     );
-    append_pieces(rt, first?, second?, slots)
+    append_pieces(first?, second?)
 }
 
 /// The table of the bytes, where it can be read in pieces.
@@ -66,7 +66,7 @@ pub(crate) fn read_side_by_side<R: Threads + Sync>(
     alloc: Global,
     bytes: &[u8],
     slots: u32,
-) -> Option<Marked>
+) -> Option<MarkedPieces>
     ensures value { IfSome result (λ m. table_of (csv_records bytes.now) ≡ Ok (record { table = m.table; marks = m.marks })) }
     ensures within { IfSome result (λ m. All (λ e. e < length m.table.rows) m.marks) }
 {
@@ -77,14 +77,15 @@ pub(crate) fn read_side_by_side<R: Threads + Sync>(
     read_pieces(rt, alloc, head, lines, slots)
 }
 
-/// The table that CSV bytes spell, with its marks, as `read_table` gives it. It is read in as many pieces as there are
-/// slots, side by side where threads can be made. Bytes that can't be cut, and those that spell no table, are read whole.
+/// The table that CSV bytes spell, with its marks, as `read_table` gives it, but kept in the pieces in which it is read:
+/// as many as there are slots, side by side where threads can be made. Bytes that can't be cut, and those that spell no
+/// table, are read whole.
 pub fn read_table_in_slots<R: Threads + Sync>(
     rt: &R,
     alloc: Global,
     bytes: &[u8],
     slots: u32,
-) -> Result<Marked, TableRefusal>
+) -> Result<MarkedPieces, TableRefusal>
     ensures value { MatchResult result (λ m. table_of (csv_records bytes.now) ≡ Ok (record { table = m.table; marks = m.marks }))
         (Refuses TableRefusal.At TableRefusal.Memory (table_of (csv_records bytes.now))) }
     ensures within { IfOk result (λ m. All (λ e. e < length m.table.rows) m.marks) }
@@ -95,5 +96,5 @@ pub fn read_table_in_slots<R: Threads + Sync>(
             return Ok(marked);
         }
     }
-    read_table(alloc, bytes)
+    Ok(in_one_piece(alloc, read_table(alloc, bytes)?)?)
 }

@@ -1,21 +1,22 @@
-use Rattle.std.proofs.Common.{◌∙◌, ◌/◌, rules}
+use Rattle.std.proofs.Common.{◌/◌, map, rules}
 use Rattle.rdf_values.specs.Kept.{Keep}
+use Rattle.table_pieces.specs.Wholes.{whole}
 use Rattle.columns.proofs.Keeping.{halves_by_cluster, halves_joined, keep_back, keep_front}
 use Rattle.columns.proofs.kept.+fn-keep_in_slots-join+arg2+fn-keep_in_slots-join+arg3+keep_in_slots.Goals as goal
 
 pub join-first-requires-after_bounds : goal.join-first-requires-after_bounds
 join-first-requires-after_bounds g t c κs within =
-    let front : Keep c.args.cuts.now.entries c.split_off.new.self.items = rw c.in_ok-back.ensures.items (keep_front c.args.cuts.now.entries (c.len-2.result / 2) c.args.cells.items c.requires) in
-    let back : Keep c.args.cuts.now.entries c.in_ok-back.back.items = rw c.in_ok-back.ensures.tail (keep_back c.args.cuts.now.entries (c.len-2.result / 2) c.args.cells.items c.requires) in (
-      (search rules, ((λ a m. m), ((search rules, front), search rules))),
-      (search rules, ((λ a m. m), ((search rules, back), search rules))),
+    let front : Keep c.args.cuts.now.entries (map whole c.split_off.new.self.items) = rw c.in_ok-back.ensures.items (keep_front c.args.cuts.now.entries (c.len-2.result / 2) c.args.pieces.items c.requires.keep) in
+    let back : Keep c.args.cuts.now.entries (map whole c.in_ok-back.back.items) = rw c.in_ok-back.ensures.tail (keep_back c.args.cuts.now.entries (c.len-2.result / 2) c.args.pieces.items c.requires.keep) in (
+      (search rules, ((λ a m. m), ((search rules, front, c.requires.few), search rules))),
+      (search rules, ((λ a m. m), ((search rules, back, c.requires.few), search rules))),
     )
 
 pub returns-clause-same : goal.returns-clause-same
 returns-clause-same g t c =
     let first = rw c.in_ok-kept.was at c.join-first.ensures.first.0 in
     let second = rw c.in_ok-second.was at c.join-first.ensures.second.0 in
-    halves_joined (c.len-2.result / 2) c.args.cells.items _ _ _ (first ∙ c.in_ok-back.ensures.items) (second ∙ c.in_ok-back.ensures.tail) c.in_ok-append.ensures.items
+    halves_joined (c.len-2.result / 2) c.args.pieces.items _ _ _ _ _ c.in_ok-back.ensures.items c.in_ok-back.ensures.tail first second c.in_ok-append.ensures.items
 
 pub returns-clause-clusters : goal.returns-clause-clusters
 returns-clause-clusters g t c =

@@ -2,5 +2,5 @@ use Rattle.std.proofs.Common.{◌∙◌, ◌++◌, ap}
 use Rattle.columns.proofs.Keeping.{keep_next, taken_next}
 use Rattle.columns.proofs.kept.keep_all.Goals as goal
 
-pub keep-requires : goal.keep-requires
-keep-requires c = keep_next c.args.cuts.now.entries c.loop-column.yielded c.in-Some.column _ c.args.cells.items c.requires (c.loop-column.invariant.2 ∙ ap (λ l. c.loop-column.yielded ++ l) c.in-Some.ensures.steps.0)
+pub keep-requires-clause-size : goal.keep-requires-clause-size
+keep-requires-clause-size c = keep_next c.args.cuts.now.entries c.loop-column.yielded c.in-Some.column _ c.args.pieces.items c.requires.keep (c.loop-column.invariant.2 ∙ ap (λ l. c.loop-column.yielded ++ l) c.in-Some.ensures.steps.0)

@@ -1,8 +1,9 @@
 use Rattle.std.proofs.Common.{◌≡◌, ◌++◌, map}
 use Rattle.std.specs.List.{AllByRecursion}
 use Rattle.rdf_values.specs.Cuts.{cut}
+use Rattle.table_pieces.specs.Wholes.{whole}
 use Rattle.columns.specs.KeptColumns.{IsByCluster, cells_of}
 use Rattle.columns.proofs.kept.keep_all.Given as goal
 
 abbrev pub invariant-loop-column : goal.invariant-loop-column
-invariant-loop-column l = (map cells_of l.kept.items ≡ l.yielded) × AllByRecursion (IsByCluster (cut l.cuts.entries l.cuts.size l.cuts.marks)) l.kept.items × (l.fn.cells.items ≡ l.yielded ++ l.column-iterator.rest.items)
+invariant-loop-column l = (map cells_of l.kept.items ≡ map whole l.yielded) × AllByRecursion (IsByCluster (cut l.cuts.entries l.cuts.size l.cuts.marks)) l.kept.items × (l.fn.pieces.items ≡ l.yielded ++ l.column-iterator.rest.items)

@@ -1,7 +1,8 @@
 use Rattle.std.proofs.Common.{take}
 use Rattle.rdf_values.specs.Cuts.{cut}
+use Rattle.table_pieces.specs.Wholes.{joined}
 use Rattle.columns.specs.Blocks.{AreBlocks, cluster_values}
 use Rattle.columns.proofs.packed_ints.pack.Given as goal
 
 abbrev pub invariant-loop-cluster : goal.invariant-loop-cluster
-invariant-loop-cluster l = AreBlocks l.bytes.items l.blocks.items (take l.cluster (cluster_values (cut l.cuts.entries l.cuts.size l.cuts.marks) l.numbers))
+invariant-loop-cluster l = AreBlocks l.bytes.items l.blocks.items (take l.cluster (cluster_values (cut l.cuts.entries l.cuts.size l.cuts.marks) (joined l.pieces)))

@@ -42,6 +42,7 @@ returns-in-Ok-Faulted g c =
         others = c.loop-cluster.state.done;
         drawn = ap (λ (s : SeatSeen). s.drawn) c.lower.ensures ∙ c.in-Some.ensures.some.1 ∙ ap (λ (l : List ℕ). l ++ cluster ∷ []) (sym inv.done);
         sound = inv.sound;
+        noted = inv.noted;
         its_fault = f.1;
         lowered = ap (λ (s : SeatSeen). s.lowered) c.lower.ensures;
       };

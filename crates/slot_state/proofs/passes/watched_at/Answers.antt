@@ -1,26 +1,21 @@
-use Rattle.std.proofs.Common.{◌+◌, ◌∙◌, None, ap, arith, sym}
+use Rattle.std.proofs.Common.{◌+◌, ◌∙◌, ap, sym}
 use Rattle.entry_cache.specs.Jobs.{job_of}
 use Rattle.slot_state.specs.Passes.{watched_before}
-use Rattle.slot_state.proofs.Adding.{counted, its_pass, none_more, numbered_at, of_action, of_report, one_more, read, result_within}
+use Rattle.slot_state.proofs.Adding.{its_pass, none_more, of_action, of_report, one_more, result_within}
 use Rattle.slot_state.proofs.passes.watched_at.Goals as goal
-
-pub bounds-passes-number : goal.bounds-passes-number
-bounds-passes-number g c =
-    let few = counted (job_of c.args.job.now) c.passes.result.now (read (job_of c.args.job.now) c.args.job.now.graph.now c.passes.result.now c.requires.job.graph c.passes.ensures) in
-    omega (arith, c.requires.number, few)
 
 pub kind-requires : goal.kind-requires
 kind-requires g c =
-    let its = numbered_at (job_of c.args.job.now) c.args.job.now.graph.now c.passes.result.now c.requires.job.graph c.passes.ensures c.args.number c.requires.number (record { result = 0; variation = None }) in
+    let its = c.pass_at-pass.ensures in
     result_within (job_of c.args.job.now) c.args.number _ its c.args.job.now.graph.now c.requires.job.graph
 
 pub is_watched-is_watched-requires-clause-pass : goal.is_watched-is_watched-requires-clause-pass
 is_watched-is_watched-requires-clause-pass g c =
-    (c.args.number, numbered_at (job_of c.args.job.now) c.args.job.now.graph.now c.passes.result.now c.requires.job.graph c.passes.ensures c.args.number c.requires.number _)
+    (c.args.number, c.pass_at-pass.ensures)
 
 pub returns-in-Report : goal.returns-in-Report
 returns-in-Report g c =
-    let its = numbered_at (job_of c.args.job.now) c.args.job.now.graph.now c.passes.result.now c.requires.job.graph c.passes.ensures c.args.number c.requires.number (record { result = 0; variation = None }) in
+    let its = c.pass_at-pass.ensures in
     none_more (job_of c.args.job.now) c.args.number _ (its_pass (job_of c.args.job.now) c.args.number _ its)
     (of_report (job_of c.args.job.now) c.args.number _ its c.kind.result.now c.args.job.now.graph.now c.requires.job.graph c.kind.ensures
     c.in-Report.is)
@@ -28,7 +23,7 @@ returns-in-Report g c =
 pub returns-in-Action : goal.returns-in-Action
 returns-in-Action g c =
     let j = job_of c.args.job.now in
-    let its = numbered_at j c.args.job.now.graph.now c.passes.result.now c.requires.job.graph c.passes.ensures c.args.number c.requires.number (record { result = 0; variation = None }) in
+    let its = c.pass_at-pass.ensures in
     let here = its_pass j c.args.number _ its in
     let told = c.is_watched-is_watched.ensures c.args.number _ its here in
     let b = of_action j c.args.number _ its c.kind.result.now c.args.job.now.graph.now c.requires.job.graph c.kind.ensures

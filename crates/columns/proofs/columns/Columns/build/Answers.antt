@@ -1,22 +1,29 @@
-use Rattle.std.proofs.Common.{◌≡◌, ◌∙◌, ap, length, sym, refl}
+use Rattle.std.proofs.Common.{◌≡◌, ◌∙◌, ap, arith, length, map, refl, sym}
 use Rattle.rdf_values.specs.Tables.{TableView}
 use Rattle.rdf_values.proofs.RowPushed.{keep, length-rows_kept}
+use Rattle.table_pieces.specs.Wholes.{whole}
 use Rattle.columns.proofs.columns.Columns.build.Goals as goal
 
-pub keep_all-requires : goal.keep_all-requires
-keep_all-requires c =
+pub keep_all-requires-clause-keep : goal.keep_all-requires-clause-keep
+keep_all-requires-clause-keep c =
     let parts = c.into_parts-parts.result in
-    let many : c.args.cuts.entries ≡ parts.entries = c.requires ∙ ap (λ (t : TableView). length t.rows) c.into_parts-parts.ensures.same ∙ length-rows_kept parts.entries parts.cells.items in
-    rw many (keep parts.columns parts.cells.items parts.entries c.into_parts-parts.ensures.holds.kept)
+    let many : c.args.cuts.entries ≡ parts.entries = c.requires ∙ ap (λ (t : TableView). length t.rows) (sym c.in_ok-of.ensures ∙ c.into_parts-parts.ensures.same) ∙ length-rows_kept parts.entries (map whole parts.pieces.items) in
+    rw many (keep parts.columns (map whole parts.pieces.items) parts.entries c.into_parts-parts.ensures.holds.kept)
+
+pub keep_all-requires-clause-few : goal.keep_all-requires-clause-few
+keep_all-requires-clause-few c =
+    let parts = c.into_parts-parts.result in
+    let many : c.args.cuts.entries ≡ parts.entries = c.requires ∙ ap (λ (t : TableView). length t.rows) (sym c.in_ok-of.ensures ∙ c.into_parts-parts.ensures.same) ∙ length-rows_kept parts.entries (map whole parts.pieces.items) in
+    omega (arith, many, c.into_parts-parts.ensures.holds.few)
 
 pub invariant_of-result : goal.invariant_of-result
 invariant_of-result c =
     let parts = c.into_parts-parts.result in
-    let many : c.args.cuts.entries ≡ parts.entries = c.requires ∙ ap (λ (t : TableView). length t.rows) c.into_parts-parts.ensures.same ∙ length-rows_kept parts.entries parts.cells.items in
+    let many : c.args.cuts.entries ≡ parts.entries = c.requires ∙ ap (λ (t : TableView). length t.rows) (sym c.in_ok-of.ensures ∙ c.into_parts-parts.ensures.same) ∙ length-rows_kept parts.entries (map whole parts.pieces.items) in
     record { table = rw (c.in_ok-kept.ensures.same, many) c.into_parts-parts.ensures.holds; clusters = c.in_ok-kept.ensures.clusters }
 
 pub returns : goal.returns
 returns c =
     let parts = c.into_parts-parts.result in
-    let many : c.args.cuts.entries ≡ parts.entries = c.requires ∙ ap (λ (t : TableView). length t.rows) c.into_parts-parts.ensures.same ∙ length-rows_kept parts.entries parts.cells.items in
-    rw (c.into_parts-parts.ensures.same, c.in_ok-kept.ensures.same, many) refl
+    let many : c.args.cuts.entries ≡ parts.entries = c.requires ∙ ap (λ (t : TableView). length t.rows) (sym c.in_ok-of.ensures ∙ c.into_parts-parts.ensures.same) ∙ length-rows_kept parts.entries (map whole parts.pieces.items) in
+    rw (← c.in_ok-of.ensures, c.into_parts-parts.ensures.same, c.in_ok-kept.ensures.same, many) refl

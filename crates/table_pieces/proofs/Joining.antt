@@ -1,7 +1,7 @@
 -- Columns of a table with those of another behind them.
 use Rattle.std.proofs.Common.{◌≡◌, ◌≤◌, ◌<◌, ◌+◌, ℕ, zero, suc, pos, List, [], ◌∷◌, ◌++◌, length, get_or, set, take, drop, map, All, Some, arith, refl, ap, ap₂, ◌∙◌, sym, subst, length-append, length-take, add-one, append-nil, append_assoc}
 use Rattle.std.specs.Prelude.{slice_get}
-use Rattle.std.proofs.lemmas.List.{get_or-append-add, get_or_append_left, get_or-take, length-drop, map-append, take_all, take_more}
+use Rattle.std.proofs.lemmas.List.{get_or-append-add, get_or_append_left, get_or-map, length-drop, length-map, length-set, map-append, map-set}
 use Rattle.std.proofs.lemmas.List.Elements.{All-append, All-map}
 use Rattle.std.proofs.lemmas.List.Kept.{AllPairs-from_increasing}
 use Rattle.std.proofs.lemmas.Option.{get_or_from_slice_get, slice_get_within}
@@ -17,41 +17,9 @@ use Rattle.rdf_values.specs.declared.value.Value.{Value}
 use Rattle.rdf_values.specs.declared.value.Value.TheVariants as v
 use Rattle.rdf_values.proofs.Below.{map-below}
 use Rattle.rdf_values.proofs.RowPushed.{kept_length}
-use Rattle.table_csv.specs.Joins.{cells_joined, columns_joined, marks_behind}
-
--- ---- one more of a list
-
-take_got : {A : Type 0} (xs : List A) (i : ℕ) (x : A) → slice_get xs i ≡ Some x → take (i + 1) xs ≡ take i xs ++ x ∷ []
-take_got xs i x s = take_more xs i x (slice_get_within xs i x s) ∙ ap (λ y. take i xs ++ y ∷ []) (get_or_from_slice_get xs i x x s)
-
--- ---- marks
-
-pub marks_more : (old now more : List ℕ) (n i mark : ℕ) → now ≡ old ++ marks_behind n (take i more) → slice_get more i ≡ Some mark → now ++ (n + mark) ∷ [] ≡ old ++ marks_behind n (take (i + 1) more)
-marks_more old now more n i mark e s =
-    rw (e, take_got more i mark s, map-append (λ m. n + m) (take i more) (mark ∷ [])) (append_assoc old (marks_behind n (take i more)) ((n + mark) ∷ []))
-
-pub marks_all : (old now more : List ℕ) (n i : ℕ) → now ≡ old ++ marks_behind n (take i more) → length more ≤ i → now ≡ old ++ marks_behind n more
-marks_all old now more n i e l = e ∙ ap (λ t. old ++ marks_behind n t) (take_all i more l)
-
-pub marks_above : (old now more : List ℕ) (n i mark : ℕ) → now ≡ old ++ marks_behind n (take i more) → All (λ m. m < n) old → AreMarks more → slice_get more i ≡ Some mark → All (λ m. m < n + mark) now
-marks_above old now more n i mark e before a s =
-    let lt = slice_get_within more i mark s in
-    let pairs = AllPairs-from_increasing more a.rising in
-    let size = length-take i more in
-    let each : All (λ m. n + m < n + mark) (take i more) =
-    (λ j d h.
-    let short : j < i = omega (arith, h, size) in
-    let pair = pairs j i d short lt in
-    let same = get_or-take i more j d short in
-    let own = get_or_from_slice_get more i mark d s in
-    omega (arith, pair, same, own)) in
-    rw e (All-append (λ m. m < n + mark) old (marks_behind n (take i more)) (λ j d h. let b = before j d h in omega (arith, b)) (All-map (λ m. m < n + mark) (λ m. n + m) (take i more) each))
-
-pub mark_few : (more : List ℕ) (n i mark : ℕ) → All (λ m. n + m < 1000000) more → slice_get more i ≡ Some mark → n + mark < 1000000
-mark_few more n i mark few s =
-    let f = few i 0 (slice_get_within more i mark s) in
-    let same = get_or_from_slice_get more i mark 0 s in
-    omega (arith, f, same)
+use Rattle.table_pieces.specs.Joins.{cells_joined, columns_joined}
+use Rattle.table_pieces.specs.Wholes.{whole}
+use Rattle.table_pieces.specs.declared.column_pieces.ColumnPieces.{ColumnPieces}
 
 -- ---- the first columns are joined
 
@@ -165,24 +133,41 @@ holds_joined columns xs ys at n m t h l few a s = rw (a, s) (record {
   few = few;
 })
 
--- ---- a table's columns in two halves
-
-pub halves_joined : (k : ℕ) (xs more front back all : List Cells) → length more ≡ length xs → front ≡ columns_joined (take k xs) (take k more) → back ≡ columns_joined (drop k xs) (drop k more) → all ≡ front ++ back → all ≡ columns_joined xs more
-halves_joined k xs more front back all l f b e = e ∙ ap₂ (λ us vs. us ++ vs) f b ∙ go k xs more l
-  where
-    go : (k : ℕ) (xs more : List Cells) → length more ≡ length xs → columns_joined (take k xs) (take k more) ++ columns_joined (drop k xs) (drop k more) ≡ columns_joined xs more
-    go zero xs more l = refl
-    go (suc k) [] more l = refl
-    go (suc k) (x ∷ xs) [] l = absurd (omega (arith, l))
-    go (suc k) (x ∷ xs) (y ∷ more) l = ap (λ t. cells_joined x y ∷ t) (go k xs more (omega (arith, l)))
-
-pub same_count_taken : (k : ℕ) (xs more : List Cells) → length more ≡ length xs → length (take k more) ≡ length (take k xs)
-same_count_taken k xs more l = omega (arith, l, length-take k xs, length-take k more)
-
-pub same_count_dropped : (k : ℕ) (xs more : List Cells) → length more ≡ length xs → length (drop k more) ≡ length (drop k xs)
-same_count_dropped k xs more l = omega (arith, l, length-drop k xs, length-drop k more)
-
 -- ---- two tables of one header
 
 pub same_count : (columns others : List Column) (xs ys : List Cells) (n m : ℕ) → AreKept n columns xs → AreKept m others ys → others ≡ columns → length ys ≡ length xs
 same_count columns others xs ys n m h l e = kept_length others ys m l ∙ ap length e ∙ sym (kept_length columns xs n h)
+
+-- ---- the pieces of one more column
+
+piece_next : (more rest : List ColumnPieces) (i : ℕ) (y d : ColumnPieces) → drop i more ≡ y ∷ rest → (i < length more) × (get_or more i d ≡ y) × (drop (i + 1) more ≡ rest)
+piece_next more rest zero y d e = rw e (omega arith, refl, refl)
+piece_next [] rest (suc i) y d e = cc e
+piece_next (x ∷ more) rest (suc i) y d e =
+    let next = piece_next more rest i y d e in
+    let lt = next.0 in
+    let on : suc i + 1 ≡ suc (i + 1) = omega arith in
+    (omega (arith, lt), next.1, ap (λ (k : ℕ). drop k (x ∷ more)) on ∙ next.2)
+
+pub pieces_more : (xs at more rest : List ColumnPieces) (i col j : ℕ) (new old y : ColumnPieces) → map whole at ≡ partly_joined i (map whole xs) (map whole more) → drop i more ≡ y ∷ rest → length more ≡ length xs → length at ≡ length xs → col ≡ i → j ≡ i + 1
+    → old ≡ get_or at col old → whole new ≡ cells_joined (whole old) (whole y) → (map whole (set at col new) ≡ partly_joined j (map whole xs) (map whole more)) × (drop j more ≡ rest) × (length (set at col new) ≡ length xs)
+pieces_more xs at more rest i col j new old y a e l k c n o w =
+    let next = piece_next more rest i y new e in
+    let lt = next.0 in
+    let here : i < length at = omega (arith, lt, l, k) in
+    let there : i < length (map whole more) = omega (arith, lt, length-map more whole) in
+    let wide : length (map whole more) ≡ length (map whole xs) = omega (arith, l, length-map more whole, length-map xs whole) in
+    let his : whole y ≡ get_or (map whole more) i (whole y) = sym (get_or-map whole more i new (whole y) lt ∙ ap whole next.1) in
+    let was : old ≡ get_or at i old = o ∙ ap (λ (k : ℕ). get_or at k old) c in
+    let own : whole new ≡ cells_joined (get_or (map whole at) i (whole new)) (whole y) = w ∙ ap (λ z. cells_joined z (whole y)) (ap whole was ∙ sym (get_or-map whole at i old (whole new) here)) in
+    rw (c, n) (map-set whole at i new ∙ joined_more i (map whole xs) (map whole at) (map whole more) (whole new) (whole new) (whole y) a there wide his own, next.2, omega (arith, k, length-set at i new))
+
+pub pieces_all : (xs more rest : List ColumnPieces) (i : ℕ) → drop i more ≡ rest → length rest ≡ 0 → length more ≡ length xs → partly_joined i (map whole xs) (map whole more) ≡ columns_joined (map whole xs) (map whole more)
+pieces_all xs more rest i e n l =
+    let size = length-drop i more in
+    let gone = ap length e in
+    let wide : length (map whole more) ≡ length (map whole xs) = omega (arith, l, length-map more whole, length-map xs whole) in
+    joined_all i (map whole xs) (map whole more) (omega (arith, size, gone, n, length-map more whole)) wide
+
+pub same_pieces : (xs more : List ColumnPieces) → length (map whole more) ≡ length (map whole xs) → length more ≡ length xs
+same_pieces xs more l = omega (arith, l, length-map more whole, length-map xs whole)

@@ -1,0 +1,43 @@
+-- Marks behind others.
+use Rattle.std.proofs.Common.{◌≡◌, ◌≤◌, ◌<◌, ◌+◌, ℕ, List, [], ◌∷◌, ◌++◌, length, take, All, Some, arith, ap, ◌∙◌, length-take, append_assoc}
+use Rattle.std.specs.Prelude.{slice_get}
+use Rattle.std.proofs.lemmas.List.{get_or-take, map-append, take_all, take_more}
+use Rattle.std.proofs.lemmas.List.Elements.{All-append, All-map}
+use Rattle.std.proofs.lemmas.List.Kept.{AllPairs-from_increasing}
+use Rattle.std.proofs.lemmas.Option.{get_or_from_slice_get, slice_get_within}
+use Rattle.rdf_values.specs.Cuts.{AreMarks}
+use Rattle.table_csv.specs.Joins.{marks_behind}
+
+-- ---- one more of a list
+
+take_got : {A : Type 0} (xs : List A) (i : ℕ) (x : A) → slice_get xs i ≡ Some x → take (i + 1) xs ≡ take i xs ++ x ∷ []
+take_got xs i x s = take_more xs i x (slice_get_within xs i x s) ∙ ap (λ y. take i xs ++ y ∷ []) (get_or_from_slice_get xs i x x s)
+
+-- ---- marks
+
+pub marks_more : (old now more : List ℕ) (n i mark : ℕ) → now ≡ old ++ marks_behind n (take i more) → slice_get more i ≡ Some mark → now ++ (n + mark) ∷ [] ≡ old ++ marks_behind n (take (i + 1) more)
+marks_more old now more n i mark e s =
+    rw (e, take_got more i mark s, map-append (λ m. n + m) (take i more) (mark ∷ [])) (append_assoc old (marks_behind n (take i more)) ((n + mark) ∷ []))
+
+pub marks_all : (old now more : List ℕ) (n i : ℕ) → now ≡ old ++ marks_behind n (take i more) → length more ≤ i → now ≡ old ++ marks_behind n more
+marks_all old now more n i e l = e ∙ ap (λ t. old ++ marks_behind n t) (take_all i more l)
+
+pub marks_above : (old now more : List ℕ) (n i mark : ℕ) → now ≡ old ++ marks_behind n (take i more) → All (λ m. m < n) old → AreMarks more → slice_get more i ≡ Some mark → All (λ m. m < n + mark) now
+marks_above old now more n i mark e before a s =
+    let lt = slice_get_within more i mark s in
+    let pairs = AllPairs-from_increasing more a.rising in
+    let size = length-take i more in
+    let each : All (λ m. n + m < n + mark) (take i more) =
+    (λ j d h.
+    let short : j < i = omega (arith, h, size) in
+    let pair = pairs j i d short lt in
+    let same = get_or-take i more j d short in
+    let own = get_or_from_slice_get more i mark d s in
+    omega (arith, pair, same, own)) in
+    rw e (All-append (λ m. m < n + mark) old (marks_behind n (take i more)) (λ j d h. let b = before j d h in omega (arith, b)) (All-map (λ m. m < n + mark) (λ m. n + m) (take i more) each))
+
+pub mark_few : (more : List ℕ) (n i mark : ℕ) → All (λ m. n + m < 1000000) more → slice_get more i ≡ Some mark → n + mark < 1000000
+mark_few more n i mark few s =
+    let f = few i 0 (slice_get_within more i mark s) in
+    let same = get_or_from_slice_get more i mark 0 s in
+    omega (arith, f, same)

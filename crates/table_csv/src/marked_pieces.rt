@@ -1,0 +1,10 @@
+// Tables in pieces that mark their clusters.
+use rdf_values::Marks;
+use table_pieces::TablePieces;
+
+/// A table in pieces, and the entries at which its column of marks says that a cluster begins.
+#[derive(Drop)]
+pub struct MarkedPieces {
+    pub table: TablePieces,
+    pub marks: Marks,
+}
