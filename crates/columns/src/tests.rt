@@ -1,6 +1,7 @@
 ghost use Rattle.std.specs.Prelude.{◌≡◌, ⊤, length, IfOk, MatchOption, Some};
 ghost use Rattle.rdf_values.specs.Tables.{kind_at};
 
+use crate::pieces::{gather, in_one_piece};
 use crate::{Columns, Packing};
 use clusters::cut;
 use rdf_values::{ColType, Column, IntList, ListOf, Marks, Memory, Name, Table, Value};
@@ -108,5 +109,21 @@ fn two_slots_pack_a_column_each(rt: HostRuntime) -> Result<(), Fail> {
     assert_eq!(rt; columns.int_at(1, 0), -3);
     assert_eq!(rt; columns.vec_at(0, 1), [3, 4].as_slice());
     assert!(rt; columns.vec_at(1, 1).is_empty());
+    Ok(())
+}
+
+#[test]
+fn gathers_the_numbers_of_two_pieces(rt: HostRuntime) -> Result<(), Fail> {
+    let mut pieces = Vec::new(rt.alloc());
+    pieces.push(IntList::from_slice(rt.alloc(), &[1, 2])?)?;
+    pieces.push(IntList::from_slice(rt.alloc(), &[3, 4])?)?;
+    let mut gathered = Vec::new(rt.alloc());
+    assert!(rt; in_one_piece(pieces.as_slice(), 1, 3).is_none());
+    gather(pieces.as_slice(), 1, 3, &mut gathered)?;
+    assert_eq!(rt; gathered.as_slice(), [2, 3].as_slice());
+    assert_eq!(rt;
+        in_one_piece(pieces.as_slice(), 2, 4),
+        Some([3, 4].as_slice())
+    );
     Ok(())
 }

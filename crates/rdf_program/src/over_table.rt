@@ -21,7 +21,7 @@ use rdf_values::{Memory, Script};
 use result_text::Refusal;
 use std::alloc::Global;
 use std::thread::Threads;
-use table_csv::{Marked, TableRefusal, read_table_in_slots};
+use table_csv::{MarkedPieces, TableRefusal, read_table_in_slots};
 use transcripts::run_prints;
 
 /// The most bytes of a table.
@@ -31,7 +31,7 @@ pub(crate) const MAX_TABLE: usize = 67_108_864;
 fn columns_of<R: Threads + Sync>(
     rt: &R,
     alloc: Global,
-    marked: Marked,
+    marked: MarkedPieces,
     settings: Settings,
 ) -> Result<Columns, Memory>
     requires within { All (λ e. e < length marked.table.rows) marked.marks }
@@ -87,7 +87,7 @@ fn answer_script<R: Threads + Sync, G: Gate>(
     rt: &R,
     alloc: Global,
     script: Script,
-    marked: Marked,
+    marked: MarkedPieces,
     functions: &FnList,
     settings: Settings,
     gate: &G,

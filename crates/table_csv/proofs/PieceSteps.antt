@@ -1,12 +1,13 @@
 -- Answers about pieces of a table.
 use Rattle.std.proofs.Common.{◌≡◌, ◌<◌, ◌≤◌, ◌+◌, ◌∙◌, ◌++◌, ℕ, Bool, true, false, not, All, List, [], ◌∷◌, length, None, Option, Some, Result, Ok, Err, ap, length-append, arith, sym}
 use Rattle.std.specs.Borrow.{Bor}
-use Rattle.std.specs.Prelude.{IfOk, IfSome}
+use Rattle.std.specs.Prelude.{IfOk, IfSome, MatchResult}
 use Rattle.std.specs.List.{list_any}
 use Rattle.std.specs.Result.{result_ok}
 use Rattle.std.proofs.lemmas.List.Elements.{All-append, All-map}
 use Rattle.std.proofs.lemmas.List.Folds.{list_any-append}
 use Rattle.csv.specs.declared.reader.Reader.{Reader}
+use Rattle.rdf_values.specs.Answers.{Refuses}
 use Rattle.rdf_values.specs.TableText.{Header, MarkedTable, table_of}
 use Rattle.rdf_values.specs.declared.memory.Memory.{Memory}
 use Rattle.rdf_values.specs.declared.table_cause.TableCause.{TableCause}
@@ -17,6 +18,9 @@ use Rattle.table_csv.specs.Joins.{marks_behind}
 use Rattle.table_pieces.specs.Joins.{table_joined}
 use Rattle.table_csv.specs.Lines.{IsCut, is_quote, is_special}
 use Rattle.table_csv.specs.Pieces.{IsHead, IsPiece}
+use Rattle.table_csv.specs.declared.marked.Marked.{Marked}
+use Rattle.table_csv.specs.declared.refusal.TableRefusal.{TableRefusal}
+use Rattle.table_csv.specs.declared.refusal.TableRefusal.TheVariants as refusal
 use Rattle.table_csv.specs.declared.marked_pieces.MarkedPieces.{MarkedPieces}
 use Rattle.table_csv.proofs.CutLines.{csv_cut, no_quote}
 use Rattle.table_csv.proofs.ShiftedRows.{table_columns, table_join}
@@ -33,11 +37,22 @@ behind_head head records h after one i =
     let none : i.left ≡ [] = cc (sym i.first ∙ one.1) in
     table_good (csv_records head ++ records) i.fields records h (ap (λ l. l ++ records) (i.first ∙ ap (λ l. i.fields ∷ l) none)) i.spells
 
+-- what is said of an answer that is good
+pub good_answer : {A E : Type 0} (answer : Result A E) (value : A) (P : A → Type 0) (Q : E → Type 0) → result_ok answer ≡ Some value → MatchResult answer P Q → P value
+good_answer (Ok x) value P Q some h = let same : x ≡ value = cc some in rw same at h
+good_answer (Err e) value P Q some h = cc some
+
 -- the answer for a piece
-pub piece_of : (head lines : List ℕ) (answer : Result MarkedPieces Memory) (wanted : Result MarkedTable TableCause) (whole : MarkedTable) → list_any is_special lines ≡ false → table_of (csv_records head ++ csv_records lines) ≡ wanted
-    → wanted ≡ Ok whole → All (λ e. e < length whole.table.rows) whole.marks → IfOk answer (λ m. m.table ≡ whole.table) → IfOk answer (λ m. m.marks ≡ whole.marks) → IfSome (result_ok answer) (λ m. IsPiece head lines m)
-piece_of head lines (Ok m) wanted whole plain w read within t k = record { plain = plain; read = rw (t, k) (w ∙ read); within = rw (t, k) within }
-piece_of head lines (Err e) wanted whole plain w read within t k = tt
+pub piece_of : (head lines : List ℕ) (answer : Result Marked TableRefusal) (read : Marked) (out : Result MarkedPieces Memory) (wanted : Result MarkedTable TableCause) → list_any is_special lines ≡ false → table_of (csv_records head ++ csv_records lines) ≡ wanted
+    → MatchResult answer (λ m. wanted ≡ Ok (record { table = m.table; marks = m.marks })) (Refuses refusal.At refusal.Memory wanted) → IfOk answer (λ m. All (λ e. e < length m.table.rows) m.marks) → result_ok answer ≡ Some read
+    → IfOk out (λ m. m.table ≡ read.table) → IfOk out (λ m. m.marks ≡ read.marks) → IfSome (result_ok out) (λ m. IsPiece head lines m)
+piece_of head lines (Err e) read out wanted plain w a within some t k = cc some
+piece_of head lines (Ok r) read (Err e) wanted plain w a within some t k = tt
+piece_of head lines (Ok r) read (Ok m) wanted plain w a within some t k =
+    let same : r ≡ read = cc some in
+    let its = rw same at a in
+    let marks = rw same at within in
+    record { plain = plain; read = rw (t, k) (w ∙ its); within = rw (t, k) marks }
 
 -- ---- two pieces
 

@@ -48,12 +48,8 @@ pub(crate) fn read_piece(alloc: Global, head: &[u8], lines: &[u8]) -> Option<Mar
     if has_special(lines) {
         return None;
     }
-    let Ok(heading) = read_heading(alloc, &mut open(alloc, head)) else {
-        return None;
-    };
-    let Ok(marked) = read_entries(alloc, heading, &mut open(alloc, lines)) else {
-        return None;
-    };
+    let heading = read_heading(alloc, &mut open(alloc, head)).ok()?;
+    let marked = read_entries(alloc, heading, &mut open(alloc, lines)).ok()?;
     in_one_piece(alloc, marked).ok()
 }
 

@@ -1,8 +1,9 @@
 use crate::slots::read_side_by_side;
-use crate::{Marked, TableRefusal, read_table_in_slots};
-use rdf_values::{Cell, TableCause};
+use crate::{MarkedPieces, TableRefusal, read_table_in_slots};
+use rdf_values::TableCause;
 use std::alloc::{AllocError, Global};
 use std::test::Fail;
+use table_pieces::ColumnPieces;
 
 // A column of these lines, with so many lines of 0 before and behind them.
 fn padded(alloc: Global, before: u32, lines: &str, behind: u32) -> Result<String, AllocError> {
@@ -17,25 +18,28 @@ fn padded(alloc: Global, before: u32, lines: &str, behind: u32) -> Result<String
     Ok(text)
 }
 
-// Whether the column has these numbers, with so many of 0 before them and behind them.
-fn holds(marked: &Marked, before: u32, numbers: &[i64], behind: u32) -> bool {
-    let table = &marked.table;
-    let entries = table.entries();
-    if table.columns().len() != 1
-        || entries as usize != before as usize + numbers.len() + behind as usize
-    {
-        return false;
-    }
-    for entry in 0..entries {
-        let wanted = match entry.checked_sub(before) {
-            Some(i) => numbers.get(i as usize).copied().unwrap_or(0),
-            None => 0,
-        };
-        if !matches!(table.value(entry, 0), Cell::Int(n) if n == wanted) {
+// Whether the one column has these numbers, with so many of 0 before them and behind them.
+fn holds(marked: MarkedPieces, before: u32, numbers: &[i64], behind: u32) -> bool {
+    let parts = marked.table.into_parts();
+    let mut entry: u32 = 0;
+    for column in parts.pieces {
+        let ColumnPieces::Ints(pieces) = column else {
             return false;
+        };
+        for piece in pieces {
+            for number in piece.as_slice() {
+                let wanted = match entry.checked_sub(before) {
+                    Some(i) => numbers.get(i as usize).copied().unwrap_or(0),
+                    None => 0,
+                };
+                if *number != wanted || entry >= parts.entries {
+                    return false;
+                }
+                entry += 1;
+            }
         }
     }
-    true
+    entry == parts.entries && entry as usize == before as usize + numbers.len() + behind as usize
 }
 
 // The middle of the bytes passes over each byte of the lines.
@@ -48,13 +52,13 @@ fn cuts_at_each_byte(rt: HostRuntime) -> Result<(), Fail> {
             let text = padded(alloc, pad, lines, 0)?;
             let marked = read_side_by_side(&rt, alloc, text.as_bytes(), slots).expect(&rt, "plain");
             assert!(rt;
-                holds(&marked, pad, [1, 22, -333, 4].as_slice(), 0),
+                holds(marked, pad, [1, 22, -333, 4].as_slice(), 0),
                 "{pad} before, {slots} slots"
             );
             let text = padded(alloc, 0, lines, pad)?;
             let marked = read_side_by_side(&rt, alloc, text.as_bytes(), slots).expect(&rt, "plain");
             assert!(rt;
-                holds(&marked, 0, [1, 22, -333, 4].as_slice(), pad),
+                holds(marked, 0, [1, 22, -333, 4].as_slice(), pad),
                 "{pad} behind, {slots} slots"
             );
         }
@@ -70,14 +74,17 @@ fn reads_marks_and_vectors_in_pieces(rt: HostRuntime) -> Result<(), Fail> {
         let marked = read_side_by_side(&rt, rt.alloc(), text.as_bytes(), slots).expect(
             &rt, "plain",
         );
-        assert_eq!(rt; marked.table.columns().len(), 2);
-        assert_eq!(rt; marked.table.entries(), 6);
         assert_eq!(rt; marked.marks.as_slice(), [0, 2, 4].as_slice());
-        assert!(rt; matches!(marked.table.value(5, 0), Cell::Int(6)));
-        let Cell::Vect(jets) = marked.table.value(1, 1) else {
-            panic!(rt; "no vector");
+        let parts = marked.table.into_parts();
+        assert_eq!(rt; parts.entries, 6);
+        let [ColumnPieces::Ints(numbers), ColumnPieces::Vects(vectors)] = parts.pieces.as_slice()
+        else {
+            panic!(rt; "other columns");
         };
-        assert_eq!(rt; jets, [7, 8].as_slice());
+        assert!(rt; numbers.iter().any(|piece| piece.as_slice().contains(&6)));
+        assert!(rt;
+            vectors.iter().any(|piece| (0..piece.len()).any(|i| piece.at(i) == [7, 8].as_slice()))
+        );
     }
     Ok(())
 }
@@ -110,13 +117,13 @@ fn reads_a_table_in_slots(rt: HostRuntime) -> Result<(), Fail> {
     for slots in 0..6 {
         let marked = read_table_in_slots(&rt, alloc, text.as_bytes(), slots)?;
         assert!(rt;
-            holds(&marked, 40_000, [1].as_slice(), 30_000),
+            holds(marked, 40_000, [1].as_slice(), 30_000),
             "{slots} slots"
         );
     }
     let quoted = padded(alloc, 40_000, "\"1\"\n", 30_000)?;
     let marked = read_table_in_slots(&rt, alloc, quoted.as_bytes(), 4)?;
-    assert!(rt; holds(&marked, 40_000, [1].as_slice(), 30_000));
+    assert!(rt; holds(marked, 40_000, [1].as_slice(), 30_000));
     Ok(())
 }
 
@@ -143,7 +150,7 @@ fn takes_a_million_entries_of_all_pieces(rt: HostRuntime) -> Result<(), Fail> {
     let alloc = rt.alloc();
     let text = padded(alloc, 999_999, "7\n", 0)?;
     let marked = read_table_in_slots(&rt, alloc, text.as_bytes(), 4)?;
-    assert!(rt; holds(&marked, 999_999, [7].as_slice(), 0));
+    assert!(rt; holds(marked, 999_999, [7].as_slice(), 0));
     let text = padded(alloc, 1_000_000, "7\n", 0)?;
     let answer = read_table_in_slots(&rt, alloc, text.as_bytes(), 4).err();
     let cause = TableCause::TooMany { entry: 1_000_000 };

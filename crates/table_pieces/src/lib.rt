@@ -8,3 +8,6 @@ mod table_pieces;
 pub use crate::column_pieces::ColumnPieces;
 pub use crate::pieces_parts::PiecesParts;
 pub use crate::table_pieces::TablePieces;
+
+#[cfg(test)]
+mod tests;

@@ -1,6 +1,7 @@
 // A table in pieces.
 ghost use Rattle.std.specs.Prelude.{◌≡◌, ◌≤◌, ◌+◌, IfOk, length, map};
 ghost use Rattle.rdf_values.specs.Kept.{HoldsTable, rows_kept};
+ghost use Rattle.rdf_values.specs.Tables.{IsTable};
 ghost use Rattle.table_pieces.specs.Joins.{columns_joined, table_joined};
 ghost use Rattle.table_pieces.specs.Wholes.{whole};
 
@@ -98,7 +99,8 @@ impl TablePieces {
 
     /// How many rows there are.
     pub fn entries(&self) -> u32
-        ensures { result ≡ length self.now.rows }
+        ensures value { result ≡ length self.now.rows }
+        ensures valid { IsTable self.now }
     {
         self.entries
     }

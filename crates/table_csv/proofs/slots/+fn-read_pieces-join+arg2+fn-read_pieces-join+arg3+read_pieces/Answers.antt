@@ -2,7 +2,7 @@ use Rattle.table_csv.proofs.PieceSteps.{pieces_answer, same_columns}
 use Rattle.table_csv.proofs.slots.+fn-read_pieces-join+arg2+fn-read_pieces-join+arg3+read_pieces.Goals as goal
 
 pub append_pieces-requires-clause-same : goal.append_pieces-requires-clause-same
-append_pieces-requires-clause-same g t c κs within =
+append_pieces-requires-clause-same g t c =
     let first = rw c.in_ok-first.was at c.join-first.ensures.first in
     let second = rw c.in_ok-second.was at c.join-first.ensures.second in
     same_columns c.args.head.now c.cut_lines.result.0.now c.cut_lines.result.1.now c.in_ok-first.field-0 c.in_ok-second.field-0 c.requires first second
