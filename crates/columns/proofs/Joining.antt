@@ -1,6 +1,6 @@
 -- The numbers of the clusters are those of the column.
-use Rattle.std.proofs.Common.{◌≡◌, ◌≤◌, ◌<◌, ◌+◌, ◌-◌, ℕ, zero, suc, ℤ, List, [], ◌∷◌, ◌++◌, length, get_or, drop, take, map, None, Some, Option, refl, sym, ap, ap₂, ◌∙◌, subst, arith, slice_get}
-use Rattle.std.proofs.lemmas.List.{length-drop, take_all}
+use Rattle.std.proofs.Common.{◌≡◌, ◌≤◌, ◌<◌, ◌+◌, ◌-◌, ℕ, zero, suc, ℤ, List, [], ◌∷◌, ◌++◌, length, drop, take, Some, refl, sym, ap, ◌∙◌, arith, slice_get}
+use Rattle.std.proofs.lemmas.List.{take_all}
 use Rattle.rdf_values.specs.Cuts.{Lead, cut}
 use Rattle.rdf_values.specs.declared.span.Span.{Span}
 use Rattle.rdf_values.proofs.Leading.{cuts_lead}

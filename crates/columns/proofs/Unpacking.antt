@@ -1,5 +1,5 @@
 -- Packed bytes give their numbers back.
-use Rattle.std.proofs.Common.{◌≡◌, ◌≢◌, ◌≤◌, ◌<◌, ◌+◌, ◌*◌, ◌%◌, ◌^◌, ℕ, zero, suc, ℤ, pos, ◌+ℤ◌, ◌-ℤ◌, ◌≤ℤ◌, Bool, true, false, List, [], ◌∷◌, ◌++◌, length, get_or, drop, take, Some, refl, sym, ap, ap₂, ◌∙◌, ◌⊎◌, inl, inr, subst, arith, append_assoc, length-append, unsigned_abs, slice_get, if◌then◌else◌, nat_lt, nat_eq, All, flat_map}
+use Rattle.std.proofs.Common.{◌≡◌, ◌≤◌, ◌<◌, ◌+◌, ◌*◌, ◌%◌, ◌^◌, ℕ, zero, suc, ℤ, pos, ◌+ℤ◌, ◌-ℤ◌, ◌≤ℤ◌, Bool, true, false, List, [], ◌∷◌, ◌++◌, length, drop, Some, refl, sym, ap, ap₂, ◌∙◌, ◌⊎◌, inl, inr, subst, arith, append_assoc, length-append, unsigned_abs, slice_get, if◌then◌else◌, nat_lt, nat_eq, All}
 use Rattle.std.specs.Int.{int_max, int_min}
 use Rattle.std.specs.Int.RustNames.{FitsSigned}
 use Rattle.std.specs.List.{AllByRecursion}

@@ -1,5 +1,5 @@
 -- How the numbers of a cluster are packed: the least of them, and each one's difference to it in the fewest bytes.
-use Rattle.std.specs.Prelude.{ℕ, zero, suc, ℤ, pos, ◌≤◌, ◌<◌, ◌^◌, ◌-ℤ◌, ◌+ℤ◌, ◌≤ℤ◌, All, Contains, List, [], ◌∷◌, length, drop, flat_map, slice_index, unsigned_abs, if◌then◌else◌, nat_eq, nat_lt}
+use Rattle.std.specs.Prelude.{ℕ, zero, suc, ℤ, pos, ◌≤◌, ◌<◌, ◌^◌, ◌-ℤ◌, ◌+ℤ◌, ◌≤ℤ◌, All, Contains, List, [], ◌∷◌, drop, flat_map, slice_index, unsigned_abs, if◌then◌else◌, nat_eq, nat_lt}
 use Rattle.std.specs.Int.{bytes_low_first, from_le_bytes, int_max, int_min, w16, w32, w64}
 use Rattle.columns.specs.Widths.{IsWidth}
 use Rattle.columns.specs.declared.packing.Packing.{Packing}

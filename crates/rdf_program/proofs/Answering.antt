@@ -1,6 +1,5 @@
 -- Answers to files and to the generator's input, and what is due to the words.
-use Rattle.std.proofs.Common.{Result, Ok, Err, IfOk, ◌≡◌, ◌≤◌, ◌⊎◌, ℕ, Bool, true, false, List, [], ◌∷◌, length, nat_lt, Option, None, Some, IfSome, IsSome, MatchOption, arith, ap, inr, inl, refl, sym, subst, ◌∙◌, ⊎_elim}
-use Rattle.std.specs.Bool.{MatchBool}
+use Rattle.std.proofs.Common.{Result, Ok, Err, IfOk, ◌≡◌, ◌≤◌, ◌⊎◌, ℕ, Bool, false, List, length, nat_lt, Option, None, Some, IfSome, IsSome, MatchOption, arith, ap, inr, inl, refl, sym, subst, ◌∙◌, ⊎_elim}
 use Rattle.std.proofs.lemmas.Bool.{le-ltb}
 use Rattle.rdf_outside.specs.Outside.{Appends, AppendsPart, Rose}
 use Rattle.rdf_values.specs.Answers.{Refuses}
@@ -20,7 +19,6 @@ use Rattle.node_graph.specs.declared.refusal.GraphRefusal.{GraphRefusal}
 use Rattle.node_graph.specs.declared.refusal.GraphRefusal.TheVariants as graph
 use Rattle.command_words.proofs.Bounds.{asked_fits}
 use Rattle.command_words.specs.Asked.{asked_of}
-use Rattle.command_words.specs.Limits.{AreWithinLimits}
 use Rattle.command_words.specs.declared.command.Command.{Command}
 use Rattle.command_words.specs.declared.command.Input.{Input}
 use Rattle.command_words.specs.declared.command.Input.TheVariants.{Files, Generated}

@@ -1,16 +1,15 @@
 -- To all words and files an answer is due.
-use Rattle.std.proofs.Common.{◌≡◌, ℕ, Bool, true, false, List, [], ◌∷◌, length, Option, None, Some, Result, Ok, Err, MatchOption, MatchResult, nat_lt, inl, inr, refl}
+use Rattle.std.proofs.Common.{◌≡◌, ℕ, Bool, true, false, List, length, Option, None, Some, Result, Ok, Err, MatchOption, MatchResult, nat_lt, inl, inr, refl}
 use Rattle.std.specs.Bool.{MatchBool}
 use Rattle.rdf_values.specs.Cuts.{cut, stride}
 use Rattle.rdf_values.specs.Functions.{Function, fn_names}
-use Rattle.rdf_values.specs.Path.{history}
 use Rattle.rdf_values.specs.RefusalLines.{graph_cause_line, long_script_line, long_table_line, no_file_line, script_cause_line, table_cause_line, usage_line}
 use Rattle.rdf_values.specs.TableText.{MarkedTable, table_of}
 use Rattle.rdf_values.specs.Verdict.{verdict}
 use Rattle.rdf_values.specs.declared.graph_cause.GraphCause.{GraphCause}
 use Rattle.rdf_values.specs.declared.table_cause.TableCause.{TableCause}
 use Rattle.rdf_values.specs.declared.script.Script.{Script}
-use Rattle.rdf_model.specs.PartialResults.{Course, IsChain, IsCourse}
+use Rattle.rdf_model.specs.PartialResults.{Course}
 use Rattle.rdf_model.specs.Transcript.{transcript}
 use Rattle.script_read.proofs.Answered.{answered}
 use Rattle.table_csv.specs.Csv.{csv_records}
@@ -21,7 +20,7 @@ use Rattle.command_words.specs.declared.command.Input.{Input}
 use Rattle.command_words.specs.declared.command.Input.TheVariants.{Files, Generated}
 use Rattle.rdf_values.specs.Generator.{generated_script}
 use Rattle.rdf_values.specs.Generator.{generated_table}
-use Rattle.rdf_program.specs.Due.{Due, IsDue, IsDueOver, IsDueToBytes, IsDueToInput, IsDueToScript, IsDueToTable, IsPrinted, ReadsScript, WithFile, WithScript, WithTable, dataset_of, due_of, max_script, max_table}
+use Rattle.rdf_program.specs.Due.{Due, IsDue, IsDueOver, IsDueToBytes, IsDueToInput, IsDueToScript, IsDueToTable, IsPrinted, ReadsScript, WithFile, WithScript, dataset_of, due_of, max_script, max_table}
 use Rattle.rdf_program.specs.Statuses.{printed_status}
 use Rattle.rdf_program.specs.declared.status.Status.TheVariants.{NoFile, ScriptRefused, TableRefused, Words}
 

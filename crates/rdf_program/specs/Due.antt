@@ -1,5 +1,5 @@
 -- What is due to the words, the files and the caller's functions: a status and the bytes that are written with it.
-use Rattle.std.specs.Prelude.{◌≡◌, ◌⊎◌, ℕ, List, Option, Some, None, length, nat_lt, MatchOption, MatchResult}
+use Rattle.std.specs.Prelude.{◌≡◌, ◌⊎◌, ℕ, List, Option, length, nat_lt, MatchOption, MatchResult}
 use Rattle.std.specs.Bool.{MatchBool}
 use Rattle.rdf_values.specs.Functions.{Function, fn_names}
 use Rattle.rdf_values.specs.Path.{history}
@@ -15,7 +15,6 @@ use Rattle.rdf_model.specs.Results.{Dataset}
 use Rattle.rdf_model.specs.Transcript.{transcript}
 use Rattle.table_csv.specs.Csv.{csv_records}
 use Rattle.command_words.specs.Asked.{asked_of}
-use Rattle.command_words.specs.declared.command.Command.{Command}
 use Rattle.command_words.specs.declared.command.Input.{Input}
 use Rattle.command_words.specs.declared.command.Input.TheVariants.{Files, Generated}
 use Rattle.rdf_values.specs.Generator.{generated_table}

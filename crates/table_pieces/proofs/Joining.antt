@@ -1,11 +1,7 @@
 -- Columns of a table with those of another behind them.
-use Rattle.std.proofs.Common.{◌≡◌, ◌≤◌, ◌<◌, ◌+◌, ℕ, zero, suc, pos, List, [], ◌∷◌, ◌++◌, length, get_or, set, take, drop, map, All, Some, arith, refl, ap, ap₂, ◌∙◌, sym, subst, length-append, length-take, add-one, append-nil, append_assoc}
-use Rattle.std.specs.Prelude.{slice_get}
+use Rattle.std.proofs.Common.{◌≡◌, ◌≤◌, ◌<◌, ◌+◌, ℕ, zero, suc, pos, List, [], ◌∷◌, ◌++◌, length, get_or, set, drop, map, arith, refl, ap, ap₂, ◌∙◌, sym, subst, length-append, add-one, append-nil, append_assoc}
 use Rattle.std.proofs.lemmas.List.{get_or-append-add, get_or_append_left, get_or-map, length-drop, length-map, length-set, map-append, map-set}
-use Rattle.std.proofs.lemmas.List.Elements.{All-append, All-map}
-use Rattle.std.proofs.lemmas.List.Kept.{AllPairs-from_increasing}
-use Rattle.std.proofs.lemmas.Option.{get_or_from_slice_get, slice_get_within}
-use Rattle.rdf_values.specs.Cuts.{AreMarks, below}
+use Rattle.rdf_values.specs.Cuts.{below}
 use Rattle.rdf_values.specs.Kept.{AreKept, HoldsTable, IsKept, cell_at, rows_kept}
 use Rattle.rdf_values.specs.Tables.{FitRows}
 use Rattle.rdf_values.specs.declared.cells.Cells.{Cells}

@@ -1,4 +1,4 @@
-use Rattle.std.proofs.Common.{ap, length}
+use Rattle.std.proofs.Common.{ap}
 use Rattle.rdf_values.specs.declared.cells.Cells.TheVariants as cells
 use Rattle.table_pieces.specs.Wholes.{joined}
 use Rattle.columns.proofs.Joining.{packed_is_by}

@@ -1,4 +1,4 @@
-use Rattle.std.proofs.Common.{◌≡◌, ◌≤◌, ◌∙◌, arith, length, take, drop, ◌-◌}
+use Rattle.std.proofs.Common.{◌≤◌, ◌∙◌, arith, length, take, drop, ◌-◌}
 use Rattle.std.proofs.lemmas.List.{length-map, take_all}
 use Rattle.rdf_values.specs.Cuts.{cut}
 use Rattle.rdf_values.proofs.Leading.{cuts_lead}

@@ -1,4 +1,4 @@
-use Rattle.std.proofs.Common.{◌≡◌, ◌∙◌, ◌-◌, ap, ap₂, arith, length, min}
+use Rattle.std.proofs.Common.{◌≡◌, ◌∙◌, ◌-◌, ap₂, arith, length, min}
 use Rattle.columns.proofs.InPieces.{end_within, gathered_more, size_more}
 use Rattle.columns.proofs.pieces.gather.Goals as goal
 

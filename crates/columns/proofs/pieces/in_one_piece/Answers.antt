@@ -1,4 +1,4 @@
-use Rattle.std.proofs.Common.{◌≡◌, ◌≤◌, ◌+◌, ap, arith, length, sym}
+use Rattle.std.proofs.Common.{◌≤◌, ◌+◌, arith, length}
 use Rattle.columns.proofs.InPieces.{end_within, in_piece}
 use Rattle.columns.proofs.pieces.in_one_piece.Goals as goal
 

@@ -1,4 +1,4 @@
-use Rattle.std.proofs.Common.{◌≡◌, ap, ◌∙◌}
+use Rattle.std.proofs.Common.{ap, ◌∙◌}
 use Rattle.columns.specs.ColumnsView.{ColumnsView}
 use Rattle.rdf_program.proofs.Answering.{over_refused}
 use Rattle.rdf_program.proofs.over_table.answer_script.Goals as goal

@@ -1,4 +1,3 @@
-use Rattle.std.proofs.Common.{◌≡◌}
 use Rattle.rdf_program.proofs.Answering.{asked, entries_fit, made_names, settings_fit, taken_files, taken_made}
 use Rattle.rdf_program.proofs.words.answer_words.Goals as goal
 

@@ -1,4 +1,4 @@
-use Rattle.std.proofs.Common.{◌≡◌, ◌∙◌, arith, length, ap, Some, sym}
+use Rattle.std.proofs.Common.{◌∙◌, arith}
 use Rattle.std.proofs.Math.Facts.{to_z-of_z}
 use Rattle.columns.proofs.BlockSteps.{block_inside, block_least, block_of, block_value, block_width, block_word, cast_back}
 use Rattle.columns.proofs.packed_ints.PackedInts.at.Goals as goal

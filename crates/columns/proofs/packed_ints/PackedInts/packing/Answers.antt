@@ -1,4 +1,3 @@
-use Rattle.std.proofs.Common.{arith, length}
 use Rattle.std.proofs.Math.Facts.{to_z-of_z}
 use Rattle.columns.proofs.BlockSteps.{block_least, block_of}
 use Rattle.columns.proofs.packed_ints.PackedInts.packing.Goals as goal

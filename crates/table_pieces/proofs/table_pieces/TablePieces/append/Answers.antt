@@ -1,5 +1,4 @@
-use Rattle.std.proofs.Common.{◌≡◌, ◌≤◌, ◌+◌, ◌∙◌, ap, length, map, refl, sym}
-use Rattle.std.proofs.lemmas.List.{length-map}
+use Rattle.std.proofs.Common.{◌≡◌, ◌≤◌, ◌+◌, ◌∙◌, ap, map, refl, sym}
 use Rattle.rdf_values.specs.Kept.{rows_kept}
 use Rattle.rdf_values.proofs.RowPushed.{length-rows_kept}
 use Rattle.table_pieces.specs.Wholes.{whole}
