@@ -91,6 +91,25 @@ run sum.txt long.csv --slots 3 --cluster 100
 judge "the same with slots" 0 "n = 20000
 s = 199990000
 l = 19999"
+# Slots read such a table in pieces, and a cluster may stand in two of them. What is due is worked out by awk.
+awk 'BEGIN { print "x:int,v:vec,k:cut"
+    for (i = 0; i < 30000; i++) {
+        v = ""
+        for (j = 0; j < i % 4; j++) v = v (j ? ";" : "") i - j * 20000
+        print i * i % 70001 "," v "," (i % 9999 == 5)
+    } }' >pieces.csv
+printf 'd = df.Define("load", "Sum(v)")\nfew = d.Filter("x %% 2000 == 7")\nt = few.Take("x")\nl = few.Take("load")
+s = df.Sum("x")\nall = df.Sum("v")\nPrint(t)\nPrint(l)\nPrint(s)\nPrint(all)\n' >pieces.txt
+due=$(awk -F , 'NR > 1 {
+    n = split($2, v, ";"); load = 0
+    for (j = 1; j <= n; j++) load += v[j]
+    s += $1; all += load
+    if ($1 % 2000 == 7) { t = t " " $1; l = l " " load }
+} END { printf "t =%s\nl =%s\ns = %d\nall = %d", t, l, s, all }' pieces.csv)
+for slots in 1 2 3 5 16; do
+    run pieces.txt pieces.csv --slots $slots --cluster 1777
+    judge "a table in the pieces of $slots slots" 0 "$due"
+done
 awk 'BEGIN { print "x:int"; for (i = 0; i < 20000; i++) print i; print "x" }' >long_bad.csv
 run sum.txt long_bad.csv
 judge "a bad cell at the end of a long table" 7 "table refused at entry 20000 field 0: B3 BadInt"
