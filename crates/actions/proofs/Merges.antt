@@ -5,9 +5,9 @@ use Rattle.std.specs.Int.{int_max, int_min}
 use Rattle.rdf_values.specs.declared.action.ReduceOp.{ReduceOp}
 use Rattle.rdf_values.specs.declared.item.Item.{Item}
 use Rattle.rdf_values.specs.Fold.{Count, Extreme, Flat, Reduced, Square, Sum, Taken, extreme, integer_sum, number_of, numbers_of, reduce_start, reduce_step, scalar_of}
-use Rattle.histograms.specs.OneAxis.{HasFilled, flat_cells}
+use Rattle.histograms.specs.OneAxis.{HasFilled}
 use Rattle.histograms.specs.OneAxis as one
-use Rattle.histograms.specs.TwoAxes.{HasFilled2, square_cells}
+use Rattle.histograms.specs.TwoAxes.{HasFilled2}
 use Rattle.histograms.specs.TwoAxes as two
 use Rattle.actions.specs.declared.taken.TakenValue.{TakenValue}
 use Rattle.actions.specs.declared.state.State.TheVariants as state

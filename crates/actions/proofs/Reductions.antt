@@ -1,20 +1,17 @@
 -- The operations of a Reduce over two lists of numbers that have 64 bits.
-use Rattle.std.proofs.Common.{ℕ, suc, ◌≡◌, ◌+◌, ◌-◌, ◌<◌, ◌^◌, ◌%◌, Bool, true, false, cond, lit<, List, [], ◌∷◌, ◌++◌, ℤ, pos, negsuc, arith, refl, ap, sym, ◌∙◌, w64, FitsSigned}
-use Rattle.std.proofs.Math.Facts.{Fits-of_lt, sfits_to_z}
-use Rattle.std.specs.Prelude.{int_lt, fold, bit_and, bit_or, bit_xor, if◌then◌else◌, nat_le}
-use Rattle.std.specs.Int.{cast_signed, cast_unsigned, int_max, int_min, int_wrapping_add}
+use Rattle.std.proofs.Common.{ℕ, suc, ◌≡◌, ◌+◌, ◌-◌, ◌<◌, ◌^◌, ◌%◌, List, ◌++◌, ℤ, pos, negsuc, arith, refl, ap, sym, ◌∙◌, w64, FitsSigned}
+use Rattle.std.specs.Prelude.{fold, bit_and, bit_or, bit_xor}
+use Rattle.std.specs.Int.{cast_signed, cast_unsigned, int_wrapping_add}
 use Rattle.std.proofs.lemmas.Int.{of_z-to_z}
 use Rattle.std.proofs.lemmas.Nat.{and_comm, and_le_l, or_comm, or_lt, xor_comm, xor_lt}
 use Rattle.std.proofs.lemmas.Nat.Bits.{bit_at_and, bit_at_or, bit_at_xor, same_from_bits}
 use Rattle.std.proofs.Math.Nat.{mod-eq_of_lt, mod-add-mod}
 use Rattle.rdf_values.specs.declared.action.ReduceOp.{ReduceOp}
 use Rattle.rdf_values.specs.declared.action.ReduceOp.TheVariants as op
-use Rattle.rdf_values.specs.declared.item.Item.{Item}
-use Rattle.rdf_values.specs.declared.item.Item.TheVariants as item
 use Rattle.rdf_values.specs.Fold.{number_of, numbers_of, on_bits, reduce_start, reduce_step}
-use Rattle.actions.specs.Feeding.{Fed, by_cluster, in_file_order, put}
+use Rattle.actions.specs.Feeding.{Fed, in_file_order}
 use Rattle.actions.proofs.Operations.{fold_both, max_swap, min_swap, min_comm, max_comm}
-use Rattle.actions.proofs.Unordered.{both_same, items_of}
+use Rattle.actions.proofs.Unordered.{both_same}
 
 -- the bits of a number come back
 back : (n : ℕ) → n < 2 ^ 64 → cast_unsigned w64 (cast_signed w64 n) % 2 ^ 64 ≡ n

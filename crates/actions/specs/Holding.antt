@@ -1,5 +1,5 @@
 -- What an accumulator holds.
-use Rattle.std.specs.Prelude.{ℕ, ◌≡◌, ◌≤◌, ◌*◌, ⊤, List, [], ◌∷◌, length, map, nat_abs}
+use Rattle.std.specs.Prelude.{ℕ, ◌≡◌, ◌≤◌, ◌*◌, ⊤, List, [], length, map, nat_abs}
 use Rattle.rdf_values.specs.declared.action.ActionKind.{ActionKind}
 use Rattle.rdf_values.specs.declared.action.ActionKind.TheVariants as kind
 use Rattle.rdf_values.specs.Fold.{Filled, fold_items, Count, Sum, Extreme, Taken, Reduced, Flat, Square}

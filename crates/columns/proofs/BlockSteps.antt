@@ -109,9 +109,6 @@ block_value bytes b values i h l =
 
 -- ---- what the functions ask
 
-pub found_block : (bs : List Block) (c : ℕ) (b : Block) → b ≡ get_or bs c b → get_or bs c b ≡ b
-found_block bs c b e = sym e
-
 pub block_of : (bytes : List ℕ) (bs : List Block) (c : ℕ) (b : Block) → AreBlocks bytes bs (map (block_values bytes) bs) → c < length (map (block_values bytes) bs) → b ≡ get_or bs c b → IsBlock bytes b (get_or (map (block_values bytes) bs) c [])
 block_of bytes bs c b h l e = subst (λ (x : Block). IsBlock bytes x (get_or (map (block_values bytes) bs) c [])) (sym e) (block_at bytes bs (map (block_values bytes) bs) c b h l)
 

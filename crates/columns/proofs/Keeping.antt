@@ -14,10 +14,10 @@ use Rattle.rdf_values.specs.declared.value.ColType.{ColType}
 use Rattle.rdf_values.specs.declared.value.ColType.TheVariants as k
 use Rattle.rdf_values.specs.declared.value.Value.TheVariants as v
 use Rattle.rdf_values.proofs.KeptLemmas.{ints_column, kept_within, no_ints, no_vects, vects_column}
-use Rattle.table_pieces.specs.Wholes.{whole}
+use Rattle.table_pieces.specs.Wholes.{joined, whole}
 use Rattle.table_pieces.specs.declared.column_pieces.ColumnPieces.{ColumnPieces}
 use Rattle.columns.specs.Blocks.{cluster_values}
-use Rattle.columns.specs.KeptColumns.{IsByCluster, cells_of, joined}
+use Rattle.columns.specs.KeptColumns.{IsByCluster, cells_of}
 use Rattle.columns.specs.declared.kept.Kept.{Kept}
 use Rattle.columns.specs.declared.kept.Kept.TheVariants as kept
 use Rattle.columns.proofs.Joining.{span_within, values_of_cluster}
@@ -88,9 +88,6 @@ number_here numbers s entry from below =
 
 pub place_here : (numbers : List ℤ) (s : Span) (entry : ℕ) → s.lo ≤ entry → entry < s.hi → s.hi ≤ length numbers → entry - s.lo < length (take (s.hi - s.lo) (drop s.lo numbers))
 place_here numbers s entry from below few = omega (arith, from, below, few, length-take (s.hi - s.lo) (drop s.lo numbers), length-drop s.lo numbers)
-
-pub slice_some : (numbers : List ℤ) (lo hi : ℕ) → lo < hi → hi ≤ length numbers → 0 < length (take (hi - lo) (drop lo numbers))
-slice_some numbers lo hi some few = omega (arith, some, few, length-take (hi - lo) (drop lo numbers), length-drop lo numbers)
 
 pub entry_here : (n size : ℕ) (marks : List ℕ) (numbers : List ℤ) (values : List (List ℤ)) (entry c : ℕ) (s : Span) → values ≡ cluster_values (cut n size marks) numbers → length numbers ≡ n → Holds (cut n size marks) entry c
     → slice_get (cut n size marks) c ≡ Some s → (c < length values) × (s.lo ≤ entry) × (entry - s.lo < length (get_or values c [])) × (slice_get (get_or values c []) (entry - s.lo) ≡ slice_get numbers entry)

@@ -51,16 +51,6 @@ length_by w n (inr (inr (inr (inr h)))) = rw h refl
 pub length-low_bytes : (w n : ℕ) → IsWidth w → length (low_bytes w n) ≡ w
 length-low_bytes w n h = length_by w n h.one_of
 
-pub width_few : (w : ℕ) → IsWidth w → w ≤ 8
-width_few w h = go h.one_of
-  where
-    go : OneOf w → w ≤ 8
-    go (inl h) = omega (arith, h)
-    go (inr (inl h)) = omega (arith, h)
-    go (inr (inr (inl h))) = omega (arith, h)
-    go (inr (inr (inr (inl h)))) = omega (arith, h)
-    go (inr (inr (inr (inr h)))) = omega (arith, h)
-
 back_0 : (n : ℕ) (more : List ℕ) → n < 256 ^ 0 → number_in 0 (low_bytes 0 n ++ more) ≡ n
 back_0 n more h = omega arith
 

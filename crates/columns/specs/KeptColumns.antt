@@ -1,5 +1,5 @@
 -- How columns are kept over clusters.
-use Rattle.std.specs.Prelude.{◌≡◌, ⊤, List, ℤ, flat_map, map}
+use Rattle.std.specs.Prelude.{◌≡◌, ⊤, List, map}
 use Rattle.std.specs.List.{AllByRecursion}
 use Rattle.rdf_values.specs.Cuts.{cut}
 use Rattle.rdf_values.specs.Kept.{HoldsTable}
@@ -11,10 +11,7 @@ use Rattle.clusters.specs.CutsView.{CutsView}
 use Rattle.columns.specs.Blocks.{cluster_values}
 use Rattle.columns.specs.declared.kept.Kept.{Kept}
 use Rattle.columns.specs.declared.kept.Kept.TheVariants as kept
-
--- the numbers of all clusters
-abbrev pub joined : List (List ℤ) → List ℤ
-joined values = flat_map (λ v. v) values
+use Rattle.table_pieces.specs.Wholes.{joined}
 
 -- the values for which a column stands
 abbrev pub cells_of : Kept → Cells

@@ -6,8 +6,8 @@ ghost use Rattle.rdf_values.specs.declared.span.Span.{Span};
 ghost use Rattle.rdf_values.specs.declared.value.ColType.TheVariants as k;
 ghost use Rattle.rdf_values.specs.declared.value.Value.TheVariants as v;
 ghost use Rattle.columns.specs.Blocks.{cluster_values};
-ghost use Rattle.columns.specs.KeptColumns.{joined};
 ghost use Rattle.columns.specs.Packings.{packed_of, packing_of};
+ghost use Rattle.table_pieces.specs.Wholes.{joined};
 
 use crate::kept::{Kept, keep_all, keep_in_slots};
 use crate::packed_ints::PackedInts;

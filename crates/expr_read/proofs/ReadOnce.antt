@@ -1,10 +1,8 @@
 -- What the laws of scripts ask of the texts of expressions.
-use Rattle.std.proofs.Common.{◌≡◌, ℕ, List, Ok, refl}
-use Rattle.rdf_values.specs.Tree.{NamedTree}
-use Rattle.rdf_values.specs.Tokens.{Token, Placed, Refusal, tokens}
+use Rattle.std.proofs.Common.{◌≡◌, ℕ, List}
+use Rattle.rdf_values.specs.Tokens.{Token, Placed, Refusal}
 use Rattle.rdf_values.specs.Grammar.{Reads, ReadsValues, bare}
-use Rattle.rdf_values.specs.Scans.{ScanState, ScanEnd, Whole, IsText, Refuses, at_token, at_scan, at_end, scan, begin_expr, begin_values}
-use Rattle.rdf_values.specs.declared.vary_values.VaryValues.{VaryValues}
+use Rattle.rdf_values.specs.Scans.{ScanState, Whole, IsText, Refuses, at_token, at_scan, at_end, scan, begin_expr, begin_values}
 use Rattle.rdf_values.proofs.OneScript.{AreReadOnce}
 use Rattle.expr_read.proofs.Unique.{unique}
 use Rattle.expr_read.proofs.UniqueValues.{unique_values}

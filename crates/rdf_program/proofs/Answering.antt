@@ -1,5 +1,5 @@
 -- Answers to files and to the generator's input, and what is due to the words.
-use Rattle.std.proofs.Common.{Result, Ok, Err, IfOk, ◌≡◌, ◌≤◌, ◌⊎◌, ℕ, Bool, false, List, length, nat_lt, Option, None, Some, IfSome, IsSome, MatchOption, arith, ap, inr, inl, refl, sym, subst, ◌∙◌, ⊎_elim}
+use Rattle.std.proofs.Common.{Result, Ok, Err, IfOk, ◌≡◌, ◌≤◌, ◌⊎◌, ℕ, false, List, length, nat_lt, Option, None, Some, IfSome, IsSome, MatchOption, arith, ap, inr, inl, refl, sym, subst, ◌∙◌, ⊎_elim}
 use Rattle.std.proofs.lemmas.Bool.{le-ltb}
 use Rattle.rdf_outside.specs.Outside.{Appends, AppendsPart, Rose}
 use Rattle.rdf_values.specs.Answers.{Refuses}

@@ -26,7 +26,6 @@ use Rattle.rdf_values.specs.Generator.{generated_script}
 use Rattle.rdf_values.specs.Generator.{generated_table}
 use Rattle.rdf_program.specs.Due.{Due, IsDue, IsDueOver, IsDueToBytes, IsDueToInput, IsDueToScript, IsDueToTable, IsPrinted, ReadsScript, WithFile, WithScript, dataset_of, due_of, max_script, max_table}
 use Rattle.rdf_program.specs.Statuses.{printed_status}
-use Rattle.rdf_program.specs.declared.status.Status.{Status}
 use Rattle.rdf_program.specs.declared.status.Status.TheVariants.{ScriptRefused, TableRefused}
 
 -- ---- a transcript's status doesn't tell the course

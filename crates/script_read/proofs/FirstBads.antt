@@ -7,7 +7,7 @@ use Rattle.rdf_values.specs.Names.{is_name}
 use Rattle.rdf_values.specs.Tree.{NamedTree}
 use Rattle.rdf_values.specs.Scans.{ReadsText, ReadsValuesText}
 use Rattle.rdf_values.specs.LineTokens.{QuotedText}
-use Rattle.rdf_values.specs.Statements.{IsName, IsMaybeName, no_name, a_name, AreNames, no_names, more_names, IsMaybeLabel, no_label, a_label, Wanted, AName, ALabel, AnOperation, AnExpression, SomeValues, IsBad, FirstBad, LineRefusal, here, later, wanted_names, maybe_wanted, operation_text}
+use Rattle.rdf_values.specs.Statements.{IsName, AreNames, no_names, more_names, Wanted, AName, AnOperation, AnExpression, SomeValues, IsBad, FirstBad, LineRefusal, here, later, wanted_names, operation_text}
 use Rattle.rdf_values.specs.Statements as st
 use Rattle.rdf_values.specs.declared.action.ReduceOp.{ReduceOp}
 use Rattle.rdf_values.specs.declared.vary_values.VaryValues.{VaryValues}

@@ -4,7 +4,7 @@ use Rattle.std.specs.Prelude.{codes, option_map, if◌then◌else◌}
 use Rattle.std.proofs.lemmas.List.{append-nil}
 use Rattle.rdf_values.specs.LineTokens.{LineToken, QuotedText}
 use Rattle.rdf_values.specs.LineTokens as t
-use Rattle.rdf_values.specs.LineForms.{Form, Method, Strings, Edges, method_word, arguments, call, more_strings, strings_tokens, more_edges, edges_tokens, maybe_string, form_tokens, has_free_names, is_free}
+use Rattle.rdf_values.specs.LineForms.{Form, Method, method_word, arguments, call, more_strings, more_edges, maybe_string, form_tokens, has_free_names, is_free}
 use Rattle.rdf_values.specs.LineForms as form
 use Rattle.script_read.specs.Views.{mark_token}
 use Rattle.script_read.specs.Walk.{Want, ALine, AWord, AMethod, AString, ANumber, MoreStrings, MoreEdges, MaybeString, VaryArguments, AMark, next, is_mark, asked_form, name_of, name_word, arguments_wants, method_wants, booking_wants, asking_wants}

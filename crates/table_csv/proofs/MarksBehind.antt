@@ -1,7 +1,7 @@
 -- Marks behind others.
-use Rattle.std.proofs.Common.{◌≡◌, ◌≤◌, ◌<◌, ◌+◌, ℕ, List, [], ◌∷◌, ◌++◌, length, take, All, Some, arith, ap, ◌∙◌, length-take, append_assoc}
+use Rattle.std.proofs.Common.{◌≡◌, ◌<◌, ◌+◌, ℕ, List, [], ◌∷◌, ◌++◌, take, All, Some, arith, ap, ◌∙◌, length-take, append_assoc}
 use Rattle.std.specs.Prelude.{slice_get}
-use Rattle.std.proofs.lemmas.List.{get_or-take, map-append, take_all, take_more}
+use Rattle.std.proofs.lemmas.List.{get_or-take, map-append, take_more}
 use Rattle.std.proofs.lemmas.List.Elements.{All-append, All-map}
 use Rattle.std.proofs.lemmas.List.Kept.{AllPairs-from_increasing}
 use Rattle.std.proofs.lemmas.Option.{get_or_from_slice_get, slice_get_within}
@@ -18,9 +18,6 @@ take_got xs i x s = take_more xs i x (slice_get_within xs i x s) ∙ ap (λ y. t
 pub marks_more : (old now more : List ℕ) (n i mark : ℕ) → now ≡ old ++ marks_behind n (take i more) → slice_get more i ≡ Some mark → now ++ (n + mark) ∷ [] ≡ old ++ marks_behind n (take (i + 1) more)
 marks_more old now more n i mark e s =
     rw (e, take_got more i mark s, map-append (λ m. n + m) (take i more) (mark ∷ [])) (append_assoc old (marks_behind n (take i more)) ((n + mark) ∷ []))
-
-pub marks_all : (old now more : List ℕ) (n i : ℕ) → now ≡ old ++ marks_behind n (take i more) → length more ≤ i → now ≡ old ++ marks_behind n more
-marks_all old now more n i e l = e ∙ ap (λ t. old ++ marks_behind n t) (take_all i more l)
 
 pub marks_above : (old now more : List ℕ) (n i mark : ℕ) → now ≡ old ++ marks_behind n (take i more) → All (λ m. m < n) old → AreMarks more → slice_get more i ≡ Some mark → All (λ m. m < n + mark) now
 marks_above old now more n i mark e before a s =

@@ -32,13 +32,13 @@ impl ColumnPieces {
         }
     }
 
-    /// Puts the pieces of another column behind, which is left without any; those of another type are left out.
-    pub fn append(&mut self, more: &mut ColumnPieces) -> Result<(), Memory>
-        ensures { OnOk result (whole self.new ≡ cells_joined (whole self.old) (whole more.old)) }
+    /// Puts the pieces of another column behind; those of another type are left out.
+    pub fn append(&mut self, more: ColumnPieces) -> Result<(), Memory>
+        ensures { OnOk result (whole self.new ≡ cells_joined (whole self.old) (whole more)) }
     {
         match (self, more) {
-            (ColumnPieces::Ints(numbers), ColumnPieces::Ints(more)) => numbers.append(more)?,
-            (ColumnPieces::Vects(vectors), ColumnPieces::Vects(more)) => vectors.append(more)?,
+            (ColumnPieces::Ints(numbers), ColumnPieces::Ints(mut more)) => numbers.append(&mut more)?,
+            (ColumnPieces::Vects(vectors), ColumnPieces::Vects(mut more)) => vectors.append(&mut more)?,
             _ => {}
         }
         Ok(())

@@ -51,8 +51,8 @@ fn append_columns(
     requires { length more.items ≡ length columns.items }
     ensures { IfOk result (λ all. map whole all.items ≡ columns_joined (map whole columns.items) (map whole more.items)) }
 {
-    for (col, mut pieces) in more.into_iter().enumerate() {
-        columns[col].append(&mut pieces)?;
+    for (col, pieces) in more.into_iter().enumerate() {
+        columns[col].append(pieces)?;
     }
     Ok(columns)
 }

@@ -1,4 +1,4 @@
-use Rattle.std.proofs.Common.{ℕ, ◌≡◌, ◌<◌, ℤ, take, get_or, w64, FitsSigned}
+use Rattle.std.proofs.Common.{◌≡◌, take}
 use Rattle.std.specs.Prelude.{fold}
 use Rattle.rdf_values.specs.Fold.{reduce_step}
 use Rattle.actions.proofs.numbers.reduce_with.Given as goal

@@ -1,4 +1,4 @@
-use Rattle.std.proofs.Common.{ap, arith}
+use Rattle.std.proofs.Common.{arith}
 use Rattle.entry_cache.specs.Jobs.{job_of}
 use Rattle.slot_state.proofs.Adding.{counted, numbered_at, read}
 use Rattle.slot_state.proofs.passes.pass_at.Goals as goal

@@ -2,13 +2,6 @@ use Rattle.std.proofs.Common.{◌≡◌, ◌∙◌, length, rules, sym}
 use Rattle.table_pieces.proofs.Joining.{pieces_all, pieces_more}
 use Rattle.table_pieces.proofs.table_pieces.append_columns.Goals as goal
 
-pub loop-col-preserved-in_ok-append : goal.loop-col-preserved-in_ok-append
-loop-col-preserved-in_ok-append c =
-    let inv = c.loop-col.invariant in
-    let steps = c.in-Some.ensures.steps in
-    pieces_more c.args.columns.items c.loop-col.columns.items c.args.more.items c.next.new.self.iter.rest.items c.loop-col.col-iterator.count c.in-Some.col c.next.new.self.count c.append.new.self c.index_mut.result.now c.in-Some.pieces
-    inv.0 (inv.1 ∙ steps.0.0) c.requires inv.2 steps.1 steps.2 c.index_mut.ensures.value c.in_ok-append.ensures
-
 pub loop-col-preserved : goal.loop-col-preserved
 loop-col-preserved c =
     let inv = c.loop-col.invariant in

@@ -1,6 +1,5 @@
-use Rattle.std.proofs.Common.{ap, sym, subst, ◌≡◌, ◌≤◌, ◌+◌, ◌++◌, false, length, ◌∙◌, arith, rules, List, ℕ}
+use Rattle.std.proofs.Common.{ap, sym, ◌≡◌, ◌+◌, ◌++◌, false, ◌∙◌, arith, rules, List}
 use Rattle.std.specs.List.{list_any}
-use Rattle.std.proofs.lemmas.List.{length-append, length-map}
 use Rattle.rdf_values.specs.Path.{Variation}
 use Rattle.rdf_values.specs.Names.{same}
 use Rattle.variation_sets.specs.Names.{named, is_taken}

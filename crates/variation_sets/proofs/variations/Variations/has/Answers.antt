@@ -1,4 +1,4 @@
-use Rattle.std.proofs.Common.{ap, ◌∙◌}
+use Rattle.std.proofs.Common.{◌∙◌}
 use Rattle.std.specs.List.{list_any}
 use Rattle.rdf_values.specs.Names.{same}
 use Rattle.rdf_values.specs.Path.{Variation}
