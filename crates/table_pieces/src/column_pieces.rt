@@ -37,8 +37,8 @@ impl ColumnPieces {
         ensures { OnOk result (whole self.new ≡ cells_joined (whole self.old) (whole more)) }
     {
         match (self, more) {
-            (ColumnPieces::Ints(numbers), ColumnPieces::Ints(mut more)) => numbers.append(&mut more)?,
-            (ColumnPieces::Vects(vectors), ColumnPieces::Vects(mut more)) => vectors.append(&mut more)?,
+            (ColumnPieces::Ints(all), ColumnPieces::Ints(mut more)) => all.append(&mut more)?,
+            (ColumnPieces::Vects(all), ColumnPieces::Vects(mut more)) => all.append(&mut more)?,
             _ => {}
         }
         Ok(())
