@@ -27,7 +27,7 @@ use Rattle.entry_cache.proofs.PassTies.{get_mapped, of_mapped, of_option, pass_i
 pub some_same : {A : Type 0} (a b : A) → ◌≡◌ {A = Option A} (Some a) (Some b) → a ≡ b
 some_same a b e = cc e
 
-action_there : (j : JobView) (n : ℕ) → IsActionPass j n → (p : Pass) × (slice_get (passes_in j) n ≡ Some p) × IsActionBooking p.result.booking
+pub action_there : (j : JobView) (n : ℕ) → IsActionPass j n → (p : Pass) × (slice_get (passes_in j) n ≡ Some p) × IsActionBooking p.result.booking
 action_there j n h = go (slice_get (passes_in j) n) refl h
   where
     go : (o : Option Pass) → slice_get (passes_in j) n ≡ o → MatchOption o ⊥ (λ (p : Pass). IsActionBooking p.result.booking) → (p : Pass) × (slice_get (passes_in j) n ≡ Some p) × IsActionBooking p.result.booking
@@ -86,12 +86,12 @@ module _ (j : JobView) (n : ℕ) (m : NumberedPass) (its : numbered_in j n ≡ S
       go (ActionAt k at) i q = cc q
       go (ReportOn fs) i q = elim i [ ]
 
-  pub action_at : IsActionPass j n → (k : ActionKind) (kind : ResultKind) (path inputs : List ℕ) → kind ≡ what.Action k
+  pub action_at : (k : ActionKind) (kind : ResultKind) (path inputs : List ℕ) → kind ≡ what.Action k
       → option_map (λ (x : ResultAt). kind_of_booking x.booked.booking) (slice_get (graph_results (job_graph j)) m.result) ≡ Some kind
       → option_map (λ (x : ResultAt). x.filters) (slice_get (graph_results (job_graph j)) m.result) ≡ Some path
       → option_map (λ (x : ResultAt). x.inputs) (slice_get (graph_results (job_graph j)) m.result) ≡ Some inputs
       → IsActionAt j m.result k path inputs
-  action_at h k kind path inputs is q f i = go result_there.0.booked.booking refl (some_same _ _ (sym (ap (option_map (λ (x : ResultAt). kind_of_booking x.booked.booking)) result_there.1) ∙ q) ∙ is)
+  action_at k kind path inputs is q f i = go result_there.0.booked.booking refl (some_same _ _ (sym (ap (option_map (λ (x : ResultAt). kind_of_booking x.booked.booking)) result_there.1) ∙ q) ∙ is)
     where
       go : (b : Booking) → result_there.0.booked.booking ≡ b → kind_of_booking b ≡ what.Action k → IsActionAt j m.result k path inputs
       go (ActionAt l at) e w = record {
