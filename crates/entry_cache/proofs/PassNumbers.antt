@@ -1,7 +1,7 @@
 -- The passes of a job's loop by numbers, and their actions.
-use Rattle.std.proofs.Common.{◌≡◌, ℕ, ◌<◌, List, [], length, map, Option, Some, None, option_map, refl, sym, ◌∙◌, ap, subst, get_or, slice_get, unwrap_or}
+use Rattle.std.proofs.Common.{◌≡◌, ℕ, ◌<◌, List, [], length, map, Option, Some, None, option_map, refl, sym, ◌∙◌, ap, subst, slice_get, unwrap_or}
 use Rattle.std.specs.Prelude.{MatchOption}
-use Rattle.std.proofs.lemmas.Option.{slice_get-get_or, slice_get_within}
+use Rattle.std.proofs.lemmas.Option.{slice_get_within}
 use Rattle.rdf_values.specs.Bookings.{ActionAt, Booked, Booking, Pass, ReportOn, bookings}
 use Rattle.rdf_values.specs.Functions.{fn_names}
 use Rattle.rdf_values.specs.Path.{history}
@@ -47,15 +47,6 @@ pass_numbered j n p h = go (slice_get (loop_results (history j.script)) j.number
         let d = ap (λ xs. slice_get xs n) c.2 ∙ get_mapped (λ (p : Pass). Some p) (loop_passes (history j.script) rs) n p k in
         let e = of_mapped (pass_at (history j.script)) c.0 n (Some p) d in
         (e.0, ap (λ o. slice_get (unwrap_or o []) n) c.1 ∙ e.1)
-
--- it is in the loop's list
-pub pass_inside : (j : JobView) (n : ℕ) → IsActionPass j n → (ps : List NumberedPass) → slice_get (graph_loops (job_graph j)) j.number ≡ Some ps → n < length ps
-pass_inside j n h ps q =
-    let a = action_there j n h in let m = pass_numbered j n a.0 a.1 in
-    slice_get_within ps n m.0 (sym (ap (λ o. slice_get (unwrap_or o []) n) q) ∙ m.1)
-
-pub pass_read : (j : JobView) (n : ℕ) → IsActionPass j n → (ps : List NumberedPass) → slice_get (graph_loops (job_graph j)) j.number ≡ Some ps → (d : NumberedPass) → numbered_in j n ≡ Some (get_or ps n d)
-pass_read j n h ps q d = ap (λ o. slice_get (unwrap_or o []) n) q ∙ slice_get-get_or ps n d (pass_inside j n h ps q)
 
 -- ---- the result of a pass
 

@@ -29,7 +29,7 @@ use Rattle.entry_cache.specs.declared.plan.PlannedInput.{PlannedInput}
 use Rattle.entry_cache.specs.declared.rows.Place.{Place}
 use Rattle.entry_cache.specs.declared.rows.Place.TheVariants as stands
 use Rattle.entry_cache.specs.declared.rows.Row.{Row}
-use Rattle.entry_cache.proofs.PassNumbers.{action_at, action_there, no_report, pass_numbered, some_same}
+use Rattle.entry_cache.proofs.PassNumbers.{action_there, no_report, pass_numbered, some_same}
 use Rattle.entry_cache.proofs.RowLaws.{more_each, read_each}
 
 -- ---- lists
@@ -106,15 +106,7 @@ module _ (g : GraphView) (u : Option ℕ) (row : Row) (is : IsRow g u row) where
 
 -- ---- the plans of a loop
 
-module _ (j : JobView) (own : NumberedPass) (n : ℕ) (its : numbered_in j n ≡ Some own) where
-  -- the pass of an action
-  pub action_planned : (kind : ResultKind) (k : ActionKind) (path inputs : List ℕ) → kind ≡ what.Action k
-      → option_map (λ (x : ResultAt). kind_of_booking x.booked.booking) (slice_get (graph_results (job_graph j)) own.result) ≡ Some kind
-      → option_map (λ (x : ResultAt). x.filters) (slice_get (graph_results (job_graph j)) own.result) ≡ Some path
-      → option_map (λ (x : ResultAt). x.inputs) (slice_get (graph_results (job_graph j)) own.result) ≡ Some inputs
-      → IsActionAt j own.result k path inputs
-  action_planned kind k path inputs e q f i = action_at j n own its k kind path inputs e q f i
-
+module _ (j : JobView) (own : NumberedPass) where
   pub plan_made : (k : ActionKind) (path inputs : List ℕ) → IsActionAt j own.result k path inputs → (fs : List PlannedFilter) → sites_in fs ≡ path → AreKeyed (job_graph j) own.variation fs
       → (is : List PlannedInput) → versions_in is ≡ inputs → ArePlaced (job_graph j) own.variation is → IsPassPlan j own (plan.Action (record { own = own; filters = fs; inputs = is }))
   plan_made k path inputs h fs e keyed is q placed = (
