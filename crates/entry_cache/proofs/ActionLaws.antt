@@ -29,7 +29,7 @@ use Rattle.entry_cache.proofs.PassNumbers.{some_same}
 use Rattle.entry_cache.proofs.PassTies.{pass_answer, pass_bound, pass_only}
 use Rattle.entry_cache.proofs.TableLaws.{row_there}
 
-module _ (j : JobView) (job : IsJob j) (n : ℕ) (k : ActionKind) (path inputs : List ℕ) (at : IsActionAt j n k path inputs) (u : Option ℕ) where
+module _ (j : JobView) (job : IsJob j) (n : ℕ) (k : ActionKind) (path inputs : List ℕ) (at : IsActionAt (job_graph j) n k path inputs) (u : Option ℕ) where
   sound : IsSoundAction j.dataset (graph_under (job_graph j) u) (history j.script) at.result k
   sound =
       subst (IsSoundBooking j.dataset (graph_under (job_graph j) u) (history j.script) at.result) at.kind
@@ -56,7 +56,7 @@ module _ (j : JobView) (job : IsJob j) (n : ℕ) (k : ActionKind) (path inputs :
     fits = λ vs e. sound.fits (row_of j entry) (fits_at j.dataset.columns j.dataset.rows entry job.table.fit within) vs (ap (for_all (version_in {M = ⊥} j entry u)) at.inputs ∙ e);
   }
 
-module _ (j : JobView) (job : IsJob j) (entry : ℕ) (within : entry < length j.dataset.rows) (pass : ℕ) (m : NumberedPass) (its : numbered_in j pass ≡ Some m) (k : ActionKind) (path inputs : List ℕ) (at : IsActionAt j m.result k path inputs) where
+module _ (j : JobView) (job : IsJob j) (entry : ℕ) (within : entry < length j.dataset.rows) (pass : ℕ) (m : NumberedPass) (its : numbered_in j pass ≡ Some m) (k : ActionKind) (path inputs : List ℕ) (at : IsActionAt (job_graph j) m.result k path inputs) where
   row : (r : List Value) × (slice_get j.dataset.rows entry ≡ Some r)
   row = row_there j.dataset.rows entry within
 

@@ -81,10 +81,10 @@ module _ (j : JobView) (n : ℕ) (m : NumberedPass) (its : numbered_in j n ≡ S
       → option_map (λ (x : ResultAt). kind_of_booking x.booked.booking) (slice_get (graph_results (job_graph j)) m.result) ≡ Some kind
       → option_map (λ (x : ResultAt). x.filters) (slice_get (graph_results (job_graph j)) m.result) ≡ Some path
       → option_map (λ (x : ResultAt). x.inputs) (slice_get (graph_results (job_graph j)) m.result) ≡ Some inputs
-      → IsActionAt j m.result k path inputs
+      → IsActionAt (job_graph j) m.result k path inputs
   action_at k kind path inputs is q f i = go result_there.0.booked.booking refl (some_same _ _ (sym (ap (option_map (λ (x : ResultAt). kind_of_booking x.booked.booking)) result_there.1) ∙ q) ∙ is)
     where
-      go : (b : Booking) → result_there.0.booked.booking ≡ b → kind_of_booking b ≡ what.Action k → IsActionAt j m.result k path inputs
+      go : (b : Booking) → result_there.0.booked.booking ≡ b → kind_of_booking b ≡ what.Action k → IsActionAt (job_graph j) m.result k path inputs
       go (ActionAt l at) e w = record {
         result = result_there.0;
         there_is = result_there.1;

@@ -51,19 +51,19 @@ by_at P (x ∷ xs) (suc i) d h l = by_at P xs i d h.1 (omega (arith, l))
 
 -- ---- the kind of an action
 
-pub kind_is : (j : JobView) (n : ℕ) (k : ActionKind) (sites versions : List ℕ) → IsActionAt j n k sites versions → k ≡ kind_at j n
+pub kind_is : (j : JobView) (n : ℕ) (k : ActionKind) (sites versions : List ℕ) → IsActionAt (job_graph j) n k sites versions → k ≡ kind_at (job_graph j) n
 kind_is j n k sites versions h =
     sym (ap (λ (o : Option ResultAt). unwrap_or (option_map (λ (r : ResultAt). action_in r.booked.booking) o) action.Count) h.there_is ∙ ap action_in h.kind)
 
-module _ (j : JobView) (a : ActionPlan) (h : IsActionPlan j a) where
+module _ (j : JobView) (a : ActionPlan) (h : IsActionPlan (job_graph j) a) where
   pub planned_inside : a.own.result < length (graph_results (job_graph j))
   planned_inside = slice_get_within (graph_results (job_graph j)) a.own.result h.at.result h.at.there_is
 
   module _ (kind : ResultKind) (is : option_map (λ (x : ResultAt). kind_of_booking x.booked.booking) (slice_get (graph_results (job_graph j)) a.own.result) ≡ Some kind) where
-    booked_kind : what.Action (kind_at j a.own.result) ≡ kind
+    booked_kind : what.Action (kind_at (job_graph j) a.own.result) ≡ kind
     booked_kind = some_same _ _ (sym (ap (λ (o : Option ResultAt). option_map (λ (x : ResultAt). kind_of_booking x.booked.booking) o) h.at.there_is ∙ ap (λ b. Some (kind_of_booking b)) h.at.kind) ∙ is)
 
-    pub planned_kind : (k : ActionKind) → kind ≡ what.Action k → kind_at j a.own.result ≡ k
+    pub planned_kind : (k : ActionKind) → kind ≡ what.Action k → kind_at (job_graph j) a.own.result ≡ k
     planned_kind k e = cc (booked_kind ∙ e)
 
     pub planned_no_report : kind ≡ what.Report → ⊥
@@ -107,13 +107,13 @@ module _ (g : GraphView) (u : Option ℕ) (row : Row) (is : IsRow g u row) where
 -- ---- the plans of a loop
 
 module _ (j : JobView) (own : NumberedPass) where
-  pub plan_made : (k : ActionKind) (path inputs : List ℕ) → IsActionAt j own.result k path inputs → (fs : List PlannedFilter) → sites_in fs ≡ path → AreKeyed (job_graph j) own.variation fs
-      → (is : List PlannedInput) → versions_in is ≡ inputs → ArePlaced (job_graph j) own.variation is → IsPassPlan j own (plan.Action (record { own = own; filters = fs; inputs = is }))
+  pub plan_made : (k : ActionKind) (path inputs : List ℕ) → IsActionAt (job_graph j) own.result k path inputs → (fs : List PlannedFilter) → sites_in fs ≡ path → AreKeyed (job_graph j) own.variation fs
+      → (is : List PlannedInput) → versions_in is ≡ inputs → ArePlaced (job_graph j) own.variation is → IsPassPlan (job_graph j) own (plan.Action (record { own = own; filters = fs; inputs = is }))
   plan_made k path inputs h fs e keyed is q placed = (
     refl,
     record {
-      at = subst (λ (x : ActionKind). IsActionAt j own.result x (sites_in fs) (versions_in is)) (kind_is j own.result k path inputs h)
-          (subst (λ (ss : List ℕ). IsActionAt j own.result k ss (versions_in is)) (sym e) (subst (IsActionAt j own.result k path) (sym q) h));
+      at = subst (λ (x : ActionKind). IsActionAt (job_graph j) own.result x (sites_in fs) (versions_in is)) (kind_is j own.result k path inputs h)
+          (subst (λ (ss : List ℕ). IsActionAt (job_graph j) own.result k ss (versions_in is)) (sym e) (subst (IsActionAt (job_graph j) own.result k path) (sym q) h));
       filters = keyed;
       inputs = placed;
     },
@@ -125,25 +125,25 @@ versions_there j u [] h = tt
 versions_there j u (c ∷ cs) h = (h.0.0, versions_there j u cs h.1)
 
 -- one more pass
-pub more_plans : (j : JobView) (passes : List NumberedPass) → slice_get (graph_loops (job_graph j)) j.number ≡ Some passes → (i : ℕ) → i < length passes → (xs : List PassPlan) → AreEach (IsPassPlanAt j) i xs
-    → (own d : NumberedPass) → own ≡ get_or passes i d → (x : PassPlan) → IsPassPlan j own x → (ys : List PassPlan) → ys ≡ xs ++ x ∷ [] → AreEach (IsPassPlanAt j) (i + 1) ys
+pub more_plans : (j : JobView) (passes : List NumberedPass) → slice_get (graph_loops (job_graph j)) j.number ≡ Some passes → (i : ℕ) → i < length passes → (xs : List PassPlan) → AreEach (IsPassPlanAt (job_graph j) j.number) i xs
+    → (own d : NumberedPass) → own ≡ get_or passes i d → (x : PassPlan) → IsPassPlan (job_graph j) own x → (ys : List PassPlan) → ys ≡ xs ++ x ∷ [] → AreEach (IsPassPlanAt (job_graph j) j.number) (i + 1) ys
 more_plans j passes loop i inside xs each own d at x h ys q =
-    subst (λ (zs : List PassPlan). AreEach (IsPassPlanAt j) (i + 1) zs) (sym q)
-    (more_each (IsPassPlanAt j) i xs each x (λ p r.
+    subst (λ (zs : List PassPlan). AreEach (IsPassPlanAt (job_graph j) j.number) (i + 1) zs) (sym q)
+    (more_each (IsPassPlanAt (job_graph j) j.number) i xs each x (λ p r.
     let e : own ≡ p = at ∙ some_same _ _ (sym (slice_get-get_or passes i d inside) ∙ ap (λ (o : Option (List NumberedPass)). slice_get (unwrap_or o []) i) (sym loop) ∙ r) in
-    subst (λ (m : NumberedPass). IsPassPlan j m x) e h))
+    subst (λ (m : NumberedPass). IsPassPlan (job_graph j) m x) e h))
 
 pub pass_at : (j : JobView) (passes : List NumberedPass) → slice_get (graph_loops (job_graph j)) j.number ≡ Some passes → (i : ℕ) → i < length passes → (own d : NumberedPass) → own ≡ get_or passes i d → numbered_in j i ≡ Some own
 pass_at j passes loop i inside own d at =
     ap (λ (o : Option (List NumberedPass)). slice_get (unwrap_or o []) i) loop ∙ slice_get-get_or passes i d inside ∙ ap (λ (m : NumberedPass). Some m) (sym at)
 
-pub all_plans : (j : JobView) (passes : List NumberedPass) → slice_get (graph_loops (job_graph j)) j.number ≡ Some passes → (xs : List PassPlan) → AreEach (IsPassPlanAt j) (length passes) xs → ArePassPlans j xs
+pub all_plans : (j : JobView) (passes : List NumberedPass) → slice_get (graph_loops (job_graph j)) j.number ≡ Some passes → (xs : List PassPlan) → AreEach (IsPassPlanAt (job_graph j) j.number) (length passes) xs → ArePassPlans (job_graph j) j.number xs
 all_plans j passes loop xs h =
-    subst (λ (n : ℕ). AreEach (IsPassPlanAt j) n xs) (ap (λ (o : Option (List NumberedPass)). length (unwrap_or o [])) (sym loop)) h
+    subst (λ (n : ℕ). AreEach (IsPassPlanAt (job_graph j) j.number) n xs) (ap (λ (o : Option (List NumberedPass)). length (unwrap_or o [])) (sym loop)) h
 
 -- ---- a plan that is read
 
-module _ (j : JobView) (n : ℕ) (action : IsActionPass j n) (xs : List PassPlan) (all : ArePassPlans j xs) where
+module _ (j : JobView) (n : ℕ) (action : IsActionPass j n) (xs : List PassPlan) (all : ArePassPlans (job_graph j) j.number xs) where
   numbered : (m : NumberedPass) × (numbered_in j n ≡ Some m)
   numbered = let a = action_there j n action in pass_numbered j n a.0 a.1
 
@@ -154,13 +154,13 @@ module _ (j : JobView) (n : ℕ) (action : IsActionPass j n) (xs : List PassPlan
   plan_inside = let m = all.many in let l = pass_inside_all in omega (arith, m, l)
 
   module _ (x d : PassPlan) (at : x ≡ get_or xs n d) where
-    planned : (y : PassPlan) → x ≡ y → IsPassPlan j numbered.0 y
-    planned y e = subst (IsPassPlan j numbered.0) (sym at ∙ e) (read_each (IsPassPlanAt j) (length (numbered_passes j)) xs all n d pass_inside_all numbered.0 numbered.1)
+    planned : (y : PassPlan) → x ≡ y → IsPassPlan (job_graph j) numbered.0 y
+    planned y e = subst (IsPassPlan (job_graph j) numbered.0) (sym at ∙ e) (read_each (IsPassPlanAt (job_graph j) j.number) (length (numbered_passes j)) xs all n d pass_inside_all numbered.0 numbered.1)
 
     pub no_report_plan : x ≡ plan.Report → ⊥
     no_report_plan e = no_report j n numbered.0 numbered.1 action what.Report (planned plan.Report e) refl
 
-    pub action_plan : (a : ActionPlan) → x ≡ plan.Action a → (numbered_in j n ≡ Some a.own) × IsActionPlan j a
+    pub action_plan : (a : ActionPlan) → x ≡ plan.Action a → (numbered_in j n ≡ Some a.own) × IsActionPlan (job_graph j) a
     action_plan a e = let h = planned (plan.Action a) e in (numbered.1 ∙ ap (λ (m : NumberedPass). Some m) (sym h.0), h.1)
 
 module _ (g : GraphView) (f : ℕ) (inside : f < length (graph_filters g)) (xs : List NamedPlan) (all : AreNamedPlans g xs) where

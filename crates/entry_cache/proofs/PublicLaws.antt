@@ -89,7 +89,7 @@ fed_all k (Gives vs) values e = go (feed_fault k vs) e
 fed_all k (Faults f) values e = cc e
 fed_all k (Needs m) values e = elim m [ ]
 
-module _ (j : JobView) (job : IsJob j) (entry : ℕ) (within : entry < length j.dataset.rows) (pass : ℕ) (m : NumberedPass) (its : numbered_in j pass ≡ Some m) (k : ActionKind) (path inputs : List ℕ) (at : IsActionAt j m.result k path inputs) where
+module _ (j : JobView) (job : IsJob j) (entry : ℕ) (within : entry < length j.dataset.rows) (pass : ℕ) (m : NumberedPass) (its : numbered_in j pass ≡ Some m) (k : ActionKind) (path inputs : List ℕ) (at : IsActionAt (job_graph j) m.result k path inputs) where
   fed_values : (values : List Value) → pass_outcome j entry pass ≡ Gives (Feed values) → for_all (version_in {M = ⊥} j entry m.variation) inputs ≡ Gives values
   fed_values values e =
       fed_all k (for_all (version_in {M = ⊥} j entry m.variation) inputs) values

@@ -11,7 +11,7 @@ use Rattle.rdf_model.specs.EntryOutcomes.{Skip, Feed, through}
 use Rattle.rdf_model.specs.LoopFacts.{filter_reach}
 use Rattle.rdf_model.specs.Results.{fault_in}
 use Rattle.rdf_model.specs.declared.loop_facts.Reach.{Reach}
-use Rattle.graph_numbers.specs.Graphs.{graph_filters, graph_results}
+use Rattle.graph_numbers.specs.Graphs.{GraphView, graph_filters, graph_results}
 use Rattle.graph_numbers.specs.Results.{FilterAt, ResultAt}
 use Rattle.graph_numbers.specs.declared.pass.Pass.{Pass as NumberedPass}
 use Rattle.entry_cache.specs.Jobs.{JobView, job_graph, numbered_passes, passes_in, pass_outcome}
@@ -46,12 +46,15 @@ pub record IsBegun (j : JobView) (c : CacheView) : Type 0 where
   pub within : entry < length j.dataset.rows
   pub sound : IsSound j entry c.cells
 
--- the rows are those of the job's graph, the plans those of its passes and named filters, and there is a cell for each key
-pub record IsSized (j : JobView) (c : CacheView) : Type 0 where
-  pub cells : length c.cells ≡ key_count (job_graph j)
-  pub rows : AreKeys (job_graph j) c.rows
-  pub passes : ArePassPlans j c.passes
-  pub named : AreNamedPlans (job_graph j) c.named
+-- the rows are those of the graph, the plans those of its named filters and of the passes of that loop, and there is a cell for each key
+pub record IsCacheOf (g : GraphView) (loop : ℕ) (c : CacheView) : Type 0 where
+  pub cells : length c.cells ≡ key_count g
+  pub rows : AreKeys g c.rows
+  pub passes : ArePassPlans g loop c.passes
+  pub named : AreNamedPlans g c.named
+
+abbrev pub IsSized : JobView → CacheView → Type 0
+IsSized j c = IsCacheOf (job_graph j) j.number c
 
 -- what was held is held, of the same entry
 pub record IsServed (before after : CacheView) : Type 0 where

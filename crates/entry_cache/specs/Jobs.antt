@@ -52,9 +52,12 @@ pub record Fits {V : Type 0} {D : V → Type 0} {g : _} (j : Job V D g) : Type 0
 abbrev pub passes_in : JobView → List Pass
 passes_in j = loop_passes (history j.script) (unwrap_or (slice_get (loop_results (history j.script)) j.number) [])
 
--- the passes of the loop by numbers
+-- the passes of the loop of that number, by numbers
+abbrev pub loop_numbers : GraphView → ℕ → List NumberedPass
+loop_numbers g loop = unwrap_or (slice_get (graph_loops g) loop) []
+
 abbrev pub numbered_passes : JobView → List NumberedPass
-numbered_passes j = unwrap_or (slice_get (graph_loops (job_graph j)) j.number) []
+numbered_passes j = loop_numbers (job_graph j) j.number
 
 -- what a row comes to in a pass by itself
 abbrev pub outcome_of : JobView → Option (List Value) → Option Pass → Outcome ⊥ Entry

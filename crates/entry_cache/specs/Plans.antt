@@ -9,7 +9,7 @@ use Rattle.graph_numbers.specs.Results.{FilterAt, ResultAt, kind_of_booking}
 use Rattle.graph_numbers.specs.Sources.{source_in}
 use Rattle.graph_numbers.specs.declared.pass.Pass.{Pass as NumberedPass}
 use Rattle.graph_numbers.specs.declared.result_kind.ResultKind.TheVariants as what
-use Rattle.entry_cache.specs.Jobs.{JobView, job_graph, numbered_passes}
+use Rattle.entry_cache.specs.Jobs.{loop_numbers}
 use Rattle.entry_cache.specs.Keys.{AreEach, key, key_under, place_of}
 use Rattle.entry_cache.specs.Passes.{IsActionAt}
 use Rattle.entry_cache.specs.declared.plan.ActionPlan.{ActionPlan}
@@ -46,26 +46,26 @@ abbrev pub action_in : Booking → ActionKind
 action_in (ActionAt k at) = k
 action_in (ReportOn filters) = action.Count
 
-abbrev pub kind_at : JobView → ℕ → ActionKind
-kind_at j n = unwrap_or (option_map (λ (r : ResultAt). action_in r.booked.booking) (slice_get (graph_results (job_graph j)) n)) action.Count
+abbrev pub kind_at : GraphView → ℕ → ActionKind
+kind_at g n = unwrap_or (option_map (λ (r : ResultAt). action_in r.booked.booking) (slice_get (graph_results g) n)) action.Count
 
 -- the action's filters and inputs, with their keys and places under what the pass is
-pub record IsActionPlan (j : JobView) (a : ActionPlan) : Type 0 where
-  pub at : IsActionAt j a.own.result (kind_at j a.own.result) (sites_in a.filters) (versions_in a.inputs)
-  pub filters : AreKeyed (job_graph j) a.own.variation a.filters
-  pub inputs : ArePlaced (job_graph j) a.own.variation a.inputs
+pub record IsActionPlan (g : GraphView) (a : ActionPlan) : Type 0 where
+  pub at : IsActionAt g a.own.result (kind_at g a.own.result) (sites_in a.filters) (versions_in a.inputs)
+  pub filters : AreKeyed g a.own.variation a.filters
+  pub inputs : ArePlaced g a.own.variation a.inputs
 
 -- the plan of a pass, by its numbers
-abbrev pub IsPassPlan : JobView → NumberedPass → PassPlan → Type 0
-IsPassPlan j p (plan.Action a) = (a.own ≡ p) × IsActionPlan j a
-IsPassPlan j p plan.Report = option_map (λ (r : ResultAt). kind_of_booking r.booked.booking) (slice_get (graph_results (job_graph j)) p.result) ≡ Some what.Report
+abbrev pub IsPassPlan : GraphView → NumberedPass → PassPlan → Type 0
+IsPassPlan g p (plan.Action a) = (a.own ≡ p) × IsActionPlan g a
+IsPassPlan g p plan.Report = option_map (λ (r : ResultAt). kind_of_booking r.booked.booking) (slice_get (graph_results g) p.result) ≡ Some what.Report
 
-abbrev pub IsPassPlanAt : JobView → ℕ → PassPlan → Type 0
-IsPassPlanAt j n x = (p : NumberedPass) → slice_get (numbered_passes j) n ≡ Some p → IsPassPlan j p x
+abbrev pub IsPassPlanAt : GraphView → ℕ → ℕ → PassPlan → Type 0
+IsPassPlanAt g loop n x = (p : NumberedPass) → slice_get (loop_numbers g loop) n ≡ Some p → IsPassPlan g p x
 
 -- one plan for each pass of the loop
-abbrev pub ArePassPlans : JobView → List PassPlan → Type 0
-ArePassPlans j xs = AreEach (IsPassPlanAt j) (length (numbered_passes j)) xs
+abbrev pub ArePassPlans : GraphView → ℕ → List PassPlan → Type 0
+ArePassPlans g loop xs = AreEach (IsPassPlanAt g loop) (length (loop_numbers g loop)) xs
 
 -- the filter's sites, with their keys under nominal
 abbrev pub IsNamedPlan : GraphView → ℕ → NamedPlan → Type 0

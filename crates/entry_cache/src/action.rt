@@ -30,8 +30,8 @@ use std::sync::ledger::Ledger;
 /// The kind of an action.
 pub(crate) fn kind_of<'a>(job: &Job<'a>, action: &ActionPlan) -> &'a ActionKind
     requires job { Fits job.now }
-    requires plan { IsActionPlan (job_of job.now) action.now }
-    ensures { kind_at (job_of job.now) action.now.own.result ≡ result.now }
+    requires plan { IsActionPlan (job_graph (job_of job.now)) action.now }
+    ensures { kind_at (job_graph (job_of job.now)) action.now.own.result ≡ result.now }
 {
     match result_kind(job, action.own.result) {
         ResultKind::Action(kind) => kind,
@@ -45,11 +45,11 @@ fn fault_among(at: &Reading<'_>, store: &Store, action: &ActionPlan) -> Option<E
     requires row { IsRow (job_graph (job_of at.now.job.now)) at.now.under at.now.row.now }
     requires can { CanLook (job_of at.now.job.now) at.now.entry store.now }
     requires sound { IsSound (job_of at.now.job.now) at.now.entry store.now }
-    requires plan { IsActionPlan (job_of at.now.job.now) action.now }
+    requires plan { IsActionPlan (job_graph (job_of at.now.job.now)) action.now }
     requires own { at.now.under ≡ action.now.own.variation }
-    requires action { CanAct (job_of at.now.job.now) at.now.entry at.now.under (kind_at (job_of at.now.job.now) action.now.own.result) (sites_in action.now.filters) (versions_in action.now.inputs) }
+    requires action { CanAct (job_of at.now.job.now) at.now.entry at.now.under (kind_at (job_graph (job_of at.now.job.now)) action.now.own.result) (sites_in action.now.filters) (versions_in action.now.inputs) }
     requires inputs { AllByRecursion (IsInput (job_of at.now.job.now) at.now.entry at.now.under store.now) (versions_in action.now.inputs) }
-    ensures { (vs : List Value) → for_all (version_in {M = ⊥} (job_of at.now.job.now) at.now.entry at.now.under) (versions_in action.now.inputs) ≡ Gives vs → result ≡ feed_fault (kind_at (job_of at.now.job.now) action.now.own.result) vs }
+    ensures { (vs : List Value) → for_all (version_in {M = ⊥} (job_of at.now.job.now) at.now.entry at.now.under) (versions_in action.now.inputs) ≡ Gives vs → result ≡ feed_fault (kind_at (job_graph (job_of at.now.job.now)) action.now.own.result) vs }
 {
     if action.inputs.len() < 2 {
         return None;
@@ -69,10 +69,10 @@ fn read<L: Ledger>(
     requires row { IsRow (job_graph (job_of at.now.job.now)) at.now.under at.now.row.now }
     requires can { CanLook (job_of at.now.job.now) at.now.entry store.old }
     requires sound { IsSound (job_of at.now.job.now) at.now.entry store.old }
-    requires plan { IsActionPlan (job_of at.now.job.now) action.now }
+    requires plan { IsActionPlan (job_graph (job_of at.now.job.now)) action.now }
     requires own { at.now.under ≡ action.now.own.variation }
-    requires action { CanAct (job_of at.now.job.now) at.now.entry at.now.under (kind_at (job_of at.now.job.now) action.now.own.result) (sites_in action.now.filters) (versions_in action.now.inputs) }
-    ensures read { IsRead (job_of at.now.job.now) at.now.entry at.now.under (kind_at (job_of at.now.job.now) action.now.own.result) (versions_in action.now.inputs) store.old store.new steps.old steps.new result }
+    requires action { CanAct (job_of at.now.job.now) at.now.entry at.now.under (kind_at (job_graph (job_of at.now.job.now)) action.now.own.result) (sites_in action.now.filters) (versions_in action.now.inputs) }
+    ensures read { IsRead (job_of at.now.job.now) at.now.entry at.now.under (kind_at (job_graph (job_of at.now.job.now)) action.now.own.result) (versions_in action.now.inputs) store.old store.new steps.old steps.new result }
     ensures sized { length store.new ≡ length store.old }
     ensures plain { (used : ℕ → Bool) → ArePlain (job_of at.now.job.now) used → ArePlainVersions (job_of at.now.job.now) used at.now.under (versions_in action.now.inputs) → result ≢ Err OutcomeStop.Memory }
 {
@@ -97,10 +97,10 @@ pub(crate) fn act<L: Ledger>(
     requires row { IsRow (job_graph (job_of at.now.job.now)) at.now.under at.now.row.now }
     requires can { CanLook (job_of at.now.job.now) at.now.entry store.old }
     requires sound { IsSound (job_of at.now.job.now) at.now.entry store.old }
-    requires plan { IsActionPlan (job_of at.now.job.now) action.now }
+    requires plan { IsActionPlan (job_graph (job_of at.now.job.now)) action.now }
     requires own { at.now.under ≡ action.now.own.variation }
-    requires action { CanAct (job_of at.now.job.now) at.now.entry at.now.under (kind_at (job_of at.now.job.now) action.now.own.result) (sites_in action.now.filters) (versions_in action.now.inputs) }
-    ensures acted { IsActed (job_of at.now.job.now) at.now.entry at.now.under (kind_at (job_of at.now.job.now) action.now.own.result) (sites_in action.now.filters) (versions_in action.now.inputs) store.old store.new steps.old steps.new result }
+    requires action { CanAct (job_of at.now.job.now) at.now.entry at.now.under (kind_at (job_graph (job_of at.now.job.now)) action.now.own.result) (sites_in action.now.filters) (versions_in action.now.inputs) }
+    ensures acted { IsActed (job_of at.now.job.now) at.now.entry at.now.under (kind_at (job_graph (job_of at.now.job.now)) action.now.own.result) (sites_in action.now.filters) (versions_in action.now.inputs) store.old store.new steps.old steps.new result }
     ensures sized { length store.new ≡ length store.old }
     ensures plain { (used : ℕ → Bool) → ArePlain (job_of at.now.job.now) used → AllByRecursion (λ s. used s ≡ true) (sites_in action.now.filters)
         → ArePlainVersions (job_of at.now.job.now) used at.now.under (versions_in action.now.inputs) → result ≢ Err OutcomeStop.Memory }
@@ -126,7 +126,7 @@ pub(crate) fn try_pass<L: Ledger>(
     requires can { CanLook (job_of at.now.job.now) at.now.entry store.old }
     requires sound { IsSound (job_of at.now.job.now) at.now.entry store.old }
     requires pass { numbered_in (job_of at.now.job.now) _pass ≡ Some action.now.own }
-    requires plan { IsActionPlan (job_of at.now.job.now) action.now }
+    requires plan { IsActionPlan (job_graph (job_of at.now.job.now)) action.now }
     requires own { at.now.under ≡ action.now.own.variation }
     ensures answer { IsOutcome (job_of at.now.job.now) at.now.entry _pass result }
     ensures paid { IsPaidUnless (job_of at.now.job.now) at.now.entry (HasDemands (job_of at.now.job.now) at.now.entry _pass) store.old store.new steps.old steps.new result }

@@ -67,7 +67,7 @@ fn pass_plan(alloc: Global, job: &Job<'_>, rows: &[Row], own: Pass) -> Result<Pa
     requires job { Fits job.now }
     requires rows { AreKeys (job_graph (job_of job.now)) rows.now }
     requires own { (n : ℕ) × (numbered_in (job_of job.now) n ≡ Some own) }
-    ensures { IfOk result (λ plan. IsPassPlan (job_of job.now) own plan) }
+    ensures { IfOk result (λ plan. IsPassPlan (job_graph (job_of job.now)) own plan) }
 {
     match result_kind(job, own.result) {
         ResultKind::Report => Ok(PassPlan::Report),
@@ -92,7 +92,7 @@ pub(crate) fn pass_plans(
 ) -> Result<ListOf<PassPlan>, Memory>
     requires job { Fits job.now }
     requires rows { AreKeys (job_graph (job_of job.now)) rows.now }
-    ensures { IfOk result (λ plans. ArePassPlans (job_of job.now) plans) }
+    ensures { IfOk result (λ plans. ArePassPlans (job_graph (job_of job.now)) job.now.loop_index plans) }
 {
     let passes = loop_passes(job);
     let mut plans = ListOf::new(alloc);

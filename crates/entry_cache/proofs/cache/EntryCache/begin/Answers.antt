@@ -13,7 +13,7 @@ returns-clause-sized c =
     λ j h. record {
       cells = ap (λ (hs : List Held). length hs) c.clear.ensures ∙ none_count (length c.self.inside.store) _ ∙ ap (λ (v : CacheView). length v.cells) c.self.view_is ∙ h.cells;
       rows = subst (λ (v : CacheView). AreKeys (job_graph j) v.rows) (sym c.self.view_is) h.rows;
-      passes = subst (λ (v : CacheView). ArePassPlans j v.passes) (sym c.self.view_is) h.passes;
+      passes = subst (λ (v : CacheView). ArePassPlans (job_graph j) j.number v.passes) (sym c.self.view_is) h.passes;
       named = subst (λ (v : CacheView). AreNamedPlans (job_graph j) v.named) (sym c.self.view_is) h.named;
     }
 

@@ -1,27 +1,27 @@
 use Rattle.std.proofs.Common.{◌∙◌, ap, subst, sym, ℕ, Bool}
 use Rattle.entry_cache.specs.Caches.{CacheView, HasDemands}
-use Rattle.entry_cache.specs.Jobs.{job_of}
+use Rattle.entry_cache.specs.Jobs.{job_graph, job_of}
 use Rattle.entry_cache.specs.Plans.{ArePassPlans}
 use Rattle.entry_cache.proofs.PlanLaws.{action_plan, no_report_plan, plan_inside}
 use Rattle.entry_cache.proofs.PublicLaws.{bound_clause, by_view, only_clause}
 use Rattle.entry_cache.proofs.cache.EntryCache.outcome.Goals as goal
 
 pub bounds-as_slice-pass : goal.bounds-as_slice-pass
-bounds-as_slice-pass g c = plan_inside (job_of c.args.job.now) c.args.pass c.requires.action c.as_slice.result.now (subst (ArePassPlans (job_of c.args.job.now)) (sym (c.as_slice.ensures ∙ ap (λ (v : CacheView). v.passes) c.self.view_is)) c.requires.sized.passes)
+bounds-as_slice-pass g c = plan_inside (job_of c.args.job.now) c.args.pass c.requires.action c.as_slice.result.now (subst (ArePassPlans (job_graph (job_of c.args.job.now)) (job_of c.args.job.now).number) (sym (c.as_slice.ensures ∙ ap (λ (v : CacheView). v.passes) c.self.view_is)) c.requires.sized.passes)
 
 pub unreachable-requires-in_default-as_slice : goal.unreachable-requires-in_default-as_slice
 unreachable-requires-in_default-as_slice g c =
-    no_report_plan (job_of c.args.job.now) c.args.pass c.requires.action c.as_slice.result.now (subst (ArePassPlans (job_of c.args.job.now)) (sym (c.as_slice.ensures ∙ ap (λ (v : CacheView). v.passes) c.self.view_is)) c.requires.sized.passes)
+    no_report_plan (job_of c.args.job.now) c.args.pass c.requires.action c.as_slice.result.now (subst (ArePassPlans (job_graph (job_of c.args.job.now)) (job_of c.args.job.now).number) (sym (c.as_slice.ensures ∙ ap (λ (v : CacheView). v.passes) c.self.view_is)) c.requires.sized.passes)
     c.index-as_slice-pass.result c.index-as_slice-pass.result c.index-as_slice-pass.is c.in_default-as_slice.is
 
 pub try_pass-answer-requires-clause-pass : goal.try_pass-answer-requires-clause-pass
 try_pass-answer-requires-clause-pass g c =
-    (action_plan (job_of c.args.job.now) c.args.pass c.requires.action c.as_slice.result.now (subst (ArePassPlans (job_of c.args.job.now)) (sym (c.as_slice.ensures ∙ ap (λ (v : CacheView). v.passes) c.self.view_is)) c.requires.sized.passes)
+    (action_plan (job_of c.args.job.now) c.args.pass c.requires.action c.as_slice.result.now (subst (ArePassPlans (job_graph (job_of c.args.job.now)) (job_of c.args.job.now).number) (sym (c.as_slice.ensures ∙ ap (λ (v : CacheView). v.passes) c.self.view_is)) c.requires.sized.passes)
     c.index-as_slice-pass.result c.index-as_slice-pass.result c.index-as_slice-pass.is c.in-Action.action c.in-Action.is).0
 
 pub try_pass-answer-requires-clause-plan : goal.try_pass-answer-requires-clause-plan
 try_pass-answer-requires-clause-plan g c =
-    (action_plan (job_of c.args.job.now) c.args.pass c.requires.action c.as_slice.result.now (subst (ArePassPlans (job_of c.args.job.now)) (sym (c.as_slice.ensures ∙ ap (λ (v : CacheView). v.passes) c.self.view_is)) c.requires.sized.passes)
+    (action_plan (job_of c.args.job.now) c.args.pass c.requires.action c.as_slice.result.now (subst (ArePassPlans (job_graph (job_of c.args.job.now)) (job_of c.args.job.now).number) (sym (c.as_slice.ensures ∙ ap (λ (v : CacheView). v.passes) c.self.view_is)) c.requires.sized.passes)
     c.index-as_slice-pass.result c.index-as_slice-pass.result c.index-as_slice-pass.is c.in-Action.action c.in-Action.is).1
 
 pub returns-in-Action-clause-only : goal.returns-in-Action-clause-only
