@@ -29,7 +29,7 @@ use Rattle.entry_cache.proofs.PassNumbers.{some_same}
 use Rattle.entry_cache.proofs.PassTies.{pass_answer, pass_bound, pass_only}
 use Rattle.entry_cache.proofs.TableLaws.{row_there}
 
-module _ (j : JobView) (job : IsJob j) (n : ℕ) (k : ActionKind) (path inputs : List ℕ) (at : IsActionAt (job_graph j) n k path inputs) (u : Option ℕ) where
+module _ (j : JobView) (job : IsJob j) (entry : ℕ) (within : entry < length j.dataset.rows) (n : ℕ) (k : ActionKind) (path inputs : List ℕ) (at : IsActionAt j n k path inputs) (u : Option ℕ) where
   sound : IsSoundAction j.dataset (graph_under (job_graph j) u) (history j.script) at.result k
   sound =
       subst (IsSoundBooking j.dataset (graph_under (job_graph j) u) (history j.script) at.result) at.kind
@@ -40,23 +40,16 @@ module _ (j : JobView) (job : IsJob j) (n : ℕ) (k : ActionKind) (path inputs :
   readable (c ∷ cs) h =
       ((subst (λ (n : ℕ). c < n) (sym (versions_count j.dataset.columns (fn_names j.dataset.fns) (history j.script))) h.0.0, h.0.1), readable cs h.1)
 
-  -- the sites and the versions are there
-  pub path_there : AllByRecursion (λ s. s < length (graph_sites (job_graph j))) path
-  path_there = subst (λ (ss : List ℕ). AllByRecursion (λ s. s < length (graph_sites (job_graph j))) ss) at.filters sound.filters
-
-  pub inputs_there : AreReadable j u inputs
-  inputs_there = subst (AreReadable j u) at.inputs (readable at.result.inputs sound.inputs)
-
   -- the action can be tried
-  pub can_act : (entry : ℕ) → entry < length j.dataset.rows → CanAct j entry u k path inputs
-  can_act entry within = record {
-    path = path_there;
-    inputs = inputs_there;
+  pub can_act : CanAct j entry u k path inputs
+  can_act = record {
+    path = subst (λ (ss : List ℕ). AllByRecursion (λ s. s < length (graph_sites (job_graph j))) ss) at.filters sound.filters;
+    inputs = subst (AreReadable j u) at.inputs (readable at.result.inputs sound.inputs);
     count = ap (λ (cs : List ℕ). length cs) (sym at.inputs) ∙ sound.count;
     fits = λ vs e. sound.fits (row_of j entry) (fits_at j.dataset.columns j.dataset.rows entry job.table.fit within) vs (ap (for_all (version_in {M = ⊥} j entry u)) at.inputs ∙ e);
   }
 
-module _ (j : JobView) (job : IsJob j) (entry : ℕ) (within : entry < length j.dataset.rows) (pass : ℕ) (m : NumberedPass) (its : numbered_in j pass ≡ Some m) (k : ActionKind) (path inputs : List ℕ) (at : IsActionAt (job_graph j) m.result k path inputs) where
+module _ (j : JobView) (job : IsJob j) (entry : ℕ) (within : entry < length j.dataset.rows) (pass : ℕ) (m : NumberedPass) (its : numbered_in j pass ≡ Some m) (k : ActionKind) (path inputs : List ℕ) (at : IsActionAt j m.result k path inputs) where
   row : (r : List Value) × (slice_get j.dataset.rows entry ≡ Some r)
   row = row_there j.dataset.rows entry within
 

@@ -19,7 +19,6 @@ pub mod NamedLaws
 pub mod PassNumbers
 pub mod PassTies
 pub mod PlainLaws
-pub mod PlanLaws
 pub mod PublicLaws
 pub mod RoundLaws
 pub mod RowLaws

@@ -120,7 +120,7 @@ module _ (j : JobView) (job : IsJob j) (f : ℕ) (path : List ℕ) (named : opti
       go None q e = cc e
       go (Some x) q e = (x, q)
 
-  pub path_below : AllByRecursion (λ s. s < length (graph_sites (job_graph j))) path
+  path_below : AllByRecursion (λ s. s < length (graph_sites (job_graph j))) path
   path_below = subst (λ (ss : List ℕ). AllByRecursion (λ s. s < length (graph_sites (job_graph j))) ss) (sites_of found.0 found.1) (filters_below j.dataset.columns (fn_names j.dataset.fns) (history j.script) f found.0 found.1)
 
   on : (entry : ℕ) (x : FilterAt) → slice_get (graph_filters (job_graph j)) f ≡ Some x → IsFilterOn j.dataset.fns j.dataset.columns (row_of j entry) None (history j.script) x

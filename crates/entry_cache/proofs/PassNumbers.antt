@@ -1,7 +1,7 @@
 -- The passes of a job's loop by numbers, and their actions.
-use Rattle.std.proofs.Common.{◌≡◌, ℕ, ◌<◌, List, [], length, map, Option, Some, None, option_map, refl, sym, ◌∙◌, ap, subst, slice_get, unwrap_or}
+use Rattle.std.proofs.Common.{◌≡◌, ℕ, ◌<◌, List, [], length, map, Option, Some, None, option_map, refl, sym, ◌∙◌, ap, subst, get_or, slice_get, unwrap_or}
 use Rattle.std.specs.Prelude.{MatchOption}
-use Rattle.std.proofs.lemmas.Option.{slice_get_within}
+use Rattle.std.proofs.lemmas.Option.{slice_get-get_or, slice_get_within}
 use Rattle.rdf_values.specs.Bookings.{ActionAt, Booked, Booking, Pass, ReportOn, bookings}
 use Rattle.rdf_values.specs.Functions.{fn_names}
 use Rattle.rdf_values.specs.Path.{history}
@@ -27,7 +27,7 @@ use Rattle.entry_cache.proofs.PassTies.{get_mapped, of_mapped, of_option, pass_i
 pub some_same : {A : Type 0} (a b : A) → ◌≡◌ {A = Option A} (Some a) (Some b) → a ≡ b
 some_same a b e = cc e
 
-pub action_there : (j : JobView) (n : ℕ) → IsActionPass j n → (p : Pass) × (slice_get (passes_in j) n ≡ Some p) × IsActionBooking p.result.booking
+action_there : (j : JobView) (n : ℕ) → IsActionPass j n → (p : Pass) × (slice_get (passes_in j) n ≡ Some p) × IsActionBooking p.result.booking
 action_there j n h = go (slice_get (passes_in j) n) refl h
   where
     go : (o : Option Pass) → slice_get (passes_in j) n ≡ o → MatchOption o ⊥ (λ (p : Pass). IsActionBooking p.result.booking) → (p : Pass) × (slice_get (passes_in j) n ≡ Some p) × IsActionBooking p.result.booking
@@ -47,6 +47,15 @@ pass_numbered j n p h = go (slice_get (loop_results (history j.script)) j.number
         let d = ap (λ xs. slice_get xs n) c.2 ∙ get_mapped (λ (p : Pass). Some p) (loop_passes (history j.script) rs) n p k in
         let e = of_mapped (pass_at (history j.script)) c.0 n (Some p) d in
         (e.0, ap (λ o. slice_get (unwrap_or o []) n) c.1 ∙ e.1)
+
+-- it is in the loop's list
+pub pass_inside : (j : JobView) (n : ℕ) → IsActionPass j n → (ps : List NumberedPass) → slice_get (graph_loops (job_graph j)) j.number ≡ Some ps → n < length ps
+pass_inside j n h ps q =
+    let a = action_there j n h in let m = pass_numbered j n a.0 a.1 in
+    slice_get_within ps n m.0 (sym (ap (λ o. slice_get (unwrap_or o []) n) q) ∙ m.1)
+
+pub pass_read : (j : JobView) (n : ℕ) → IsActionPass j n → (ps : List NumberedPass) → slice_get (graph_loops (job_graph j)) j.number ≡ Some ps → (d : NumberedPass) → numbered_in j n ≡ Some (get_or ps n d)
+pass_read j n h ps q d = ap (λ o. slice_get (unwrap_or o []) n) q ∙ slice_get-get_or ps n d (pass_inside j n h ps q)
 
 -- ---- the result of a pass
 
@@ -77,14 +86,14 @@ module _ (j : JobView) (n : ℕ) (m : NumberedPass) (its : numbered_in j n ≡ S
       go (ActionAt k at) i q = cc q
       go (ReportOn fs) i q = elim i [ ]
 
-  pub action_at : (k : ActionKind) (kind : ResultKind) (path inputs : List ℕ) → kind ≡ what.Action k
+  pub action_at : IsActionPass j n → (k : ActionKind) (kind : ResultKind) (path inputs : List ℕ) → kind ≡ what.Action k
       → option_map (λ (x : ResultAt). kind_of_booking x.booked.booking) (slice_get (graph_results (job_graph j)) m.result) ≡ Some kind
       → option_map (λ (x : ResultAt). x.filters) (slice_get (graph_results (job_graph j)) m.result) ≡ Some path
       → option_map (λ (x : ResultAt). x.inputs) (slice_get (graph_results (job_graph j)) m.result) ≡ Some inputs
-      → IsActionAt (job_graph j) m.result k path inputs
-  action_at k kind path inputs is q f i = go result_there.0.booked.booking refl (some_same _ _ (sym (ap (option_map (λ (x : ResultAt). kind_of_booking x.booked.booking)) result_there.1) ∙ q) ∙ is)
+      → IsActionAt j m.result k path inputs
+  action_at h k kind path inputs is q f i = go result_there.0.booked.booking refl (some_same _ _ (sym (ap (option_map (λ (x : ResultAt). kind_of_booking x.booked.booking)) result_there.1) ∙ q) ∙ is)
     where
-      go : (b : Booking) → result_there.0.booked.booking ≡ b → kind_of_booking b ≡ what.Action k → IsActionAt (job_graph j) m.result k path inputs
+      go : (b : Booking) → result_there.0.booked.booking ≡ b → kind_of_booking b ≡ what.Action k → IsActionAt j m.result k path inputs
       go (ActionAt l at) e w = record {
         result = result_there.0;
         there_is = result_there.1;

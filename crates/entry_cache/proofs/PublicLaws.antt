@@ -22,7 +22,7 @@ use Rattle.entry_cache.specs.Store.{HasHeld, held_count, held_in, is_held, keys_
 use Rattle.entry_cache.specs.declared.held.Held.{Held}
 use Rattle.entry_cache.specs.declared.outcome.OutcomeStop.{OutcomeStop}
 use Rattle.entry_cache.specs.declared.outcome.OutcomeStop.TheVariants as stop
-use Rattle.entry_cache.proofs.ActionLaws.{inputs_there, pass_is_acted}
+use Rattle.entry_cache.proofs.ActionLaws.{can_act, pass_is_acted}
 use Rattle.entry_cache.proofs.FillLaws.{held_within}
 use Rattle.entry_cache.proofs.HandLaws.{are_inputs}
 use Rattle.entry_cache.proofs.PassNumbers.{some_same}
@@ -89,7 +89,7 @@ fed_all k (Gives vs) values e = go (feed_fault k vs) e
 fed_all k (Faults f) values e = cc e
 fed_all k (Needs m) values e = elim m [ ]
 
-module _ (j : JobView) (job : IsJob j) (entry : ℕ) (within : entry < length j.dataset.rows) (pass : ℕ) (m : NumberedPass) (its : numbered_in j pass ≡ Some m) (k : ActionKind) (path inputs : List ℕ) (at : IsActionAt (job_graph j) m.result k path inputs) where
+module _ (j : JobView) (job : IsJob j) (entry : ℕ) (within : entry < length j.dataset.rows) (pass : ℕ) (m : NumberedPass) (its : numbered_in j pass ≡ Some m) (k : ActionKind) (path inputs : List ℕ) (at : IsActionAt j m.result k path inputs) where
   fed_values : (values : List Value) → pass_outcome j entry pass ≡ Gives (Feed values) → for_all (version_in {M = ⊥} j entry m.variation) inputs ≡ Gives values
   fed_values values e =
       fed_all k (for_all (version_in {M = ⊥} j entry m.variation) inputs) values
@@ -100,7 +100,7 @@ module _ (j : JobView) (job : IsJob j) (entry : ℕ) (within : entry < length j.
     pub fed_inputs : IsFed j now pass → (cells : List Held) → now.cells ≡ cells → AllByRecursion (IsInput j entry m.variation cells) inputs
     fed_inputs fed cells e =
         let n : fed.entry ≡ entry = some_same fed.entry entry (sym fed.is ∙ begun) in
-        are_inputs j entry m.variation cells inputs (inputs_there j job m.result k path inputs at m.variation)
+        are_inputs j entry m.variation cells inputs (can_act j job entry within m.result k path inputs at m.variation).inputs
         (subst (AreAtHand j cells m.variation) at.inputs (subst (λ (hs : List Held). AreAtHand j hs m.variation at.result.inputs) e (fed.at_hand m at.result its at.there_is)))
         fed.values (fed_values fed.values (ap (λ (x : ℕ). pass_outcome j x pass) (sym n) ∙ fed.feeds))
 

@@ -64,10 +64,6 @@ key_read g u r row s inside d =
     let e : get_or r.keys s d ≡ key g s u = read_each (λ s k. k ≡ key g s u) (length (graph_sites g)) r.keys row.keys s d inside in
     let b = key_small g s u inside in omega (arith, e, b)
 
--- there is a cell at it
-pub key_within : (j : JobView) (u : Option ℕ) (entry : ℕ) (cells : List Held) → CanLook j entry cells → (s k : ℕ) → s < length (graph_sites (job_graph j)) → k ≡ key (job_graph j) s u → k < length cells
-key_within j u entry cells can s k inside is = let b = key_small (job_graph j) s u inside in let m = can.sized in omega (arith, b, is, m)
-
 -- where there is no such site
 key_past : (g : GraphView) (s : ℕ) (u : Option ℕ) → length (graph_sites g) ≤ s → key g s u ≡ key_count g
 key_past g s u past = go (graph_sites g) s past

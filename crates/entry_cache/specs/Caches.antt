@@ -1,5 +1,5 @@
 -- What a contract sees of the evaluations that the passes of an entry share.
-use Rattle.std.specs.Prelude.{◌≡◌, ⊤, ◌<◌, ℕ, Bool, true, List, length, Option, Some, None, Result, Ok, Err, slice_get, All, Contains, MatchOption, ◌⊎◌, ◌+◌, ◌*◌, ◌≤◌}
+use Rattle.std.specs.Prelude.{◌≡◌, ⊤, ◌<◌, ℕ, Bool, true, List, [], length, Option, Some, None, Result, Ok, Err, slice_get, All, Contains, unwrap_or, MatchOption, ◌⊎◌, ◌+◌, ◌*◌, ◌≤◌}
 use Rattle.rdf_values.specs.Bookings.{Pass}
 use Rattle.rdf_values.specs.Path.{Path}
 use Rattle.rdf_values.specs.Bookings.{Booking, ActionAt, ReportOn}
@@ -11,31 +11,26 @@ use Rattle.rdf_model.specs.EntryOutcomes.{Skip, Feed, through}
 use Rattle.rdf_model.specs.LoopFacts.{filter_reach}
 use Rattle.rdf_model.specs.Results.{fault_in}
 use Rattle.rdf_model.specs.declared.loop_facts.Reach.{Reach}
-use Rattle.graph_numbers.specs.Graphs.{GraphView, graph_filters, graph_results}
+use Rattle.graph_numbers.specs.Graphs.{graph_filters, graph_loops, graph_results}
 use Rattle.graph_numbers.specs.Results.{FilterAt, ResultAt}
 use Rattle.graph_numbers.specs.declared.pass.Pass.{Pass as NumberedPass}
-use Rattle.entry_cache.specs.Jobs.{JobView, job_graph, numbered_passes, passes_in, pass_outcome}
+use Rattle.entry_cache.specs.Jobs.{JobView, job_graph, passes_in, pass_outcome}
 use Rattle.entry_cache.specs.Keys.{AreKeys, key_count, demand_key}
 use Rattle.entry_cache.specs.Passes.{AreAtHand}
 use Rattle.entry_cache.specs.Plain.{ArePlain, IsPlainVersion}
-use Rattle.entry_cache.specs.Plans.{AreNamedPlans, ArePassPlans}
 use Rattle.entry_cache.specs.Store.{is_held, held_in, held_count, Grows, HasHeld, keys_in, IsSound}
 use Rattle.entry_cache.specs.declared.held.Held.{Held}
-use Rattle.entry_cache.specs.declared.plan.NamedPlan.{NamedPlan}
-use Rattle.entry_cache.specs.declared.plan.PassPlan.{PassPlan}
 use Rattle.entry_cache.specs.declared.rows.Row.{Row}
 use Rattle.entry_cache.specs.declared.outcome.Outcome.{Outcome as Answered}
 use Rattle.entry_cache.specs.declared.outcome.Outcome.TheVariants as answer
 use Rattle.entry_cache.specs.declared.outcome.OutcomeStop.{OutcomeStop}
 use Rattle.entry_cache.specs.declared.outcome.OutcomeStop.TheVariants as stop
 
--- the entry that was begun, if one was, what is held at each key, the rows of nominal and each variation, and the plans
+-- the entry that was begun, if one was, what is held at each key, and the rows of nominal and each variation
 pub record CacheView : Type 0 where
   pub entry : Option ℕ
   pub cells : List Held
-  pub rows : List Row
-  pub passes : List PassPlan
-  pub named : List NamedPlan
+  pub keys : List Row
 
 -- ---- what is held
 
@@ -46,15 +41,10 @@ pub record IsBegun (j : JobView) (c : CacheView) : Type 0 where
   pub within : entry < length j.dataset.rows
   pub sound : IsSound j entry c.cells
 
--- the rows are those of the graph, the plans those of its named filters and of the passes of that loop, and there is a cell for each key
-pub record IsCacheOf (g : GraphView) (loop : ℕ) (c : CacheView) : Type 0 where
-  pub cells : length c.cells ≡ key_count g
-  pub rows : AreKeys g c.rows
-  pub passes : ArePassPlans g loop c.passes
-  pub named : AreNamedPlans g c.named
-
-abbrev pub IsSized : JobView → CacheView → Type 0
-IsSized j c = IsCacheOf (job_graph j) j.number c
+-- the rows are those of the job's graph, and there is a cell for each key
+pub record IsSized (j : JobView) (c : CacheView) : Type 0 where
+  pub cells : length c.cells ≡ key_count (job_graph j)
+  pub keys : AreKeys (job_graph j) c.keys
 
 -- what was held is held, of the same entry
 pub record IsServed (before after : CacheView) : Type 0 where
@@ -107,7 +97,7 @@ IfMemory r P = ⊤
 
 -- the pass of that number, by numbers
 abbrev pub numbered_in : JobView → ℕ → Option NumberedPass
-numbered_in j pass = slice_get (numbered_passes j) pass
+numbered_in j pass = slice_get (unwrap_or (slice_get (graph_loops (job_graph j)) j.number) []) pass
 
 -- the entry feeds the pass, and all that it feeds is at hand
 pub record IsFed (j : JobView) (c : CacheView) (pass : ℕ) : Type 0 where

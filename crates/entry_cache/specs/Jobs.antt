@@ -13,7 +13,6 @@ use Rattle.rdf_model.specs.Results.{Dataset}
 use Rattle.clusters.specs.CutsView.{CutsView}
 use Rattle.entry_fns.specs.Lists.{functions_in}
 use Rattle.graph_numbers.specs.Graphs.{GraphView, IsGraph, graph_loops}
-use Rattle.graph_numbers.specs.declared.pass.Pass.{Pass as NumberedPass}
 use Rattle.entry_cache.specs.declared.job.Job.{Job}
 
 -- a script, the number of a loop, the functions and the table, and the table's cuts
@@ -51,13 +50,6 @@ pub record Fits {V : Type 0} {D : V → Type 0} {g : _} (j : Job V D g) : Type 0
 -- the passes of the loop, in order
 abbrev pub passes_in : JobView → List Pass
 passes_in j = loop_passes (history j.script) (unwrap_or (slice_get (loop_results (history j.script)) j.number) [])
-
--- the passes of the loop of that number, by numbers
-abbrev pub loop_numbers : GraphView → ℕ → List NumberedPass
-loop_numbers g loop = unwrap_or (slice_get (graph_loops g) loop) []
-
-abbrev pub numbered_passes : JobView → List NumberedPass
-numbered_passes j = loop_numbers (job_graph j) j.number
 
 -- what a row comes to in a pass by itself
 abbrev pub outcome_of : JobView → Option (List Value) → Option Pass → Outcome ⊥ Entry

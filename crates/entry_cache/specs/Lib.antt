@@ -4,6 +4,5 @@ pub mod Keys
 pub mod Known
 pub mod Passes
 pub mod Plain
-pub mod Plans
 pub mod Rounds
 pub mod Store

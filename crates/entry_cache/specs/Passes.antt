@@ -9,7 +9,7 @@ use Rattle.rdf_values.specs.declared.value.Value.{Value}
 use Rattle.rdf_model.specs.Evaluation.{Outcome, Gives, Faults, Needs, ◌>>=◌, for_all}
 use Rattle.rdf_model.specs.EntryOutcomes.{Entry, Skip, Feed, feed_outcome}
 use Rattle.rdf_model.specs.Laws.{FitsFeed}
-use Rattle.graph_numbers.specs.Graphs.{GraphView, graph_results, graph_sites}
+use Rattle.graph_numbers.specs.Graphs.{graph_results, graph_sites}
 use Rattle.graph_numbers.specs.Meets.{HasInputs}
 use Rattle.graph_numbers.specs.Outcomes.{through_sites}
 use Rattle.graph_numbers.specs.Results.{ResultAt}
@@ -90,9 +90,9 @@ IsActed j entry u k path inputs before after first last (Err (stop.Fault e)) =
 IsActed j entry u k path inputs before after first last (Err stop.Memory) = IsSpent j entry u (HasPassed j entry u path inputs) before first last
 
 -- the action of the result of that number
-pub record IsActionAt (g : GraphView) (n : ℕ) (k : ActionKind) (sites versions : List ℕ) : Type 0 where
+pub record IsActionAt (j : JobView) (n : ℕ) (k : ActionKind) (sites versions : List ℕ) : Type 0 where
   pub result : ResultAt
-  pub there_is : slice_get (graph_results g) n ≡ Some result
+  pub there_is : slice_get (graph_results (job_graph j)) n ≡ Some result
   pub at : Path
   pub kind : result.booked.booking ≡ ActionAt k at
   pub filters : result.filters ≡ sites

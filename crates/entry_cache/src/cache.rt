@@ -12,13 +12,11 @@ ghost use Rattle.entry_cache.specs.Store.{HasHeld, held_count, held_in, is_held,
 ghost use Rattle.std.specs.Prelude.{true, ◌⊎◌};
 ghost use Rattle.entry_cache.specs.declared.held.Held.{Held};
 
-use crate::action::{kind_of, try_pass};
+use crate::action::{action_of, pass_of, try_pass};
 use crate::inputs::gather;
 use crate::job::Job;
 use crate::named::try_named;
 use crate::outcome::{Outcome, OutcomeStop};
-use crate::plan::{NamedPlan, PassPlan};
-use crate::planning::{named_plans, pass_plans};
 use crate::reading::Reading;
 use crate::rows::{Row, row_at, rows_of};
 use crate::store::Store;
@@ -30,14 +28,13 @@ use std::alloc::Global;
 use std::marker::Model;
 use std::sync::ledger::Ledger;
 
-/// What was evaluated of one entry. Contracts see the entry that was begun, what is held at each key, and the rows and plans.
+/// What was evaluated of one entry. Contracts see the entry that was begun, what is held at each key,
+/// and the rows.
 #[derive(Drop)]
 pub struct EntryCache {
     entry: Option<u32>,
     store: Store,
     rows: ListOf<Row>,
-    passes: ListOf<PassPlan>,
-    named: ListOf<NamedPlan>,
 }
 
 impl Model for EntryCache {
@@ -45,7 +42,7 @@ impl Model for EntryCache {
 
     ghost Value = { CacheView };
 
-    ghost view = { λ c. record { entry = c.entry; cells = c.store; rows = c.rows; passes = c.passes; named = c.named } };
+    ghost view = { λ c. record { entry = c.entry; cells = c.store; keys = c.rows } };
 }
 
 impl EntryCache {
@@ -55,15 +52,9 @@ impl EntryCache {
         ensures { IfOk result (λ c. (c.entry ≡ None) × IsSized (job_of job.now) c) }
     {
         let (rows, count) = rows_of(alloc, job.graph)?;
-        let passes = pass_plans(alloc, job, rows.as_slice())?;
-        let named = named_plans(alloc, job, rows.as_slice())?;
-        Ok(EntryCache {
-            entry: None,
-            store: Store::new(alloc, count)?,
-            rows,
-            passes,
-            named,
-        })
+        let store = Store::new(alloc, count)?;
+        let entry = None;
+        Ok(EntryCache { entry, store, rows })
     }
 
     /// Begins an entry, of which nothing is held yet.
@@ -104,18 +95,15 @@ impl EntryCache {
         let Some(entry) = self.entry else {
             unreachable!()
         };
-        let PassPlan::Action(action) = &self.passes.as_slice()[pass as usize] else {
-            unreachable!()
-        };
-        let under = action.own.variation;
-        let row = row_at(self.rows.as_slice(), job.graph, under);
+        let own = pass_of(job, pass);
+        let action = action_of(job, own, pass);
         let at = Reading {
             job,
-            row,
+            row: row_at(self.rows.as_slice(), job.graph, own.variation),
             entry,
-            under,
+            under: own.variation,
         };
-        let answer = try_pass(alloc, &at, &mut self.store, action, pass, steps);
+        let answer = try_pass(alloc, &at, &mut self.store, &action, pass, own, steps);
         if let Err(OutcomeStop::Memory) = answer {
             self.entry = None;
         }
@@ -134,23 +122,15 @@ impl EntryCache {
         let Some(entry) = self.entry else {
             unreachable!()
         };
-        let PassPlan::Action(action) = &self.passes.as_slice()[pass as usize] else {
-            unreachable!()
-        };
-        let under = action.own.variation;
-        let row = row_at(self.rows.as_slice(), job.graph, under);
+        let own = pass_of(job, pass);
+        let action = action_of(job, own, pass);
         let at = Reading {
             job,
-            row,
+            row: row_at(self.rows.as_slice(), job.graph, own.variation),
             entry,
-            under,
+            under: own.variation,
         };
-        gather(
-            &at,
-            &self.store,
-            kind_of(job, action),
-            action.inputs.as_slice(),
-        )
+        gather(&at, &self.store, action.kind, action.inputs)
     }
 
     /// What a named filter does with the entry under nominal.
@@ -186,8 +166,7 @@ impl EntryCache {
             entry,
             under: None,
         };
-        let plan = &self.named.as_slice()[filter as usize];
-        let answer = try_named(alloc, &at, &mut self.store, plan, filter, steps);
+        let answer = try_named(alloc, &at, &mut self.store, filter, steps);
         if let Err(OutcomeStop::Memory) = answer {
             self.entry = None;
         }

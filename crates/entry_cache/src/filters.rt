@@ -7,14 +7,12 @@ ghost use Rattle.entry_cache.specs.Jobs.{Fits, JobView, job_graph, job_of};
 ghost use Rattle.entry_cache.specs.Keys.{IsRow};
 ghost use Rattle.entry_cache.specs.Known.{IsKnown, truth_in};
 ghost use Rattle.entry_cache.specs.Plain.{ArePlain};
-ghost use Rattle.entry_cache.specs.Plans.{AreKeyed, IsKeyed, sites_in};
 ghost use Rattle.entry_cache.specs.Store.{CanLook, IsFiltered, IsRight, IsSound, IsTriedFilter, IsTruth, is_held, site_in};
 
 use crate::fill::serve;
 use crate::held::Held;
 use crate::outcome::OutcomeStop;
-use crate::plan::PlannedFilter;
-use crate::reading::Reading;
+use crate::reading::{Reading, key};
 use crate::store::Store;
 use expr_eval::Steps;
 use rdf_values::{EntryFault, Memory};
@@ -54,30 +52,28 @@ fn truth(held: &Held) -> Known
     }
 }
 
-/// What is known of a filter.
-fn known_filter(_at: &Reading<'_>, store: &Store, filter: PlannedFilter) -> Known
-    requires job { Fits _at.now.job.now }
-    requires row { IsRow (job_graph (job_of _at.now.job.now)) _at.now.under _at.now.row.now }
-    requires can { CanLook (job_of _at.now.job.now) _at.now.entry store.now }
-    requires sound { IsSound (job_of _at.now.job.now) _at.now.entry store.now }
-    requires site { filter.site < length (graph_sites (job_graph (job_of _at.now.job.now))) }
-    requires key { IsKeyed (job_graph (job_of _at.now.job.now)) _at.now.under filter }
-    ensures { IsKnown (truth_in (job_of _at.now.job.now) _at.now.entry _at.now.under filter.site) result }
-{
-    truth(store.at(filter.key))
-}
-
-/// What is known of these filters, head first.
-fn known_filters(at: &Reading<'_>, store: &Store, filters: &[PlannedFilter]) -> Known
+/// What is known of the filter of that site.
+fn known_filter(at: &Reading<'_>, store: &Store, site: u32) -> Known
     requires job { Fits at.now.job.now }
     requires row { IsRow (job_graph (job_of at.now.job.now)) at.now.under at.now.row.now }
     requires can { CanLook (job_of at.now.job.now) at.now.entry store.now }
     requires sound { IsSound (job_of at.now.job.now) at.now.entry store.now }
-    requires path { AllByRecursion (λ s. s < length (graph_sites (job_graph (job_of at.now.job.now)))) (sites_in filters.now) }
-    requires keys { AreKeyed (job_graph (job_of at.now.job.now)) at.now.under filters.now }
-    ensures { IsKnown (through_sites {M = ⊥} (site_in (job_of at.now.job.now) at.now.entry at.now.under) (sites_in filters.now)) result }
+    requires site { site < length (graph_sites (job_graph (job_of at.now.job.now))) }
+    ensures { IsKnown (truth_in (job_of at.now.job.now) at.now.entry at.now.under site) result }
 {
-    let Some((first, rest)) = filters.split_first() else {
+    truth(store.at(key(at, site)))
+}
+
+/// What is known of the filters of these sites, head first.
+fn known_filters(at: &Reading<'_>, store: &Store, path: &[u32]) -> Known
+    requires job { Fits at.now.job.now }
+    requires row { IsRow (job_graph (job_of at.now.job.now)) at.now.under at.now.row.now }
+    requires can { CanLook (job_of at.now.job.now) at.now.entry store.now }
+    requires sound { IsSound (job_of at.now.job.now) at.now.entry store.now }
+    requires path { AllByRecursion (λ s. s < length (graph_sites (job_graph (job_of at.now.job.now)))) path.now }
+    ensures { IsKnown (through_sites {M = ⊥} (site_in (job_of at.now.job.now) at.now.entry at.now.under) path.now) result }
+{
+    let Some((first, rest)) = path.split_first() else {
         return Known::Passed;
     };
     match known_filter(at, store, *first) {
@@ -88,78 +84,75 @@ fn known_filters(at: &Reading<'_>, store: &Store, filters: &[PlannedFilter]) -> 
     }
 }
 
-/// Fills the site of a filter, and whether the entry passes it.
+/// Fills a filter's site, and whether the entry passes it.
 fn fill_filter<L: Ledger>(
     alloc: Global,
     at: &Reading<'_>,
     store: &mut Store,
-    filter: PlannedFilter,
+    site: u32,
     steps: &mut Steps<L>,
 ) -> Result<bool, OutcomeStop>
     requires job { Fits at.now.job.now }
     requires row { IsRow (job_graph (job_of at.now.job.now)) at.now.under at.now.row.now }
     requires can { CanLook (job_of at.now.job.now) at.now.entry store.old }
     requires sound { IsSound (job_of at.now.job.now) at.now.entry store.old }
-    requires site { filter.site < length (graph_sites (job_graph (job_of at.now.job.now))) }
-    requires key { IsKeyed (job_graph (job_of at.now.job.now)) at.now.under filter }
-    ensures tried { IsTriedFilter (job_of at.now.job.now) at.now.entry at.now.under filter.site store.old store.new steps.old steps.new result }
+    requires site { site < length (graph_sites (job_graph (job_of at.now.job.now))) }
+    ensures tried { IsTriedFilter (job_of at.now.job.now) at.now.entry at.now.under site store.old store.new steps.old steps.new result }
     ensures sized { length store.new ≡ length store.old }
-    ensures plain { (used : ℕ → Bool) → ArePlain (job_of at.now.job.now) used → used filter.site ≡ true → result ≢ Err OutcomeStop.Memory }
+    ensures plain { (used : ℕ → Bool) → ArePlain (job_of at.now.job.now) used → used site ≡ true → result ≢ Err OutcomeStop.Memory }
 {
-    match serve(alloc, at, store, filter.site, steps) {
+    match serve(alloc, at, store, site, steps) {
         Err(Memory) => Err(OutcomeStop::Memory),
-        Ok(()) => match lets_through(store.at(filter.key)) {
+        Ok(()) => match lets_through(store.at(key(at, site))) {
             Err(kind) => Err(OutcomeStop::Fault(kind)),
             Ok(passed) => Ok(passed),
         },
     }
 }
 
-/// Whether the entry passes the filter.
+/// Whether the entry passes the filter of that site.
 pub(crate) fn try_filter<L: Ledger>(
     alloc: Global,
     at: &Reading<'_>,
     store: &mut Store,
-    filter: PlannedFilter,
+    site: u32,
     steps: &mut Steps<L>,
 ) -> Result<bool, OutcomeStop>
     requires job { Fits at.now.job.now }
     requires row { IsRow (job_graph (job_of at.now.job.now)) at.now.under at.now.row.now }
     requires can { CanLook (job_of at.now.job.now) at.now.entry store.old }
     requires sound { IsSound (job_of at.now.job.now) at.now.entry store.old }
-    requires site { filter.site < length (graph_sites (job_graph (job_of at.now.job.now))) }
-    requires key { IsKeyed (job_graph (job_of at.now.job.now)) at.now.under filter }
-    ensures tried { IsTriedFilter (job_of at.now.job.now) at.now.entry at.now.under filter.site store.old store.new steps.old steps.new result }
+    requires site { site < length (graph_sites (job_graph (job_of at.now.job.now))) }
+    ensures tried { IsTriedFilter (job_of at.now.job.now) at.now.entry at.now.under site store.old store.new steps.old steps.new result }
     ensures sized { length store.new ≡ length store.old }
-    ensures plain { (used : ℕ → Bool) → ArePlain (job_of at.now.job.now) used → used filter.site ≡ true → result ≢ Err OutcomeStop.Memory }
+    ensures plain { (used : ℕ → Bool) → ArePlain (job_of at.now.job.now) used → used site ≡ true → result ≢ Err OutcomeStop.Memory }
 {
-    match known_filter(at, store, filter) {
+    match known_filter(at, store, site) {
         Known::Passed => Ok(true),
         Known::Stopped => Ok(false),
         Known::Faulted(kind) => Err(OutcomeStop::Fault(kind)),
-        Known::Missing => fill_filter(alloc, at, store, filter, steps),
+        Known::Missing => fill_filter(alloc, at, store, site, steps),
     }
 }
 
-/// Tries these filters, head first, up to the first that stops the entry.
+/// Tries the filters of these sites, head first, up to the first that stops the entry.
 fn try_filters<L: Ledger>(
     alloc: Global,
     at: &Reading<'_>,
     store: &mut Store,
-    filters: &[PlannedFilter],
+    path: &[u32],
     steps: &mut Steps<L>,
 ) -> Result<bool, OutcomeStop>
     requires job { Fits at.now.job.now }
     requires row { IsRow (job_graph (job_of at.now.job.now)) at.now.under at.now.row.now }
     requires can { CanLook (job_of at.now.job.now) at.now.entry store.old }
     requires sound { IsSound (job_of at.now.job.now) at.now.entry store.old }
-    requires path { AllByRecursion (λ s. s < length (graph_sites (job_graph (job_of at.now.job.now)))) (sites_in filters.now) }
-    requires keys { AreKeyed (job_graph (job_of at.now.job.now)) at.now.under filters.now }
-    ensures filtered { IsFiltered (job_of at.now.job.now) at.now.entry at.now.under (sites_in filters.now) store.old store.new steps.old steps.new result }
+    requires path { AllByRecursion (λ s. s < length (graph_sites (job_graph (job_of at.now.job.now)))) path.now }
+    ensures filtered { IsFiltered (job_of at.now.job.now) at.now.entry at.now.under path.now store.old store.new steps.old steps.new result }
     ensures sized { length store.new ≡ length store.old }
-    ensures plain { (used : ℕ → Bool) → ArePlain (job_of at.now.job.now) used → AllByRecursion (λ s. used s ≡ true) (sites_in filters.now) → result ≢ Err OutcomeStop.Memory }
+    ensures plain { (used : ℕ → Bool) → ArePlain (job_of at.now.job.now) used → AllByRecursion (λ s. used s ≡ true) path.now → result ≢ Err OutcomeStop.Memory }
 {
-    let Some((first, rest)) = filters.split_first() else {
+    let Some((first, rest)) = path.split_first() else {
         return Ok(true);
     };
     match try_filter(alloc, at, store, *first, steps) {
@@ -169,28 +162,27 @@ fn try_filters<L: Ledger>(
     }
 }
 
-/// Whether the entry passes these filters, head first.
+/// Whether the entry passes the filters of these sites, head first.
 pub(crate) fn pass_filters<L: Ledger>(
     alloc: Global,
     at: &Reading<'_>,
     store: &mut Store,
-    filters: &[PlannedFilter],
+    path: &[u32],
     steps: &mut Steps<L>,
 ) -> Result<bool, OutcomeStop>
     requires job { Fits at.now.job.now }
     requires row { IsRow (job_graph (job_of at.now.job.now)) at.now.under at.now.row.now }
     requires can { CanLook (job_of at.now.job.now) at.now.entry store.old }
     requires sound { IsSound (job_of at.now.job.now) at.now.entry store.old }
-    requires path { AllByRecursion (λ s. s < length (graph_sites (job_graph (job_of at.now.job.now)))) (sites_in filters.now) }
-    requires keys { AreKeyed (job_graph (job_of at.now.job.now)) at.now.under filters.now }
-    ensures filtered { IsFiltered (job_of at.now.job.now) at.now.entry at.now.under (sites_in filters.now) store.old store.new steps.old steps.new result }
+    requires path { AllByRecursion (λ s. s < length (graph_sites (job_graph (job_of at.now.job.now)))) path.now }
+    ensures filtered { IsFiltered (job_of at.now.job.now) at.now.entry at.now.under path.now store.old store.new steps.old steps.new result }
     ensures sized { length store.new ≡ length store.old }
-    ensures plain { (used : ℕ → Bool) → ArePlain (job_of at.now.job.now) used → AllByRecursion (λ s. used s ≡ true) (sites_in filters.now) → result ≢ Err OutcomeStop.Memory }
+    ensures plain { (used : ℕ → Bool) → ArePlain (job_of at.now.job.now) used → AllByRecursion (λ s. used s ≡ true) path.now → result ≢ Err OutcomeStop.Memory }
 {
-    match known_filters(at, store, filters) {
+    match known_filters(at, store, path) {
         Known::Passed => Ok(true),
         Known::Stopped => Ok(false),
         Known::Faulted(kind) => Err(OutcomeStop::Fault(kind)),
-        Known::Missing => try_filters(alloc, at, store, filters, steps),
+        Known::Missing => try_filters(alloc, at, store, path, steps),
     }
 }

@@ -13,15 +13,13 @@ ghost use Rattle.entry_cache.specs.Keys.{IsRow};
 ghost use Rattle.entry_cache.specs.Known.{AreHeld, IsHeld};
 ghost use Rattle.entry_cache.specs.Passes.{AreInputsServed, AreReadable, IsFaultOf, IsInput, IsInputServed};
 ghost use Rattle.entry_cache.specs.Plain.{ArePlain, ArePlainVersions};
-ghost use Rattle.entry_cache.specs.Plans.{ArePlaced, IsPlaced, versions_in};
 ghost use Rattle.entry_cache.specs.Store.{CanLook, IsReadable, IsSound, IsSourceIn, IsSourceServed, source_at, version_in};
 
 use crate::fill::serve;
 use crate::outcome::OutcomeStop;
-use crate::plan::PlannedInput;
 use crate::reading::{Reading, source_of};
 use crate::store::Store;
-use crate::view::look_there;
+use crate::view::look;
 use actions::{Items, Part};
 use expr_eval::{Input, Steps};
 use graph_numbers::Source;
@@ -63,27 +61,26 @@ fn fault_in(input: Input<'_>) -> Option<EntryFault>
     }
 }
 
-/// Fills what gives an input its value, and finds its fault.
+/// Fills what gives a version its value, and finds its fault.
 fn serve_input<L: Ledger>(
     alloc: Global,
     at: &Reading<'_>,
     store: &mut Store,
-    input: PlannedInput,
+    version: u32,
     steps: &mut Steps<L>,
 ) -> Result<(), OutcomeStop>
     requires job { Fits at.now.job.now }
     requires row { IsRow (job_graph (job_of at.now.job.now)) at.now.under at.now.row.now }
     requires can { CanLook (job_of at.now.job.now) at.now.entry store.old }
     requires sound { IsSound (job_of at.now.job.now) at.now.entry store.old }
-    requires version { IsReadable (job_of at.now.job.now) at.now.under input.version }
-    requires place { IsPlaced (job_graph (job_of at.now.job.now)) at.now.under input }
-    ensures served { IsInputServed (job_of at.now.job.now) at.now.entry at.now.under input.version store.old store.new steps.old steps.new result }
+    requires version { IsReadable (job_of at.now.job.now) at.now.under version }
+    ensures served { IsInputServed (job_of at.now.job.now) at.now.entry at.now.under version store.old store.new steps.old steps.new result }
     ensures sized { length store.new ≡ length store.old }
-    ensures plain { (used : ℕ → Bool) → ArePlain (job_of at.now.job.now) used → IsSourceIn used (source_at (job_of at.now.job.now) at.now.under input.version) → result ≢ Err OutcomeStop.Memory }
+    ensures plain { (used : ℕ → Bool) → ArePlain (job_of at.now.job.now) used → IsSourceIn used (source_at (job_of at.now.job.now) at.now.under version) → result ≢ Err OutcomeStop.Memory }
 {
-    match serve_version(alloc, at, store, input.version, steps) {
+    match serve_version(alloc, at, store, version, steps) {
         Err(Memory) => Err(OutcomeStop::Memory),
-        Ok(()) => match fault_in(look_there(at, store, input.version, input.place)) {
+        Ok(()) => match fault_in(look(at, store, version)) {
             Some(kind) => Err(OutcomeStop::Fault(kind)),
             None => Ok(()),
         },
@@ -112,19 +109,18 @@ fn in_hand(input: Input<'_>) -> Hand
 }
 
 /// What is known of these versions, in order.
-fn inputs_in_hand(at: &Reading<'_>, store: &Store, inputs: &[PlannedInput]) -> Hand
+fn inputs_in_hand(at: &Reading<'_>, store: &Store, inputs: &[u32]) -> Hand
     requires job { Fits at.now.job.now }
     requires row { IsRow (job_graph (job_of at.now.job.now)) at.now.under at.now.row.now }
     requires can { CanLook (job_of at.now.job.now) at.now.entry store.now }
     requires sound { IsSound (job_of at.now.job.now) at.now.entry store.now }
-    requires inputs { AreReadable (job_of at.now.job.now) at.now.under (versions_in inputs.now) }
-    requires places { ArePlaced (job_graph (job_of at.now.job.now)) at.now.under inputs.now }
-    ensures { AreHeld (job_of at.now.job.now) at.now.entry at.now.under store.now (versions_in inputs.now) result }
+    requires inputs { AreReadable (job_of at.now.job.now) at.now.under inputs.now }
+    ensures { AreHeld (job_of at.now.job.now) at.now.entry at.now.under store.now inputs.now result }
 {
     let Some((first, rest)) = inputs.split_first() else {
         return Hand::Held;
     };
-    match in_hand(look_there(at, store, first.version, first.place)) {
+    match in_hand(look(at, store, *first)) {
         Hand::Held => inputs_in_hand(at, store, rest),
         Hand::Faulted(kind) => Hand::Faulted(kind),
         Hand::Missing => Hand::Missing,
@@ -136,18 +132,17 @@ fn fill_inputs<L: Ledger>(
     alloc: Global,
     at: &Reading<'_>,
     store: &mut Store,
-    inputs: &[PlannedInput],
+    inputs: &[u32],
     steps: &mut Steps<L>,
 ) -> Result<(), OutcomeStop>
     requires job { Fits at.now.job.now }
     requires row { IsRow (job_graph (job_of at.now.job.now)) at.now.under at.now.row.now }
     requires can { CanLook (job_of at.now.job.now) at.now.entry store.old }
     requires sound { IsSound (job_of at.now.job.now) at.now.entry store.old }
-    requires inputs { AreReadable (job_of at.now.job.now) at.now.under (versions_in inputs.now) }
-    requires places { ArePlaced (job_graph (job_of at.now.job.now)) at.now.under inputs.now }
-    ensures served { AreInputsServed (job_of at.now.job.now) at.now.entry at.now.under (versions_in inputs.now) store.old store.new steps.old steps.new result }
+    requires inputs { AreReadable (job_of at.now.job.now) at.now.under inputs.now }
+    ensures served { AreInputsServed (job_of at.now.job.now) at.now.entry at.now.under inputs.now store.old store.new steps.old steps.new result }
     ensures sized { length store.new ≡ length store.old }
-    ensures plain { (used : ℕ → Bool) → ArePlain (job_of at.now.job.now) used → ArePlainVersions (job_of at.now.job.now) used at.now.under (versions_in inputs.now) → result ≢ Err OutcomeStop.Memory }
+    ensures plain { (used : ℕ → Bool) → ArePlain (job_of at.now.job.now) used → ArePlainVersions (job_of at.now.job.now) used at.now.under inputs.now → result ≢ Err OutcomeStop.Memory }
 {
     let Some((first, rest)) = inputs.split_first() else {
         return Ok(());
@@ -163,18 +158,17 @@ pub(crate) fn serve_inputs<L: Ledger>(
     alloc: Global,
     at: &Reading<'_>,
     store: &mut Store,
-    inputs: &[PlannedInput],
+    inputs: &[u32],
     steps: &mut Steps<L>,
 ) -> Result<(), OutcomeStop>
     requires job { Fits at.now.job.now }
     requires row { IsRow (job_graph (job_of at.now.job.now)) at.now.under at.now.row.now }
     requires can { CanLook (job_of at.now.job.now) at.now.entry store.old }
     requires sound { IsSound (job_of at.now.job.now) at.now.entry store.old }
-    requires inputs { AreReadable (job_of at.now.job.now) at.now.under (versions_in inputs.now) }
-    requires places { ArePlaced (job_graph (job_of at.now.job.now)) at.now.under inputs.now }
-    ensures served { AreInputsServed (job_of at.now.job.now) at.now.entry at.now.under (versions_in inputs.now) store.old store.new steps.old steps.new result }
+    requires inputs { AreReadable (job_of at.now.job.now) at.now.under inputs.now }
+    ensures served { AreInputsServed (job_of at.now.job.now) at.now.entry at.now.under inputs.now store.old store.new steps.old steps.new result }
     ensures sized { length store.new ≡ length store.old }
-    ensures plain { (used : ℕ → Bool) → ArePlain (job_of at.now.job.now) used → ArePlainVersions (job_of at.now.job.now) used at.now.under (versions_in inputs.now) → result ≢ Err OutcomeStop.Memory }
+    ensures plain { (used : ℕ → Bool) → ArePlain (job_of at.now.job.now) used → ArePlainVersions (job_of at.now.job.now) used at.now.under inputs.now → result ≢ Err OutcomeStop.Memory }
 {
     match inputs_in_hand(at, store, inputs) {
         Hand::Held => Ok(()),
@@ -196,17 +190,16 @@ fn part_of<'a>(input: Input<'a>) -> Part<'a>
     }
 }
 
-/// The value of an input that is at hand.
-fn part<'a: 's, 's>(at: &Reading<'a>, store: &'s Store, input: PlannedInput) -> Part<'s>
+/// The value of a version that is at hand.
+fn part<'a: 's, 's>(at: &Reading<'a>, store: &'s Store, version: u32) -> Part<'s>
     requires job { Fits at.now.job.now }
     requires row { IsRow (job_graph (job_of at.now.job.now)) at.now.under at.now.row.now }
     requires can { CanLook (job_of at.now.job.now) at.now.entry store.now }
     requires sound { IsSound (job_of at.now.job.now) at.now.entry store.now }
-    requires place { IsPlaced (job_graph (job_of at.now.job.now)) at.now.under input }
-    requires input { IsInput (job_of at.now.job.now) at.now.entry at.now.under store.now input.version }
-    ensures { version_in {M = ⊥} (job_of at.now.job.now) at.now.entry at.now.under input.version ≡ Gives (part_value result) }
+    requires input { IsInput (job_of at.now.job.now) at.now.entry at.now.under store.now version }
+    ensures { version_in {M = ⊥} (job_of at.now.job.now) at.now.entry at.now.under version ≡ Gives (part_value result) }
 {
-    part_of(look_there(at, store, input.version, input.place))
+    part_of(look(at, store, version))
 }
 
 /// What an action is fed, where all that it reads is at hand.
@@ -214,17 +207,16 @@ pub(crate) fn gather<'a: 's, 's>(
     at: &Reading<'a>,
     store: &'s Store,
     kind: &ActionKind,
-    inputs: &[PlannedInput],
+    inputs: &[u32],
 ) -> Items<'s>
     requires job { Fits at.now.job.now }
     requires row { IsRow (job_graph (job_of at.now.job.now)) at.now.under at.now.row.now }
     requires can { CanLook (job_of at.now.job.now) at.now.entry store.now }
     requires sound { IsSound (job_of at.now.job.now) at.now.entry store.now }
-    requires places { ArePlaced (job_graph (job_of at.now.job.now)) at.now.under inputs.now }
-    requires inputs { AllByRecursion (IsInput (job_of at.now.job.now) at.now.entry at.now.under store.now) (versions_in inputs.now) }
-    requires count { length (versions_in inputs.now) ≡ length (columns_of kind.now) }
-    requires fits { (vs : List Value) → for_all (version_in {M = ⊥} (job_of at.now.job.now) at.now.entry at.now.under) (versions_in inputs.now) ≡ Gives vs → FitsFeed kind.now vs }
-    ensures values { for_all (version_in {M = ⊥} (job_of at.now.job.now) at.now.entry at.now.under) (versions_in inputs.now) ≡ Gives (values_of result) }
+    requires inputs { AllByRecursion (IsInput (job_of at.now.job.now) at.now.entry at.now.under store.now) inputs.now }
+    requires count { length inputs.now ≡ length (columns_of kind.now) }
+    requires fits { (vs : List Value) → for_all (version_in {M = ⊥} (job_of at.now.job.now) at.now.entry at.now.under) inputs.now ≡ Gives vs → FitsFeed kind.now vs }
+    ensures values { for_all (version_in {M = ⊥} (job_of at.now.job.now) at.now.entry at.now.under) inputs.now ≡ Gives (values_of result) }
     ensures suits { Suits kind.now result }
 {
     match kind {

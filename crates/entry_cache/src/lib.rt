@@ -13,8 +13,6 @@ pub mod job;
 pub mod keys;
 mod named;
 pub mod outcome;
-pub mod plan;
-mod planning;
 mod reading;
 pub mod rows;
 mod store;

@@ -5,9 +5,9 @@ ghost use Rattle.expr_eval.specs.Inputs.{input_outcome};
 ghost use Rattle.graph_numbers.specs.Sources.{IsBelow, cell_value};
 ghost use Rattle.graph_numbers.specs.Graphs.{graph_sites, graph_versions};
 ghost use Rattle.entry_cache.specs.Jobs.{Fits, job_graph, job_of};
-ghost use Rattle.entry_cache.specs.Keys.{IsRow, key_under, place_of};
+ghost use Rattle.entry_cache.specs.Keys.{IsRow};
 ghost use Rattle.rdf_values.specs.declared.value.Value.{Value};
-ghost use Rattle.entry_cache.specs.Store.{CanLook, IsReadable, held_element, held_or_need, look_at, row_in, source_at};
+ghost use Rattle.entry_cache.specs.Store.{CanLook, IsReadable, held_element, held_or_need, look_at, row_in};
 
 use crate::held::Held;
 use crate::reading::{Reading, place};
@@ -35,30 +35,14 @@ impl<'a> Inputs for View<'a> {
 }
 
 /// What is known of a version.
-fn look<'a: 's, 's>(at: &Reading<'a>, store: &'s Store, version: u32) -> Input<'s>
+pub(crate) fn look<'a: 's, 's>(at: &Reading<'a>, store: &'s Store, version: u32) -> Input<'s>
     requires job { Fits at.now.job.now }
     requires row { IsRow (job_graph (job_of at.now.job.now)) at.now.under at.now.row.now }
     requires can { CanLook (job_of at.now.job.now) at.now.entry store.now }
     requires version { IsReadable (job_of at.now.job.now) at.now.under version }
     ensures { input_outcome version result ≡ look_at (job_of at.now.job.now) at.now.entry at.now.under store.now version }
 {
-    look_there(at, store, version, place(at, version))
-}
-
-/// What is known of a version that stands at this place.
-pub(crate) fn look_there<'a: 's, 's>(
-    at: &Reading<'a>,
-    store: &'s Store,
-    _version: u32,
-    place: Place,
-) -> Input<'s>
-    requires job { Fits at.now.job.now }
-    requires can { CanLook (job_of at.now.job.now) at.now.entry store.now }
-    requires version { IsReadable (job_of at.now.job.now) at.now.under _version }
-    requires place { place_of (key_under (job_graph (job_of at.now.job.now)) at.now.under) (source_at (job_of at.now.job.now) at.now.under _version) ≡ place }
-    ensures { input_outcome _version result ≡ look_at (job_of at.now.job.now) at.now.entry at.now.under store.now _version }
-{
-    match place {
+    match place(at, version) {
         Place::Cell { col } => cell(at.job.columns, at.entry, col),
         Place::Key { key } => known(store.at(key)),
         Place::Element { key, place, tags } => element(store.at(key), place, tags),

@@ -34,11 +34,11 @@ use Rattle.graph_numbers.proofs.Looping.{loops_are}
 use Rattle.graph_numbers.proofs.Passing.{shorter}
 use Rattle.graph_numbers.proofs.Resulting.{booked_are}
 use Rattle.entry_cache.specs.Caches.{IsCovered}
-use Rattle.entry_cache.specs.Jobs.{IsJob, JobView, job_graph, numbered_passes, passes_in}
+use Rattle.entry_cache.specs.Jobs.{JobView, IsJob, job_graph, passes_in}
 use Rattle.entry_cache.proofs.EvaluateLaws.{accepted_of}
 use Rattle.entry_cache.proofs.PassTies.{get_mapped, of_mapped, of_option}
 use Rattle.entry_passes.specs.Plans.{covered_in}
-use Rattle.entry_passes.specs.Turns.{covers_of, is_covering}
+use Rattle.entry_passes.specs.Turns.{covers_of, is_covering, numbered_passes}
 
 -- ---- no two named filters have one node
 

@@ -25,13 +25,13 @@ use Rattle.cluster_tally.specs.Laws as law
 use Rattle.cluster_tally.specs.Stages.{Stage, after_entry}
 use Rattle.cluster_tally.specs.Tallies.{Holds, TallyView}
 use Rattle.entry_cache.specs.Caches.{CacheView, IsActionBooking, IsActionPass, IsOfAction, numbered_in, IsOutcome}
-use Rattle.entry_cache.specs.Jobs.{IsJob, JobView, job_graph, numbered_passes, pass_outcome, passes_in}
+use Rattle.entry_cache.specs.Jobs.{JobView, IsJob, job_graph, pass_outcome, passes_in}
 use Rattle.entry_cache.proofs.PassNumbers.{result_there, some_same}
 use Rattle.entry_cache.proofs.PassTies.{pass_of, pass_is}
 use Rattle.entry_cache.proofs.TableLaws.{row_there}
 use Rattle.entry_passes.specs.Entries.{IsBefore, IsNoTake, facts_in, IsEntryAnswer}
 use Rattle.entry_passes.specs.Plans.{covered_in}
-use Rattle.entry_passes.specs.Turns.{IsAmid, IsAtEntry, IsPassAnswer, IsReportAnswer, IsReportPass, Moves, actions_before, at_places, pass_fault, CanTake}
+use Rattle.entry_passes.specs.Turns.{IsAmid, IsAtEntry, IsPassAnswer, IsReportAnswer, IsReportPass, Moves, actions_before, at_places, pass_fault, CanTake, numbered_passes}
 use Rattle.entry_cache.specs.declared.outcome.Outcome.TheVariants as answer
 use Rattle.entry_passes.specs.declared.stop.EntryStop.{EntryStop}
 use Rattle.entry_passes.specs.declared.stop.EntryStop.TheVariants as stop

@@ -13,7 +13,8 @@ use Rattle.graph_numbers.specs.Graphs.{graph_loops, graph_variations}
 use Rattle.graph_numbers.specs.Results.{loops, numbered_pass, own_loop, passes_from, places_from, result_passes}
 use Rattle.graph_numbers.specs.declared.pass.Pass.{Pass as NumberedPass}
 use Rattle.graph_numbers.proofs.Listed.{of_joined}
-use Rattle.entry_cache.specs.Jobs.{IsJob, JobView, job_graph, numbered_passes}
+use Rattle.entry_cache.specs.Jobs.{JobView, IsJob, job_graph}
+use Rattle.entry_passes.specs.Turns.{numbered_passes}
 
 places_few : {A : Type 0} (test : A → Bool) (n : ℕ) (xs : List A) → length (places_from test n xs) ≤ length xs
 places_few test n [] = omega arith

@@ -5,11 +5,11 @@ use Rattle.std.proofs.lemmas.Option.{slice_get-get_or}
 use Rattle.graph_numbers.specs.Graphs.{GraphView, graph_filters, graph_results}
 use Rattle.graph_numbers.specs.Results.{ResultAt}
 use Rattle.graph_numbers.specs.declared.pass.Pass.{Pass as NumberedPass}
-use Rattle.entry_cache.specs.Jobs.{IsJob, JobView, job_graph, numbered_passes}
+use Rattle.entry_cache.specs.Jobs.{JobView, IsJob, job_graph}
 use Rattle.entry_cache.proofs.FillLaws.{there}
 use Rattle.entry_cache.proofs.PassNumbers.{result_inside}
 use Rattle.entry_passes.specs.Plans.{covered_in}
-use Rattle.entry_passes.specs.Turns.{covers_of, is_covering}
+use Rattle.entry_passes.specs.Turns.{covers_of, is_covering, numbered_passes}
 use Rattle.entry_passes.proofs.Covered.{cover_at, cover_is, covered_count}
 
 -- ---- tests of a list's elements

@@ -1,5 +1,5 @@
 -- What trying a pass of an entry does.
-use Rattle.std.specs.Prelude.{◌≡◌, ◌≤◌, ◌+◌, ◌*◌, ⊤, ℕ, Bool, List, [], Option, None, Some, Result, Ok, Err, length, slice_get, take, nat_eq}
+use Rattle.std.specs.Prelude.{◌≡◌, ◌≤◌, ◌+◌, ◌*◌, ⊤, ℕ, Bool, List, [], Option, None, Some, Result, Ok, Err, length, slice_get, take, unwrap_or, nat_eq}
 use Rattle.std.specs.List.{list_any}
 use Rattle.rdf_values.specs.Bookings.{ReportOn}
 use Rattle.rdf_values.specs.Path.{Path}
@@ -8,7 +8,7 @@ use Rattle.rdf_model.specs.LoopFacts.{kinds_in}
 use Rattle.rdf_model.specs.Results.{fault_in}
 use Rattle.cluster_tally.specs.Stages.{Stage}
 use Rattle.cluster_tally.specs.Tallies.{Holds, TallyView}
-use Rattle.graph_numbers.specs.Graphs.{graph_filters, graph_results}
+use Rattle.graph_numbers.specs.Graphs.{graph_filters, graph_loops, graph_results}
 use Rattle.graph_numbers.specs.Outcomes.{report_numbers}
 use Rattle.graph_numbers.specs.Results.{ResultAt}
 use Rattle.graph_numbers.specs.declared.pass.Pass.{Pass as NumberedPass}
@@ -73,6 +73,10 @@ covers_of (Some r) = r.covers
 -- the result of a pass covers the filter of that number
 abbrev pub is_covering : List ResultAt → ℕ → NumberedPass → Bool
 is_covering results f p = list_any (nat_eq f) (covers_of (slice_get results p.result))
+
+-- the passes of the loop by numbers
+abbrev pub numbered_passes : JobView → List NumberedPass
+numbered_passes j = unwrap_or (slice_get (graph_loops (job_graph j)) j.number) []
 
 -- the filters of these numbers in order: none of them nor one above faults; the first fault; or want of memory
 abbrev pub IsReportAnswer : JobView → ℕ → ℕ → List ℕ → Result (Unit {0}) EntryStop → Type 0

@@ -2,9 +2,9 @@
 ghost use Rattle.std.specs.Prelude.{◌≡◌, ◌<◌, Bool, IfOk, length, nat_eq};
 ghost use Rattle.std.specs.List.{list_any};
 ghost use Rattle.graph_numbers.specs.Graphs.{graph_filters, graph_results};
-ghost use Rattle.entry_cache.specs.Jobs.{Fits, job_graph, job_of, numbered_passes};
+ghost use Rattle.entry_cache.specs.Jobs.{Fits, job_graph, job_of};
 ghost use Rattle.entry_passes.specs.Plans.{covered_in};
-ghost use Rattle.entry_passes.specs.Turns.{is_covering};
+ghost use Rattle.entry_passes.specs.Turns.{is_covering, numbered_passes};
 
 use crate::turn::loop_passes;
 use entry_cache::Job;

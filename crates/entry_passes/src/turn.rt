@@ -1,6 +1,8 @@
 // The entry whose turn it is.
-ghost use Rattle.std.specs.Prelude.{◌≡◌, ◌<◌, ◌^◌, length};
-ghost use Rattle.entry_cache.specs.Jobs.{Fits, job_of, numbered_passes, passes_in};
+ghost use Rattle.std.specs.Prelude.{◌≡◌, ◌<◌, ◌≤◌, ◌^◌, Some, length, slice_get};
+ghost use Rattle.graph_numbers.specs.Graphs.{graph_loops};
+ghost use Rattle.entry_cache.specs.Jobs.{Fits, job_graph, job_of, passes_in};
+ghost use Rattle.entry_passes.specs.Turns.{numbered_passes};
 
 use entry_cache::Job;
 use graph_numbers::Pass;

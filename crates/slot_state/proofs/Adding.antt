@@ -22,10 +22,11 @@ use Rattle.graph_numbers.specs.declared.result_kind.ResultKind.TheVariants as wh
 use Rattle.graph_numbers.proofs.Listed.{of_joined}
 use Rattle.graph_numbers.proofs.Resulting.{booked_are}
 use Rattle.entry_cache.specs.Caches.{numbered_in}
-use Rattle.entry_cache.specs.Jobs.{IsJob, JobView, job_graph, numbered_passes, passes_in}
+use Rattle.entry_cache.specs.Jobs.{IsJob, JobView, job_graph, passes_in}
 use Rattle.entry_cache.proofs.EvaluateLaws.{accepted_of}
 use Rattle.entry_cache.proofs.PassNumbers.{result_inside, result_there}
 use Rattle.entry_cache.proofs.PassTies.{get_mapped, of_chosen, of_mapped, pass_of}
+use Rattle.entry_passes.specs.Turns.{numbered_passes}
 use Rattle.entry_passes.proofs.Covered.{covered_count, passes_count}
 use Rattle.entry_passes.proofs.EntryLaws.{read_pass}
 use Rattle.entry_passes.proofs.PassCounts.{few_passes}

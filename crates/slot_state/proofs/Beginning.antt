@@ -53,7 +53,8 @@ module _ (j : JobView) (job : IsJob j) where
       let of_all = subst (λ ps. IsFresh (kinds_in ps) (watched_places (history j.script) ps) s.tally) all fresh in
       record {
         slot = record {
-          cache = sized;
+          cells = sized.cells;
+          keys = sized.keys;
           plan = plan;
           room = (let m = length-map (below (length (job_spans j))) (cluster_fault j.dataset (job_spans j) (passes_in j)) in omega (arith, room, m, length-below (length (job_spans j))));
           holds = λ on c high. subst (λ d. Holds (facts_in j) (job_facts j).watched (at_begin d c) s.tally) (sym none)

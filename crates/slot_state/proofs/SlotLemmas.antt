@@ -62,12 +62,13 @@ cluster_within j cluster lt = omega (arith, length-map (below (length (job_spans
 
 module _ (j : JobView) (s : SlotView) (h : IsSlotOf (job_facts j) s) where
   pub is_sized : IsSized j s.cache
-  is_sized = h.cache
+  is_sized = record { cells = h.cells; keys = h.keys }
 
   -- one that doesn't go on
   pub stopped : (t : SlotView) → IsSized j t.cache → t.plan ≡ s.plan → t.room ≡ s.room → (t.phase ≡ phase.Going → ⊥) → IsSlotOf (job_facts j) t
   stopped t sized plan room ended = record {
-    cache = sized;
+    cells = sized.cells;
+    keys = sized.keys;
     plan = plan ∙ h.plan;
     room = (let r = h.room in omega (arith, room));
     holds = λ going. absurd (ended going);
@@ -84,7 +85,8 @@ module _ (j : JobView) (s : SlotView) (h : IsSlotOf (job_facts j) s) where
     pub went_on : (t : SlotView) → IsSized j t.cache → t.plan ≡ s.plan → t.room ≡ s.room → t.done ≡ s.done ++ cluster ∷ []
         → ((next : ℕ) → cluster < next → Holds (facts_in j) (job_facts j).watched (at_begin (s.done ++ cluster ∷ []) next) t.tally) → IsSlotOf (job_facts j) t
     went_on t sized plan room done holds = record {
-      cache = sized;
+      cells = sized.cells;
+      keys = sized.keys;
       plan = plan ∙ h.plan;
       room = (let r = h.room in omega (arith, room));
       holds = λ on c high. (

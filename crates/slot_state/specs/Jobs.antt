@@ -11,13 +11,12 @@ use Rattle.loop_pieces.specs.Trails.{watched_places}
 use Rattle.loop_pieces.specs.Whole.{cluster_faults}
 
 -- the facts of a loop, for each cluster its first fault or none, the places of the watched passes among the action passes, the
--- graph that the loop is of, its number there, and for each named filter whether a report of the loop covers it
+-- graph that the loop is of, and for each named filter whether a report of the loop covers it
 pub record JobFacts : Type 0 where
   pub facts : LoopFacts
   pub faults : List (Option Fault)
   pub watched : List ℕ
   pub graph : GraphView
-  pub number : ℕ
   pub covered : List Bool
 
 -- what the loop of a job is to give
@@ -27,6 +26,5 @@ job_facts j = record {
   faults = cluster_faults j.dataset (job_spans j) (passes_in j);
   watched = watched_places (history j.script) (passes_in j);
   graph = job_graph j;
-  number = j.number;
   covered = covered_in j;
 }

@@ -6,8 +6,9 @@ use Rattle.rdf_model.specs.Demanded.{demanded}
 use Rattle.rdf_model.specs.LoopFacts.{kinds_in}
 use Rattle.rdf_model.specs.PartialResults.{span_rows}
 use Rattle.rdf_model.specs.Results.{first_fault_in}
-use Rattle.entry_cache.specs.Caches.{CacheView, IsCacheOf, IsPlainLoop}
+use Rattle.entry_cache.specs.Caches.{CacheView, IsPlainLoop}
 use Rattle.entry_cache.specs.Jobs.{JobView, passes_in}
+use Rattle.entry_cache.specs.Keys.{AreKeys, key_count}
 use Rattle.entry_passes.specs.Entries.{IsNoTake, job_spans}
 use Rattle.cluster_tally.specs.Stages.{at_begin}
 use Rattle.cluster_tally.specs.Tallies.{Holds, TallyView}
@@ -27,7 +28,8 @@ pub record SlotView : Type 0 where
 
 -- the slot is one of the loop that is to give that; while it goes on, its tally holds what the finished clusters give
 pub record IsSlotOf (job : JobFacts) (s : SlotView) : Type 0 where
-  pub cache : IsCacheOf job.graph job.number s.cache
+  pub cells : length s.cache.cells ≡ key_count job.graph
+  pub keys : AreKeys job.graph s.cache.keys
   pub plan : s.plan ≡ job.covered
   pub room : length job.faults ≤ s.room
   pub holds : s.phase ≡ Going → (c : ℕ) → All (λ d. d < c) s.done → Holds job.facts job.watched (at_begin s.done c) s.tally

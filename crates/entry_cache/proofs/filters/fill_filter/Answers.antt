@@ -1,25 +1,18 @@
-use Rattle.std.proofs.Common.{◌∙◌}
 use Rattle.entry_cache.specs.Jobs.{job_of}
-use Rattle.entry_cache.proofs.RowLaws.{key_within}
 use Rattle.entry_cache.proofs.ServeLaws.{right_read}
 use Rattle.entry_cache.proofs.filters.fill_filter.Goals as goal
 
-pub at-requires : goal.at-requires
-at-requires g c =
-    key_within (job_of c.args.at.now.job.now) c.args.at.now.under c.args.at.now.entry c.serve.new.store (record { sized = c.serve.ensures.sized ∙ c.requires.can.sized; within = c.requires.can.within })
-    c.args.filter.site c.args.filter.key c.requires.site c.requires.key
-
 pub returns-in-Err-lets_through-clause-tried : goal.returns-in-Err-lets_through-clause-tried
 returns-in-Err-lets_through-clause-tried g c = (
-  c.in-Err-lets_through.ensures (job_of c.args.at.now.job.now) c.args.at.now.entry c.args.at.now.under c.args.filter.site
-      (right_read (job_of c.args.at.now.job.now) c.args.at.now.entry c.args.at.now.under c.args.filter.site c.serve.new.store c.args.filter.key c.at.result.now c.requires.site c.in-Ok.ensures.served.1.sound c.requires.key c.at.ensures),
+  c.in-Err-lets_through.ensures (job_of c.args.at.now.job.now) c.args.at.now.entry c.args.at.now.under c.args.site
+      (right_read (job_of c.args.at.now.job.now) c.args.at.now.entry c.args.at.now.under c.args.site c.serve.new.store c.key.result c.at.result.now c.requires.site c.in-Ok.ensures.served.1.sound c.key.ensures.key c.at.ensures),
   c.in-Ok.ensures.served.1,
 )
 
 pub returns-in-Ok-lets_through-clause-tried : goal.returns-in-Ok-lets_through-clause-tried
 returns-in-Ok-lets_through-clause-tried g c = (
-  c.in-Ok-lets_through.ensures (job_of c.args.at.now.job.now) c.args.at.now.entry c.args.at.now.under c.args.filter.site
-      (right_read (job_of c.args.at.now.job.now) c.args.at.now.entry c.args.at.now.under c.args.filter.site c.serve.new.store c.args.filter.key c.at.result.now c.requires.site c.in-Ok.ensures.served.1.sound c.requires.key c.at.ensures),
+  c.in-Ok-lets_through.ensures (job_of c.args.at.now.job.now) c.args.at.now.entry c.args.at.now.under c.args.site
+      (right_read (job_of c.args.at.now.job.now) c.args.at.now.entry c.args.at.now.under c.args.site c.serve.new.store c.key.result c.at.result.now c.requires.site c.in-Ok.ensures.served.1.sound c.key.ensures.key c.at.ensures),
   c.in-Ok.ensures.served.1,
 )
 

@@ -6,10 +6,10 @@ use Rattle.entry_cache.proofs.inputs.part.Goals as goal
 
 pub part_of-requires : goal.part_of-requires
 part_of-requires g c =
-    let v = looked_given (job_of c.args.at.now.job.now) c.args.at.now.entry c.args.at.now.under c.args.store.now c.requires.sound c.args.input.version c.requires.input in
-    (c.args.input.version, v.0, c.look_there.ensures ∙ v.1)
+    let v = looked_given (job_of c.args.at.now.job.now) c.args.at.now.entry c.args.at.now.under c.args.store.now c.requires.sound c.args.version c.requires.input in
+    (c.args.version, v.0, c.look.ensures ∙ v.1)
 
 pub returns : goal.returns
 returns g c =
-    value_given (job_of c.args.at.now.job.now) c.args.at.now.entry c.args.at.now.under c.args.store.now c.requires.sound c.args.input.version c.requires.input (part_value c.part_of.result)
-    (λ w e. c.part_of.ensures c.args.input.version w (c.look_there.ensures ∙ e))
+    value_given (job_of c.args.at.now.job.now) c.args.at.now.entry c.args.at.now.under c.args.store.now c.requires.sound c.args.version c.requires.input (part_value c.part_of.result)
+    (λ w e. c.part_of.ensures c.args.version w (c.look.ensures ∙ e))

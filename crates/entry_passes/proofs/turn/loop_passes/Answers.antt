@@ -1,7 +1,8 @@
 use Rattle.std.proofs.Common.{◌≡◌, ◌≤◌, ℕ, List, [], length, Some, sym, ◌∙◌, ap, slice_get, unwrap_or, arith}
 use Rattle.graph_numbers.specs.Graphs.{GraphView, graph_loops, graph_variations}
 use Rattle.graph_numbers.specs.declared.pass.Pass.{Pass as NumberedPass}
-use Rattle.entry_cache.specs.Jobs.{IsJob, JobView, job_graph, job_of, numbered_passes}
+use Rattle.entry_cache.specs.Jobs.{JobView, IsJob, job_graph, job_of}
+use Rattle.entry_passes.specs.Turns.{numbered_passes}
 use Rattle.entry_passes.proofs.Covered.{passes_count}
 use Rattle.entry_passes.proofs.PassCounts.{few_passes}
 use Rattle.entry_passes.proofs.turn.loop_passes.Goals as goal

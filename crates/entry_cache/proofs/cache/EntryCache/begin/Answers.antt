@@ -2,7 +2,6 @@ use Rattle.std.proofs.Common.{refl, sym, ◌∙◌, ap, subst, length, List}
 use Rattle.entry_cache.specs.Caches.{CacheView}
 use Rattle.entry_cache.specs.Keys.{AreKeys}
 use Rattle.entry_cache.specs.Jobs.{job_graph}
-use Rattle.entry_cache.specs.Plans.{AreNamedPlans, ArePassPlans}
 use Rattle.entry_cache.specs.Store.{IsSound}
 use Rattle.entry_cache.specs.declared.held.Held.{Held}
 use Rattle.entry_cache.proofs.RoundLaws.{none_count, none_sound}
@@ -12,9 +11,7 @@ pub returns-clause-sized : goal.returns-clause-sized
 returns-clause-sized c =
     λ j h. record {
       cells = ap (λ (hs : List Held). length hs) c.clear.ensures ∙ none_count (length c.self.inside.store) _ ∙ ap (λ (v : CacheView). length v.cells) c.self.view_is ∙ h.cells;
-      rows = subst (λ (v : CacheView). AreKeys (job_graph j) v.rows) (sym c.self.view_is) h.rows;
-      passes = subst (λ (v : CacheView). ArePassPlans (job_graph j) j.number v.passes) (sym c.self.view_is) h.passes;
-      named = subst (λ (v : CacheView). AreNamedPlans (job_graph j) v.named) (sym c.self.view_is) h.named;
+      keys = subst (λ (v : CacheView). AreKeys (job_graph j) v.keys) (sym c.self.view_is) h.keys;
     }
 
 pub returns-clause-begun : goal.returns-clause-begun

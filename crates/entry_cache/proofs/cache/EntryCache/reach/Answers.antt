@@ -1,22 +1,8 @@
-use Rattle.std.proofs.Common.{◌∙◌, ap, subst, sym, ℕ, Bool}
+use Rattle.std.proofs.Common.{◌∙◌, ap, sym, ℕ, Bool}
 use Rattle.entry_cache.specs.Caches.{CacheView, HasFilterDemands}
-use Rattle.entry_cache.specs.Jobs.{job_graph, job_of}
-use Rattle.entry_cache.specs.Plans.{AreNamedPlans}
-use Rattle.entry_cache.proofs.NamedLaws.{covered_there}
-use Rattle.entry_cache.proofs.PlanLaws.{named_at, named_inside}
+use Rattle.entry_cache.specs.Jobs.{job_of}
 use Rattle.entry_cache.proofs.PublicLaws.{bound_clause, by_view, only_clause}
 use Rattle.entry_cache.proofs.cache.EntryCache.reach.Goals as goal
-
-pub bounds-as_slice-filter : goal.bounds-as_slice-filter
-bounds-as_slice-filter g c =
-    named_inside (job_graph (job_of c.args.job.now)) c.args.filter (covered_there (job_of c.args.job.now) c.args.filter c.requires.filter) c.as_slice-2.result.now
-    (subst (AreNamedPlans (job_graph (job_of c.args.job.now))) (sym (c.as_slice-2.ensures ∙ ap (λ (v : CacheView). v.named) c.self.view_is)) c.requires.sized.named)
-
-pub try_named-answer-requires-clause-plan : goal.try_named-answer-requires-clause-plan
-try_named-answer-requires-clause-plan g c =
-    named_at (job_graph (job_of c.args.job.now)) c.args.filter (covered_there (job_of c.args.job.now) c.args.filter c.requires.filter) c.as_slice-2.result.now
-    (subst (AreNamedPlans (job_graph (job_of c.args.job.now))) (sym (c.as_slice-2.ensures ∙ ap (λ (v : CacheView). v.named) c.self.view_is)) c.requires.sized.named)
-    c.index-as_slice-filter.result c.index-as_slice-filter.result c.index-as_slice-filter.is
 
 pub returns-in-Some-clause-only : goal.returns-in-Some-clause-only
 returns-in-Some-clause-only g c =
