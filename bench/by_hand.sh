@@ -5,7 +5,7 @@
 # makes the generator's table, and runs over the same files, five times each: by_hand with so many threads, rdf with so
 # many slots, and the same analysis by mawk and by Miller where they are installed. It prints the best time, the
 # processor time of that run and the highest peak of memory, then ratios beside the goals. Where an output differs it
-# ends with 1; a missed goal is only told. The program is RDF_PROGRAM, or crates/rdf/out/rdf, built where it must.
+# ends with 1; a missed goal is only told. The program is RDF_PROGRAM, or the one that ./rdf runs.
 set -u
 top=$(cd "$(dirname "$0")/.." && pwd -P) || exit 1
 # cargo looks for its settings in the folder where it is called
@@ -13,7 +13,6 @@ top=$(cd "$(dirname "$0")/.." && pwd -P) || exit 1
     echo "by_hand.sh: bench/by_hand can't be built; it needs cargo and Debian's librust-csv-dev" >&2
     exit 1
 }
-if [ -z "${RDF_PROGRAM:-}" ]; then
-    "$top/rdf" >/dev/null || [ $? -eq 2 ] || exit 1
-fi
+RDF_PROGRAM=${RDF_PROGRAM:-$("$top/rdf" --program)} || exit 1
+export RDF_PROGRAM
 exec python3 -B "$top/bench/by_hand.py" "$@"

@@ -1,15 +1,12 @@
 #!/bin/sh
 # Count and two Sums over the generator's table of 1,000,000 entries, by rdf and by mawk, five times each.
 # It needs mawk and GNU time (Debian: apt-get install mawk time), and takes about half a minute.
-# The program is RDF_PROGRAM, or crates/rdf/out/rdf, built where it must.
+# The program is RDF_PROGRAM, or the one that ./rdf runs.
 set -eu
 
 bench=$(cd "$(dirname "$0")" && pwd -P)
-program=${RDF_PROGRAM:-$bench/../crates/rdf/out/rdf}
+program=${RDF_PROGRAM:-$("$bench/../rdf" --program)}
 case $program in /*) ;; *) program=$PWD/$program ;; esac
-if [ -z "${RDF_PROGRAM:-}" ]; then
-    "$bench/../rdf" >/dev/null || [ $? -eq 2 ]
-fi
 work=$(mktemp -d)
 trap 'rm -rf "$work"' EXIT
 

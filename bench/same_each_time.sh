@@ -5,10 +5,9 @@
 # with that of one slot, its partial lines left out, which may name other clusters at each run; their number is compared.
 # A second script faults in most clusters: its status and fault line are the same each time too. It prints how many runs
 # differ and in how many ways the partial lines came, and ends with 1 where a run differs.
-# The program is RDF_PROGRAM, or crates/rdf/out/rdf, built where it must.
+# The program is RDF_PROGRAM, or the one that ./rdf runs.
 set -u
 top=$(cd "$(dirname "$0")/.." && pwd -P) || exit 1
-if [ -z "${RDF_PROGRAM:-}" ]; then
-    "$top/rdf" >/dev/null || [ $? -eq 2 ] || exit 1
-fi
+RDF_PROGRAM=${RDF_PROGRAM:-$("$top/rdf" --program)} || exit 1
+export RDF_PROGRAM
 exec python3 -B "$top/bench/same_each_time.py" "$@"

@@ -49,7 +49,7 @@ printf 'x:int\n1\n2\n3\n' >a.csv
 
 run s.txt a.csv
 judge "status 0" 0 "n = 3"
-usage="usage: rdf SCRIPT TABLE [--slots N] [--cluster N] [--watch K] [--make]"
+usage="usage: rdf SCRIPT TABLE [--slots N] [--cluster N] [--watch K] [--make] [--friend FILE] [--key NAME] [--missing N]"
 run
 judge "status 2, no words" 2 "$usage"
 run s.txt a.csv --slots 0
@@ -77,6 +77,12 @@ cp s.txt "a script.txt"
 cp a.csv "tablé.csv"
 run "a script.txt" "tablé.csv"
 judge "blanks and letters of other alphabets in names" 0 "n = 3"
+cp s.txt " s "
+cp a.csv " a "
+run " s " " a "
+judge "blanks at both ends of names" 0 "n = 3"
+run " s.txt " a.csv
+judge "a name with blanks round it is no other's" 5 "no file  s.txt "
 run s.txt "$(printf 'a\377.csv')"
 judge "a word that isn't UTF-8" 2 "$usage"
 
@@ -201,6 +207,44 @@ l = 999999"
     rm -f million.csv more.csv
 }
 if [ "${OUTSIDE_SMALL:-0}" = 1 ]; then skip "tables of a million entries"; else large; fi
+
+# ---- threads
+
+# Leaves in `most` the most threads that were seen while the program ran.
+run_counted() { # WORDS..
+    "$program" "$@" >out 2>err </dev/null &
+    most=0
+    while :; do
+        seen=$(awk '$1 == "State:" { state = $2 } $1 == "Threads:" { print state, $2 }' "/proc/$!/status" 2>/dev/null)
+        case $seen in Z* | '') break ;; esac
+        seen=${seen#* }
+        [ "$seen" -gt "$most" ] && most=$seen
+    done
+    wait $!
+    echo $? >status
+}
+
+threads() {
+    # A table that takes a while to read and to pack, in many lines and many columns.
+    awk 'BEGIN {
+        for (j = 0; j < 64; j++) printf "c%d:int%s", j, j < 63 ? "," : "\n"
+        for (i = 0; i < 100000; i++) { row = i; for (j = 1; j < 64; j++) row = row "," i * j % 99991; print row }
+    }' >wide.csv
+    for slots in 1 3 16; do
+        run_counted s.txt wide.csv --slots $slots
+        judge "a wide table with $slots slots" 0 "n = 100000"
+        [ "$most" -gt 0 ] && [ "$most" -le $slots ] && [ $slots -eq 1 -o "$most" -gt 1 ] && echo "at most $slots threads" >out || echo "$most threads" >out
+        judge "threads of $slots slots" 0 "at most $slots threads"
+    done
+    rm -f wide.csv
+}
+if [ "${OUTSIDE_SMALL:-0}" = 1 ]; then
+    skip "threads over a large table"
+elif ! grep -qs '^Threads:' "/proc/$$/status"; then
+    skip "threads: no /proc"
+else
+    threads
+fi
 
 # ---- pipes
 

@@ -1,11 +1,12 @@
 #!/usr/bin/env python3
-"""Runs the commands of docs/TUTORIAL.md against the built program and compares what they print.
+"""Runs the commands of docs/TUTORIAL.md and README.md through the launcher and compares what they print.
 
-    tools/tutorial_test.py [PROGRAM]        RDF_PROGRAM, or crates/rdf/out/rdf, where none is named
+    tools/tutorial_test.py [PROGRAM]        the program behind the launcher: RDF_PROGRAM, or crates/rdf/out/rdf
 
-A block of `sh` is run in one folder, in order; the block of `text` that follows it, if any, is what
-it prints, to the byte. A block of `sh matplotlib` is run where /usr/bin/python3 has matplotlib. A block of
-another kind, as `python`, isn't run.
+README's commands run in the top folder of what looks like a clone, the tutorial's in the folder that its first block makes
+there. A block of `sh` is run; the block of `text` that follows it, if any, is what it prints to standard output, to the byte,
+and a block of `hints` behind that what it prints to standard error. A block of `sh matplotlib` is run where python3 has
+matplotlib, and so of `sh` with any other module. A block of another kind, as `python`, isn't run.
 """
 import difflib
 import functools
@@ -17,7 +18,7 @@ import sys
 import tempfile
 
 TOP = os.path.dirname(os.path.dirname(os.path.abspath(__file__)))
-PAGE = os.path.join(TOP, "docs", "TUTORIAL.md")
+OUTPUTS = ["text", "hints"]
 
 
 def blocks(page):
@@ -37,25 +38,67 @@ def blocks(page):
 
 
 @functools.lru_cache(None)
-def has_matplotlib():
-    found = subprocess.run(["/usr/bin/python3", "-c", "import matplotlib"], stderr=subprocess.DEVNULL).returncode == 0
+def has_module(name):
+    found = subprocess.run(["python3", "-c", "import " + name], stderr=subprocess.DEVNULL).returncode == 0
     if not found:
-        print("tutorial: no matplotlib, so nothing is drawn")
+        print("tutorial: no %s, so what needs it isn't run" % name)
     return found
 
 
+def said_in(parts):
+    """What the blocks behind a command say of its outputs, None of one of which they say nothing."""
+    said = dict.fromkeys(OUTPUTS)
+    for (_, kind, text), output in zip(parts, OUTPUTS):
+        if kind != output:
+            break
+        said[output] = text
+    return list(said.values())
+
+
 def commands(page):
-    """Each block that is run, with its line and what it prints, or None where the page doesn't say."""
+    """Each block that is run, with its line and what the page says of its outputs."""
     parts = blocks(page)
-    for (line, kind, text), after in zip(parts, parts[1:] + [(0, "", "")]):
-        if kind == "sh" or kind == "sh matplotlib" and has_matplotlib():
-            yield line, text, after[2] if after[1] == "text" else None
+    for at, (line, kind, text) in enumerate(parts):
+        language, *modules = kind.split(" ")
+        if language == "sh" and all(has_module(name) for name in modules):
+            yield line, text, said_in(parts[at + 1:])
 
 
-def run(command, folder):
+def run(command, folder, program):
+    """What a command prints to standard output and to standard error."""
     done = subprocess.run(["sh", "-c", command], cwd=folder, stdin=subprocess.DEVNULL, timeout=600,
-                          stdout=subprocess.PIPE, stderr=subprocess.STDOUT)
-    return done.stdout.decode(errors="backslashreplace")
+                          capture_output=True, env={**os.environ, "RDF_PROGRAM": program, "RDF_HINTS": "1"})
+    return [part.decode(errors="backslashreplace") for part in (done.stdout, done.stderr)]
+
+
+def make_clone(folder, program):
+    """What looks like a clone in which the program is built."""
+    os.makedirs(os.path.join(folder, "crates", "rdf", "out"))
+    for name in ["rdf", "crates.txt"]:
+        shutil.copy2(os.path.join(TOP, name), folder)
+    os.symlink(os.path.join(TOP, "tools"), os.path.join(folder, "tools"))
+    shutil.copytree(os.path.join(TOP, "examples"), os.path.join(folder, "examples"))
+    os.symlink(program, os.path.join(folder, "crates", "rdf", "out", "rdf"))
+
+
+def check(name, own_folder, program):
+    """How many commands a page has, and how many print something else."""
+    with open(os.path.join(TOP, name), encoding="utf-8") as file:
+        page = file.read()
+    count = failed = 0
+    with tempfile.TemporaryDirectory() as clone:
+        make_clone(clone, program)
+        if own_folder:
+            subprocess.run(["sh", "-e", "-c", blocks(page)[0][2]], cwd=clone, check=True)
+        for line, command, wanted in commands(page):
+            count += 1
+            got = run(command, os.path.join(clone, own_folder), program)
+            wrong = [(said, part) for said, part in zip(wanted, got) if said not in (None, part)]
+            failed += bool(wrong)
+            for said, part in wrong:
+                print("FAILED %s line %d" % (name, line))
+                print("\n".join(difflib.unified_diff(said.split("\n"), part.split("\n"), "page", "run", lineterm="")))
+    return count, failed
 
 
 def main():
@@ -64,20 +107,8 @@ def main():
     if not os.access(program, os.X_OK):
         print("tutorial: no program at %s" % program)
         return 1
-    with open(PAGE, encoding="utf-8") as file:
-        page = file.read()
-    count = failed = 0
-    with tempfile.TemporaryDirectory() as folder:
-        os.symlink(program, os.path.join(folder, "rdf"))
-        os.symlink(os.path.join(TOP, "tools"), os.path.join(folder, "tools"))
-        shutil.copytree(os.path.join(TOP, "examples"), os.path.join(folder, "examples"))
-        for line, command, wanted in commands(page):
-            count += 1
-            got = run(command, folder)
-            if wanted is not None and got != wanted:
-                failed += 1
-                print("FAILED docs/TUTORIAL.md line %d" % line)
-                print("\n".join(difflib.unified_diff(wanted.split("\n"), got.split("\n"), "page", "run", lineterm="")))
+    results = [check(os.path.join("docs", "TUTORIAL.md"), "first-hour", program), check("README.md", "", program)]
+    count, failed = (sum(numbers) for numbers in zip(*results))
     print("tutorial: %d commands, %d failed" % (count, failed))
     return 1 if failed else 0
 

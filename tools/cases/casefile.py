@@ -1,4 +1,5 @@
 """Reads case files. Their format is told in cases/README.md."""
+import copy
 import itertools
 import os
 import re
@@ -63,6 +64,19 @@ def option_sets(text):
     return [list(chosen) for chosen in itertools.product(*choices)]
 
 
+def rows_of(pattern, template, lines):
+    """A case for each line `TEXT => OUTPUT`: the script is the template with the text for its `@`."""
+    found = []
+    for line in filter(None, lines):
+        text, _, output = line.rpartition(" => ")
+        case = copy.copy(pattern)
+        case.name = "%s `%s`" % (pattern.name, text)
+        case.files = dict(pattern.files, **{"s.txt": unescaped(template.replace("@", text).encode()) + b"\n"})
+        case.output = unescaped(output.encode()) + b"\n"
+        found.append(case)
+    return found
+
+
 def read_case_file(path):
     with open(path, encoding="utf-8", newline="\n") as file:
         lines = file.read().split("\n")[:-1]
@@ -91,7 +105,8 @@ def read_case_file(path):
             name = "s.txt" if key == "script" else "a.csv"
             cases[-1].files[name] = tables[rest] if rest in tables else body(rest, text)
         elif mark == "---" and key == "file":
-            cases[-1].files[rest] = body("", text)
+            name, _, form = rest.partition(" ")
+            cases[-1].files[name] = body(form, text)
         elif mark == "---" and key == "words":
             cases[-1].words = shlex.split(rest)
             cases[-1].options, fresh = [[]], False
@@ -104,6 +119,8 @@ def read_case_file(path):
             cases[-1].output = body(rest, text)
         elif mark == "---" and key == "heavy":
             cases[-1].heavy = True
+        elif mark == "---" and key == "rows":
+            cases += rows_of(cases.pop(), rest or "@", text)
         elif line and not line.startswith("#"):
             raise ValueError("%s:%d: %s" % (path, begin, line))
     return cases

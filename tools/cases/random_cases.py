@@ -256,6 +256,33 @@ def random_table(chance):
     return shown, "\n".join(lines) + "\n"
 
 
+def random_friend(chance, columns):
+    """The words and the file of a friend that mostly joins, and the columns that it adds."""
+    keys = [name for name, kind in columns if kind == "int"]
+    key = chance.choice(keys) if keys and chance.random() < 0.95 else chance.choice(["w", "j", "run"])
+    others = [c for c in [("run", "int"), ("ids", "vec"), ("z", "int")] if chance.random() < 0.6]
+    if chance.random() < 0.05:
+        others.append(chance.choice([("y", "int"), ("j", "vec")]))
+    header = others[:]
+    header.insert(chance.randrange(len(header) + 1), (key, "int" if chance.random() < 0.97 else "vec"))
+    numbers = sorted({0, 1, -1} | set(range(-50, 100, chance.choice([1, 3]))))
+    chance.shuffle(numbers)
+    entries = numbers[:chance.choice([0, 1, 3, 20, 150])]
+    if entries and chance.random() < 0.05:
+        entries.append(chance.choice(entries))
+    number = lambda: str(chance.randrange(-50, 100))  # noqa: E731
+    lines = [",".join(":".join(column) for column in header)]
+    for entry in entries:
+        cells = [str(entry) if name == key else number() if kind == "int" else
+                 ";".join(number() for _ in range(chance.choice([0, 1, 1, 2, 3]))) for name, kind in header]
+        lines.append(",".join(cells) if cells != [""] else '""')
+    words = ["--friend", "f.csv", "--key", key]
+    if chance.random() < 0.3:
+        words.append("--missing=%s" % chance.choice([-1, 7, 2 ** 63 - 1]))
+    shown = [(name, "vect" if kind == "vec" else kind) for name, kind in others]
+    return words, "\n".join(lines) + "\n", shown
+
+
 def spoiled(chance, text, pieces):
     """A text with a byte or a word changed."""
     at = chance.randrange(len(text) + 1)
@@ -270,7 +297,8 @@ def spoiled(chance, text, pieces):
 def random_case(seed):
     chance = random.Random(seed)
     columns, table = random_table(chance)
-    script = Script(chance, columns).written()
+    asked, friend, more = random_friend(chance, columns) if chance.random() < 0.3 else ([], None, [])
+    script = Script(chance, columns + [c for c in more if c[0] not in dict(columns)]).written()
     if chance.random() < 0.12:
         script = spoiled(chance, script, list('"(),.=[]{}#;&|<>!?:+-*/% \n0a') + ["zz", "true", "df", "05", "99999999999999999999"])
     if chance.random() < 0.06:
@@ -278,12 +306,16 @@ def random_case(seed):
     words = ["s.txt", "a.csv", "--slots", chance.choice(["1", "2", "3", "16"]),
              "--cluster", chance.choice(["1", "2", "3", "5", "10000"]),
              "--watch", chance.choice(["1", "1", "2", "3"])]
-    return words, {"s.txt": script.encode(), "a.csv": table.encode()}
+    files = {"s.txt": script.encode(), "a.csv": table.encode()}
+    if friend is not None:
+        files["f.csv"] = friend.encode()
+    return words + asked, files
 
 
 def shown(words, files):
-    return "words: %s\n--- script\n%s--- table\n%s" % (
+    told = "words: %s\n--- script\n%s--- table\n%s" % (
         " ".join(words), files["s.txt"].decode(), files["a.csv"].decode())
+    return told + ("--- file f.csv\n" + files["f.csv"].decode() if "f.csv" in files else "")
 
 
 def main():

@@ -1,50 +1,39 @@
-"""The command: words, reading, writing, statuses."""
+"""The command: reading, writing, statuses."""
 
 from __future__ import annotations
 
 import argparse
 import sys
-from collections.abc import Iterator, Sequence
+from collections.abc import Sequence
+from fractions import Fraction
 from pathlib import Path
-from typing import TYPE_CHECKING, Any
 
+from . import numbers, plan, script, words
+from .building import Unfit
+from .charts import Look
+from .looks import Looks
+from .plan import Output, Picture
 from .read import Malformed, Refused, Result, Values, read
-
-if TYPE_CHECKING:
-    from .draw import Picture
 
 DONE, REFUSED, FAULTY, FAILED = 0, 1, 2, 3
 
-_END = """\
-statuses:
-  0  done
-  1  the input has a refusal or fault line of rdf: the line goes to standard error and nothing is drawn, also not
-     the results before it
-  2  the words, or a line of the input, can't be taken: standard error says why, with the line's number
-  3  the input can't be read, a picture can't be written, or matplotlib isn't there
-"""
+
+class Failed(Exception):
+    """Something outside of the words and the input that is missing."""
 
 
-class Fault(Exception):
-    """Ends the command with a line and a status."""
-
-    def __init__(self, status: int, why: str) -> None:
-        super().__init__(why)
-        self.status = status
-
-
-def main(words: Sequence[str] | None = None) -> int:
+def main(given: Sequence[str] | None = None) -> int:
     """Runs the command and gives its status."""
     try:
-        _run(_parser().parse_args(words))
+        _run(words.parser().parse_intermixed_args(given))
         sys.stdout.flush()
         return DONE
     except Refused as line:
         return _ended(REFUSED, str(line))
-    except Malformed as why:
+    except (Malformed, Unfit, words.Faulty) as why:
         return _ended(FAULTY, f"rdf_plot: {why}")
-    except Fault as fault:
-        return _ended(fault.status, f"rdf_plot: {fault}")
+    except Failed as fault:
+        return _ended(FAILED, f"rdf_plot: {fault}")
     except BrokenPipeError:  # nobody reads the list any more
         return FAILED
     except OSError as fault:
@@ -57,91 +46,104 @@ def _ended(status: int, line: str) -> int:
     return status
 
 
-def _parser() -> argparse.ArgumentParser:
-    parser = argparse.ArgumentParser(
-        prog="rdf_plot",
-        description="Draws what rdf prints: histograms, maps, cutflows and, where asked, the values of a Take.",
-        epilog=_END,
-        formatter_class=argparse.RawDescriptionHelpFormatter,
-        allow_abbrev=False,
-    )
-    parser.add_argument(
-        "input", nargs="?", default="-", metavar="INPUT", help="what rdf printed; - or none is standard input"
-    )
-    out = parser.add_mutually_exclusive_group()
-    out.add_argument(
-        "--out", type=Path, metavar="FILE", help="all pictures in one FILE.pdf, or a single one in FILE.png"
-    )
-    out.add_argument(
-        "--out-dir", type=Path, metavar="DIR", help="a file for each picture in DIR, which is made where it isn't there"
-    )
-    parser.add_argument("--format", choices=("png", "pdf"), help="of the files in DIR (png)")
-    parser.add_argument(
-        "--only", action="append", default=[], metavar="NAME", help="draw this result and no other (may be repeated)"
-    )
-    parser.add_argument(
-        "--take", action="append", default=[], metavar="NAME", help="draw this Take's values too (may be repeated)"
-    )
-    parser.add_argument(
-        "--bins", type=_positive, default=40, metavar="N", help="at most about so many bins for a Take (40)"
-    )
-    parser.add_argument("--flow", action="store_true", help="under- and overflow of a Histo1D as bins too")
-    parser.add_argument("--label", action="append", default=[], metavar="NAME=TEXT", help="name of the result's x axis")
-    parser.add_argument(
-        "--label2", action="append", default=[], metavar="NAME=TEXT", help="name of the result's y axis"
-    )
-    parser.add_argument(
-        "--dpi", type=_resolution, default=150, metavar="N", help="dots of a PNG to the inch, 30 to 600 (150)"
-    )
-    parser.add_argument("--list", action="store_true", help="print numbers and partial results to standard output")
-    return parser
-
-
-def _positive(text: str) -> int:
-    if not (text.isascii() and text.isdigit() and 1 <= int(text) <= 100_000):
-        raise argparse.ArgumentTypeError("not a number from 1 to 100000")
-    return int(text)
-
-
-def _resolution(text: str) -> int:
-    if not (text.isascii() and text.isdigit() and 30 <= int(text) <= 600):
-        raise argparse.ArgumentTypeError("not a number from 30 to 600")
-    return int(text)
-
-
 def _run(args: argparse.Namespace) -> None:
-    if not (args.out or args.out_dir or args.list):
-        raise Fault(FAULTY, "nothing asked for: give --out, --out-dir or --list")
-    if args.format and not args.out_dir:
-        raise Fault(FAULTY, "--format goes with --out-dir")
-    if args.out and args.out.suffix.lower() not in (".pdf", ".png"):
-        raise Fault(FAULTY, f"--out {args.out}: the name must end with .pdf or .png")
-    data = sys.stdin.buffer.read() if args.input == "-" else Path(args.input).read_bytes()
-    results = read(data)
-    named = {result.name: result for result in results}
-    for name in (*args.only, *args.take):
+    _check(args)
+    outputs = _outputs(args)
+    named = {result.name: result for output in outputs for result in output.results}
+    efficiencies = {plan.efficiency_name(*pair): (pair[0], pair[1]) for pair in args.efficiency}
+    for name in (*args.take, *(name for pair in args.efficiency for name in pair)):
         if name not in named:
-            raise Fault(FAULTY, f"the input has no result {name}")
+            raise words.Faulty(f"the input has no result {name}")
     for name in args.take:
         if not isinstance(named[name].nominal, Values):
-            raise Fault(FAULTY, f"--take {name}: not the values of a Take")
-    x_labels, y_labels = _labels("--label", args.label, named), _labels("--label2", args.label2, named)
+            raise words.Faulty(f"--take {name}: not the values of a Take")
+    looks = _looks(args, [*named, *efficiencies])
     if args.list:
-        _list(results)
+        _list(outputs[0].results)
+    pictures = _pictures(args, outputs, efficiencies, looks)
+    if args.json:
+        _write_text(args.json, numbers.text(outputs, pictures))
     if args.out or args.out_dir:
-        _draw(args, results, x_labels, y_labels)
+        if not pictures:
+            shared = " that all inputs have" if len(outputs) > 1 else ", no cutflow, and no Take that --take names"
+            raise words.Faulty(f"nothing to draw: no histogram{shared}")
+        _draw(args, pictures, looks)
 
 
-def _labels(option: str, pairs: Sequence[str], named: dict[str, Result]) -> dict[str, str]:
-    labels = {}
-    for pair in pairs:
-        name, equals, text = pair.partition("=")
-        if not equals:
-            raise Fault(FAULTY, f"{option} {pair}: not NAME=TEXT")
-        if name not in named:
-            raise Fault(FAULTY, f"{option} {pair}: the input has no result {name}")
-        labels[name] = text
-    return labels
+def _pictures(
+    args: argparse.Namespace, outputs: Sequence[Output], efficiencies: dict[str, tuple[str, str]], looks: Looks
+) -> list[Picture]:
+    """Those of the results that --only names, or of all."""
+    known = {result.name for output in outputs for result in output.results}
+    for name in args.only:
+        if name not in known and name not in efficiencies:
+            raise words.Faulty(f"the input has no result {name}")
+    chosen = [name for name in plan.shared(outputs, args.take) if not args.only or name in args.only]
+    pairs = [pair for name, pair in efficiencies.items() if not args.only or name in args.only]
+    return list(plan.pictures(outputs, chosen, pairs, looks.of))
+
+
+def _check(args: argparse.Namespace) -> None:
+    if not (args.out or args.out_dir or args.list or args.json):
+        raise words.Faulty("nothing asked for: give --out, --out-dir, --json or --list")
+    if args.format and not args.out_dir:
+        raise words.Faulty("--format goes with --out-dir")
+    if args.out and args.out.suffix.lower() not in (".pdf", ".png"):
+        raise words.Faulty(f"--out {args.out}: the name must end with .pdf or .png")
+    if args.list and len(args.inputs) > 1:
+        raise words.Faulty("--list goes with one input")
+    if args.inputs.count("-") > 1:
+        raise words.Faulty("standard input is read once")
+    if args.legend and len(args.legend) != len(args.inputs):
+        raise words.Faulty(f"--legend is given {len(args.legend)} times for {len(args.inputs)} inputs")
+
+
+def _outputs(args: argparse.Namespace) -> list[Output]:
+    """The inputs with their names: those of the options, or for several inputs those of their files."""
+    stems = ["standard input" if name == "-" else Path(name).stem for name in args.inputs]
+    labels = args.legend or (stems if len(stems) > 1 else [plan.NOMINAL])
+    if len(set(labels)) < len(labels):
+        raise words.Faulty("two inputs have one name: name them by --legend")
+    for label in args.points:
+        if label not in labels:
+            raise words.Faulty(f"--points {label}: no input has that name")
+    if args.times and len(labels) == 1:
+        raise words.Faulty("--times goes with several inputs: --scale2 multiplies the sums of a result")
+    factors = words.factors("--times", args.times, labels)
+    one = Fraction(1)
+    return [Output(label, tuple(_read(name)), factors.get(label, one)) for label, name in zip(labels, args.inputs)]
+
+
+def _read(name: str) -> list[Result]:
+    return read(sys.stdin.buffer.read() if name == "-" else Path(name).read_bytes())
+
+
+def _looks(args: argparse.Namespace, named: Sequence[str]) -> Looks:
+    usual = Look(
+        flow=args.flow,
+        bins=args.bins,
+        per_width=args.per_width,
+        log=args.log,
+        band=args.band,
+        singles=args.singles,
+        points=frozenset(args.points),
+    )
+    told = None
+    if args.script:
+        try:
+            told = script.read(args.script.read_bytes())
+        except script.BadScript as why:
+            raise words.Faulty(f"--script {args.script}: {why}") from None
+    columns = told.columns() if told else set()
+    known = {*named, *columns}
+    return Looks(
+        usual,
+        told,
+        words.labels("--label", args.label, known),
+        words.labels("--label2", args.label2, named),
+        words.scales("--scale", args.scale, known),
+        words.scales("--scale2", args.scale2, named),
+    )
 
 
 def _list(results: Sequence[Result]) -> None:
@@ -165,55 +167,26 @@ def _few(values: Values) -> str:
     return str(values) if count <= 10 else f"{Values(values.values[:8])} ... ({count} values)"
 
 
-def _draw(
-    args: argparse.Namespace, results: Sequence[Result], x_labels: dict[str, str], y_labels: dict[str, str]
-) -> None:
-    try:
-        from . import draw, style
-    except ImportError as fault:
-        raise Fault(FAILED, f"needs matplotlib (Debian package python3-matplotlib): {fault}") from fault
-    for text in (*x_labels.values(), *y_labels.values()):
-        if why := draw.fault_of_text(text):
-            raise Fault(FAULTY, f"the label {text} can't be drawn: {why}")
-    chosen = [
-        result
-        for result in results
-        if (not args.only or result.name in args.only) and (draw.drawable(result) or result.name in args.take)
-    ]
-    if not chosen:
-        raise Fault(FAULTY, "nothing to draw: no histogram, no cutflow, and no Take that --take names")
-
-    def look(name: str) -> draw.Look:
-        return draw.Look(x_labels.get(name), y_labels.get(name), args.flow, args.bins)
-
-    with style.applied():
-        _write(args, (picture for result in chosen for picture in draw.pictures(result, look(result.name))))
-
-
-def _write(args: argparse.Namespace, pictures: Iterator[Picture]) -> None:
-    """Writes the files. They hold no time, so the same input gives the same bytes."""
-    no_time: dict[str, Any] = {"CreationDate": None}
-    if args.out_dir:
-        args.out_dir.mkdir(parents=True, exist_ok=True)
-        form = args.format or "png"
-        for picture in pictures:
-            file = args.out_dir / f"{picture.name}.{form}"
-            if form == "pdf":
-                picture.figure.savefig(file, metadata=no_time)
-            else:
-                _save_png(picture.figure, file, args.dpi)
-    elif args.out.suffix.lower() == ".pdf":
-        from matplotlib.backends.backend_pdf import PdfPages
-
-        with PdfPages(args.out, metadata=no_time) as pages:
-            for picture in pictures:
-                pages.savefig(picture.figure)
+def _write_text(name: str, text: str) -> None:
+    if name == "-":
+        sys.stdout.write(text)
     else:
-        first, *more = pictures
-        if more:
-            raise Fault(FAULTY, f"{len(more) + 1} pictures don't fit in {args.out}: take --out-dir, a PDF, or --only")
-        _save_png(first.figure, args.out, args.dpi)
+        Path(name).write_text(text, encoding="utf-8")
 
 
-def _save_png(figure: Any, file: Path, dpi: int) -> None:
-    figure.savefig(file, dpi=dpi, pil_kwargs={"optimize": True})
+def _draw(args: argparse.Namespace, pictures: Sequence[Picture], looks: Looks) -> None:
+    try:
+        from . import files, frames
+    except ImportError as fault:
+        raise Failed(f"needs matplotlib (Debian package python3-matplotlib): {fault}") from fault
+    for text in looks.texts():
+        if why := frames.fault_of_text(text):
+            raise words.Faulty(f"the label {text} can't be drawn: {why}")
+    if args.out_dir:
+        files.write_folder(args.out_dir, args.format or "png", pictures, args.dpi)
+    elif args.out.suffix.lower() == ".pdf":
+        files.write_pdf(args.out, pictures)
+    elif len(pictures) > 1:
+        raise words.Faulty(f"{len(pictures)} pictures don't fit in {args.out}: take --out-dir, a PDF, or --only")
+    else:
+        files.write_png(args.out, pictures[0], args.dpi)

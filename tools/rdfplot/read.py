@@ -119,7 +119,7 @@ _no_steps_line = re.compile(rf"({_NAME}): no named filters")
 _partial_line = re.compile(rf"partial ({_NAME}) over ([0-9,-]+) = (none|{_NUMBER})")
 _run = re.compile(rf"({_COUNT})(?:-({_COUNT}))?")
 _refusal = re.compile(
-    r"usage: rdf |read failed: |no file |script refused(?:: | at )|table refused(?:: | at )|fault at entry "
+    r"usage: rdf |read failed: |no file |script refused(?:: | at )|table refused(?:: | at )|friend refused(?:: | at )|fault at entry "
 )
 
 _LEAST, _GREATEST = -(2**127), 2**127 - 1

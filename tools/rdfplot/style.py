@@ -11,7 +11,8 @@ import matplotlib
 BLACK = "#000000"
 PASSED = "#56B4E9"
 REACHED = "#dddddd"
-ERROR_BAND = "#cccccc"
+ERROR_BAND = "#c4c4c4"
+SPAN = "#56B4E9"
 
 # Okabe and Ito's colours without black, which the nominal result has, and without yellow, which is pale on white.
 COLOURS = ("#0072B2", "#D55E00", "#009E73", "#CC79A7", "#E69F00", "#56B4E9")
@@ -65,9 +66,17 @@ SETTINGS: dict[str, Any] = {
 }
 
 
-def line(place: int) -> dict[str, Any]:
-    """Colour and dashes of the variation at this place; they repeat after 30."""
-    return {"color": COLOURS[place % len(COLOURS)], "linestyle": (0, DASHES[place % len(DASHES)]), "linewidth": 1.7}
+def line(group: int, side: int) -> dict[str, Any]:
+    """Colour by the group, black below 0, and dashes by the side, none below 0; from group 6 on the dashes shift."""
+    colour = COLOURS[group % len(COLOURS)] if group >= 0 else BLACK
+    shifted = side + 2 * (max(group, 0) // len(COLOURS))
+    dashes: Any = (0, DASHES[shifted % len(DASHES)]) if side >= 0 else "solid"
+    return {"color": colour, "linestyle": dashes, "linewidth": 1.7 if side >= 0 else 1.5}
+
+
+def band(of_error: bool) -> dict[str, Any]:
+    """Grey for the statistical error, blue for what variations span."""
+    return {"color": ERROR_BAND if of_error else SPAN, "alpha": 0.75 if of_error else 0.45, "linewidth": 0}
 
 
 @contextmanager

@@ -1,13 +1,16 @@
 """The command's words, the generator, and a whole run."""
 from booking import Booking
 from expressions import SHIPPED
+from friends import joined
 from scripts import read_script
-from tables import read_table
+from tables import read_friend, read_table
 from transcripts import Run
-from values import Refusal, integer
+from values import Refusal, integer, is_name
 
-USAGE = b"usage: rdf SCRIPT TABLE [--slots N] [--cluster N] [--watch K] [--make]"
+USAGE = (b"usage: rdf SCRIPT TABLE [--slots N] [--cluster N] [--watch K] [--make]"
+         b" [--friend FILE] [--key NAME] [--missing N]")
 LIMITS = {b"slots": (1, 16, 1), b"cluster": (1, 1000000, 10000), b"watch": (1, 1000000, 1)}
+OPTIONS = set(LIMITS) | {b"friend", b"key", b"missing"}
 
 MADE_SCRIPT = b"""\
 v = df.Vary("c0", "{c0 - 100, c0 + 100}", ["down", "up"])
@@ -36,7 +39,7 @@ def made_table(entries, seed):
 
 
 class Words:
-    """SCRIPT and TABLE, or with --make ENTRIES and SEED; and the options."""
+    """SCRIPT and TABLE, or with --make ENTRIES and SEED; and the options, a friend's among them."""
 
     def __init__(self, words):
         self.named = []
@@ -68,12 +71,20 @@ class Words:
             self.entries, self.seed = [integer(word) for word in self.named]
             refused = (self.entries is None or not 1 <= self.entries <= 1000000
                        or self.seed is None or not 0 <= self.seed < 2 ** 32)
+        self.friend = self.options.get(b"friend")
+        self.key = self.options.get(b"key")
+        self.missing = integer(self.options.get(b"missing", b"0"))
+        if self.friend is None:
+            refused = refused or self.key is not None or b"missing" in self.options
+        else:
+            refused = (refused or self.make or self.key is None or not is_name(self.key)
+                       or self.missing is None)
         if refused:
             raise Refusal(2, USAGE)
 
     def take_option(self, word, given):
         name, equals, value = word[2:].partition(b"=")
-        if not word.startswith(b"--") or name not in LIMITS or name in self.options:
+        if not word.startswith(b"--") or name not in OPTIONS or name in self.options:
             raise Refusal(2, USAGE)
         if not equals:
             if not given or given[0].startswith(b"-") and given[0] != b"-":
@@ -91,6 +102,9 @@ def prepared(words, shelf):
         script = read_script(file_of(shelf, taken.named[0]))
         text = file_of(shelf, taken.named[1])
     table = read_table(text)
+    if taken.friend is not None:
+        friend = read_friend(file_of(shelf, taken.friend))
+        table = joined(table, friend, taken.key, taken.missing)
     booking = Booking(table.columns, SHIPPED).book(script)
     return Run(booking, table, taken.cluster, taken.watch)
 

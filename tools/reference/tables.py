@@ -62,6 +62,7 @@ class Table:
 
 
 def refused(cause, entry=None, field=None):
+    """A refusal of the table; `read_friend` makes it one of a friend."""
     where = b"header" if entry is None else b"entry %d" % entry
     if field is not None:
         where += b" field %d" % field
@@ -96,6 +97,14 @@ def read_table(text):
             row.append(value)
         rows.append(row)
     return Table([column for column in header if column[1] != "cut"], rows, marks)
+
+
+def read_friend(text):
+    """A friend reads as a table does, and is refused with another status and in another name."""
+    try:
+        return read_table(text)
+    except Refusal as refusal:
+        raise Refusal(9, b"friend" + refusal.line[len(b"table"):]) from None
 
 
 def read_header(fields):

@@ -18,6 +18,7 @@ CAUSE_NAMES = {
     "E1": "BadByte", "E2": "BadNumber", "E3": "Unexpected", "E4": "TooLong",
     "B1": "Header", "B2": "FieldCount", "B3": "BadInt", "B4": "BadVec", "B5": "TooMany",
     "B6": "BadCut",
+    "J1": "NoKey", "J2": "NameTaken", "J3": "TooManyColumns", "J4": "Duplicate", "J5": "TooLarge",
 }
 
 

@@ -61,7 +61,7 @@ h[jes:up] = histo1d 5
 
 REFUSALS = (
     "usage: rdf SCRIPT TABLE",
-    "usage: rdf SCRIPT TABLE [--slots N] [--cluster N] [--watch K] [--make]",
+    "usage: rdf SCRIPT TABLE [--slots N] [--cluster N] [--watch K] [--make] [--friend FILE] [--key NAME] [--missing N]",
     "read failed: s.txt",
     "no file a.csv",
     "script refused: longer than 65536 bytes",
@@ -73,5 +73,9 @@ REFUSALS = (
     "table refused at header field 0: B1 Header",
     "table refused at entry 3: B2 FieldCount",
     "table refused at entry 0 field 2: B4 BadVec",
+    "friend refused: longer than 67108864 bytes",
+    "friend refused at header field 1: B1 Header",
+    "friend refused: J1 NoKey",
+    "friend refused at entry 2: J4 Duplicate",
     FAULT,
 )

@@ -4,17 +4,25 @@ from __future__ import annotations
 
 import contextlib
 import io
+import json
 import re
 import subprocess
 import sys
 import tempfile
 import unittest
 from pathlib import Path
+from typing import Any
 from unittest import mock
 
-from rdfplot import cli, draw
+from . import needs_matplotlib
 
-from . import rows
+needs_matplotlib()
+
+from rdfplot import cli  # noqa: E402
+from rdfplot.charts import Look  # noqa: E402
+from rdfplot.quantities import Quantity  # noqa: E402
+
+from . import rows  # noqa: E402
 
 TOOLS = Path(__file__).resolve().parent.parent
 PROGRAM = TOOLS / "rdf_plot"
@@ -120,6 +128,79 @@ class Files(Case):
         self.assertEqual(self.files(), ["cutflow.png", "jets.png", "pt.png", "pt_eta.png"])
 
 
+class Inputs(Case):
+    """Several inputs, efficiencies, a script."""
+
+    CELLS = " = histo1d 3\n  under 0 0\n  [0,1) {0} {0}\n  over 0 0\n"
+    COUNTS = f"p{CELLS.format(2)}q{CELLS.format(4)}"
+
+    def json(self, text: str, *words: str) -> dict[str, Any]:
+        status, out, err = self.run_words(text, "--json", "-", *words)
+        self.assertEqual((status, err), (0, ""))
+        return {picture["name"]: picture for picture in json.loads(out)["pictures"]}
+
+    def other(self, text: str) -> str:
+        (self.dir / "other.out").write_text(text)
+        return self.at("other.out")
+
+    def test_the_histograms_that_all_have(self) -> None:
+        other = self.other(self.COUNTS.replace("q =", "k =") + rows.TAKE.replace("t =", "z ="))
+        self.assertEqual(list(self.json(self.COUNTS + rows.REPORT + rows.TAKE, other)), ["p"])
+
+    def test_names_of_inputs(self) -> None:
+        other = self.other(self.COUNTS)
+        found = self.json(self.COUNTS, other)["p"]["main"]["lines"]
+        self.assertEqual([line["label"] for line in found], ["input", "other"])
+        found = self.json(self.COUNTS, other, "--legend", "a", "--legend", "b", "--times", "b=3", "--points", "b")
+        self.assertEqual([(x["label"], x["values"]) for x in found["p"]["main"]["lines"]], [("a", [2]), ("b", [6])])
+        self.assertEqual(found["p"]["ratio"]["lines"][0]["values"], [3])
+
+    def test_efficiency(self) -> None:
+        found = self.json(self.COUNTS, "--efficiency", "p", "q")
+        self.assertEqual(list(found), ["p", "q", "p_of_q"])
+        found = self.json(self.COUNTS, "--efficiency", "p", "q", "--only", "p_of_q", "--label2", "p_of_q=Share")
+        self.assertEqual([(name, one["main"]["label"]) for name, one in found.items()], [("p_of_q", "Share")])
+        words = ("--efficiency", "p", "q", "--only", "p_of_q", "--out", self.at("e.png"))
+        self.assertEqual(self.run_words(self.COUNTS, *words), (0, "", ""))
+        self.assertTrue((self.dir / "e.png").read_bytes().startswith(PNG))
+
+    def test_script(self) -> None:
+        (self.dir / "s.txt").write_text('# pt: Momentum [MeV]\np = df.Histo1D([0, 1], "pt")\nPrint(p)\n')
+        words = ("--script", self.at("s.txt"), "--scale", "pt=0.001", "--only", "p")
+        found = self.json(self.COUNTS, *words)["p"]
+        self.assertEqual((found["x"]["label"], found["main"]["label"]), ("Momentum [GeV]", "Entries / 0.001 GeV"))
+
+    def test_words(self) -> None:
+        other = self.other(self.COUNTS)
+        out = ("--out", self.at("a.pdf"))
+        cases: list[tuple[tuple[str, ...], str]] = [
+            ((other, "--list"), "--list goes with one input"),
+            ((other, "--legend", "a", *out), "--legend is given 1 times for 2 inputs"),
+            ((other, "--legend", "a", "--legend", "a", *out), "two inputs have one name"),
+            ((other, "--points", "a", *out), "no input has that name"),
+            ((other, "--times", "other=0", *out), "not TEXT=FACTOR"),
+            (("--times", "nominal=2", *out), "--times goes with several inputs"),
+            (("--efficiency", "p", "z", *out), "no result z"),
+            (("--efficiency", "q", "p", *out), "q has more in a bin than p"),
+            (("--scale", "p=0", *out), "with a factor above 0"),
+            (("--scale", "pt=2", *out), "no result pt"),
+            (("--per-width", "--per-bin", *out), "not allowed with"),
+            (("--script", other, *out), "script refused at line 1 place 12: S1 Syntax"),
+            (("--only", "p_of_q", *out), "no result p_of_q"),
+        ]
+        for words, why in cases:
+            with self.subTest(words=words):
+                status, _, err = self.run_words(self.COUNTS, *words)
+                self.assertEqual(status, 2)
+                self.assertIn(why, err)
+        self.assertEqual(self.files(), ["other.out"])
+
+    def test_inputs_that_differ(self) -> None:
+        other = self.other(self.COUNTS.replace("[0,1)", "[0,2)"))
+        status, _, err = self.run_words(self.COUNTS, other, "--out-dir", self.at("d"))
+        self.assertEqual((status, err), (2, "rdf_plot: p has other edges in one input than in another\n"))
+
+
 class Statuses(Case):
     def test_refusal_lines(self) -> None:
         for line in rows.REFUSALS:
@@ -217,20 +298,20 @@ class Lists(Case):
 
 
 class Looks(Case):
-    def looks(self, text: str, *words: str) -> dict[str, draw.Look]:
-        with mock.patch("rdfplot.draw.pictures", return_value=[]) as called:
-            self.assertEqual(self.run_words(text, "--out-dir", str(self.dir), *words)[0], 0)
+    def looks(self, text: str, *words: str) -> dict[str, Look]:
+        with mock.patch("rdfplot.plan.of_result", return_value=[]) as called:
+            self.assertEqual(self.run_words(text, "--json", "-", *words)[0], 0)
         return {call.args[0].name: call.args[1] for call in called.call_args_list}
 
     def test_none(self) -> None:
-        self.assertEqual(self.looks(rows.VARIED), {"h": draw.Look()})
+        self.assertEqual(self.looks(rows.VARIED), {"h": Look()})
 
     def test_labels(self) -> None:
         found = self.looks(rows.VARIED + rows.REPORT, "--label", "h=a = b", "--label2", "h=", "--label", "r=entries")
-        self.assertEqual(found, {"h": draw.Look("a = b", ""), "r": draw.Look("entries")})
+        self.assertEqual(found, {"h": Look(Quantity("a = b"), Quantity("")), "r": Look(Quantity("entries"))})
 
     def test_flow_and_bins(self) -> None:
-        self.assertEqual(self.looks(rows.VARIED, "--flow", "--bins", "7"), {"h": draw.Look(flow=True, bins=7)})
+        self.assertEqual(self.looks(rows.VARIED, "--flow", "--bins", "7"), {"h": Look(flow=True, bins=7)})
 
 
 class Program(Case):

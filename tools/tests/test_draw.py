@@ -5,25 +5,40 @@ from __future__ import annotations
 import itertools
 import math
 import unittest
+import warnings
+from dataclasses import replace
 from typing import Any
 
-import numpy as np
-from matplotlib.axes import Axes
-from matplotlib.figure import Figure
-from matplotlib.patches import StepPatch
+from . import needs_matplotlib
 
-from rdfplot import draw, style
-from rdfplot.read import read
+needs_matplotlib()
 
-from . import rows
+import numpy as np  # noqa: E402
+from matplotlib.axes import Axes  # noqa: E402
+from matplotlib.figure import Figure  # noqa: E402
+from matplotlib.patches import StepPatch  # noqa: E402
+
+from rdfplot import building, draw, efficiency, frames, plan, style  # noqa: E402
+from rdfplot.charts import Look  # noqa: E402
+from rdfplot.quantities import Quantity  # noqa: E402
+from rdfplot.read import read  # noqa: E402
+
+from . import rows  # noqa: E402
+
+PER_BIN = Look(per_width=False)
+ERROR = "error of nominal"
 
 
-def figures(text: str, look: draw.Look = draw.Look()) -> dict[str, Figure]:
+def named(x: str, y: str) -> Look:
+    return replace(PER_BIN, x=Quantity().shown(x), y=Quantity().shown(y))
+
+
+def figures(text: str, look: Look = PER_BIN) -> dict[str, Figure]:
     result = read(text.encode())[0]
-    return {picture.name: picture.figure for picture in draw.pictures(result, look)}
+    return {picture.name: draw.figure(picture) for picture in plan.of_result(result, look)}
 
 
-def figure(text: str, look: draw.Look = draw.Look()) -> Figure:
+def figure(text: str, look: Look = PER_BIN) -> Figure:
     (only,) = figures(text, look).values()
     return only
 
@@ -39,6 +54,15 @@ def steps(of: Axes) -> dict[str, StepPatch]:
 
 def texts(of: Axes) -> list[str]:
     return [text.get_text() for text in of.texts]
+
+
+def many_varied(count: int) -> str:
+    """A histogram of 100 and 4 under so many variations, of which the i-th moves 100 by i, and 4 up by i."""
+    form = "{} = histo1d 4\n  under 0 0\n  [0,1) {} 100\n  [1,2) {} 4\n  over 0 0\n"
+    text = form.format("h", 100, 4)
+    for i in range(1, count + 1):
+        text += form.format(f"h[v{i}:down]", 100 - i, 4) + form.format(f"h[v{i}:up]", 100 + i, 4 + i)
+    return text
 
 
 class Case(unittest.TestCase):
@@ -78,14 +102,14 @@ class Steps(Case):
         self.assertEqual(texts(axes(figure(text.format(-7, 10**36))))[0], "underflow -7 ± 1e+18\noverflow 0")
 
     def test_outside_as_bins(self) -> None:
-        main = axes(figure(rows.WEIGHTED, draw.Look(flow=True)))
+        main = axes(figure(rows.WEIGHTED, Look(flow=True, per_width=False)))
         values, edges, _ = steps(main)["nominal"].get_data()
         self.same(values, [0, -3, 1, 3])
         self.same(edges[1:-1], [0, 10, 25])
         self.assertLess(edges[0], 0)
         self.assertGreater(edges[-1], 25)
         self.assertEqual(len(self.error_bars(main)), 4)
-        self.assertEqual(texts(main), ["underflow 0\noverflow 3 ± 2.24", "under", "over"])
+        self.assertEqual(texts(main), ["under", "over"])
         self.assertTrue(all(0 <= place <= 25 for place in main.xaxis.get_majorticklocs()))
 
     def test_one_panel_without_variations(self) -> None:
@@ -101,8 +125,44 @@ class Steps(Case):
         self.same(found["jes:up"].get_data().values, [6, 1, 40])
         looks = {(patch.get_edgecolor(), str(patch.get_linestyle())) for patch in found.values()}
         self.assertEqual(len(looks), 3)
-        self.assertEqual(len({look[0] for look in looks}), 3)
+        self.assertEqual(len({look[0] for look in looks}), 2)
         self.assertEqual(len({look[1] for look in looks}), 3)
+
+    def test_two_sides_of_a_variation_have_one_colour(self) -> None:
+        found = steps(axes(figure(rows.VARIED)))
+        down, up = found["jes:down"], found["jes:up"]
+        self.assertEqual(down.get_edgecolor(), up.get_edgecolor())
+        self.assertNotEqual(down.get_edgecolor(), found["nominal"].get_edgecolor())
+        dashes = [patch.get_linestyle()[1] for patch in (down, up)]
+        self.assertGreater(dashes[0][0], dashes[0][1])  # dashed: more line than gap
+        self.assertEqual(dashes[1][0], dashes[1][1])  # dotted
+        other = rows.VARIED.replace("h[jes:up]", "h[pu:up]")
+        found = steps(axes(figure(other)))
+        self.assertNotEqual(found["jes:down"].get_edgecolor(), found["pu:up"].get_edgecolor())
+
+    def test_no_line_down_to_0_at_the_edges(self) -> None:
+        for patch in steps(axes(figure(rows.VARIED))).values():
+            self.assertIsNone(patch.get_data().baseline)
+            xs, ys = patch.get_path().vertices.T
+            self.same([xs[0], ys[0], xs[-1], ys[-1]], [0, patch.get_data().values[0], 40, patch.get_data().values[-1]])
+
+    def test_logarithmic_axis(self) -> None:
+        for text in (rows.VARIED, rows.WEIGHTED, rows.VARIED.replace("4 16", "4000000000 16")):
+            main = axes(figure(text, replace(PER_BIN, log=True)))
+            self.assertEqual(main.get_yscale(), "log")
+            positive = [v for patch in steps(main).values() for v in patch.get_data().values if v > 0]
+            self.assertLess(main.get_ylim()[0], min(positive))
+            self.assertGreater(main.get_ylim()[1], max(positive))
+
+    def test_many_variations_are_a_band(self) -> None:
+        text = many_varied(4)
+        found = steps(axes(figure(text)))
+        self.assertEqual(set(found), {"nominal", "envelope of variations"})
+        self.same(found["envelope of variations"].get_data().values, [104, 8])
+        self.same(found["envelope of variations"].get_data().baseline, [96, 4])
+        found = steps(axes(figure(text, replace(PER_BIN, singles=True))))
+        self.assertEqual(len(found), 10)
+        self.assertEqual(len(steps(axes(figure(many_varied(3))))), 7)
 
     def test_ratios(self) -> None:
         found = steps(axes(figure(rows.VARIED), "ratio"))
@@ -110,12 +170,12 @@ class Steps(Case):
         self.same(found["jes:up"].get_data().values, [1.5, math.nan, 5])
 
     def test_band_of_nominal_error(self) -> None:
-        band = steps(axes(figure(rows.VARIED), "ratio"))[draw.ERROR].get_data()
+        band = steps(axes(figure(rows.VARIED), "ratio"))[ERROR].get_data()
         np.testing.assert_allclose(band.values, [2, math.nan, 1 + math.sqrt(8) / 8])
         np.testing.assert_allclose(band.baseline, [0, math.nan, 1 - math.sqrt(8) / 8])
 
     def test_ratios_with_bins_outside(self) -> None:
-        found = steps(axes(figure(rows.VARIED, draw.Look(flow=True)), "ratio"))
+        found = steps(axes(figure(rows.VARIED, Look(flow=True, per_width=False)), "ratio"))
         self.same(found["jes:up"].get_data().values, [1.5, 1.5, math.nan, 5, 4])
 
     def test_ratio_of_wide_sums(self) -> None:
@@ -147,7 +207,7 @@ class Steps(Case):
 
     def test_legend(self) -> None:
         legend = axes(figure(rows.VARIED)).get_legend()
-        self.assertEqual([t.get_text() for t in legend.get_texts()], ["nominal", "jes:down", "jes:up", draw.ERROR])
+        self.assertEqual([t.get_text() for t in legend.get_texts()], ["nominal", "jes:down", "jes:up", ERROR])
 
     def test_legend_with_names_that_begin_with_an_underscore(self) -> None:
         legend = axes(figure(rows.VARIED.replace("jes:", "_jes:"))).get_legend()
@@ -157,7 +217,7 @@ class Steps(Case):
         found = figure(rows.WEIGHTED)
         self.assertEqual(axes(found).get_xlabel(), "h")
         self.assertEqual(axes(found).get_ylabel(), "Sum of weights per bin")
-        found = figure(rows.WEIGHTED, draw.Look(x_label="$p_T$", y_label="Events"))
+        found = figure(rows.WEIGHTED, named("$p_T$", "Events"))
         self.assertEqual((axes(found).get_xlabel(), axes(found).get_ylabel()), ("$p_T$", "Events"))
         found = figure(rows.VARIED)
         self.assertEqual((axes(found).get_xlabel(), axes(found, "ratio").get_xlabel()), ("", "h"))
@@ -204,16 +264,92 @@ class Steps(Case):
     def test_many_and_long_variations(self) -> None:
         one = "[v{0}:" + "t" * 60 + "] = histo1d 3\n  under 0 0\n  [0,1) {0} 9\n  over 0 0\n"
         text = "h = histo1d 3\n  under 0 0\n  [0,1) 7 9\n  over 0 0\n" + "".join("h" + one.format(i) for i in range(30))
-        found = figure(text)
+        found = figure(text, replace(PER_BIN, singles=True))
         legend = axes(found).get_legend()
-        self.assertEqual(len(legend.get_texts()), 32)
+        self.assertEqual(len(legend.get_texts()), 33)
         found.draw_without_rendering()
         box = legend.get_window_extent().transformed(found.transFigure.inverted())
         self.assertGreater(box.x0, axes(found).get_position().x1)
         self.assertLess(box.x1, 1)
         self.assertGreater(box.y0, 0)
-        styles = {(p.get_edgecolor(), str(p.get_linestyle())) for p in steps(axes(found)).values()}
+        lines = [patch for patch in steps(axes(found)).values() if not patch.get_fill()]
+        styles = {(patch.get_edgecolor(), str(patch.get_linestyle())) for patch in lines}
         self.assertEqual(len(styles), 31)
+
+
+def map_of(x: int, y: int) -> str:
+    """A map of so many bins with 1 in each."""
+    names = [["under", *(f"[{i},{i + 1})" for i in range(n)), "over"] for n in (x, y)]
+    cells = "".join(f"  {a} {b} 1 1\n" for a in names[0] for b in names[1])
+    return f"h = histo2d {x + 2} {y + 2}\n{cells}"
+
+
+def grown(times: int, variations: int) -> str:
+    """A histogram of large sums that rises to the right, in bins that begin beyond a million."""
+    bins = range(8)
+
+    def one(label: str, more: int) -> str:
+        cells = "".join(f"  [{(i + 2) * 10**6},{(i + 3) * 10**6}) {(i + 1) * times + more} {times}\n" for i in bins)
+        return f"{label} = histo1d 10\n  under {times} {times}\n{cells}  over 0 0\n"
+
+    return one("h", 0) + "".join(one(f"h[v{i}:up]", i) for i in range(variations))
+
+
+class Nothing(Case):
+    """Bins without a number are drawn without a warning of matplotlib's."""
+
+    def test_no_positive_sum_and_no_ratio(self) -> None:
+        empty = read(rows.VARIED.replace(" 4 16", " 0 0").replace(" 8 8", " 0 0").encode())[0]
+        filled = read(rows.VARIED.encode())[0]
+        with warnings.catch_warnings():
+            warnings.simplefilter("error")
+            for look in (Look(), Look(log=True), Look(log=True, flow=True), Look(band="quadrature")):
+                for results in ([empty], [empty, filled], [filled, empty]):
+                    inputs = [building.Input(f"i{place}", one) for place, one in enumerate(results)]
+                    found = draw.figure(plan.over_each_other("h", inputs, replace(look, points=frozenset(["i1"]))))
+                    found.draw_without_rendering()
+
+    def test_no_efficiency(self) -> None:
+        empty = read(b"h = histo1d 3\n  under 0 0\n  [0,1) 0 0\n  over 0 0\n")[0]
+        with warnings.catch_warnings():
+            warnings.simplefilter("error")
+            chart = efficiency.efficiency("e", [efficiency.Pair("nominal", empty, empty)] * 2, Look())
+            self.assertEqual(axes(draw.figure(plan.Picture("e", chart))).get_ylim()[0], 0)
+
+
+class Layout(Case):
+    """Texts stand apart from each other, and from what is drawn."""
+
+    def test_texts(self) -> None:
+        looks = [PER_BIN, Look(log=True), Look(flow=True), Look(per_width=True), Look(band="envelope", singles=True)]
+        for times, variations in ((1, 0), (10**7, 2), (10**9, 8), (10**12, 30)):
+            for look in looks if variations == 2 else looks[-1:]:
+                with self.subTest(times=times, variations=variations, look=look):
+                    self.check(figure(grown(times, variations), look))
+
+    def check(self, of: Figure) -> None:
+        of.draw_without_rendering()
+        main = axes(of)
+        boxes = [part.get_window_extent() for part in main.texts if part.get_text() not in ("under", "over")]
+        legend = main.get_legend()
+        boxes += [legend.get_window_extent()] if legend else []
+        for part in of.axes:
+            for axis in (part.xaxis, part.yaxis):
+                texts = [axis.get_offset_text(), axis.label]
+                boxes += [text.get_window_extent() for text in texts if text.get_text()]
+        for one, other in itertools.combinations(boxes, 2):
+            self.assertFalse(one.overlaps(other))
+        for box in boxes:
+            self.assertTrue(of.bbox.x0 <= box.x0 and box.x1 <= of.bbox.x1 and box.y1 <= of.bbox.y1)
+        if legend:
+            self.assert_clear(main, legend.get_window_extent())
+
+    def assert_clear(self, main: Axes, box: Any) -> None:
+        for patch in steps(main).values():
+            values, edges, _ = patch.get_data()
+            for value, low, high in zip(values, edges, edges[1:]):
+                (x0, y), (x1, _) = main.transData.transform([(low, value), (high, value)])
+                self.assertFalse(x0 < box.x1 and box.x0 < x1 and y > box.y0)
 
 
 class Maps(Case):
@@ -257,11 +393,32 @@ class Maps(Case):
             ],
         )
 
+    def test_numbers_in_the_cells(self) -> None:
+        main = axes(figure(rows.MAP))
+        numbers = {t.get_position(): t.get_text() for t in main.texts if t.get_gid() == "cell"}
+        self.assertEqual(numbers, {(10, 1): "1", (35, 1): "1"})
+        wide = map_of(10, 10).replace("  [3,4) [3,4) 1 1", "  [3,4) [3,4) " + "7" * 14 + " 1")
+        for text, due in ((wide, 0), (map_of(12, 12), 0), (map_of(10, 10), 100)):
+            main = axes(figure(text))
+            self.assertEqual(len([t for t in main.texts if t.get_gid() == "cell"]), due)
+
     def test_names_of_axes(self) -> None:
         main = axes(figure(rows.MAP))
         self.assertEqual((main.get_xlabel(), main.get_ylabel()), ("h: x", "h: y"))
-        main = axes(figure(rows.MAP, draw.Look("energy", "angle")))
+        main = axes(figure(rows.MAP, named("energy", "angle")))
         self.assertEqual((main.get_xlabel(), main.get_ylabel()), ("energy", "angle"))
+
+    def test_sums_over_areas_and_a_logarithmic_scale(self) -> None:
+        found = figure(rows.MAP, Look(per_width=True, x=Quantity.of("a [GeV]"), y=Quantity.of("b [GeV]")))
+        (mesh,) = axes(found).collections
+        self.same(mesh.get_array().ravel(), [1 / 40, 1 / 60])
+        self.assertEqual(axes(found, "colours").get_ylabel(), "Sum of weights / GeV²")
+        text = rows.MAP.replace("[0,20) [0,2) 1 1", "[0,20) [0,2) 100 1").replace("[20,50) [0,2) 1", "[20,50) [0,2) -1")
+        (mesh,) = axes(figure(text, Look(log=True))).collections
+        self.assertEqual(np.ma.getmaskarray(mesh.get_array()).tolist(), [False, True])
+        self.assertEqual(type(mesh.norm).__name__, "LogNorm")
+        found = figure(rows.MAP, Look(per_width=True))
+        self.assertEqual(axes(found, "colours").get_ylabel(), "Sum of weights / (x width × y width)")
 
     def test_colour_bar(self) -> None:
         found = figure(rows.MAP)
@@ -354,19 +511,19 @@ class Takes(Case):
         self.assertEqual([text.get_text() for text in main.get_xticklabels()], ["false", "true"])
 
     def test_bins_have_round_widths(self) -> None:
-        self.assertEqual(draw.edges_for([0, 9], 40), tuple(range(11)))
-        self.assertEqual(draw.edges_for([-3, 96], 40), tuple(range(-5, 105, 5)))
-        self.assertEqual(draw.edges_for([7, 7], 40), (7, 8))
-        self.assertEqual(draw.edges_for([], 40), (0, 1))
-        self.assertEqual(draw.edges_for([0, 99], 1), (0, 100))
-        edges = draw.edges_for([-(2**63), 2**63 - 1], 40)
+        self.assertEqual(building.edges_for([0, 9], 40), tuple(range(11)))
+        self.assertEqual(building.edges_for([-3, 96], 40), tuple(range(-5, 105, 5)))
+        self.assertEqual(building.edges_for([7, 7], 40), (7, 8))
+        self.assertEqual(building.edges_for([], 40), (0, 1))
+        self.assertEqual(building.edges_for([0, 99], 1), (0, 100))
+        edges = building.edges_for([-(2**63), 2**63 - 1], 40)
         self.assertLessEqual(edges[0], -(2**63))
         self.assertGreater(edges[-1], 2**63 - 1)
         self.assertLessEqual(len(edges), 42)
 
     def test_number_of_bins(self) -> None:
         text = "t = " + " ".join(str(i) for i in range(1000)) + "\n"
-        values = steps(axes(figure(text, draw.Look(bins=10))))["nominal"].get_data().values
+        values = steps(axes(figure(text, Look(bins=10))))["nominal"].get_data().values
         self.same(values, [100] * 10)
 
     def test_variations(self) -> None:
@@ -381,9 +538,9 @@ class Takes(Case):
 
 class Labels(unittest.TestCase):
     def test_mathematical_text_that_cannot_be_drawn(self) -> None:
-        self.assertIsNone(draw.fault_of_text("$p_T$ [MeV]"))
-        self.assertIsNone(draw.fault_of_text("5 $"))
-        self.assertIsNotNone(draw.fault_of_text("$\\nothing$"))
+        self.assertIsNone(frames.fault_of_text("$p_T$ [MeV]"))
+        self.assertIsNone(frames.fault_of_text("5 $"))
+        self.assertIsNotNone(frames.fault_of_text("$\\nothing$"))
 
 
 if __name__ == "__main__":

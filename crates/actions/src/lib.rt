@@ -14,6 +14,3 @@ pub use crate::acc::{Acc, FeedStop};
 pub use crate::filled::Filled;
 pub use crate::items::{Items, Part};
 pub use crate::taken::Taken;
-
-#[cfg(test)]
-mod tests;

@@ -42,8 +42,8 @@ module _ (clusters b id : ℕ) (views : List (List Hand)) (h : Hand) (c : IsBarr
 
   pub draw_barred : (n : ℕ) → h.passed ≡ None → IsBarred clusters b (set views id (draw h n ∷ []))
   draw_barred n none = drawn_hand (λ g. IsBarred clusters b (set views id (g ∷ []))) h n
-      (λ _. same_barred _ refl record { looked = mine.looked; passed = rw none tt; lowered = mine.lowered })
-      (λ _. same_barred _ refl record { looked = mine.looked; passed = rw none tt; lowered = mine.lowered })
+      (λ _. same_barred _ refl record { looked = tt; passed = rw none tt; lowered = mine.lowered })
+      (λ _. same_barred _ refl record { looked = tt; passed = rw none tt; lowered = mine.lowered })
 
   pub look_barred : h.passed ≡ None → 0 < length h.drawn → IsBarred clusters b (set views id (look h b ∷ []))
   look_barred none some_drawn = same_barred (look h b) refl record { looked = omega arith; passed = passed; lowered = mine.lowered }

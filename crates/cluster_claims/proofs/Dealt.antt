@@ -1,9 +1,10 @@
 -- Seats by what they did.
-use Rattle.std.proofs.Common.{◌≡◌, List, [], ◌∷◌, map, refl, ap}
-use Rattle.std.specs.List.{All}
+use Rattle.std.proofs.Common.{◌≡◌, ◌+◌, List, [], ◌∷◌, map, refl, sym, ap, ◌∙◌}
+use Rattle.std.specs.List.{All, sum_by}
 use Rattle.std.proofs.lemmas.List.Elements.{All-nil, All-cons, All-head, All-tail}
+use Rattle.std.proofs.lemmas.List.Sums.{sum_by-cons}
 use Rattle.cluster_claims.specs.declared.hand.Hand.{Hand}
-use Rattle.cluster_claims.specs.Seats.{SeatSeen, hand_seen}
+use Rattle.cluster_claims.specs.Seats.{SeatSeen, hand_seen, kept_count}
 
 pub drawn_of : (seats : List SeatSeen) → map (λ h. h.drawn) (map hand_seen seats) ≡ map (λ s. s.drawn) seats
 drawn_of [] = refl
@@ -16,3 +17,7 @@ all_seen P (s ∷ ss) a = All-cons (λ t. P (hand_seen t)) s ss (All-head P (han
 pub lowered_of : (seats : List SeatSeen) → map (λ h. h.lowered) (map hand_seen seats) ≡ map (λ s. s.lowered) seats
 lowered_of [] = refl
 lowered_of (s ∷ ss) = ap (λ r. s.lowered ∷ r) (lowered_of ss)
+
+pub kept_of : (seats : List SeatSeen) → sum_by (λ h. kept_count h.kept) (map hand_seen seats) ≡ sum_by (λ s. kept_count s.kept) seats
+kept_of [] = refl
+kept_of (s ∷ ss) = sum_by-cons (λ h. kept_count h.kept) (hand_seen s) (map hand_seen ss) ∙ ap (λ n. kept_count s.kept + n) (kept_of ss) ∙ sym (sum_by-cons (λ (t : SeatSeen). kept_count t.kept) s ss)

@@ -9,12 +9,12 @@ use lib.ListN.{get_elem?}
 use Rattle.cluster_claims.specs.declared.hand.Hand.{Hand}
 use Rattle.rdf_values.specs.Draws.{DrawnBy}
 use Rattle.rdf_values.specs.Times.{times, once_below}
-use Rattle.cluster_claims.specs.Seats.{draw}
+use Rattle.cluster_claims.specs.Seats.{draw, kept_count}
 use Rattle.rdf_values.proofs.DrawCounts.{drawn_by_counts, once_next, rises_push, sum_by-map, times_push}
 use Rattle.draw_sums.specs.Totals.{total, one, Each}
 use Rattle.draw_sums.proofs.Totals.{total_whole, total_le}
 use Rattle.draw_sums.proofs.Hands.{each_one, each_weaker, ones, total_one, total_same}
-use Rattle.cluster_claims.specs.Claiming.{kept_count, IsHand, IsClaimed}
+use Rattle.cluster_claims.specs.Claiming.{IsHand, IsClaimed}
 
 later : (clusters w : ℕ) (h : Hand) → IsHand clusters w h → IsHand clusters (w + 1) h
 later clusters w h i = record {
@@ -30,8 +30,8 @@ later clusters w h i = record {
 
 -- the hand after a draw is one of two
 pub drawn_hand : (P : Hand → Type 0) (h : Hand) (n : ℕ)
-    → (n < h.clusters → P record { clusters = h.clusters; drawn = h.drawn ++ n ∷ []; kept = h.kept; looked = h.looked; passed = h.passed; lowered = h.lowered })
-    → (h.clusters ≤ n → P record { clusters = h.clusters; drawn = h.drawn; kept = Some n; looked = h.looked; passed = h.passed; lowered = h.lowered })
+    → (n < h.clusters → P record { clusters = h.clusters; drawn = h.drawn ++ n ∷ []; kept = h.kept; looked = None; passed = h.passed; lowered = h.lowered })
+    → (h.clusters ≤ n → P record { clusters = h.clusters; drawn = h.drawn; kept = Some n; looked = None; passed = h.passed; lowered = h.lowered })
     → P (draw h n)
 drawn_hand P h n hit miss = ⊎_elim
     (λ (lt : n < h.clusters). subst P (sym (cond-true (ltb n h.clusters) _ _ (lt-ltb n h.clusters lt))) (hit lt))
@@ -63,9 +63,9 @@ module _ (clusters slots n id : ℕ) (views : List (List Hand)) (h : Hand) (c : 
   each_after : (g : Hand) → IsHand clusters (n + 1) g → Each (IsHand clusters (n + 1)) (set views id (g ∷ []))
   each_after g good = each_one (IsHand clusters (n + 1)) views id g good (each_weaker (IsHand clusters n) (IsHand clusters (n + 1)) (later clusters n) views c.each)
 
-  hit : n < clusters → IsClaimed clusters slots (n + 1) (set views id (record { clusters = h.clusters; drawn = h.drawn ++ n ∷ []; kept = h.kept; looked = h.looked; passed = h.passed; lowered = h.lowered } ∷ []))
+  hit : n < clusters → IsClaimed clusters slots (n + 1) (set views id (record { clusters = h.clusters; drawn = h.drawn ++ n ∷ []; kept = h.kept; looked = None; passed = h.passed; lowered = h.lowered } ∷ []))
   hit lt =
-      let g : Hand = record { clusters = h.clusters; drawn = h.drawn ++ n ∷ []; kept = h.kept; looked = h.looked; passed = h.passed; lowered = h.lowered } in
+      let g : Hand = record { clusters = h.clusters; drawn = h.drawn ++ n ∷ []; kept = h.kept; looked = None; passed = h.passed; lowered = h.lowered } in
       let was = later clusters n h mine in
       record {
         small = c.small;
@@ -78,7 +78,7 @@ module _ (clusters slots n id : ℕ) (views : List (List Hand)) (h : Hand) (c : 
             let next = once_next x n in
             let end : total (λ k. times x k.drawn) (set views id (g ∷ [])) ≡ once_below x (n + 1) = omega arith in
             end ∙ ap (once_below x) (omega arith);
-        room = omega arith;
+        room = (let t = total_one (λ k. kept_count k.kept) views id h g at in let r = c.room in omega arith);
         each = each_after g record {
           same = was.same;
           rises = rises_push h.drawn n mine.rises mine.below;
@@ -87,9 +87,9 @@ module _ (clusters slots n id : ℕ) (views : List (List Hand)) (h : Hand) (c : 
         };
       }
 
-  miss : h.kept ≡ None → clusters ≤ n → IsClaimed clusters slots (n + 1) (set views id (record { clusters = h.clusters; drawn = h.drawn; kept = Some n; looked = h.looked; passed = h.passed; lowered = h.lowered } ∷ []))
+  miss : h.kept ≡ None → clusters ≤ n → IsClaimed clusters slots (n + 1) (set views id (record { clusters = h.clusters; drawn = h.drawn; kept = Some n; looked = None; passed = h.passed; lowered = h.lowered } ∷ []))
   miss free le =
-      let g : Hand = record { clusters = h.clusters; drawn = h.drawn; kept = Some n; looked = h.looked; passed = h.passed; lowered = h.lowered } in
+      let g : Hand = record { clusters = h.clusters; drawn = h.drawn; kept = Some n; looked = None; passed = h.passed; lowered = h.lowered } in
       let was = later clusters n h mine in
       let none_kept : kept_count h.kept ≡ 0 = ap kept_count free in
       record {
@@ -139,3 +139,6 @@ module _ (clusters slots w id : ℕ) (v : List Hand) (views : List (List Hand)) 
 
   pub kept_below : All (λ h. IfSome h.kept (λ k. (clusters ≤ k) × (k < w))) v
   kept_below = All-weaker (IsHand clusters w) (λ h. IfSome h.kept (λ k. (clusters ≤ k) × (k < w))) (λ h i. i.past) v (c.each id v at)
+
+  pub word_counted : w ≡ min w clusters + sum_by (λ h. kept_count h.kept) v
+  word_counted = c.room ∙ ap (λ n. min w clusters + n) (whole_total (λ h. kept_count h.kept))

@@ -1,7 +1,7 @@
 -- Each step at the table keeps the rule.
 use Rattle.std.proofs.Common.{◌≡◌, ℕ, zero, suc, ◌+◌, ◌%◌, ◌^◌, ◌<◌, ◌≤◌, min, List, [], ◌∷◌, ◌++◌, length, map, None, Some, IfSome, refl, sym, ap, ◌∙◌, subst, arith, length-append, add-one, ltb}
 use Rattle.std.specs.Prelude.{slice_index, slice_set}
-use Rattle.std.specs.List.{All, Contains}
+use Rattle.std.specs.List.{All, Contains, sum_by}
 use Rattle.std.specs.List.Sorted.{IsStrictlyIncreasing}
 use Rattle.std.proofs.lemmas.Bool.{lt-ltb, cond-true}
 use Rattle.std.proofs.lemmas.Grind.{common_steps}
@@ -10,11 +10,11 @@ use lib.ListN.{get_elem?}
 use Rattle.atomic_table.specs.Table.{Me, step, keeps, Final, Seen, Allows, Splits, Joins}
 use Rattle.cluster_claims.specs.declared.hand.Hand.{Hand}
 use Rattle.rdf_values.specs.Draws.{DrawnBy}
-use Rattle.cluster_claims.specs.Seats.{hand_of, draw, look, lower, lowers_to}
+use Rattle.cluster_claims.specs.Seats.{hand_of, draw, look, lower, kept_count, lowers_to}
 use Rattle.draw_sums.specs.Hands.{others, first_alone}
 use Rattle.draw_sums.proofs.Hands.{dealt_each, dealt_total, taken_each, taken_total}
 use Rattle.cluster_claims.specs.Claiming.{IsHand, IsClaimed, IsOver, IsBarred, Claimed, Drew, Looked, Lowered}
-use Rattle.cluster_claims.proofs.Draws.{drawn_hand, drawn_rises, same_claimed, drawn_keeps, word_fits, claimed_again, whole_total, shared_out, kept_below}
+use Rattle.cluster_claims.proofs.Draws.{drawn_hand, drawn_rises, same_claimed, drawn_keeps, word_fits, claimed_again, whole_total, shared_out, kept_below, word_counted}
 use Rattle.cluster_claims.proofs.Bars.{draw_barred, look_barred, lower_barred, barred_again, lowered_by}
 
 -- a seat with one hand
@@ -100,6 +100,7 @@ gathers key id v other w s claimed at apart there =
 pub record IsFinished (clusters word bar : ℕ) (v : List Hand) : Type 0 where
   pub drawn : DrawnBy (map (λ h. h.drawn) v) (min word clusters)
   pub kept : All (λ h. IfSome h.kept (λ k. (clusters ≤ k) × (k < word))) v
+  pub counted : word ≡ min word clusters + sum_by (λ h. kept_count h.kept) v
   pub most : bar ≤ clusters
   pub over : All (IsOver bar) v
   pub reached : bar < clusters → Contains (map (λ h. h.lowered) v) (Some bar)
@@ -117,6 +118,7 @@ finished key id v words xs word bar final read read' whole =
     record {
       drawn = shared_out key.0 key.1 word id v s.views at whole c;
       kept = kept_below key.0 key.1 word id v s.views at whole c;
+      counted = word_counted key.0 key.1 word id v s.views at whole c;
       most = b.most;
       over = b.each id v at;
       reached = λ lt. lowered_by bar v (subst (λ n. 0 < n) (whole_total key.0 key.1 word id v s.views at whole c (λ h. lowers_to bar h.lowered)) (b.least lt));

@@ -1,17 +1,12 @@
 -- The rule of the two words, and what each step does to a view.
-use Rattle.std.specs.Prelude.{◌≡◌, ℕ, ◌+◌, ◌<◌, ◌≤◌, ◌^◌, min, List, [], ◌∷◌, Option, None, Some, IfSome, replicate, length}
+use Rattle.std.specs.Prelude.{◌≡◌, ℕ, ◌+◌, ◌<◌, ◌≤◌, ◌^◌, min, List, [], ◌∷◌, IfSome, replicate, length}
 use Rattle.std.specs.List.{All}
 use Rattle.std.specs.List.Sorted.{IsStrictlyIncreasing}
 use Rattle.atomic_table.specs.Table.{State, Me, Step}
 use Rattle.cluster_claims.specs.declared.hand.Hand.{Hand}
 use Rattle.rdf_values.specs.Times.{times, once_below}
 use Rattle.draw_sums.specs.Totals.{total, one, Each}
-use Rattle.cluster_claims.specs.Seats.{empty_hand, hand_of, draw, look, lower, last_of, lowers_to}
-
--- 1 where a number past the clusters is kept, and else 0
-abbrev pub kept_count : Option ℕ → ℕ
-kept_count None = 0
-kept_count (Some k) = 1
+use Rattle.cluster_claims.specs.Seats.{empty_hand, hand_of, draw, look, lower, last_of, kept_count, lowers_to}
 
 -- what the rule says of one hand, where the claim word is w
 pub record IsHand (clusters w : ℕ) (h : Hand) : Type 0 where
@@ -25,7 +20,7 @@ pub record IsClaimed (clusters slots w : ℕ) (views : List (List Hand)) : Type 
   pub small : (clusters < 2 ^ 32) × (slots < 2 ^ 32)
   pub all : total one views ≡ slots
   pub once : (x : ℕ) → total (λ h. times x h.drawn) views ≡ once_below x (min w clusters)
-  pub room : w ≤ clusters + total (λ h. kept_count h.kept) views
+  pub room : w ≡ min w clusters + total (λ h. kept_count h.kept) views
   pub each : Each (IsHand clusters w) views
 
 -- what the rule says of one hand, where the bar is b

@@ -1,6 +1,6 @@
 -- What contracts see of the claims and of a seat.
-use Rattle.std.specs.Prelude.{◌≡◌, ℕ, List, [], ◌∷◌, ◌++◌, Option, None, Some, map, ◌-◌, length, slice_index, ◌==◌, ◌<◌, ◌≤◌, nat_lt, if◌then◌else◌, IfSome, IsSomeAnd}
-use Rattle.std.specs.List.{All, Contains, range_with_len}
+use Rattle.std.specs.Prelude.{◌≡◌, ℕ, List, [], ◌∷◌, ◌++◌, Option, None, Some, map, min, ◌+◌, ◌-◌, length, slice_index, ◌==◌, ◌<◌, ◌≤◌, nat_lt, if◌then◌else◌, IfSome, IsSomeAnd}
+use Rattle.std.specs.List.{All, Contains, range_with_len, sum_by}
 use Rattle.atomic_table.specs.Seated.{TableId}
 use Rattle.cluster_claims.specs.declared.hand.Hand.{Hand}
 
@@ -11,7 +11,7 @@ pub record ClaimsSeen : Type 0 where
   pub slots : ℕ
 
 -- a seat's table and number, over so many clusters: the clusters that it drew, and, where it did so, the number past them that it drew last,
--- the bar that it looked at last, the cluster that it passed over, and the one that it lowered the bar to
+-- the bar that it looked at since its last draw, the cluster that it passed over, and the one that it lowered the bar to
 pub record SeatSeen : Type 0 where
   pub table : TableId
   pub slot : ℕ
@@ -25,6 +25,11 @@ pub record SeatSeen : Type 0 where
 -- the last number, or 0
 abbrev pub last_of : List ℕ → ℕ
 last_of xs = slice_index xs (length xs - 1)
+
+-- 1 where a number past the clusters is kept, and else 0
+abbrev pub kept_count : Option ℕ → ℕ
+kept_count None = 0
+kept_count (Some k) = 1
 
 -- 1 where the bar was lowered to b, and else 0
 abbrev pub lowers_to : ℕ → Option ℕ → ℕ
@@ -43,12 +48,12 @@ hand_seen s = record { clusters = s.clusters; drawn = s.drawn; kept = s.kept; lo
 abbrev pub empty_hand : ℕ → Hand
 empty_hand clusters = record { clusters = clusters; drawn = []; kept = None; looked = None; passed = None; lowered = None }
 
--- the hand after a draw of n
+-- the hand after a draw of n: what the bar was before it no longer counts
 abbrev pub draw : Hand → ℕ → Hand
 draw h n =
     if nat_lt n h.clusters
-    then record { clusters = h.clusters; drawn = h.drawn ++ n ∷ []; kept = h.kept; looked = h.looked; passed = h.passed; lowered = h.lowered }
-    else record { clusters = h.clusters; drawn = h.drawn; kept = Some n; looked = h.looked; passed = h.passed; lowered = h.lowered }
+    then record { clusters = h.clusters; drawn = h.drawn ++ n ∷ []; kept = h.kept; looked = None; passed = h.passed; lowered = h.lowered }
+    else record { clusters = h.clusters; drawn = h.drawn; kept = Some n; looked = None; passed = h.passed; lowered = h.lowered }
 
 -- after a look at the bar, which was at b: a last cluster that isn't below it is passed over
 abbrev pub look : Hand → ℕ → Hand
@@ -81,7 +86,7 @@ with_lowered s c = seat_seen s.table s.slot (lower (hand_seen s) c)
 
 -- the number drawn was no cluster, and the seat keeps it
 abbrev pub IsPast : ClaimsSeen → SeatSeen → SeatSeen → Type 0
-IsPast c old new = IsSomeAnd new.kept (λ k. c.clusters ≤ k) × (new.drawn ≡ old.drawn) × (new.passed ≡ None) × (new.looked ≡ old.looked)
+IsPast c old new = IsSomeAnd new.kept (λ k. c.clusters ≤ k) × (new.drawn ≡ old.drawn) × (new.passed ≡ None) × (new.looked ≡ None)
 
 -- the cluster drawn wasn't below the bar, and the seat keeps it as passed over
 abbrev pub IsPassedOver : ClaimsSeen → SeatSeen → SeatSeen → Type 0
@@ -96,3 +101,7 @@ pub record IsLeast (clusters : ℕ) (seats : List SeatSeen) (b : ℕ) : Type 0 w
 -- a number that the seat passed over is at least b, and the last that it drew
 abbrev pub IsPassed : ℕ → SeatSeen → Type 0
 IsPassed b s = IfSome s.passed (λ p. (b ≤ p) × (0 < length s.drawn) × (p ≡ last_of s.drawn))
+
+-- the claim word ended at w: it counts the clusters that were drawn, and one number past them for each seat that kept one
+abbrev pub IsCounted : ℕ → List SeatSeen → ℕ → Type 0
+IsCounted clusters seats w = w ≡ min w clusters + sum_by (λ s. kept_count s.kept) seats

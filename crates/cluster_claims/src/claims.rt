@@ -4,7 +4,7 @@ ghost use Rattle.std.specs.Option.{IsSomeAnd};
 ghost use Rattle.std.specs.List.{All};
 ghost use Rattle.std.specs.List.Sorted.{IsStrictlyIncreasing};
 ghost use Rattle.rdf_values.specs.Draws.{DrawnBy};
-ghost use Rattle.cluster_claims.specs.Seats.{IsOf, fresh_seats, last_of, with_lowered, IsPast, IsPassedOver, IsLeast, IsPassed};
+ghost use Rattle.cluster_claims.specs.Seats.{IsOf, fresh_seats, last_of, with_lowered, IsPast, IsPassedOver, IsCounted, IsLeast, IsPassed};
 
 use crate::drawn::Drawn;
 use crate::hand::Hands;
@@ -99,6 +99,7 @@ impl Claims {
         requires all { length seats ≡ self.slots }
         requires of { All (IsOf self) seats }
         ensures drawn { DrawnBy (map (λ s. s.drawn) seats) (min result.word self.clusters) }
+        ensures word { IsCounted self.clusters seats result.word }
         ensures bar { IsLeast self.clusters seats result.bar }
         ensures passed { All (IsPassed result.bar) seats }
         ensures kept { All (λ s. IfSome s.kept (λ k. (self.clusters ≤ k) × (k < result.word))) seats }

@@ -1,8 +1,8 @@
 // What a seat knows of its steps.
 use std::collections::LinkedList;
 
-/// What one seat did: the clusters that it drew, in order, the number past them that it drew last, the bar that it looked at last,
-/// the cluster that it passed over, and the one that it lowered the bar to, where it did so. No value of it is made.
+/// What one seat did: the clusters that it drew, in order, the number past them that it drew last, the bar that it looked at
+/// since its last draw, the cluster that it passed over, and the one that it lowered the bar to, where it did so. No value of it is made.
 pub struct Hand {
     pub clusters: u32,
     pub drawn: LinkedList<u64>,

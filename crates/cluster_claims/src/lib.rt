@@ -1,4 +1,5 @@
 //! Slots draw clusters by one atomic word, each once, and stop at a bar that another word holds.
+//! No clause says when a seat draws, nor which seats do.
 #![tactic(auto)]
 
 pub mod claims;

@@ -7,6 +7,3 @@ mod places;
 mod ranges;
 
 pub use crate::cuts::{Cuts, cut, lead_to_the_end};
-
-#[cfg(test)]
-mod tests;

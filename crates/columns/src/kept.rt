@@ -12,7 +12,7 @@ use clusters::Cuts;
 use rdf_values::{Memory, Vects};
 use std::alloc::Global;
 use std::thread::{Threads, join};
-use table_pieces::ColumnPieces;
+use table_pieces::{ColumnPieces, halves};
 
 /// The numbers of an int column, packed by cluster, or the vectors of a vec column.
 #[derive(Drop)]
@@ -82,8 +82,7 @@ pub(crate) fn keep_in_slots<R: Threads + Sync>(
     if slots < 2 || pieces.len() < 2 {
         return keep_all(alloc, pieces, cuts);
     }
-    let half = slots / 2;
-    let others = slots - half;
+    let (half, others) = halves(slots);
     let back = pieces.split_off(pieces.len() / 2)?;
     let front = pieces;
     let (first, second) = join(

@@ -3,9 +3,10 @@ use Rattle.std.proofs.Common.{◌≡◌, ◌≤◌, ℕ, ℤ, pos, negsuc, Bool,
 use Rattle.rdf_values.specs.Integers.{integer_of}
 use Rattle.clap.specs.Words.{Row, Text, matches_of}
 use Rattle.command_words.specs.Arguments.{is_taken, rdf_command}
-use Rattle.command_words.specs.Asked.{asked_by, asked_in, asked_of, generated_by, input_from, input_of, number_of, setting_of, within}
+use Rattle.command_words.specs.Asked.{asked_by, asked_in, asked_of, generated_by, input_from, input_of, input_with, number_of, setting_of, within}
 use Rattle.command_words.specs.Limits.{AreWithinLimits, IsWithin}
 use Rattle.command_words.specs.declared.command.Command.{Command}
+use Rattle.command_words.specs.declared.command.Friend.{Friend}
 use Rattle.command_words.specs.declared.command.Input.{Input}
 
 -- a number that stands in an option
@@ -42,15 +43,20 @@ generated_fits None seed e s = λ i h. absurd (cc h)
 generated_fits (Some entries) None e s = λ i h. absurd (cc h)
 generated_fits (Some entries) (Some seed) e s = λ i h. subst IsWithin (some_is _ _ h) (let a = e entries refl in let b = s seed refl in (a.0, a.1, b.1))
 
-input_fits : (is_made : Bool) (first second : Option Text) → Fits (input_from is_made first second)
-input_fits is_made None second = λ i h. absurd (cc h)
-input_fits is_made (Some first) None = λ i h. absurd (cc h)
-input_fits false (Some first) (Some second) = λ i h. subst IsWithin (some_is _ _ h) tt
-input_fits true (Some first) (Some second) = generated_fits (number_of 1 1000000 first) (number_of 0 4294967295 second) (is_number 1 1000000 first) (is_number 0 4294967295 second)
+input_fits : (is_made : Bool) (first second : Option Text) (friend : Option Friend) → Fits (input_from is_made first second friend)
+input_fits is_made None second friend = λ i h. absurd (cc h)
+input_fits is_made (Some first) None friend = λ i h. absurd (cc h)
+input_fits false (Some first) (Some second) friend = λ i h. subst IsWithin (some_is _ _ h) tt
+input_fits true (Some first) (Some second) (Some friend) = λ i h. absurd (cc h)
+input_fits true (Some first) (Some second) None = generated_fits (number_of 1 1000000 first) (number_of 0 4294967295 second) (is_number 1 1000000 first) (is_number 0 4294967295 second)
+
+with_fits : (friend : Option (Option Friend)) (is_made : Bool) (first second : Option Text) → Fits (input_with friend (λ f. input_from is_made first second f))
+with_fits None is_made first second = λ i h. absurd (cc h)
+with_fits (Some friend) is_made first second = input_fits is_made first second friend
 
 input_of_fits : (rows : List Row) → Fits (input_of rows)
 unfolding input_of
-input_of_fits rows = input_fits _ _ _
+input_of_fits rows = with_fits _ _ _ _
 
 asked_by_fits : (slots cluster watch : Option ℕ) (input : Option Input) → Is 1 16 slots → Is 1 1000000 cluster → Is 1 1000000 watch → Fits input
     → (c : Command) → asked_by slots cluster watch input ≡ Some c → AreWithinLimits c

@@ -1,9 +1,10 @@
 -- What some words ask for, computed.
-use Rattle.std.proofs.Common.{◌≡◌, [], ◌∷◌, Option, None, Some, refl, codes, ℕ}
+use Rattle.std.proofs.Common.{◌≡◌, [], ◌∷◌, Option, None, Some, refl, codes, ℕ, ℤ, pos, negsuc}
 use Rattle.clap.specs.Words.{fault_of}
 use Rattle.clap.specs.declared.error.kind.ErrorKind.TheVariants as kind
 use Rattle.clap.proofs.OnLiterals.{clap_on_literals}
 use Rattle.rdf_values.specs.Integers.{integer_of, magnitude_of}
+use Rattle.rdf_values.specs.Names.{is_name}
 use Rattle.command_words.specs.Arguments.{is_taken, rdf_command}
 use Rattle.command_words.specs.Asked.{asked_in, asked_of, input_of, number_of}
 use Rattle.command_words.specs.declared.command.Command.{Command}
@@ -13,15 +14,15 @@ use Rattle.command_words.specs.declared.command.Input.TheVariants.{Files, Genera
 abbrev asks : ℕ → ℕ → ℕ → Input → Option Command
 asks slots cluster watch input = Some (record { slots = slots; cluster = cluster; watch = watch; input = input })
 
-two_words : asked_of (codes "s.txt" ∷ codes "a.csv" ∷ []) ≡ asks 1 10000 1 (Files (codes "s.txt") (codes "a.csv"))
+two_words : asked_of (codes "s.txt" ∷ codes "a.csv" ∷ []) ≡ asks 1 10000 1 (Files (codes "s.txt") (codes "a.csv") None)
 unfolding asked_of asked_in input_of number_of rdf_command is_taken integer_of magnitude_of clap_on_literals
 two_words = refl
 
-slots_with_an_equals_sign : asked_of (codes "s.txt" ∷ codes "--slots=3" ∷ codes "a.csv" ∷ []) ≡ asks 3 10000 1 (Files (codes "s.txt") (codes "a.csv"))
+slots_with_an_equals_sign : asked_of (codes "s.txt" ∷ codes "--slots=3" ∷ codes "a.csv" ∷ []) ≡ asks 3 10000 1 (Files (codes "s.txt") (codes "a.csv") None)
 unfolding asked_of asked_in input_of number_of rdf_command is_taken integer_of magnitude_of clap_on_literals
 slots_with_an_equals_sign = refl
 
-all_at_their_limits : asked_of (codes "--slots" ∷ codes "16" ∷ codes "--cluster" ∷ codes "1000000" ∷ codes "s.txt" ∷ codes "a.csv" ∷ codes "--watch=1000000" ∷ []) ≡ asks 16 1000000 1000000 (Files (codes "s.txt") (codes "a.csv"))
+all_at_their_limits : asked_of (codes "--slots" ∷ codes "16" ∷ codes "--cluster" ∷ codes "1000000" ∷ codes "s.txt" ∷ codes "a.csv" ∷ codes "--watch=1000000" ∷ []) ≡ asks 16 1000000 1000000 (Files (codes "s.txt") (codes "a.csv") None)
 unfolding asked_of asked_in input_of number_of rdf_command is_taken integer_of magnitude_of clap_on_literals
 all_at_their_limits = refl
 
@@ -80,6 +81,55 @@ names_for_numbers = refl
 one_name : asked_of (codes "s.txt" ∷ []) ≡ None
 unfolding asked_of asked_in input_of number_of rdf_command is_taken integer_of magnitude_of clap_on_literals
 one_name = refl
+
+-- ---- a friend's words
+
+abbrev asks_friend : ℤ → Option Command
+asks_friend missing = asks 1 10000 1 (Files (codes "s.txt") (codes "a.csv") (Some (record { file = codes "f.csv"; key = codes "pt"; missing = missing })))
+
+friend_with_its_key : asked_of (codes "s.txt" ∷ codes "a.csv" ∷ codes "--friend" ∷ codes "f.csv" ∷ codes "--key" ∷ codes "pt" ∷ []) ≡ asks_friend (pos 0)
+unfolding asked_of asked_in input_of number_of rdf_command is_taken integer_of magnitude_of is_name clap_on_literals
+friend_with_its_key = refl
+
+what_is_missing : asked_of (codes "--missing" ∷ codes "7" ∷ codes "s.txt" ∷ codes "--key=pt" ∷ codes "a.csv" ∷ codes "--friend=f.csv" ∷ []) ≡ asks_friend (pos 7)
+unfolding asked_of asked_in input_of number_of rdf_command is_taken integer_of magnitude_of is_name clap_on_literals
+what_is_missing = refl
+
+what_is_missing_below_zero : asked_of (codes "s.txt" ∷ codes "a.csv" ∷ codes "--friend" ∷ codes "f.csv" ∷ codes "--key" ∷ codes "pt" ∷ codes "--missing=-1" ∷ []) ≡ asks_friend (negsuc 0)
+unfolding asked_of asked_in input_of number_of rdf_command is_taken integer_of magnitude_of is_name clap_on_literals
+what_is_missing_below_zero = refl
+
+friend_without_a_key : asked_of (codes "s.txt" ∷ codes "a.csv" ∷ codes "--friend" ∷ codes "f.csv" ∷ []) ≡ None
+unfolding asked_of asked_in input_of number_of rdf_command is_taken integer_of magnitude_of is_name clap_on_literals
+friend_without_a_key = refl
+
+key_without_a_friend : asked_of (codes "s.txt" ∷ codes "a.csv" ∷ codes "--key" ∷ codes "pt" ∷ []) ≡ None
+unfolding asked_of asked_in input_of number_of rdf_command is_taken integer_of magnitude_of is_name clap_on_literals
+key_without_a_friend = refl
+
+number_without_a_friend : asked_of (codes "s.txt" ∷ codes "a.csv" ∷ codes "--missing" ∷ codes "0" ∷ []) ≡ None
+unfolding asked_of asked_in input_of number_of rdf_command is_taken integer_of magnitude_of is_name clap_on_literals
+number_without_a_friend = refl
+
+key_that_is_no_name : asked_of (codes "s.txt" ∷ codes "a.csv" ∷ codes "--friend" ∷ codes "f.csv" ∷ codes "--key" ∷ codes "1pt" ∷ []) ≡ None
+unfolding asked_of asked_in input_of number_of rdf_command is_taken integer_of magnitude_of is_name clap_on_literals
+key_that_is_no_name = refl
+
+key_that_is_a_truth_value : asked_of (codes "s.txt" ∷ codes "a.csv" ∷ codes "--friend" ∷ codes "f.csv" ∷ codes "--key" ∷ codes "true" ∷ []) ≡ None
+unfolding asked_of asked_in input_of number_of rdf_command is_taken integer_of magnitude_of is_name clap_on_literals
+key_that_is_a_truth_value = refl
+
+number_with_a_leading_zero : asked_of (codes "s.txt" ∷ codes "a.csv" ∷ codes "--friend" ∷ codes "f.csv" ∷ codes "--key" ∷ codes "pt" ∷ codes "--missing" ∷ codes "00" ∷ []) ≡ None
+unfolding asked_of asked_in input_of number_of rdf_command is_taken integer_of magnitude_of is_name clap_on_literals
+number_with_a_leading_zero = refl
+
+number_of_65_bits : asked_of (codes "s.txt" ∷ codes "a.csv" ∷ codes "--friend" ∷ codes "f.csv" ∷ codes "--key" ∷ codes "pt" ∷ codes "--missing" ∷ codes "9223372036854775808" ∷ []) ≡ None
+unfolding asked_of asked_in input_of number_of rdf_command is_taken integer_of magnitude_of is_name clap_on_literals
+number_of_65_bits = refl
+
+friend_of_the_generator : asked_of (codes "1" ∷ codes "7" ∷ codes "--make" ∷ codes "--friend" ∷ codes "f.csv" ∷ codes "--key" ∷ codes "pt" ∷ []) ≡ None
+unfolding asked_of asked_in input_of number_of rdf_command is_taken integer_of magnitude_of is_name clap_on_literals
+friend_of_the_generator = refl
 
 -- ---- why some words are not taken
 

@@ -1,9 +1,11 @@
 -- What the command's words ask for.
-use Rattle.std.specs.Prelude.{ℕ, ℤ, pos, negsuc, Bool, true, false, ◌&&◌, leb, List, Option, Some, None, if◌then◌else◌, codes, bytes_eq}
+use Rattle.std.specs.Prelude.{ℕ, ℤ, pos, negsuc, Bool, true, false, ◌&&◌, leb, List, Option, Some, None, option_map, if◌then◌else◌, codes, bytes_eq}
 use Rattle.clap.specs.Words.{Row, Text, first_of, matches_of}
 use Rattle.rdf_values.specs.Integers.{integer_of}
+use Rattle.rdf_values.specs.Names.{is_name}
 use Rattle.command_words.specs.Arguments.{is_taken, rdf_command}
 use Rattle.command_words.specs.declared.command.Command.{Command}
+use Rattle.command_words.specs.declared.command.Friend.{Friend}
 use Rattle.command_words.specs.declared.command.Input.{Input}
 use Rattle.command_words.specs.declared.command.Input.TheVariants.{Files, Generated}
 
@@ -30,15 +32,45 @@ generated_by None seed = None
 generated_by (Some entries) None = None
 generated_by (Some entries) (Some seed) = Some (Generated entries seed)
 
--- the names of two files; or with the flag the numbers of entries and of the seed
-abbrev pub input_from : Bool → Option Text → Option Text → Option Input
-input_from is_made None second = None
-input_from is_made (Some first) None = None
-input_from false (Some first) (Some second) = Some (Files first second)
-input_from true (Some first) (Some second) = generated_by (number_of 1 1000000 first) (number_of 0 4294967295 second)
+-- ---- the friend
+
+-- the number for what is missing, which may be left out
+abbrev pub missing_of : Option Text → Option ℤ
+missing_of None = Some (pos 0)
+missing_of (Some text) = integer_of text
+
+-- the friend in a file, where its key is a name and the number canonical
+abbrev pub friend_with : Text → Text → Option ℤ → Option Friend
+friend_with file key None = None
+friend_with file key (Some missing) = if is_name key then Some (record { file = file; key = key; missing = missing }) else None
+
+-- no friend, or one: the file and the key come together, and the number only with them
+abbrev pub friend_from : Option Text → Option Text → Option Text → Option (Option Friend)
+friend_from None None None = Some None
+friend_from None None (Some number) = None
+friend_from None (Some key) number = None
+friend_from (Some file) None number = None
+friend_from (Some file) (Some key) number = option_map Some (friend_with file key (missing_of number))
+
+-- ---- the input
+
+-- the names of two files, and maybe a friend; or with the flag the numbers of entries and of the seed
+abbrev pub input_from : Bool → Option Text → Option Text → Option Friend → Option Input
+input_from is_made None second friend = None
+input_from is_made (Some first) None friend = None
+input_from false (Some first) (Some second) friend = Some (Files first second friend)
+input_from true (Some first) (Some second) (Some friend) = None
+input_from true (Some first) (Some second) None = generated_by (number_of 1 1000000 first) (number_of 0 4294967295 second)
+
+-- the input, where the words of a friend break no rule
+abbrev pub input_with : Option (Option Friend) → (Option Friend → Option Input) → Option Input
+input_with None input = None
+input_with (Some friend) input = input friend
 
 unfoldable pub input_of : List Row → Option Input
-input_of rows = input_from (is_set (first_of (codes "make") rows)) (first_of (codes "SCRIPT") rows) (first_of (codes "TABLE") rows)
+input_of rows =
+    input_with (friend_from (first_of (codes "friend") rows) (first_of (codes "key") rows) (first_of (codes "missing") rows))
+    (λ friend. input_from (is_set (first_of (codes "make") rows)) (first_of (codes "SCRIPT") rows) (first_of (codes "TABLE") rows) friend)
 
 abbrev pub asked_by : Option ℕ → Option ℕ → Option ℕ → Option Input → Option Command
 asked_by None cluster watch input = None
@@ -54,6 +86,7 @@ asked_in rows =
     asked_by (setting_of 1 16 (first_of (codes "slots") rows)) (setting_of 10000 1000000 (first_of (codes "cluster") rows))
     (setting_of 1 1000000 (first_of (codes "watch") rows)) (input_of rows)
 
--- what the words ask for, where the command takes them and each number is canonical and within its limits
+-- what the words ask for, where the command takes them, each number is canonical and within its limits, and no rule on the words of
+-- a friend is broken
 unfoldable pub asked_of : List Text → Option Command
 asked_of words = if is_taken words then asked_in (matches_of rdf_command words) else None

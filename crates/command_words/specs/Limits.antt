@@ -7,7 +7,7 @@ use Rattle.command_words.specs.declared.command.Input.TheVariants.{Files, Genera
 
 -- the generator makes 1 to 1,000,000 entries, from a seed of 32 bits
 abbrev pub IsWithin : Input → Type 0
-IsWithin (Files script table) = ⊤
+IsWithin (Files script table friend) = ⊤
 IsWithin (Generated entries seed) = (1 ≤ entries) × (entries ≤ 1000000) × (seed ≤ 4294967295)
 
 pub record AreWithinLimits (c : Command) : Type 0 where

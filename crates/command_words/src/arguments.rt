@@ -39,5 +39,8 @@ pub(crate) fn arguments<'a>(alloc: Global) -> Result<Command<'a>, AllocError>
         .arg(option(alloc, "slots"))?
         .arg(option(alloc, "cluster"))?
         .arg(option(alloc, "watch"))?
-        .arg(flag(alloc, "make"))
+        .arg(flag(alloc, "make"))?
+        .arg(option(alloc, "friend"))?
+        .arg(option(alloc, "key"))?
+        .arg(option(alloc, "missing"))
 }

@@ -7,9 +7,6 @@ pub mod file_name;
 pub mod laws;
 mod read;
 
-pub use crate::command::{Command, Input};
+pub use crate::command::{Command, Friend, Input};
 pub use crate::file_name::FileName;
 pub use crate::read::read_command;
-
-#[cfg(test)]
-mod tests;

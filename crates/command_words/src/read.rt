@@ -1,15 +1,15 @@
 // Reading the command's words.
 ghost use Rattle.std.specs.Prelude.{◌≡◌, IfOk, option_map, map};
 ghost use Rattle.clap.specs.Words.{first_of, found_of, rows_of};
-ghost use Rattle.command_words.specs.Asked.{asked_in, asked_of, input_from, is_set, number_of, setting_of};
+ghost use Rattle.command_words.specs.Asked.{asked_in, asked_of, friend_from, friend_with, input_from, is_set, missing_of, number_of, setting_of};
 
 use crate::arguments::arguments;
-use crate::command::{Command, Input};
+use crate::command::{Command, Friend, Input};
 use crate::file_name::FileName;
 use clap::ArgMatches;
 use clap::error::ErrorKind;
 use rdf_outside::WordList;
-use rdf_values::{Memory, read_integer};
+use rdf_values::{Memory, Name, read_integer};
 use std::alloc::Global;
 
 const MAX_SLOTS: u32 = 16;
@@ -68,13 +68,66 @@ fn value<'a>(matches: &ArgMatches<'a>, id: &str) -> Option<&'a str>
     matches.get_str(id)
 }
 
+// The number for what is missing, which may be left out.
+fn missing(text: Option<&str>) -> Option<i64>
+    ensures { result ≡ missing_of (option_map (λ s. s.now) text.entry) }
+{
+    match text {
+        Some(text) => read_integer(text.as_bytes()),
+        None => Some(0),
+    }
+}
+
+// The friend in a file, where its key is a name and the number canonical.
+fn friend(
+    alloc: Global,
+    file: &str,
+    key: &str,
+    missing: Option<i64>,
+) -> Result<Option<Friend>, Memory>
+    ensures { IfOk result (λ friend. friend ≡ friend_with file.now key.now missing) }
+{
+    let Some(missing) = missing else {
+        return Ok(None);
+    };
+    let Some(key) = Name::read(alloc, key.as_bytes())? else {
+        return Ok(None);
+    };
+    let file = FileName::of(alloc, file)?;
+    Ok(Some(Friend { file, key, missing }))
+}
+
+// The friend that is asked for, if one is. There is no answer where the file and the key don't come together, the number
+// comes without them, or one of them isn't taken.
+fn friend_asked(
+    alloc: Global,
+    file: Option<&str>,
+    key: Option<&str>,
+    number: Option<&str>,
+) -> Result<Option<Option<Friend>>, Memory>
+    ensures { IfOk result (λ friend. friend ≡ friend_from (option_map (λ s. s.now) file.entry) (option_map (λ s. s.now) key.entry) (option_map (λ s. s.now) number.entry)) }
+{
+    let Some(file) = file else {
+        let none_asked = key.is_none() && number.is_none();
+        return Ok(if none_asked { Some(None) } else { None });
+    };
+    let Some(key) = key else {
+        return Ok(None);
+    };
+    match friend(alloc, file, key, missing(number))? {
+        Some(friend) => Ok(Some(Some(friend))),
+        None => Ok(None),
+    }
+}
+
 fn input(
     alloc: Global,
     is_made: bool,
     first: Option<&str>,
     second: Option<&str>,
+    friend: Option<Friend>,
 ) -> Result<Option<Input>, Memory>
-    ensures { IfOk result (λ input. input ≡ input_from is_made (option_map (λ s. s.now) first.entry) (option_map (λ s. s.now) second.entry)) }
+    ensures { IfOk result (λ input. input ≡ input_from is_made (option_map (λ s. s.now) first.entry) (option_map (λ s. s.now) second.entry) friend) }
 {
     let Some(first) = first else {
         return Ok(None);
@@ -86,7 +139,11 @@ fn input(
         return Ok(Some(Input::Files {
             script: FileName::of(alloc, first)?,
             table: FileName::of(alloc, second)?,
+            friend,
         }));
+    }
+    if friend.is_some() {
+        return Ok(None);
     }
     let Some(entries) = number(first, 1, MAX_ENTRIES) else {
         return Ok(None);
@@ -112,11 +169,21 @@ fn asked(alloc: Global, matches: &ArgMatches<'_>) -> Result<Option<Command>, Mem
         return Ok(None);
     };
     let is_made = is_set(value(matches, "make"));
+    let Some(friend) = friend_asked(
+        alloc,
+        value(matches, "friend"),
+        value(matches, "key"),
+        value(matches, "missing"),
+    )?
+    else {
+        return Ok(None);
+    };
     let Some(input) = input(
         alloc,
         is_made,
         value(matches, "SCRIPT"),
         value(matches, "TABLE"),
+        friend,
     )?
     else {
         return Ok(None);
@@ -129,8 +196,8 @@ fn asked(alloc: Global, matches: &ArgMatches<'_>) -> Result<Option<Command>, Mem
     }))
 }
 
-/// What the words ask for. There is none where the command doesn't take the words, or a number isn't canonical or not
-/// within its limits.
+/// What the words ask for. There is none where the command doesn't take the words, a number isn't canonical or not
+/// within its limits, or a rule on the words of a friend is broken.
 pub fn read_command(alloc: Global, words: &WordList) -> Result<Option<Command>, Memory>
     ensures { IfOk result (λ command. command ≡ asked_of words.now) }
 {

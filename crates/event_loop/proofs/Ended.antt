@@ -57,15 +57,15 @@ module _ (c : ClaimsSeen) (b : Option BookSeen) (job : JobFacts) (bar : ℕ) whe
 
   slot_told : (end : End) (s : Slot) → Stopped c b job end s → IsServed end → IsPassed bar s.seat → Told job.faults bar s.seat.drawn (fault_of end)
   slot_told (Over state) s stopped served passed = record { sound = λ k some lt. inl (over_sound s state k stopped.0 stopped.1 passed some lt); own = λ f a. elim a [ ] }
-  slot_told (Faulted g) s met served passed =
+  slot_told (Faulted state g) s met served passed =
       record {
         sound = λ k some lt. ⊎_elim
-            (λ (here : 0 < times k met.others). inl (met.sound k here))
-            (λ (none : times k met.others ≤ 0).
-            inr (g, inl refl, subst (λ (j : ℕ). slice_get job.faults j ≡ Some (Some g)) (last_is k met.last met.others s.seat.drawn met.drawn some none) met.its_fault))
-            (cases_lt 0 (times k met.others));
+            (λ (here : 0 < times k state.done). inl (met.sound k here))
+            (λ (none : times k state.done ≤ 0).
+            inr (g, inl refl, subst (λ (j : ℕ). slice_get job.faults j ≡ Some (Some g)) (last_is k met.last state.done s.seat.drawn met.others some none) met.its_fault))
+            (cases_lt 0 (times k state.done));
         own = λ f a. ⊎_elim
-            (λ (e : f ≡ g). (met.last, omega (arith, ap (times met.last) met.drawn, times_push met.last met.others met.last, times_push met.last [] met.last, times_self met.last []), met.its_fault ∙ ap (λ (k : Fault). Some (Some k)) (sym e)))
+            (λ (e : f ≡ g). (met.last, omega (arith, ap (times met.last) met.others, times_push met.last state.done met.last, times_push met.last [] met.last, times_self met.last []), met.its_fault ∙ ap (λ (k : Fault). Some (Some k)) (sym e)))
             (λ (n : ⊥). absurd n)
             a;
       }
@@ -84,7 +84,7 @@ module _ (c : ClaimsSeen) (b : Option BookSeen) (job : JobFacts) (bar : ℕ) whe
 
   one_lowered : (end : End) (s : Slot) → Stopped c b job end s → IsServed end → s.seat.lowered ≡ Some bar → IsReached (fault_of end)
   one_lowered (Over state) s stopped served is = (let none = stopped.2 in absurd (cc))
-  one_lowered (Faulted g) s met served is =
+  one_lowered (Faulted state g) s met served is =
       let same : met.last ≡ bar = told_same met.last (sym met.lowered ∙ is) in
       (g, inl refl, subst (λ (j : ℕ). slice_get job.faults j ≡ Some (Some g)) same met.its_fault)
     where
@@ -122,7 +122,7 @@ module _ (c : ClaimsSeen) (b : Option BookSeen) (job : JobFacts) (bar : ℕ) whe
 
   is_over : (end : End) (rest : List Fault) → IsServed end → fault_of end ++ rest ≡ [] → ((state : SlotView) × (end ≡ Over state)) × (rest ≡ [])
   is_over (Over state) rest served none = ((state, refl), none)
-  is_over (Faulted f) rest served none = absurd (cc)
+  is_over (Faulted state f) rest served none = absurd (cc)
   is_over NoMemory rest served none = elim served [ ]
 
   pub all_over : (fs : List Finished) → All HasMemory fs → end_faults fs ≡ [] → All IsOver fs

@@ -29,8 +29,8 @@ next_over fs i d least state some h is =
       memory = subst (All HasMemory) (sym more) (All-cons HasMemory f (drop i fs) (subst IsServed (sym is) tt) h.memory);
     }
 
-pub next_faulted : (fs : List Finished) (i : ℕ) (d : Finished) (least : Option Fault) (fault now : Fault) → 0 < i → IsLeast fs i least → (get_or fs (i - 1) d).end ≡ Faulted fault → now ≡ lesser_fault fault least → IsLeast fs (i - 1) (Some now)
-next_faulted fs i d least fault now some h is lesser =
+pub next_faulted : (fs : List Finished) (i : ℕ) (d : Finished) (least : Option Fault) (state : SlotView) (fault now : Fault) → 0 < i → IsLeast fs i least → (get_or fs (i - 1) d).end ≡ Faulted state fault → now ≡ lesser_fault fault least → IsLeast fs (i - 1) (Some now)
+next_faulted fs i d least state fault now some h is lesser =
     let more = one_more fs i d some h.within in
     let f = get_or fs (i - 1) d in
     record {

@@ -11,20 +11,21 @@ use Rattle.rdf_values.specs.Draws.{DrawnBy, IsUnion}
 use Rattle.rdf_values.proofs.Below.{length-below}
 use Rattle.actions.specs.Accumulators.{Accumulator}
 use Rattle.loop_pieces.specs.LoopPieces.{IsPass, StandsFor}
-use Rattle.loop_pieces.specs.PartialLines.{HavePartials}
 use Rattle.loop_pieces.specs.Trails.{HaveTrails}
+use Rattle.loop_pieces.specs.declared.filled_result.PartialLine.{PartialLine}
 use Rattle.loop_pieces.specs.declared.loop_piece.LoopPiece.{LoopPiece}
 use Rattle.merge_core.specs.Pieces.{Stand}
 use Rattle.rdf_model.specs.declared.loop_facts.LoopFacts.{LoopFacts}
-use Rattle.partial_lines.specs.Chains.{AreNoted}
+use Rattle.partial_lines.specs.Chains.{AreNoted, HavePartialsOver, noted_sets}
 use Rattle.partial_lines.specs.Trails.{HasSameBody, HaveAllTrails, HaveSameBodies}
 use Rattle.partial_watch.specs.Shares.{BookSeen, ShareSeen, many_in}
 use Rattle.partial_watch.specs.Shares as book
 use Rattle.slot_state.specs.Jobs.{JobFacts}
 use Rattle.event_loop.specs.declared.gather.Done.{Done}
+use Rattle.event_loop.specs.Ends.{AreNotedPartials}
 use Rattle.event_loop.specs.Workers.{HasNoted}
 use Rattle.event_loop.specs.Gathered.{IsDone, finished_by}
-use Rattle.event_loop.specs.Filling.{AllAreGoing, ArePieces, CanFill, IsGoing, IsPieceOf, share_or_none, shares_in}
+use Rattle.event_loop.specs.Filling.{AllAreGoing, ArePieces, CanFill, IsBookOf, IsGoing, IsPieceOf, dones_of, orders_of, share_or_none, shares_in}
 
 pub all_going : (b : Option BookSeen) (job : JobFacts) (ds : List Done) → All (IsDone b job) ds → AllAreGoing ds
 all_going b job [] h = All-nil IsGoing
@@ -131,9 +132,31 @@ module _ (b : Option BookSeen) (job : JobFacts) where
   as_many_pieces (d ∷ ds) (p ∷ ps) pieces = let r = as_many_pieces ds ps pieces.1 in omega arith
 
 -- nothing is watched
-pub none_watched : (facts : LoopFacts) (places : List ℕ) (k : ℕ) → length places ≡ 0 → HavePartials facts places k []
-none_watched facts [] k none = record { sets = []; chain = λ some. absurd (omega arith); many = refl; each = λ w place lines a c. absurd (cc) }
-none_watched facts (p ∷ ps) k none = absurd (omega arith)
+none_over : (facts : LoopFacts) (places : List ℕ) (k : ℕ) (sets : List (List ℕ)) → length places ≡ 0 → HavePartialsOver facts places k sets []
+none_over facts [] k sets none = record { are = record { sets = sets; chain = λ some. absurd (omega arith); many = refl; each = λ w place lines a c. absurd (cc) }; sets_are = refl }
+none_over facts (p ∷ ps) k sets none = absurd (omega arith)
+
+pub none_watched : (job : JobFacts) (k : ℕ) (orders dones : List (List ℕ)) → length job.watched ≡ 0 → AreNotedPartials job k orders dones []
+none_watched job k orders dones none = record {
+  noted = λ some. absurd (omega arith);
+  over = none_over job.facts job.watched k (noted_sets orders dones (length job.facts.ranges) k) none;
+}
+
+-- where there is no book, nothing is watched
+pub unbooked : (o : Option BookSeen) (watched clusters : ℕ) (job : JobFacts) (ds : List Done) → o ≡ None → CanFill o watched clusters job ds → length job.watched ≡ 0
+unbooked o watched clusters job ds none can = can.watches ∙ subst (IsBookOf watched (length ds)) none can.booked
+
+-- the partial results over the sets that the orders of the shares tell
+pub noted_partials : (job : JobFacts) (k clusters : ℕ) (orders : List (List ℕ)) (slots : List Done) (shares : List ShareSeen) (partials : List (List PartialLine))
+    → length job.facts.ranges ≡ clusters → shares ≡ flat_map shares_in slots → orders ≡ map (λ (s : ShareSeen). s.numbers) shares → AreNoted orders (dones_of slots) clusters
+    → HavePartialsOver job.facts job.watched k (noted_sets orders (dones_of slots) clusters k) partials → AreNotedPartials job k (orders_of slots) (dones_of slots) partials
+noted_partials job k clusters orders slots shares partials ranges shares_are orders_are noted over =
+    let same : orders ≡ orders_of slots = orders_are ∙ ap (map (λ (s : ShareSeen). s.numbers)) shares_are in
+    let now : AreNotedPartials job k orders (dones_of slots) partials = record {
+      noted = λ some. subst (AreNoted orders (dones_of slots)) (sym ranges) noted;
+      over = subst (λ (n : ℕ). HavePartialsOver job.facts job.watched k (noted_sets orders (dones_of slots) n k) partials) (sym ranges) over;
+    } in
+    subst (λ (os : List (List ℕ)). AreNotedPartials job k os (dones_of slots) partials) same now
 
 -- where there is a book
 pub record AreBooked (b : BookSeen) (clusters : ℕ) (ds : List Done) (shares : List ShareSeen) : Type 0 where

@@ -16,10 +16,11 @@ use Rattle.loop_pieces.proofs.ClusterFaults.{lower_clusters_fault_first}
 use Rattle.entry_passes.specs.Entries.{job_spans}
 use Rattle.slot_state.specs.Jobs.{JobFacts, job_facts}
 use Rattle.event_loop.specs.declared.end.FilledLoop.{FilledLoop}
+use Rattle.event_loop.specs.declared.gather.Done.{Done}
 use Rattle.event_loop.specs.declared.gather.Outcome.{Outcome}
 use Rattle.event_loop.specs.declared.gather.Outcome.TheVariants as outcome
 use Rattle.event_loop.specs.Ends.{IsFilled}
-use Rattle.event_loop.specs.Filling.{AreFilled, CanFill, IsBookOf}
+use Rattle.event_loop.specs.Filling.{AreFilled, CanFill, IsBookOf, dones_of, orders_of}
 use Rattle.event_loop.specs.Gathered.{AreFacts, IsOutcome}
 use Rattle.event_loop.specs.Seated.{IsOpened}
 use Rattle.event_loop.specs.Workers.{IsReady}
@@ -57,5 +58,5 @@ can_fill o watched slots clusters n job end ds facts ended is many some watches 
 pub first_is : (o : Option BookSeen) (n : ℕ) (job : JobFacts) (end : Outcome) (fault : Fault) → IsOutcome o job n end → end ≡ outcome.Faulted fault → first_in job.faults ≡ Some fault
 first_is o n job end fault ended is = subst (IsOutcome o job n) is ended
 
-pub is_filled : (o : Option BookSeen) (n k : ℕ) (job : JobFacts) (end : Outcome) (ds : _) (filled : FilledLoop) → IsOutcome o job n end → end ≡ outcome.Processed ds → AreFilled job k filled → IsFilled job k filled
-is_filled o n k job end ds filled ended is h = record { sound = (subst (IsOutcome o job n) is ended).0; stands = h.stands; partials = h.partials }
+pub is_filled : (o : Option BookSeen) (n k : ℕ) (job : JobFacts) (end : Outcome) (ds : _) (filled : FilledLoop) → IsOutcome o job n end → end ≡ outcome.Processed ds → (slots : List Done) → AreFilled job k slots filled → IsFilled job k filled
+is_filled o n k job end ds filled ended is slots h = record { sound = (subst (IsOutcome o job n) is ended).0; stands = h.stands; orders = orders_of slots; dones = dones_of slots; partials = h.partials }

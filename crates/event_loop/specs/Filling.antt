@@ -1,15 +1,15 @@
 -- What a loop without a fault is filled with.
-use Rattle.std.specs.Prelude.{◌≡◌, ◌<◌, ℕ, List, [], ◌∷◌, Option, Some, None, All, length}
+use Rattle.std.specs.Prelude.{◌≡◌, ◌<◌, ℕ, List, [], ◌∷◌, Option, Some, None, All, flat_map, length, map}
 use Rattle.rdf_values.specs.Cuts.{below}
 use Rattle.loop_pieces.specs.LoopPieces.{StandsFor}
-use Rattle.loop_pieces.specs.PartialLines.{HavePartials}
 use Rattle.loop_pieces.specs.Trails.{HaveTrails}
 use Rattle.loop_pieces.specs.declared.loop_piece.LoopPiece.{LoopPiece}
 use Rattle.partial_watch.specs.Shares.{BookSeen, ShareSeen}
 use Rattle.slot_state.specs.Jobs.{JobFacts}
 use Rattle.slot_state.specs.Slots.{IsSlotOf, SlotView}
 use Rattle.slot_state.specs.declared.progress.Phase.TheVariants as phase
-use Rattle.event_loop.specs.Gathered.{AreDone, AreFacts}
+use Rattle.event_loop.specs.Ends.{AreNotedPartials}
+use Rattle.event_loop.specs.Gathered.{AreDone, AreFacts, finished_by}
 use Rattle.event_loop.specs.declared.end.FilledLoop.{FilledLoop}
 use Rattle.event_loop.specs.declared.gather.Done.{Done}
 
@@ -29,6 +29,14 @@ share_or_none (Some s) = s ∷ []
 -- of a slot that is done
 abbrev pub shares_in : Done → List ShareSeen
 shares_in d = share_or_none d.share
+
+-- the numbers that the slots drew for the clusters that they finished
+abbrev pub orders_of : List Done → List (List ℕ)
+orders_of ds = map (λ (s : ShareSeen). s.numbers) (flat_map shares_in ds)
+
+-- and these clusters
+abbrev pub dones_of : List Done → List (List ℕ)
+dones_of ds = map finished_by ds
 
 -- the piece is what the slot's clusters came to in the slot's loop, with a trail for each watched result
 pub record IsPieceOf (s : SlotView) (p : LoopPiece) : Type 0 where
@@ -54,7 +62,7 @@ pub record CanFill (b : Option BookSeen) (watched clusters : ℕ) (job : JobFact
   pub watches : length job.watched ≡ watched
   pub booked : IsBookOf watched (length slots) b
 
--- the piece is what all clusters come to, and the partial results are those of the watched results
-pub record AreFilled (job : JobFacts) (k : ℕ) (filled : FilledLoop) : Type 0 where
+-- the piece is what all clusters come to, and the partial results are those that the slots noted
+pub record AreFilled (job : JobFacts) (k : ℕ) (slots : List Done) (filled : FilledLoop) : Type 0 where
   pub stands : StandsFor job.facts (below (length job.faults)) filled.piece
-  pub partials : HavePartials job.facts job.watched k filled.partials
+  pub partials : AreNotedPartials job k (orders_of slots) (dones_of slots) filled.partials

@@ -20,7 +20,7 @@ use Rattle.event_loop.specs.declared.workers.End.TheVariants.{Over, Faulted, NoM
 -- the fault with which a slot stopped
 abbrev pub fault_of : End → List Fault
 fault_of (Over state) = []
-fault_of (Faulted fault) = fault ∷ []
+fault_of (Faulted state fault) = fault ∷ []
 fault_of NoMemory = []
 
 -- the faults with which slots stopped
@@ -43,7 +43,7 @@ seat_in f = f.slot.seat
 -- the slot that stopped so, where it is over
 abbrev pub done_or_none : End → Option ShareSeen → List Done
 done_or_none (Over state) share = record { state = state; share = share } ∷ []
-done_or_none (Faulted fault) share = []
+done_or_none (Faulted state fault) share = []
 done_or_none NoMemory share = []
 
 -- of a slot that stopped

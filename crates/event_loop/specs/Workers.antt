@@ -60,20 +60,22 @@ pub record MetBar (c : ClaimsSeen) (seat : SeatSeen) (done : List ℕ) : Type 0 
   pub others : seat.drawn ≡ done ++ last ∷ []
   pub passed : seat.passed ≡ Some last
 
--- the last cluster that the slot drew has that fault, the others are sound and noted, and the bar was lowered to it
-pub record MetFault (b : Option BookSeen) (job : JobFacts) (s : Slot) (fault : Fault) : Type 0 where
+-- the slot's state stopped at the last cluster that it drew, which has that fault; it finished all others, which are sound and noted;
+-- and the bar was lowered to the last
+pub record MetFault (b : Option BookSeen) (job : JobFacts) (s : Slot) (state : SlotView) (fault : Fault) : Type 0 where
   pub last : ℕ
-  pub others : List ℕ
-  pub drawn : s.seat.drawn ≡ others ++ last ∷ []
-  pub sound : AreSound job.faults others
-  pub noted : HasNoted b (length others) s.share
+  pub slot : IsSlotOf job state
+  pub phase : state.phase ≡ phase.Faulted
+  pub others : s.seat.drawn ≡ state.done ++ last ∷ []
+  pub sound : AreSound job.faults state.done
+  pub noted : HasNoted b (length state.done) s.share
   pub its_fault : slice_get job.faults last ≡ Some (Some fault)
   pub lowered : s.seat.lowered ≡ Some last
 
 -- how the slot stopped
 abbrev pub Stopped : ClaimsSeen → Option BookSeen → JobFacts → End → Slot → Type 0
 Stopped c b job (Over state) s = HasWorked b job s.share state × (RanOut c s.seat state.done ⊎ MetBar c s.seat state.done) × (s.seat.lowered ≡ None)
-Stopped c b job (Faulted f) s = MetFault b job s f
+Stopped c b job (Faulted state f) s = MetFault b job s state f
 Stopped c b job NoMemory s = ⊤
 
 -- the slot stopped in that way

@@ -1,9 +1,9 @@
 // What a loop without a fault is filled with.
 ghost use Rattle.std.specs.Prelude.{◌≡◌, ◌<◌, ◌≤◌, ◌++◌, List, Option, IfOk, OnOk, flat_map};
-ghost use Rattle.loop_pieces.specs.PartialLines.{HavePartials};
 ghost use Rattle.partial_lines.specs.Trails.{HaveSameBodies};
 ghost use Rattle.slot_state.specs.Jobs.{JobFacts};
-ghost use Rattle.event_loop.specs.Filling.{AllAreGoing, AreFilled, ArePieces, CanFill, share_or_none, shares_in};
+ghost use Rattle.event_loop.specs.Ends.{AreNotedPartials};
+ghost use Rattle.event_loop.specs.Filling.{AllAreGoing, AreFilled, ArePieces, CanFill, dones_of, orders_of, share_or_none, shares_in};
 ghost use Rattle.event_loop.specs.declared.gather.Done.{Done};
 
 use crate::end::FilledLoop;
@@ -56,7 +56,7 @@ fn lines_in(
     requires watch { 0 < watch }
     requires done { (job : JobFacts) × (slots : List Done) × CanFill book watched clusters job slots × ArePieces slots pieces.old × (shares ≡ flat_map shares_in slots) }
     ensures partials { (job : JobFacts) (slots : List Done) → CanFill book watched clusters job slots → ArePieces slots pieces.old → shares ≡ flat_map shares_in slots
-        → IfOk result (HavePartials job.facts job.watched watch) }
+        → IfOk result (AreNotedPartials job watch (orders_of slots) (dones_of slots)) }
     ensures bodies { OnOk result (HaveSameBodies pieces.old pieces.new) }
 {
     let Some(book) = book else {
@@ -78,7 +78,7 @@ pub fn filled(
     requires few { clusters ≤ 1000000 }
     requires watch { 0 < watch }
     requires done { (job : JobFacts) × CanFill book watched clusters job slots.items }
-    ensures { (job : JobFacts) → CanFill book watched clusters job slots.items → IfOk result (AreFilled job watch) }
+    ensures { (job : JobFacts) → CanFill book watched clusters job slots.items → IfOk result (AreFilled job watch slots.items) }
 {
     let (mut pieces, shares) = pieces_of(alloc, slots)?;
     let partials = lines_in(

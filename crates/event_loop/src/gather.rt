@@ -41,7 +41,7 @@ pub fn least_of(finished: &[Finished]) -> Result<Option<Fault>, Memory>
         i -= 1;
         match finished[i].end {
             End::Over(_) => {}
-            End::Faulted(fault) => least = Some(lesser(fault, least)),
+            End::Faulted(_, fault) => least = Some(lesser(fault, least)),
             End::NoMemory => return Err(Memory),
         }
     }

@@ -19,7 +19,8 @@ use slot_state::watched_in;
 use std::alloc::Global;
 use std::thread::Threads;
 
-/// Runs a loop over all clusters with so many slots, and notes its watched results after every `watch`-th cluster.
+/// Runs a loop over all clusters, and notes its watched results after every `watch`-th cluster.
+/// So many slots share the clusters out; no clause says how many of them ran, or when.
 pub fn run_loop<R: Threads + Sync, G: Gate>(
     rt: &R,
     alloc: Global,

@@ -30,11 +30,11 @@ pub struct Slot {
     pub share: Option<Share>,
 }
 
-/// Why a slot stopped: no cluster is left for it, and this is what it came to; its first fault; or want of memory.
+/// Why a slot stopped, and its state then: no cluster is left for it; it met its first fault; or it had no memory.
 #[derive(Drop)]
 pub enum End {
     Over(SlotState),
-    Faulted(Fault),
+    Faulted(SlotState, Fault),
     NoMemory,
 }
 
@@ -55,8 +55,8 @@ fn note(book: &Option<Book>, share: &mut Option<Share>)
     }
 }
 
-// Processes each cluster that the slot draws, up to the slot's first fault. The state is made here, in the slot's own thread, so
-// that its memory lies apart from that of the other slots.
+// Processes each cluster that the slot draws, up to the slot's first fault. The state is made here, where the slot runs, so that its
+// memory lies apart from that of the other slots. That the gate is called at each turn is not in the contract.
 fn work<L: Ledger, G: Gate>(
     blank: Blank,
     alloc: Global,
@@ -86,7 +86,7 @@ fn work<L: Ledger, G: Gate>(
             Ok(Progress::Done) => note(book, &mut slot.share),
             Ok(Progress::Faulted(fault)) => {
                 claims.lower(&mut slot.seat, cluster);
-                return End::Faulted(fault);
+                return End::Faulted(state, fault);
             }
             Err(SlotStop::Memory) => return End::NoMemory,
         }
@@ -115,7 +115,7 @@ fn run_slot<G: Gate>(
     Finished { end, slot }
 }
 
-/// Runs each slot, in a thread of its own where one can be made.
+/// Runs each slot. Where threads can be made, each has one of its own; no clause says so.
 pub fn run_slots<R: Threads + Sync, G: Gate>(
     rt: &R,
     alloc: Global,

@@ -10,8 +10,6 @@ mod part;
 mod reads;
 pub mod refusal;
 pub mod scope;
-#[cfg(test)]
-mod tests;
 
 pub use crate::checked::{Checked, check};
 pub use crate::refusal::CheckRefusal;

@@ -1,4 +1,4 @@
-pub mod Callable
+pub mod CheckedCalls
 pub mod Deciding
 pub mod Gathering
 pub mod InOrder

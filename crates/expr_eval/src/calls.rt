@@ -13,7 +13,7 @@ use expr_check::Checked;
 use rdf_values::{Callee, EntryFault, NumNode};
 
 /// Functions that can be called by their places.
-pub(crate) trait Calls {
+pub trait Calls {
     ghost functions: { Self → List Function };
 
     fn call_at(&self, number: u32, args: &[i64]) -> Option<i64>
@@ -42,7 +42,7 @@ pub(crate) fn answer<C: Calls>(calls: &C, number: u32, args: &[i64]) -> Result<i
 }
 
 /// The expression's node, of which each call can be made.
-pub(crate) fn callable<'e>(expr: &'e Checked, functions: &FnList) -> &'e NumNode
+pub fn callable<'e>(expr: &'e Checked, functions: &FnList) -> &'e NumNode
     requires { CallsFit (fn_names (functions_in functions.now)) expr.now.tree }
     ensures node { num_tree result.now ≡ expr.now.tree }
     ensures typed { IsTyped expr.now }

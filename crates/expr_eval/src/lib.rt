@@ -3,10 +3,10 @@
 //! evaluate, and on `entry_fns`, whose functions they call.
 #![tactic(auto)]
 
-mod calls;
+pub mod calls;
 mod elements;
 pub mod inputs;
-mod number;
+pub mod number;
 mod operand;
 mod scalar;
 mod scalar_answer;
@@ -14,6 +14,7 @@ pub mod steps;
 pub mod stop;
 mod vector;
 
+pub use crate::calls::{Calls, callable};
 pub use crate::inputs::{Input, Inputs};
 pub use crate::scalar::eval_int;
 pub use crate::steps::Steps;

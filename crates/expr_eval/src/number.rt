@@ -7,7 +7,7 @@ ghost use Rattle.expr_eval.specs.Answers.{number_outcome};
 use rdf_values::{BinOp, EntryFault};
 
 /// The mark of a truth value: 1 or 0.
-pub(crate) fn mark(b: bool) -> i64
+pub fn mark(b: bool) -> i64
     ensures { result ≡ mark_of b }
 {
     if b { 1 } else { 0 }
@@ -15,7 +15,7 @@ pub(crate) fn mark(b: bool) -> i64
 
 /// The operator on two numbers, where a comparison gives a mark.
 #[inline(always)]
-pub(crate) fn operate(op: BinOp, x: i64, y: i64) -> Result<i64, EntryFault>
+pub fn operate(op: BinOp, x: i64, y: i64) -> Result<i64, EntryFault>
     ensures { number_outcome result ≡ number_operation op x y }
 {
     match op {
@@ -58,14 +58,14 @@ fn remainder(x: i64, y: i64) -> Result<i64, EntryFault>
 }
 
 /// The number with the other sign.
-pub(crate) fn negate(x: i64) -> Result<i64, EntryFault>
+pub fn negate(x: i64) -> Result<i64, EntryFault>
     ensures { number_outcome result ≡ checked (neg_ℤ x) }
 {
     x.checked_neg().ok_or(EntryFault::Overflow)
 }
 
 /// The number without its sign.
-pub(crate) fn absolute(x: i64) -> Result<i64, EntryFault>
+pub fn absolute(x: i64) -> Result<i64, EntryFault>
     ensures { number_outcome result ≡ checked (pos (nat_abs x)) }
 {
     x.checked_abs().ok_or(EntryFault::Overflow)

@@ -11,8 +11,6 @@ mod parser;
 mod print;
 mod read;
 mod refusal;
-#[cfg(test)]
-mod tests;
 mod token;
 mod tokenizer;
 mod values;

@@ -8,14 +8,17 @@ use Rattle.rdf_values.specs.declared.script.Script.{Script}
 use Rattle.rdf_model.specs.Results.{Dataset}
 use Rattle.rdf_model.proofs.Verdicts.{verdict_is_the_first_refusal}
 use Rattle.graph_numbers.specs.Graphs.{IsGraph}
-use Rattle.graph_numbers.specs.Laws.{graph_of, SitesAreEvaluations, ColumnsAreVersions, SitesReadBelow, SitesAreApart, VariationsAreApart, ResultsAreBookings, ResultsByNumbers, LoopsAreTheScripts, PrintsRunTheirLoops}
+use Rattle.graph_numbers.specs.Laws.{graph_of, SitesAreEvaluations, ColumnsAreVersions, SitesReadBelow, SitesAreApart, VariationsAreApart, ResultsAreBookings, ResultsByNumbers, LoopsAreTheScripts, PrintsRunTheirLoops, VersionsHaveSources, FiltersAreTheScripts, FiltersHaveSites, ActionsHaveSites, ReportsCoverFilters}
 use Rattle.graph_numbers.proofs.Apart.{site_number, variation_number}
 use Rattle.graph_numbers.proofs.ColumnSources.{column_source}
+use Rattle.graph_numbers.proofs.Covering.{filters_are}
 use Rattle.graph_numbers.proofs.Equations.{site_is, source_is, columns_below}
 use Rattle.graph_numbers.proofs.Extending.{itself, versions_count}
+use Rattle.graph_numbers.proofs.FilterSites.{filter_conditions, action_conditions, report_covers}
 use Rattle.rdf_model.proofs.KnownColumns.{each_weaker}
 use Rattle.graph_numbers.proofs.Looping.{loops_are, runs_are}
 use Rattle.graph_numbers.proofs.Resulting.{booked_are, result_is}
+use Rattle.graph_numbers.proofs.VersionSources.{version_source}
 
 accepted : (script : Script) (d : Dataset) → IsGraph (graph_of script d) → AreAccepted (fn_names d.fns) (scope_of d.columns) (history script)
 accepted script d g = (verdict_is_the_first_refusal (fn_names d.fns) d.columns script).0 g.accepted
@@ -50,3 +53,19 @@ loops_are_the_scripts g = loops_are (history g.script) (history g.script) itself
 
 pub prints_run_their_loops : PrintsRunTheirLoops
 prints_run_their_loops g = runs_are (history g.script) (history g.script) itself
+
+pub versions_have_sources : VersionsHaveSources
+versions_have_sources g is u c x h =
+    version_source g.header g.names (history g.script) ((verdict_is_the_first_refusal g.names g.header g.script).0 is.accepted) u c x h
+
+pub filters_are_the_scripts : FiltersAreTheScripts
+filters_are_the_scripts g = filters_are g.header g.names (history g.script)
+
+pub filters_have_sites : FiltersHaveSites
+filters_have_sites g n f h = filter_conditions g.header g.names (history g.script) n f h
+
+pub actions_have_sites : ActionsHaveSites
+actions_have_sites g n r k at h is = action_conditions g.header g.names (history g.script) n r h k at is
+
+pub reports_cover_filters : ReportsCoverFilters
+reports_cover_filters script d n r paths h is = report_covers d.fns d.columns (history script) n r paths h is

@@ -27,7 +27,7 @@ module _ (header : List Column) (names : FunctionNames) where
   filter_kept before after (further {after = c} s e) k x h = kept_at (filters header names c) (own_filters header names c s) k x (filter_kept before c e k x h)
 
   -- there is one named filter for each that is booked
-  filters_are : (before : List Statement) → map (λ (f : FilterAt). f.at) (filters header names before) ≡ named_before before
+  pub filters_are : (before : List Statement) → map (λ (f : FilterAt). f.at) (filters header names before) ≡ named_before before
   filters_are [] = refl
   filters_are (Filter node parent expr (Some label) ∷ before) = map_push (filters header names before) _ ∙ ap (λ ps. ps ++ (Filter node parent expr (Some label) ∷ path before parent) ∷ []) (filters_are before)
     where

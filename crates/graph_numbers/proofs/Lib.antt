@@ -9,6 +9,7 @@ pub mod Demands
 pub mod Equations
 pub mod Examples
 pub mod Extending
+pub mod FilterSites
 pub mod AcceptedNumbers
 pub mod Looping
 pub mod Meeting
@@ -19,3 +20,4 @@ pub mod Ranges
 pub mod Reporting
 pub mod Resulting
 pub mod VersionKinds
+pub mod VersionSources

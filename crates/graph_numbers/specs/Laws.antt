@@ -1,12 +1,13 @@
 -- Laws of a booked graph's numbers: what they are of the script's own definitions. Each is the contract of a function of this crate, and so proved.
-use Rattle.std.specs.Prelude.{◌≡◌, ◌<◌, ℕ, List, length, map, Option, Some, None, Ok, slice_get, option_and_then}
-use Rattle.rdf_values.specs.Bookings.{bookings}
+use Rattle.std.specs.Prelude.{◌≡◌, ◌<◌, ℕ, List, length, map, Option, Some, None, Ok, slice_get, option_and_then, option_map}
+use Rattle.rdf_values.specs.Bookings.{ActionAt, ReportOn, bookings, named_before}
 use Rattle.rdf_values.specs.EachColumn.{EachColumn}
 use Rattle.rdf_values.specs.Functions.{fn_names}
 use Rattle.rdf_values.specs.Kinds.{scope_of, column_kind}
 use Rattle.rdf_values.specs.Names.{place}
-use Rattle.rdf_values.specs.Path.{Variation, Under, history, path, same_variation}
+use Rattle.rdf_values.specs.Path.{Path, Variation, Under, history, path, same_variation}
 use Rattle.rdf_values.specs.Verdict.{scope_at}
+use Rattle.rdf_values.specs.declared.action.ActionKind.{ActionKind}
 use Rattle.rdf_values.specs.declared.script.Script.{Script}
 use Rattle.rdf_values.specs.declared.value.ColType.{ColType}
 use Rattle.rdf_values.specs.declared.value.Value.{Value}
@@ -16,13 +17,14 @@ use Rattle.rdf_model.specs.EntryOutcomes.{booking_outcome}
 use Rattle.rdf_model.specs.Evaluation.{Outcome, evaluate, call_outcome}
 use Rattle.rdf_model.specs.Loops.{Access, accesses, loop_passes, loop_results}
 use Rattle.rdf_model.specs.Results.{Dataset}
-use Rattle.graph_numbers.specs.Graphs.{GraphView, IsGraph, graph_filters, graph_loops, graph_results, graph_runs, graph_sites, graph_variations, graph_versions}
+use Rattle.graph_numbers.specs.Graphs.{GraphView, IsGraph, graph_filters, graph_loops, graph_results, graph_runs, graph_sites, graph_sources, graph_variations, graph_versions}
 use Rattle.graph_numbers.specs.Outcomes.{booking_numbers}
-use Rattle.graph_numbers.specs.Results.{ResultAt, pass_at}
-use Rattle.graph_numbers.specs.Sites.{SiteAt, site_outcome}
-use Rattle.graph_numbers.specs.Sources.{IsBelow, site_value, source_in, source_value, sources}
+use Rattle.graph_numbers.specs.Results.{FilterAt, ResultAt, pass_at}
+use Rattle.graph_numbers.specs.Sites.{SiteAt, condition_in, conditions_on, site_outcome}
+use Rattle.graph_numbers.specs.Sources.{IsBelow, IsSourceOf, site_value, source_in, source_value, sources}
 use Rattle.graph_numbers.specs.Versions.{version_at}
 use Rattle.graph_numbers.specs.declared.source.Source.{Source}
+use Rattle.graph_numbers.specs.declared.version.Version.{Version}
 
 -- the graph of a script over a table, with the functions' names
 abbrev pub graph_of : Script → Dataset → GraphView
@@ -98,3 +100,32 @@ abbrev pub PrintsRunTheirLoops : Type 0
 PrintsRunTheirLoops =
     (g : GraphView)
     → map (λ (a : Access). a.fills) (accesses (history g.script)) ≡ map (λ (o : Option ℕ). option_and_then (slice_get (loop_results (history g.script))) o) (graph_runs g)
+
+-- each version says what its source is
+abbrev pub VersionsHaveSources : Type 0
+VersionsHaveSources =
+    (g : GraphView) → IsGraph g → (u : Option ℕ) (c : ℕ) (x : Version) → slice_get (graph_versions g) c ≡ Some x
+    → IsSourceOf (slice_get (graph_sources g u)) u x (slice_get (graph_sources g u) c)
+
+-- the named filters are the script's, in their order
+abbrev pub FiltersAreTheScripts : Type 0
+FiltersAreTheScripts = (g : GraphView) → map (λ (f : FilterAt). f.at) (graph_filters g) ≡ named_before (history g.script)
+
+-- the sites of a named filter evaluate the filters above it and its own, head first
+abbrev pub FiltersHaveSites : Type 0
+FiltersHaveSites =
+    (g : GraphView) (n : ℕ) (f : FilterAt) → slice_get (graph_filters g) n ≡ Some f
+    → map (condition_in (graph_sites g)) f.sites ≡ map (λ x. Some x) (conditions_on f.at)
+
+-- those of an action evaluate the filters above it
+abbrev pub ActionsHaveSites : Type 0
+ActionsHaveSites =
+    (g : GraphView) (n : ℕ) (r : ResultAt) (k : ActionKind) (at : Path) → slice_get (graph_results g) n ≡ Some r → r.booked.booking ≡ ActionAt k at
+    → map (condition_in (graph_sites g)) r.filters ≡ map (λ x. Some x) (conditions_on at)
+
+-- the filters that a Report covers by their numbers are those of its booking, in their order
+abbrev pub ReportsCoverFilters : Type 0
+ReportsCoverFilters =
+    (script : Script) (d : Dataset) (n : ℕ) (r : ResultAt) (paths : List Path)
+    → slice_get (graph_results (graph_of script d)) n ≡ Some r → r.booked.booking ≡ ReportOn paths
+    → map (λ f. option_map (λ (x : FilterAt). x.at) (slice_get (graph_filters (graph_of script d)) f)) r.covers ≡ map (λ p. Some p) paths

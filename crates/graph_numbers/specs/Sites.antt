@@ -1,5 +1,5 @@
 -- The sites of a script in the order of booking: its expressions that are evaluated as a whole.
-use Rattle.std.specs.Prelude.{ℕ, zero, suc, ◌+◌, Bool, List, [], ◌∷◌, ◌++◌, length, if◌then◌else◌}
+use Rattle.std.specs.Prelude.{ℕ, zero, suc, ◌+◌, Bool, List, [], ◌∷◌, ◌++◌, length, if◌then◌else◌, Option, option_map, slice_get}
 use Rattle.rdf_values.specs.Path.{Path, Variation, Under, makes, parent_of, path}
 use Rattle.rdf_values.specs.Depends.{site_depends}
 use Rattle.rdf_values.specs.Functions.{Function}
@@ -86,3 +86,25 @@ module _ (fns : List Function) (columns : List Column) (row : List Value) where
   -- what a site comes to under nominal or a variation
   abbrev pub site_outcome : {M : Type 0} → SiteAt → Under → Outcome M Value
   site_outcome s u = expression_value fns (column_value fns columns row s.at u) s.expr
+
+-- ---- filters of a path
+
+-- a filter: its site, the path above it, and what is tried there
+pub record Condition : Type 0 where
+  pub site : Site
+  pub at : Path
+  pub expr : NamedTree
+
+-- the filters of a path, head first
+abbrev pub conditions_on : Path → List Condition
+conditions_on [] = []
+conditions_on (Filter node parent expr label ∷ up) = conditions_on up ++ record { site = site_at node; at = up; expr = expr } ∷ []
+conditions_on (s ∷ up) = conditions_on up
+
+-- what a site evaluates, and where
+abbrev pub condition_of : SiteAt → Condition
+condition_of x = record { site = x.site; at = x.at; expr = x.expr }
+
+-- what the site of that number evaluates, where there is one
+abbrev pub condition_in : List SiteAt → ℕ → Option Condition
+condition_in sites s = option_map condition_of (slice_get sites s)

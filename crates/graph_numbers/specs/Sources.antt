@@ -1,5 +1,5 @@
 -- What gives each version its value, under nominal or a variation.
-use Rattle.std.specs.Prelude.{ℕ, suc, ◌+◌, ◌<◌, true, false, List, [], ◌∷◌, ◌++◌, length, Option, Some, None, slice_get, slice_index_or}
+use Rattle.std.specs.Prelude.{◌≡◌, ℕ, suc, ◌+◌, ◌<◌, Bool, true, false, List, [], ◌∷◌, ◌++◌, length, Option, Some, None, slice_get, slice_index_or, option_map}
 use Rattle.rdf_values.specs.Path.{Under, variations}
 use Rattle.rdf_values.specs.Kinds.{FunctionNames}
 use Rattle.rdf_values.specs.declared.column.Column.{Column}
@@ -116,3 +116,19 @@ abbrev pub source_value : {M : Type 0} → List Value → (ℕ → Outcome M Val
 source_value row site (from.Cell col) = cell_value (slice_get row col)
 source_value row site (from.Site s) = site s
 source_value row site (from.Element s k tags) = site s >>= tag_element tags k
+
+-- ---- a version's source
+
+-- what the site of a version's tag gives: a site for each tag, or an element of the one site's vector for each
+abbrev pub tag_source : List ℕ → ℕ → Bool → ℕ → Option Source
+tag_source sites tags true k = option_map (λ s. from.Element s k tags) (slice_get sites 0)
+tag_source sites tags false k = option_map (λ s. from.Site s) (slice_get sites k)
+
+-- a version's source under nominal or the variation of that number: the column, the site, or under one of its own tags that
+-- tag's site; under every other that of the version below it
+abbrev pub IsSourceOf : (ℕ → Option Source) → Option ℕ → Version → Option Source → Type 0
+IsSourceOf source u (as_version.Cell col) own = own ≡ Some (from.Cell col)
+IsSourceOf source u (as_version.Computed site) own = own ≡ Some (from.Site site)
+IsSourceOf source u (as_version.Varied below first tags sites vector) own =
+    ((k : ℕ) → k < tags → u ≡ Some (first + k) → own ≡ tag_source sites tags vector k)
+    × (((k : ℕ) → k < tags → u ≡ Some (first + k) → ⊥) → own ≡ source below)

@@ -9,6 +9,11 @@ ghost use Rattle.graph_numbers.specs.Laws.{
   ResultsByNumbers,
   LoopsAreTheScripts,
   PrintsRunTheirLoops,
+  VersionsHaveSources,
+  FiltersAreTheScripts,
+  FiltersHaveSites,
+  ActionsHaveSites,
+  ReportsCoverFilters,
 };
 
 /// A site comes to what its expression over versions does.
@@ -54,4 +59,18 @@ pub fn loops_are_the_scripts()
 /// Each Print runs the loop of the results that it fills.
 pub fn prints_run_their_loops()
     ensures { PrintsRunTheirLoops }
+{}
+
+/// Each version says what its source is.
+pub fn versions_have_sources()
+    ensures { VersionsHaveSources }
+{}
+
+/// The named filters are the script's, in their order; a filter's sites evaluate the filters above it and its own, those of an
+/// action the filters above it; and a Report covers the filters of its booking.
+pub fn filters_are_the_scripts()
+    ensures filters { FiltersAreTheScripts }
+    ensures sites { FiltersHaveSites }
+    ensures actions { ActionsHaveSites }
+    ensures covered { ReportsCoverFilters }
 {}

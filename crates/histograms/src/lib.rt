@@ -11,6 +11,3 @@ pub use crate::cell_sum::CellSum;
 pub use crate::edges::{EdgeRefusal, Edges};
 pub use crate::hist1::{Hist1, MOST_FILLS};
 pub use crate::hist2::Hist2;
-
-#[cfg(test)]
-mod tests;

@@ -112,7 +112,7 @@ module _ (s : SessionView) (is : IsSession s) where
       → (f : FilledLoop) → slice_get s.loops l ≡ Some f → place.watched < length f.partials
   lines_there b l place h noted f at =
       let its = is.filled l f at in
-      let many_lines = its.partials.many in
+      let many_lines = its.partials.over.are.many in
       let within = slice_get_within (watched_places (history s.graph.script) (passes_in (session_job s l))) place.watched place.first (noted_at b (passes_in (session_job s l)) place h.placed noted) in
       omega (arith, many_lines, within)
 

@@ -41,7 +41,8 @@ pub struct Session<'a> {
 }
 
 impl<'a> Session<'a> {
-    /// No loop was run. Loops will run with so many slots, and note watched results after every `watch`-th cluster.
+    /// No loop was run. Loops will share their clusters out to so many slots, and note watched results after every `watch`-th
+    /// cluster. No clause says that so many slots run.
     pub fn new(
         alloc: Global,
         graph: Graph,
@@ -73,6 +74,7 @@ impl<'a> Session<'a> {
     }
 
     /// Fills the result of the next Print, by the loop that fills it where that wasn't run, and answers the result's number.
+    /// Its slots call the gate at each turn; no clause says so.
     /// A loop that faults leaves its first fault, which every later access to a result that isn't filled answers too.
     pub fn access<R: Threads + Sync, G: Gate>(
         &mut self,

@@ -13,6 +13,3 @@ pub mod watch_piece;
 pub use crate::filled_result::{FilledResult, PartialLine, PartialLines};
 pub use crate::loop_piece::LoopPiece;
 pub use crate::watch_piece::{WatchFacts, WatchPiece};
-
-#[cfg(test)]
-mod tests;

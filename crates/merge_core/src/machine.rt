@@ -10,7 +10,7 @@ use rdf_values::{Event, Memory};
 use std::alloc::Global;
 use std::marker::Model;
 
-/// Slots that claim clusters, finish them, fault, pass them over or end. No loop runs it: it is what a loop's run comes to.
+/// Slots that claim clusters, finish them, fault, pass them over or end. No loop runs it; it tells of a loop's slots as a list of events.
 #[derive(Drop)]
 pub struct Core {
     clusters: u32,

@@ -1,5 +1,5 @@
 -- The sets after every so many clusters are a chain.
-use Rattle.std.proofs.Common.{◌≡◌, ℕ, suc, ◌+◌, ◌*◌, ◌/◌, ◌<◌, ◌≤◌, List, [], ◌∷◌, ◌++◌, length, map, Some, sym, ap, ◌∙◌, subst, arith, mul-le-mul_right}
+use Rattle.std.proofs.Common.{◌≡◌, ℕ, zero, suc, ◌+◌, ◌*◌, ◌/◌, ◌<◌, ◌≤◌, List, [], ◌∷◌, ◌++◌, length, map, Some, refl, sym, ap, ◌∙◌, subst, arith, mul-le-mul_right}
 use Rattle.std.specs.Prelude.{slice_get, option_map, Contains}
 use Rattle.std.specs.List.{All}
 use Rattle.std.specs.List.Sorted.{IsStrictlyIncreasing}
@@ -61,3 +61,16 @@ module _ (facts : LoopFacts) (place : ℕ) where
       subst (λ k. ArePartialLines facts place (map f (below k)) now) next
       (subst (λ (sets : List (List ℕ)). ArePartialLines facts place sets now) (sym (map-append f (below j) (j ∷ [])))
       (subst (ArePartialLines facts place (map f (below j) ++ f j ∷ [])) (sym is) (lines_push (map f (below j)) ls (f j) l h one)))
+
+  line_in : (sets : List (List ℕ)) (ls : List PartialLine) (j : ℕ) (set : List ℕ) (l : PartialLine) → ArePartialLines facts place sets ls → slice_get sets j ≡ Some set → slice_get ls j ≡ Some l → IsPartialLine facts place set l
+  line_in [] ls j set l h at there = absurd (cc)
+  line_in (s ∷ ss) [] j set l h at there = elim h [ ]
+  line_in (s ∷ ss) (m ∷ ms) zero set l h at there =
+      let same : s ≡ set = same_item (Some s) s set refl at in
+      let line : m ≡ l = same_item (Some m) m l refl there in
+      subst (λ (x : PartialLine). IsPartialLine facts place set x) line (subst (λ (x : List ℕ). IsPartialLine facts place x m) same h.0)
+  line_in (s ∷ ss) (m ∷ ms) (suc j) set l h at there = line_in ss ms j set l h.1 at there
+
+  -- one of the lines so far
+  pub line_at : (f : ℕ → List ℕ) (n j : ℕ) (ls : List PartialLine) (l : PartialLine) → ArePartialLines facts place (map f (below n)) ls → j < n → slice_get ls j ≡ Some l → IsPartialLine facts place (f j) l
+  line_at f n j ls l h lt there = line_in (map f (below n)) ls j (f j) l h (slice_get-map f (below n) j ∙ ap (option_map f) (slice_get-below n j lt)) there

@@ -1,4 +1,5 @@
 pub mod Chaining
+pub mod Joining
 pub mod Noting
 pub mod Places
 pub mod Taking

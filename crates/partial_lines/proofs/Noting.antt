@@ -1,6 +1,6 @@
 -- The clusters that were noted first.
-use Rattle.std.proofs.Common.{◌≡◌, ◌⊎◌, ℕ, zero, suc, ◌<◌, ◌≤◌, List, [], ◌∷◌, ◌++◌, length, map, get_or, Bool, true, false, cond, refl, sym, ap, ap₂, ◌∙◌, inl, inr, ⊎_elim, arith}
-use Rattle.std.specs.Prelude.{nat_lt, IsPermutation, Contains}
+use Rattle.std.proofs.Common.{◌≡◌, ◌⊎◌, ℕ, zero, suc, ◌+◌, ◌<◌, ◌≤◌, List, [], ◌∷◌, ◌++◌, length, map, get_or, Bool, true, false, cond, refl, sym, ap, ap₂, ◌∙◌, inl, inr, ⊎_elim, arith}
+use Rattle.std.specs.Prelude.{nat_le, nat_lt, ◌&&◌, IsPermutation, Contains}
 use Rattle.std.specs.List.{sum_by, All as Every}
 use Rattle.std.specs.List.Sorted.{IsStrictlyIncreasing}
 use Rattle.std.proofs.lemmas.Bool.{cases_lt, lt-ltb, le-ltb, cond-true, cond-false}
@@ -10,16 +10,18 @@ use Rattle.std.proofs.lemmas.List.Kept.{IsStrictlyIncreasing-filter}
 use Rattle.std.proofs.lemmas.List.Sorted.{length_permutation}
 use Rattle.std.proofs.lemmas.List.Sums.{sum_by-cons}
 use Rattle.rdf_values.specs.Cuts.{below}
+use Rattle.rdf_values.specs.Draws.{IsUnion}
 use Rattle.rdf_values.specs.Times.{times, once_below}
 use Rattle.rdf_values.proofs.DrawCounts.{times_append, times_below, times_cons, times_self, times_contains, times_permuted, permuted_by_counts, once_inside, inside_once}
-use Rattle.rdf_values.proofs.UnionLemmas.{counted, below_rises, all_below, times_filter, rises_from, same_rising}
+use Rattle.rdf_values.proofs.UnionLemmas.{counted, below_rises, all_below, times_filter, rises_from, same_rising, by_counts, both_rise, two}
 use Rattle.rdf_model.specs.declared.loop_facts.LoopFacts.{LoopFacts}
 use Rattle.merge_core.specs.declared.noted.Noted.{Noted}
 use Rattle.loop_pieces.specs.Trails.{IsTrail, watch_facts}
 use Rattle.loop_pieces.specs.Watching.{WatchStandsFor}
 use Rattle.loop_pieces.specs.declared.watch_piece.WatchPiece.{WatchPiece}
-use Rattle.partial_watch.specs.Chosen.{cluster_in, if_kept, chosen_in, chosen, HaveNumbers, AreAlone}
+use Rattle.partial_watch.specs.Chosen.{cluster_in, if_kept, added_in, added, chosen_in, chosen, HaveNumbers, AreAlone}
 use Rattle.partial_watch.proofs.Noted.{as_many_as_the_bound, higher_bound_keeps}
+use Rattle.partial_watch.proofs.Stretches.{length_added, times_added}
 use Rattle.partial_lines.specs.Chains.{AreNoted, bare_entry, bare_entries, noted_before, set_before}
 use Rattle.partial_lines.specs.Trails.{AreTrails}
 
@@ -119,6 +121,20 @@ module _ (facts : LoopFacts) (place : ℕ) where
   alone (o ∷ os) [] (t ∷ ts) b h = (let m = h.many in absurd (omega arith))
   alone (o ∷ os) (d ∷ ds) (t ∷ ts) b h = alone_both (chosen_in o b t) (chosen os b ts) (alone_in o b t (first_trail d ds t ts h).alone) (alone os ds ts b (rest_trails d ds t ts h))
 
+  alone_added_in : (ns : List ℕ) (a b : ℕ) (ts : List (Noted WatchPiece)) → Every IsAloneAt ts → AreAlone StandsAt (added_in ns a b ts)
+  alone_added_in [] a b ts h = tt
+  alone_added_in (n ∷ ns) a b [] h = tt
+  alone_added_in (n ∷ ns) a b (t ∷ ts) h =
+      let kept = nat_le a n && nat_lt n b in
+      alone_both (if_kept kept t) (added_in ns a b ts) (alone_kept kept t (All-head IsAloneAt t ts h)) (alone_added_in ns a b ts (All-tail IsAloneAt t ts h))
+
+  -- and each that is between two bounds
+  pub alone_added : (os ds : List (List ℕ)) (ts : List (List (Noted WatchPiece))) (a b : ℕ) → AreTrails facts place ds ts → AreAlone StandsAt (added os a b ts)
+  alone_added [] ds ts a b h = tt
+  alone_added (o ∷ os) ds [] a b h = tt
+  alone_added (o ∷ os) [] (t ∷ ts) a b h = (let m = h.many in absurd (omega arith))
+  alone_added (o ∷ os) (d ∷ ds) (t ∷ ts) a b h = alone_both (added_in o a b t) (added os a b ts) (alone_added_in o a b t (first_trail d ds t ts h).alone) (alone_added os ds ts a b (rest_trails d ds t ts h))
+
 -- ---- the sets
 
 kept_among : (x : ℕ) (b : Bool) (n : Noted (Unit {0})) (ns : List (Noted (Unit {0}))) → times x (map cluster_in (if_kept b n)) ≤ times x (n.cluster ∷ [])
@@ -212,3 +228,35 @@ module _ (os ds : List (List ℕ)) (clusters : ℕ) (noted : AreNoted os ds clus
   -- a higher bound leaves none out
   pub set_grows : (low high : ℕ) → low ≤ high → Every (Contains (set_before os ds clusters high)) (set_before os ds clusters low)
   set_grows low high le = contained (set_before os ds clusters low) (set_before os ds clusters high) (λ x. omega (arith, set_times low x, set_times high x, higher_bound_keeps (Unit {0}) os (map bare_entries ds) low high x le))
+
+  -- ---- from one set to the next
+
+  module _ (facts : LoopFacts) (place : ℕ) (ts : List (List (Noted WatchPiece))) (trails : AreTrails facts place ds ts) (low high : ℕ) (le : low ≤ high) (bound : high ≤ clusters) where
+    abbrev pub news : List ℕ
+    news = map cluster_in (added os low high ts)
+
+    grows : (x : ℕ) → times x (set_before os ds clusters high) ≡ times x (set_before os ds clusters low) + times x news
+    grows x =
+        omega (arith, set_times high x, set_times low x, ap (times x) (same_noted facts place os ds ts high trails), ap (times x) (same_noted facts place os ds ts low trails), times_added x low high le os ts)
+
+    pub added_once : (x : ℕ) → times x news ≤ 1
+    added_once x = omega (arith, grows x, set_times high x, chosen_once x high)
+
+    chosen_long : (b : ℕ) → b ≤ clusters → length (chosen os b ts) ≡ b
+    chosen_long b few = omega (arith, length-map (chosen os b ts) cluster_in, ap length (same_noted facts place os ds ts b trails), chosen_many b few)
+
+    pub added_some : low < high → 0 < length (added os low high ts)
+    added_some lt = omega (arith, length_added low high le os ts, chosen_long low (omega arith), chosen_long high bound)
+
+    module _ (cs : List ℕ) (up : IsStrictlyIncreasing cs) (p : IsPermutation news cs) where
+      -- the next set has the members of the one before, and those that were added
+      pub set_grown : IsUnion (set_before os ds clusters low ∷ cs ∷ []) (set_before os ds clusters high)
+      set_grown =
+          by_counts (set_before os ds clusters low ∷ cs ∷ []) (set_before os ds clusters high) (both_rise (set_before os ds clusters low) cs (set_rises low) up) (set_rises high)
+          (λ x. omega (arith, grows x, times_permuted x news cs p, two x (set_before os ds clusters low) cs))
+
+      pub few_added : clusters ≤ 1000000 → Every (λ x. x < 4294967295) cs
+      few_added few = λ k d lt.
+          let x = get_or cs k d in
+          let inside = inside_once x clusters (omega (arith, stands_there cs k d lt, times_permuted x news cs p, grows x, set_times high x, within x high)) in
+          omega arith

@@ -7,11 +7,11 @@ use Rattle.rdf_values.specs.Cuts.{stride}
 use Rattle.rdf_model.specs.PartialResults.{IsChain}
 use Rattle.rdf_model.specs.declared.loop_facts.LoopFacts.{LoopFacts}
 use Rattle.merge_core.specs.declared.noted.Noted.{Noted}
-use Rattle.loop_pieces.specs.PartialLines.{ArePartialLines, HavePartials}
+use Rattle.loop_pieces.specs.PartialLines.{ArePartialLines}
 use Rattle.loop_pieces.specs.declared.filled_result.PartialLine.{PartialLine}
 use Rattle.loop_pieces.specs.declared.loop_piece.LoopPiece.{LoopPiece}
 use Rattle.loop_pieces.specs.declared.watch_piece.WatchPiece.{WatchPiece}
-use Rattle.partial_lines.specs.Chains.{AreNoted, chain_of}
+use Rattle.partial_lines.specs.Chains.{AreNoted, HavePartialsOver, chain_of, noted_sets}
 use Rattle.partial_lines.specs.Trails.{AreTrails, HaveAllTrails, AreTaken, AreLeft, HaveSameBodies}
 use Rattle.partial_lines.proofs.Chaining.{is_chain}
 use Rattle.partial_lines.proofs.Places.{pushed, set_other, set_long, same_item}
@@ -102,10 +102,14 @@ more_lines facts places sets w place all now lines h at one is = record {
 
 -- all lines are the partial results
 pub have_partials : (facts : LoopFacts) (places : List ℕ) (os ds : List (List ℕ)) (clusters step watch w : ℕ) (all : List (List PartialLine))
-    → AreNoted os ds clusters → 0 < step → step ≡ stride clusters watch → length facts.ranges ≡ clusters → w ≡ length places → AreLinesUpTo facts places (chain_of os ds clusters step) w all → HavePartials facts places watch all
+    → AreNoted os ds clusters → 0 < step → step ≡ stride clusters watch → length facts.ranges ≡ clusters → w ≡ length places → AreLinesUpTo facts places (chain_of os ds clusters step) w all
+    → HavePartialsOver facts places watch (noted_sets os ds clusters watch) all
 have_partials facts places os ds clusters step watch w all noted some step_is ranges w_is h = record {
-  sets = chain_of os ds clusters step;
-  chain = λ any. subst (λ (c : ℕ). IsChain c (stride c watch) (chain_of os ds clusters step)) (sym ranges) (subst (λ (g : ℕ). IsChain clusters g (chain_of os ds clusters step)) step_is (is_chain os ds clusters step noted some));
-  many = h.many ∙ w_is;
-  each = h.each;
+  are = record {
+    sets = chain_of os ds clusters step;
+    chain = λ any. subst (λ (c : ℕ). IsChain c (stride c watch) (chain_of os ds clusters step)) (sym ranges) (subst (λ (g : ℕ). IsChain clusters g (chain_of os ds clusters step)) step_is (is_chain os ds clusters step noted some));
+    many = h.many ∙ w_is;
+    each = h.each;
+  };
+  sets_are = ap (chain_of os ds clusters) step_is;
 }

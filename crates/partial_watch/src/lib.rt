@@ -1,6 +1,7 @@
 //! Slots note the clusters that they finish in one order, each noting by one atomic step; and results over the first ones noted.
 #![tactic(auto)]
 
+mod between;
 pub mod book;
 pub mod hand;
 pub mod interval;
@@ -11,12 +12,10 @@ mod rule;
 pub mod share;
 pub mod share_list;
 
+pub use crate::between::partial_between;
 pub use crate::book::Book;
 pub use crate::interval::stride;
 pub use crate::orders::Orders;
 pub use crate::partials::{PartialPiece, partial};
 pub use crate::share::Share;
 pub use crate::share_list::ShareList;
-
-#[cfg(test)]
-mod tests;

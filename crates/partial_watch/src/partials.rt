@@ -2,7 +2,8 @@
 ghost use Rattle.std.specs.Prelude.{◌≡◌, ◌≤◌, ◌<◌, ◌++◌, ℕ, List, IfOk, IsPermutation, length, map};
 ghost use Rattle.std.specs.List.Sorted.{IsStrictlyIncreasing};
 ghost use Rattle.rdf_values.specs.Times.{times};
-ghost use Rattle.partial_watch.specs.Chosen.{AreAlone, HaveNumbers, chosen, chosen_in, cluster_in, if_kept, piece_in};
+ghost use Rattle.merge_core.specs.declared.noted.Noted.{Noted};
+ghost use Rattle.partial_watch.specs.Chosen.{AreAlone, AreOf, HaveNumbers, chosen, chosen_in, cluster_in, if_kept, piece_in};
 
 use crate::orders::Orders;
 use merge_core::{Noted, Piece, TrailList, merge_all};
@@ -34,7 +35,7 @@ fn keep<P: Copy>(
 }
 
 // Appends the entries of one trail whose number is less than a bound.
-fn choose<P: Copy>(
+pub(crate) fn choose<P: Copy>(
     clusters: &mut Vec<u32>,
     pieces: &mut Vec<P>,
     numbers: &[u64],
@@ -49,6 +50,23 @@ fn choose<P: Copy>(
         keep(clusters, pieces, &trail[i], numbers[i] < below)?;
     }
     Ok(())
+}
+
+/// The clusters of entries, rising, and the join of the entries' pieces.
+pub(crate) fn joined<P: Piece + Copy>(
+    mut clusters: Vec<u32>,
+    pieces: Vec<P>,
+) -> Result<PartialPiece<P>, Memory>
+    requires entries { (job : P.Job) × (entries : List (Noted P)) × AreOf clusters.items pieces.items entries × (0 < length entries) × AreAlone (P.stands job) entries × ((x : ℕ) → times x clusters.items ≤ 1) }
+    ensures named { IfOk result (λ p. IsStrictlyIncreasing p.clusters × IsPermutation clusters.items p.clusters) }
+    ensures stands { (job : P.Job) (entries : List (Noted P)) → AreOf clusters.items pieces.items entries → AreAlone (P.stands job) entries → IfOk result (λ p. P.stands job p.clusters p.piece) }
+{
+    clusters.sort_unstable();
+    let piece = merge_all(ListOf::from_vec(pieces))?;
+    Ok(PartialPiece {
+        clusters: ListOf::from_vec(clusters),
+        piece,
+    })
 }
 
 /// The clusters whose number is less than a bound, rising, and the join of their pieces.
@@ -76,10 +94,5 @@ pub fn partial<P: Piece + Copy>(
             trails.at(i).as_slice(),
         )?;
     }
-    clusters.sort_unstable();
-    let piece = merge_all(ListOf::from_vec(pieces))?;
-    Ok(PartialPiece {
-        clusters: ListOf::from_vec(clusters),
-        piece,
-    })
+    joined(clusters, pieces)
 }

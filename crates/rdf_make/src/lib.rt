@@ -8,6 +8,3 @@ pub mod table;
 
 pub use crate::script::make_script;
 pub use crate::table::make_table;
-
-#[cfg(test)]
-mod tests;

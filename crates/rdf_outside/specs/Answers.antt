@@ -1,5 +1,6 @@
 -- What a shelf and a sink answer to an answer of std, and what their counts of faults then are.
 use Rattle.std.specs.Prelude.{◌≡◌, ◌<◌, ℕ, ◌+◌, ◌-◌, ◌^◌, min, List, [], Option, None, Some, Result, Ok, Err, Bool, true, false, length}
+use Rattle.std.specs.Io.KnownBytes.{ReadConsumes}
 use Rattle.std.specs.IoError.{error_kind}
 use Rattle.std.specs.declared.io.Error.{Error}
 use Rattle.std.specs.declared.io.ErrorKind.{ErrorKind}
@@ -42,3 +43,9 @@ AnswersOpen (Err error) kept result before now = (kept ≡ None) × AnswersMiss 
 abbrev pub KeepsFound : {T : Type 0} → Option T → Result Bool TurnStop → Type 0
 KeepsFound (Some file) result = result ≡ Ok true
 KeepsFound None result = result ≡ Ok true → ⊥
+
+-- the file turned to is kept, and its next bytes are read; where there is none, nothing is left
+abbrev pub ReadsOn : {File E : Type 0} → (File → Option (List ℕ)) → Option File → Option File → Result ℕ E → List ℕ → Type 0
+ReadsOn remaining None kept result buf = (kept ≡ None) × (result ≡ Ok 0)
+ReadsOn remaining (Some file) None result buf = ⊥
+ReadsOn remaining (Some file) (Some kept) result buf = ReadConsumes (remaining file) (remaining kept) result buf

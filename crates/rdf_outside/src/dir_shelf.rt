@@ -33,8 +33,8 @@ impl<'a, R: Files> DirShelf<'a, R> {
 }
 
 impl<R: Files> Shelf for DirShelf<'_, R> {
-    ghost use Rattle.rdf_outside.specs.Answers.{KeepsFound};
-    ghost use Rattle.rdf_outside.specs.Outside.{TurnHasCause};
+    ghost use Rattle.rdf_outside.specs.Answers.{KeepsFound, ReadsOn};
+    ghost use Rattle.rdf_outside.specs.Outside.{HasCause, ReadsFrom, TurnHasCause};
 
     ghost files = { λ _. None };
 
@@ -56,7 +56,12 @@ impl<R: Files> Shelf for DirShelf<'_, R> {
         answer
     }
 
-    fn read(&mut self, buf: &mut [u8]) -> Result<usize, Failed> {
+    fn read(&mut self, buf: &mut [u8]) -> Result<usize, Failed>
+        ensures turns { self.new.turns.names ≡ self.old.turns.names }
+        ensures bytes { ReadsOn R.File.remaining self.old.file self.new.file result buf.new }
+        ensures within { ReadsFrom None None result buf.new }
+        ensures cause { HasCause self.old.faults self.new.faults result }
+    {
         let Some(file) = &mut self.file else {
             return Ok(0);
         };

@@ -1,6 +1,7 @@
 // Each call that may want memory once with enough of it, and the two edges.
 use super::*;
 use std::alloc::Global;
+use std::cell::RefCell;
 use std::fmt::Display;
 use std::io::ErrorKind;
 use std::test::Fail;
@@ -129,9 +130,19 @@ fn standard_output_takes_a_piece(rt: HostRuntime) {
     assert!(rt; write_whole(&mut sink, b"one piece\n") == Ok(()));
 }
 
-// Takes at most so many bytes of each write, or fails.
+// Takes at most so many bytes of each write and keeps them, or fails.
 #[derive(Drop)]
-struct Printer(Option<usize>);
+struct Printer {
+    most: Option<usize>,
+    taken: RefCell<Vec<u8>>,
+}
+
+fn printing(alloc: Global, most: Option<usize>) -> Printer {
+    Printer {
+        most,
+        taken: RefCell::new(Vec::new(alloc)),
+    }
+}
 
 impl Print for Printer {
     fn print<D: Display + Drop>(&self, _value: D) -> io::Result<()> {
@@ -147,24 +158,28 @@ impl Print for Printer {
     }
 
     fn write_some(&self, bytes: &[u8]) -> io::Result<usize> {
-        match self.0 {
-            Some(most) => Ok(bytes.len().min(most)),
-            None => Err(io::Error::from(ErrorKind::BrokenPipe)),
-        }
+        let (Some(most), Ok(mut taken)) = (self.most, self.taken.try_borrow_mut()) else {
+            return Err(io::Error::from(ErrorKind::BrokenPipe));
+        };
+        let count = bytes.len().min(most);
+        taken.extend_from_slice(&bytes[..count])?;
+        Ok(count)
     }
 }
 
+// What is printed is each piece once, as far as it was taken.
 #[test]
 fn a_short_write_is_not_full(rt: HostRuntime) {
-    let short = Printer(Some(2));
+    let short = printing(rt.alloc(), Some(2));
     let mut sink = StdSink::new(&short);
     assert!(rt; sink.write(b"abc") == Ok(2));
-    assert!(rt; write_whole(&mut sink, b"abc") == Ok(()));
-    let full = Printer(Some(0));
+    assert!(rt; write_whole(&mut sink, b"defgh") == Ok(()));
+    assert_eq!(rt; short.taken.into_inner().as_slice(), b"abdefgh".as_slice());
+    let full = printing(rt.alloc(), Some(0));
     let mut sink = StdSink::new(&full);
     assert!(rt; sink.write(b"") == Ok(0));
     assert!(rt; sink.write(b"abc") == Err(Failed));
-    let broken = Printer(None);
+    let broken = printing(rt.alloc(), None);
     let mut sink = StdSink::new(&broken);
     assert!(rt; sink.write(b"abc") == Err(Failed));
 }

@@ -1,3 +1,4 @@
+mod AcceptedRuns
 mod Answering
 mod OneDue
 mod SomeDue

@@ -5,6 +5,7 @@ use Rattle.rdf_values.specs.Functions.{Function, fn_names}
 use Rattle.rdf_values.specs.Path.{history}
 use Rattle.rdf_values.specs.RefusalLines.{graph_cause_line, long_script_line, long_table_line, script_cause_line, table_cause_line}
 use Rattle.rdf_values.specs.TableText.{MarkedTable, table_of}
+use Rattle.rdf_values.specs.Tables.{TableView}
 use Rattle.rdf_values.specs.Verdict.{verdict}
 use Rattle.rdf_values.specs.declared.fault.Fault.{Fault}
 use Rattle.rdf_values.specs.declared.graph_cause.GraphCause.{GraphCause}
@@ -20,13 +21,17 @@ use Rattle.expr_read.proofs.ReadOnce.{read_once}
 use Rattle.table_csv.specs.Csv.{csv_records}
 use Rattle.command_words.specs.Asked.{asked_of}
 use Rattle.command_words.specs.declared.command.Command.{Command}
+use Rattle.command_words.specs.declared.command.Friend.{Friend}
 use Rattle.command_words.specs.declared.command.Input.{Input}
 use Rattle.command_words.specs.declared.command.Input.TheVariants.{Files, Generated}
 use Rattle.rdf_values.specs.Generator.{generated_script}
 use Rattle.rdf_values.specs.Generator.{generated_table}
-use Rattle.rdf_program.specs.Due.{Due, IsDue, IsDueOver, IsDueToBytes, IsDueToInput, IsDueToScript, IsDueToTable, IsPrinted, ReadsScript, WithFile, WithScript, dataset_of, due_of, max_script, max_table}
+use Rattle.friend_join.specs.JoinRefused.{join_of}
+use Rattle.friend_join.specs.declared.cause.JoinCause.{JoinCause}
+use Rattle.result_text.specs.FriendLines.{friend_cause_line, join_cause_line, long_friend_line}
+use Rattle.rdf_program.specs.Due.{Due, IsDue, IsDueOver, IsDueToBytes, IsDueToInput, IsDueToScript, IsDueToTable, IsDueToTables, IsPrinted, JoinsFriend, ReadsFriend, ReadsScript, WithFile, WithFriend, WithScript, dataset_of, due_of, max_script, max_table}
 use Rattle.rdf_program.specs.Statuses.{printed_status}
-use Rattle.rdf_program.specs.declared.status.Status.TheVariants.{ScriptRefused, TableRefused}
+use Rattle.rdf_program.specs.declared.status.Status.TheVariants.{FriendRefused, ScriptRefused, TableRefused}
 
 -- ---- a transcript's status doesn't tell the course
 
@@ -73,6 +78,26 @@ module _ (d e : Due) where
   one_table (Ok m) Next one h g = one m h g
   one_table (Err cause) Next one h g = same_due d e _ h g
 
+  one_joining : (r : Result TableView JoinCause) (marks : List ℕ) (Next : MarkedTable → Due → Type 0) → ((t : MarkedTable) → Next t d → Next t e → Agree d e)
+      → MatchResult r (λ joined. Next (record { table = joined; marks = marks }) d) (λ cause. d ≡ due_of FriendRefused (join_cause_line cause))
+      → MatchResult r (λ joined. Next (record { table = joined; marks = marks }) e) (λ cause. e ≡ due_of FriendRefused (join_cause_line cause)) → Agree d e
+  one_joining (Ok joined) marks Next one h g = one (record { table = joined; marks = marks }) h g
+  one_joining (Err cause) marks Next one h g = same_due d e _ h g
+
+  one_other : (r : Result MarkedTable TableCause) (Next : MarkedTable → Due → Type 0) → ((t : MarkedTable) → Next t d → Next t e → Agree d e)
+      → MatchResult r (λ m. Next m d) (λ cause. d ≡ due_of FriendRefused (friend_cause_line cause)) → MatchResult r (λ m. Next m e) (λ cause. e ≡ due_of FriendRefused (friend_cause_line cause)) → Agree d e
+  one_other (Ok m) Next one h g = one m h g
+  one_other (Err cause) Next one h g = same_due d e _ h g
+
+  one_friend : (friend : Option Friend) (files : List ℕ → Option (List ℕ)) (table : MarkedTable) (Next : MarkedTable → Due → Type 0) → ((t : MarkedTable) → Next t d → Next t e → Agree d e)
+      → WithFriend friend files table Next d → WithFriend friend files table Next e → Agree d e
+  one_friend None files table Next one h g = one table h g
+  one_friend (Some friend) files table Next one h g =
+      one_file friend.file (files friend.file) (λ bytes u. ReadsFriend friend table bytes Next u)
+      (λ bytes p q. one_of_two (nat_lt max_table (length bytes)) (due_of FriendRefused long_friend_line) _ _
+      (λ x y. one_other (table_of (csv_records bytes)) (λ other u. JoinsFriend friend table other Next u)
+      (λ other v w. one_joining (join_of table.table other.table friend.key friend.missing) table.marks Next one v w) x y) p q) h g
+
   one_verdict : (v : Option (ℕ × GraphCause)) (P Q : Type 0) → (P → Q → Agree d e)
       → MatchOption v P (λ refused. d ≡ due_of ScriptRefused (graph_cause_line refused.0 refused.1)) → MatchOption v Q (λ refused. e ≡ due_of ScriptRefused (graph_cause_line refused.0 refused.1)) → Agree d e
   one_verdict None P Q one h g = one h g
@@ -93,14 +118,20 @@ module _ (d e : Due) where
     reading : (bytes : List ℕ) (Next : Script → Due → Type 0) → ((s : Script) → Next s d → Next s e → Agree d e) → WithScript bytes Next d → WithScript bytes Next e → Agree d e
     reading bytes Next one h g = one_of_two (nat_lt max_script (length bytes)) (due_of ScriptRefused long_script_line) _ _ (λ x y. one_reading bytes Next one x y) h g
 
-    to_script : (script : Script) (table : List ℕ) (files : List ℕ → Option (List ℕ)) → IsDueToScript fns size watch script table files d → IsDueToScript fns size watch script table files e → Agree d e
-    to_script script table files h g = one_file table (files table) (λ bytes u. IsDueToTable fns size watch script bytes u) (λ bytes p q. to_table script bytes p q) h g
+    to_tables : (script : Script) (bytes : List ℕ) (friend : Option Friend) (files : List ℕ → Option (List ℕ)) → IsDueToTables fns size watch script bytes friend files d → IsDueToTables fns size watch script bytes friend files e → Agree d e
+    to_tables script bytes friend files h g =
+        one_of_two (nat_lt max_table (length bytes)) (due_of TableRefused long_table_line) _ _
+        (λ x y. one_table (table_of (csv_records bytes)) (λ t u. WithFriend friend files t (λ joined v. IsDueOver fns size watch script joined v) u)
+        (λ t p q. one_friend friend files t (λ joined v. IsDueOver fns size watch script joined v) (λ joined v w. over script joined v w) p q) x y) h g
 
-    to_bytes : (bytes table : List ℕ) (files : List ℕ → Option (List ℕ)) → IsDueToBytes fns size watch bytes table files d → IsDueToBytes fns size watch bytes table files e → Agree d e
-    to_bytes bytes table files h g = reading bytes (λ s u. IsDueToScript fns size watch s table files u) (λ s p q. to_script s table files p q) h g
+    to_script : (script : Script) (table : List ℕ) (friend : Option Friend) (files : List ℕ → Option (List ℕ)) → IsDueToScript fns size watch script table friend files d → IsDueToScript fns size watch script table friend files e → Agree d e
+    to_script script table friend files h g = one_file table (files table) (λ bytes u. IsDueToTables fns size watch script bytes friend files u) (λ bytes p q. to_tables script bytes friend files p q) h g
+
+    to_bytes : (bytes table : List ℕ) (friend : Option Friend) (files : List ℕ → Option (List ℕ)) → IsDueToBytes fns size watch bytes table friend files d → IsDueToBytes fns size watch bytes table friend files e → Agree d e
+    to_bytes bytes table friend files h g = reading bytes (λ s u. IsDueToScript fns size watch s table friend files u) (λ s p q. to_script s table friend files p q) h g
 
     to_input : (files : List ℕ → Option (List ℕ)) (input : Input) → IsDueToInput fns size watch files input d → IsDueToInput fns size watch files input e → Agree d e
-    to_input files (Files script table) h g = one_file script (files script) (λ bytes u. IsDueToBytes fns size watch bytes table files u) (λ bytes p q. to_bytes bytes table files p q) h g
+    to_input files (Files script table friend) h g = one_file script (files script) (λ bytes u. IsDueToBytes fns size watch bytes table friend files u) (λ bytes p q. to_bytes bytes table friend files p q) h g
     to_input files (Generated entries seed) h g = reading generated_script (λ s u. IsDueToTable fns size watch s (generated_table entries seed) u) (λ s p q. to_table s (generated_table entries seed) p q) h g
 
   to_asked : (fns : List Function) (asked : Option Command) (files : List ℕ → Option (List ℕ)) (line : Due)

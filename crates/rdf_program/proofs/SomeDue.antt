@@ -3,8 +3,9 @@ use Rattle.std.proofs.Common.{◌≡◌, ℕ, Bool, true, false, List, length, O
 use Rattle.std.specs.Bool.{MatchBool}
 use Rattle.rdf_values.specs.Cuts.{cut, stride}
 use Rattle.rdf_values.specs.Functions.{Function, fn_names}
-use Rattle.rdf_values.specs.RefusalLines.{graph_cause_line, long_script_line, long_table_line, no_file_line, script_cause_line, table_cause_line, usage_line}
+use Rattle.rdf_values.specs.RefusalLines.{graph_cause_line, long_script_line, long_table_line, no_file_line, script_cause_line, table_cause_line}
 use Rattle.rdf_values.specs.TableText.{MarkedTable, table_of}
+use Rattle.rdf_values.specs.Tables.{TableView}
 use Rattle.rdf_values.specs.Verdict.{verdict}
 use Rattle.rdf_values.specs.declared.graph_cause.GraphCause.{GraphCause}
 use Rattle.rdf_values.specs.declared.table_cause.TableCause.{TableCause}
@@ -16,13 +17,18 @@ use Rattle.table_csv.specs.Csv.{csv_records}
 use Rattle.transcripts.proofs.SomeChain.{first_sets, first_sets_are_a_chain}
 use Rattle.command_words.specs.Asked.{asked_of}
 use Rattle.command_words.specs.declared.command.Command.{Command}
+use Rattle.command_words.specs.declared.command.Friend.{Friend}
 use Rattle.command_words.specs.declared.command.Input.{Input}
 use Rattle.command_words.specs.declared.command.Input.TheVariants.{Files, Generated}
 use Rattle.rdf_values.specs.Generator.{generated_script}
 use Rattle.rdf_values.specs.Generator.{generated_table}
-use Rattle.rdf_program.specs.Due.{Due, IsDue, IsDueOver, IsDueToBytes, IsDueToInput, IsDueToScript, IsDueToTable, IsPrinted, ReadsScript, WithFile, WithScript, dataset_of, due_of, max_script, max_table}
+use Rattle.friend_join.specs.JoinRefused.{join_of}
+use Rattle.friend_join.specs.declared.cause.JoinCause.{JoinCause}
+use Rattle.result_text.specs.FriendLines.{friend_cause_line, join_cause_line, long_friend_line}
+use Rattle.result_text.specs.RefusalText.{usage_line}
+use Rattle.rdf_program.specs.Due.{Due, IsDue, IsDueOver, IsDueToBytes, IsDueToInput, IsDueToScript, IsDueToTable, IsDueToTables, IsPrinted, JoinsFriend, ReadsFriend, ReadsScript, WithFile, WithFriend, WithScript, dataset_of, due_of, max_script, max_table}
 use Rattle.rdf_program.specs.Statuses.{printed_status}
-use Rattle.rdf_program.specs.declared.status.Status.TheVariants.{NoFile, ScriptRefused, TableRefused, Words}
+use Rattle.rdf_program.specs.declared.status.Status.TheVariants.{FriendRefused, NoFile, ScriptRefused, TableRefused, Words}
 
 -- an answer of which that holds
 abbrev SomeDue : (Due → Type 0) → Type 0
@@ -49,6 +55,23 @@ some_script bytes Next some = some_of_two (nat_lt max_script (length bytes)) (du
 some_table : (r : Result MarkedTable TableCause) (Next : MarkedTable → Due → Type 0) → ((t : MarkedTable) → SomeDue (Next t)) → SomeDue (λ d. MatchResult r (λ m. Next m d) (λ cause. d ≡ due_of TableRefused (table_cause_line cause)))
 some_table (Ok m) Next some = some m
 some_table (Err cause) Next some = (due_of TableRefused (table_cause_line cause), refl)
+
+some_joining : (r : Result TableView JoinCause) (marks : List ℕ) (Next : MarkedTable → Due → Type 0) → ((t : MarkedTable) → SomeDue (Next t))
+    → SomeDue (λ d. MatchResult r (λ joined. Next (record { table = joined; marks = marks }) d) (λ cause. d ≡ due_of FriendRefused (join_cause_line cause)))
+some_joining (Ok joined) marks Next some = some (record { table = joined; marks = marks })
+some_joining (Err cause) marks Next some = (due_of FriendRefused (join_cause_line cause), refl)
+
+some_other : (r : Result MarkedTable TableCause) (Next : MarkedTable → Due → Type 0) → ((t : MarkedTable) → SomeDue (Next t)) → SomeDue (λ d. MatchResult r (λ m. Next m d) (λ cause. d ≡ due_of FriendRefused (friend_cause_line cause)))
+some_other (Ok m) Next some = some m
+some_other (Err cause) Next some = (due_of FriendRefused (friend_cause_line cause), refl)
+
+some_friend : (friend : Option Friend) (files : List ℕ → Option (List ℕ)) (table : MarkedTable) (Next : MarkedTable → Due → Type 0) → ((t : MarkedTable) → SomeDue (Next t)) → SomeDue (WithFriend friend files table Next)
+some_friend None files table Next some = some table
+some_friend (Some friend) files table Next some =
+    some_file friend.file (files friend.file) (λ bytes d. ReadsFriend friend table bytes Next d)
+    (λ bytes. some_of_two (nat_lt max_table (length bytes)) (due_of FriendRefused long_friend_line) _
+    (some_other (table_of (csv_records bytes)) (λ other d. JoinsFriend friend table other Next d)
+    (λ other. some_joining (join_of table.table other.table friend.key friend.missing) table.marks Next some)))
 
 some_verdict : (v : Option (ℕ × GraphCause)) (P : Due → Type 0) → SomeDue P → SomeDue (λ d. MatchOption v (P d) (λ refused. d ≡ due_of ScriptRefused (graph_cause_line refused.0 refused.1)))
 some_verdict None P some = some
@@ -80,12 +103,19 @@ module _ (fns : List Function) (size watch : ℕ) where
   to_table script bytes =
       some_of_two (nat_lt max_table (length bytes)) (due_of TableRefused long_table_line) _ (some_table (table_of (csv_records bytes)) (λ t u. IsDueOver fns size watch script t u) (λ t. over script t))
 
-  to_bytes : (bytes table : List ℕ) (files : List ℕ → Option (List ℕ)) → SomeDue (IsDueToBytes fns size watch bytes table files)
-  to_bytes bytes table files =
-      some_script bytes (λ s u. IsDueToScript fns size watch s table files u) (λ s. some_file table (files table) (λ cells u. IsDueToTable fns size watch s cells u) (λ cells. to_table s cells))
+  to_tables : (script : Script) (bytes : List ℕ) (friend : Option Friend) (files : List ℕ → Option (List ℕ)) → SomeDue (IsDueToTables fns size watch script bytes friend files)
+  to_tables script bytes friend files =
+      some_of_two (nat_lt max_table (length bytes)) (due_of TableRefused long_table_line) _
+      (some_table (table_of (csv_records bytes)) (λ t u. WithFriend friend files t (λ joined v. IsDueOver fns size watch script joined v) u)
+      (λ t. some_friend friend files t (λ joined v. IsDueOver fns size watch script joined v) (λ joined. over script joined)))
+
+  to_bytes : (bytes table : List ℕ) (friend : Option Friend) (files : List ℕ → Option (List ℕ)) → SomeDue (IsDueToBytes fns size watch bytes table friend files)
+  to_bytes bytes table friend files =
+      some_script bytes (λ s u. IsDueToScript fns size watch s table friend files u)
+      (λ s. some_file table (files table) (λ cells u. IsDueToTables fns size watch s cells friend files u) (λ cells. to_tables s cells friend files))
 
   to_input : (files : List ℕ → Option (List ℕ)) (input : Input) → SomeDue (IsDueToInput fns size watch files input)
-  to_input files (Files script table) = some_file script (files script) (λ bytes u. IsDueToBytes fns size watch bytes table files u) (λ bytes. to_bytes bytes table files)
+  to_input files (Files script table friend) = some_file script (files script) (λ bytes u. IsDueToBytes fns size watch bytes table friend files u) (λ bytes. to_bytes bytes table friend files)
   to_input files (Generated entries seed) = some_script generated_script (λ s u. IsDueToTable fns size watch s (generated_table entries seed) u) (λ s. to_table s (generated_table entries seed))
 
 to_asked : (fns : List Function) (asked : Option Command) (files : List ℕ → Option (List ℕ)) (line : Due)

@@ -1,7 +1,7 @@
 -- Statuses as numbers.
 use Rattle.std.specs.Prelude.{ℕ, zero, suc}
 use Rattle.rdf_program.specs.declared.status.Status.{Status}
-use Rattle.rdf_program.specs.declared.status.Status.TheVariants.{Done, Memory, Words, ReadFault, WriteFault, NoFile, ScriptRefused, TableRefused, LoopFault}
+use Rattle.rdf_program.specs.declared.status.Status.TheVariants.{Done, Memory, Words, ReadFault, WriteFault, NoFile, ScriptRefused, TableRefused, LoopFault, FriendRefused}
 
 -- the exit status of the program
 abbrev pub exit_status : Status → ℕ
@@ -14,6 +14,7 @@ exit_status NoFile = 5
 exit_status ScriptRefused = 6
 exit_status TableRefused = 7
 exit_status LoopFault = 8
+exit_status FriendRefused = 9
 
 -- a transcript ends with 0, or with 8 after a fault
 abbrev pub printed_status : ℕ → Status

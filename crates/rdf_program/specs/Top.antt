@@ -11,7 +11,7 @@ use Rattle.rdf_program.specs.Answers.{AreTurns, MayRead}
 
 -- the words ask for a run over two files
 abbrev pub NamesFiles : Input → Type 0
-NamesFiles (Files script table) = Unit {0}
+NamesFiles (Files script table friend) = Unit {0}
 NamesFiles (Generated entries seed) = ⊥
 
 abbrev pub NameFiles : List (List ℕ) → Type 0
@@ -29,19 +29,19 @@ WritesDue fns words IsIts before after f = (d : Due) × IsDue fns words f d × I
 abbrev pub WritesDuePart : List Function → List (List ℕ) → Option (List ℕ) → Option (List ℕ) → (List ℕ → Option (List ℕ)) → Type 0
 WritesDuePart fns words before after f = (d : Due) × IsDue fns words f d × AppendsPart before after d.bytes
 
--- the line of a failed read, with the name of a file that may be read
-abbrev pub WritesReadFailed : List (List ℕ) → Option (List ℕ → Option (List ℕ)) → Option (List ℕ) → Option (List ℕ) → Type 0
-WritesReadFailed words files before after = (name : List ℕ) × MayRead words files name × Appends before after (read_failed_line name)
+-- the line of a failed read, with the name of the file that the shelf was turned to
+abbrev pub WritesReadFailed : List (List ℕ) → Option (List ℕ → Option (List ℕ)) → List (List ℕ) → Option (List ℕ) → Option (List ℕ) → Type 0
+WritesReadFailed words files turns before after = (name : List ℕ) × MayRead words files turns name × Appends before after (read_failed_line name)
 
 -- a first part of that line
-abbrev pub WritesPartOfReadFailed : List (List ℕ) → Option (List ℕ → Option (List ℕ)) → Option (List ℕ) → Option (List ℕ) → Type 0
-WritesPartOfReadFailed words files before after = (name : List ℕ) × MayRead words files name × AppendsPart before after (read_failed_line name)
+abbrev pub WritesPartOfReadFailed : List (List ℕ) → Option (List ℕ → Option (List ℕ)) → List (List ℕ) → Option (List ℕ) → Option (List ℕ) → Type 0
+WritesPartOfReadFailed words files turns before after = (name : List ℕ) × MayRead words files turns name × AppendsPart before after (read_failed_line name)
 
 -- a first part of what is due, or of the line of a failed read where the shelf failed
-abbrev pub WritesPart : List Function → List (List ℕ) → Option (List ℕ → Option (List ℕ)) → ℕ → ℕ → Option (List ℕ) → Option (List ℕ) → Type 0
-WritesPart fns words files faults faults' before after =
+abbrev pub WritesPart : List Function → List (List ℕ) → Option (List ℕ → Option (List ℕ)) → List (List ℕ) → ℕ → ℕ → Option (List ℕ) → Option (List ℕ) → Type 0
+WritesPart fns words files turns faults faults' before after =
     OfFiles words files (WritesDuePart fns words before after)
-    ⊎ (Rose faults faults' × WritesPartOfReadFailed words files before after)
+    ⊎ (Rose faults faults' × WritesPartOfReadFailed words files turns before after)
 
 -- the shelf was turned to these files besides
 abbrev pub TurnsBesides : List (List ℕ) → Option (List ℕ → Option (List ℕ)) → List (List ℕ) → List (List ℕ) → Type 0

@@ -5,6 +5,7 @@
 
 mod answer;
 mod fetch;
+mod friend;
 mod input;
 mod one_due;
 mod over_table;
@@ -13,7 +14,7 @@ mod status;
 mod top;
 mod words;
 
-pub use crate::one_due::one_status_is_due;
+pub use crate::one_due::{accepted_runs_end, one_status_is_due};
 pub use crate::status::Status;
 pub use crate::top::rdf_top;
 

@@ -1,6 +1,7 @@
-// The law that an answer is due, with one status.
+// The laws that an answer is due, with one status, and which status ends an accepted run.
 ghost use Rattle.std.specs.Prelude.{◌≡◌, ℕ, List, Option};
 ghost use Rattle.rdf_values.specs.Functions.{Function};
+ghost use Rattle.rdf_program.specs.Accepted.{AcceptedRunsEnd};
 ghost use Rattle.rdf_program.specs.Due.{Due, IsDue};
 
 /// To all words and files an answer is due, and all that are due to the same ones have one status. Their bytes may differ in
@@ -8,4 +9,9 @@ ghost use Rattle.rdf_program.specs.Due.{Due, IsDue};
 pub fn one_status_is_due()
     ensures some { (fns : List Function) (words : List (List ℕ)) (files : List ℕ → Option (List ℕ)) → (d : Due) × IsDue fns words files d }
     ensures one { (fns : List Function) (words : List (List ℕ)) (files : List ℕ → Option (List ℕ)) (d e : Due) → IsDue fns words files d → IsDue fns words files e → d.status ≡ e.status }
+{}
+
+/// Where the words, both texts and the script are accepted, the run ends at a fault exactly where the loop of some Print has one.
+pub fn accepted_runs_end()
+    ensures { AcceptedRunsEnd }
 {}

@@ -82,8 +82,8 @@ fn answer_prints<R: Threads + Sync, G: Gate>(
     Ok(Answer { status, text })
 }
 
-// The answer to a script over a table.
-fn answer_script<R: Threads + Sync, G: Gate>(
+/// The answer to a script over a table.
+pub(crate) fn answer_script<R: Threads + Sync, G: Gate>(
     rt: &R,
     alloc: Global,
     script: Script,

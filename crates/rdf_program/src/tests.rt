@@ -10,6 +10,7 @@ use std::test::Fail;
 use std::thread::Threads;
 
 mod faults;
+mod friends;
 mod functions;
 mod limits;
 mod rows;

@@ -1,7 +1,7 @@
 // The top call.
 ghost use Rattle.std.specs.Prelude.{◌≡◌, ◌⊎◌, [], List, ℕ};
 ghost use Rattle.entry_fns.specs.Lists.{functions_in};
-ghost use Rattle.rdf_values.specs.RefusalLines.{usage_line};
+ghost use Rattle.result_text.specs.RefusalText.{usage_line};
 ghost use Rattle.rdf_outside.specs.Outside.{Rose, Appends};
 ghost use Rattle.rdf_program.specs.Answers.{AreTaken};
 ghost use Rattle.rdf_program.specs.Statuses.{IsFinal};
@@ -35,9 +35,9 @@ pub fn rdf_top<R: Threads + Sync, S: Shelf, K: Sink, G: Gate>(
     // Each other answer has its cause.
     ensures memory { result ≡ Status.Memory → Appends (K.written sink.old) (K.written sink.new) [] }
     ensures read { result ≡ Status.ReadFault → Rose (S.faults shelf.old) (S.faults shelf.new) }
-    ensures read_line { result ≡ Status.ReadFault → WritesReadFailed words.now (S.files shelf.old) (K.written sink.old) (K.written sink.new) }
+    ensures read_line { result ≡ Status.ReadFault → WritesReadFailed words.now (S.files shelf.old) (S.turns shelf.new) (K.written sink.old) (K.written sink.new) }
     ensures write { result ≡ Status.WriteFault → Rose (K.faults sink.old) (K.faults sink.new) }
-    ensures part { result ≡ Status.WriteFault → WritesPart (functions_in functions.now) words.now (S.files shelf.old) (S.faults shelf.old) (S.faults shelf.new) (K.written sink.old) (K.written sink.new) }
+    ensures part { result ≡ Status.WriteFault → WritesPart (functions_in functions.now) words.now (S.files shelf.old) (S.turns shelf.new) (S.faults shelf.old) (S.faults shelf.new) (K.written sink.old) (K.written sink.new) }
 
     // The script is turned to once, and the table at most once, after a script was read.
     ensures turns { result ≡ Status.Memory ⊎ TurnsBesides words.now (S.files shelf.old) (S.turns shelf.old) (S.turns shelf.new) }

@@ -1,7 +1,7 @@
 // What the program answers to its words, before anything is written.
 ghost use Rattle.std.specs.Prelude.{◌≡◌, ◌≤◌, IfOk, OnOk, List, ℕ, Option};
 ghost use Rattle.entry_fns.specs.Lists.{functions_in};
-ghost use Rattle.rdf_values.specs.RefusalLines.{usage_line};
+ghost use Rattle.result_text.specs.RefusalText.{usage_line};
 ghost use Rattle.rdf_program.specs.Answers.{AreTaken, IsAnswer, MayRead};
 ghost use Rattle.rdf_program.specs.Due.{due_of, IsDue};
 ghost use Rattle.rdf_program.specs.Statuses.{IsFinal};
@@ -28,7 +28,7 @@ pub(crate) fn answer_words<R: Threads + Sync, S: Shelf, G: Gate>(
     functions: &FnList,
     gate: &G,
 ) -> Result<Answer, Memory>
-    ensures taken { IfOk result (λ a. AreTaken words.now → IsAnswer (IsDue (functions_in functions.now) words.now) (MayRead words.now (S.files shelf.old)) (S.files shelf.old) (S.faults shelf.old) (S.faults shelf.new) a) }
+    ensures taken { IfOk result (λ a. AreTaken words.now → IsAnswer (IsDue (functions_in functions.now) words.now) (MayRead words.now (S.files shelf.old) (S.turns shelf.new)) (S.files shelf.old) (S.faults shelf.old) (S.faults shelf.new) a) }
     ensures made { IfOk result (λ a. (NameFiles words.now → ⊥) → IsFinal a.status × ((f : List ℕ → Option (List ℕ)) → IsDue (functions_in functions.now) words.now f (due_of a.status a.text))) }
     ensures not_taken { IfOk result (λ a. (AreTaken words.now → ⊥) → due_of a.status a.text ≡ due_of Status.Words usage_line) }
     ensures turns { OnOk result (TurnsBesides words.now (S.files shelf.old) (S.turns shelf.old) (S.turns shelf.new)) }
@@ -42,12 +42,17 @@ pub(crate) fn answer_words<R: Threads + Sync, S: Shelf, G: Gate>(
         watch: command.watch,
     };
     match command.input {
-        Input::Files { script, table } => answer_files(
+        Input::Files {
+            script,
+            table,
+            friend,
+        } => answer_files(
             rt,
             alloc,
             shelf,
             script.as_str(),
             table.as_str(),
+            &friend,
             functions,
             settings,
             gate,

@@ -1,3 +1,4 @@
 pub mod FilledLines
+pub mod FriendLines
 pub mod PartialText
 pub mod RefusalText

@@ -1,8 +1,13 @@
 -- What is printed of a refusal.
-use Rattle.std.specs.Prelude.{ℕ, List}
-use Rattle.rdf_values.specs.RefusalLines.{usage_line, read_failed_line, no_file_line, long_script_line, long_table_line, script_cause_line, graph_cause_line, table_cause_line}
+use Rattle.std.specs.Prelude.{ℕ, List, codes}
+use Rattle.rdf_values.specs.RefusalLines.{line, read_failed_line, no_file_line, long_script_line, long_table_line, script_cause_line, graph_cause_line, table_cause_line}
+use Rattle.result_text.specs.FriendLines.{friend_cause_line, join_cause_line, long_friend_line}
 use Rattle.result_text.specs.declared.refusal.Refusal.{Refusal}
-use Rattle.result_text.specs.declared.refusal.Refusal.TheVariants.{Words, Read, NoFile, ScriptLong, Script, Graph, TableLong, Table}
+use Rattle.result_text.specs.declared.refusal.Refusal.TheVariants.{Words, Read, NoFile, ScriptLong, Script, Graph, TableLong, Table, FriendLong, Friend, Join}
+
+-- how the command is called
+abbrev pub usage_line : List ℕ
+usage_line = line (codes "usage: rdf SCRIPT TABLE [--slots N] [--cluster N] [--watch K] [--make] [--friend FILE] [--key NAME] [--missing N]")
 
 abbrev pub refusal_text : Refusal → List ℕ
 refusal_text Words = usage_line
@@ -13,3 +18,6 @@ refusal_text (Script cause) = script_cause_line cause
 refusal_text (Graph number cause) = graph_cause_line number cause
 refusal_text TableLong = long_table_line
 refusal_text (Table cause) = table_cause_line cause
+refusal_text FriendLong = long_friend_line
+refusal_text (Friend cause) = friend_cause_line cause
+refusal_text (Join cause) = join_cause_line cause

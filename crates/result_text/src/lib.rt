@@ -20,6 +20,3 @@ pub use crate::partials::partial_lines;
 pub use crate::refusal::Refusal;
 pub use crate::refusals::refusal_line;
 pub use crate::results::result_lines;
-
-#[cfg(test)]
-mod tests;

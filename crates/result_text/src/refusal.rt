@@ -1,7 +1,9 @@
 // Why a run gives no results.
+use friend_join::JoinCause;
 use rdf_values::{GraphCause, ScriptCause, TableCause, Text};
 
-/// The words are none of the command, a file can't be read or isn't there, or a script or a table is refused.
+/// The words are none of the command, a file can't be read or isn't there, or a script, a table or a friend is
+/// refused.
 #[derive(Drop)]
 pub enum Refusal {
     Words,
@@ -12,4 +14,7 @@ pub enum Refusal {
     Graph { line: u32, cause: GraphCause },
     TableLong,
     Table(TableCause),
+    FriendLong,
+    Friend(TableCause),
+    Join(JoinCause),
 }

@@ -1,10 +1,12 @@
 // The lines of refusals.
 ghost use Rattle.std.specs.Prelude.{◌≡◌, ◌++◌, IfOk};
 ghost use Rattle.std.specs.String.{string_bytes};
-ghost use Rattle.rdf_values.specs.RefusalLines.{expr_cause_text, graph_cause_line, graph_cause_text, line, script_cause_line, table_cause_line};
+ghost use Rattle.rdf_values.specs.RefusalLines.{expr_cause_text, graph_cause_line, graph_cause_text, line, script_cause_line};
+ghost use Rattle.result_text.specs.FriendLines.{join_cause_line, refused_for};
 ghost use Rattle.result_text.specs.RefusalText.{refusal_text};
 
 use crate::refusal::Refusal;
+use friend_join::JoinCause;
 use rdf_values::{ExprCause, GraphCause, Memory, ScriptCause, TableCause, Text};
 use std::alloc::Global;
 
@@ -81,28 +83,59 @@ fn graph_cause_line(alloc: Global, line: u32, cause: GraphCause) -> Result<Strin
     Ok(format!(in alloc; "script refused at line {line}: {text}\n")?)
 }
 
-fn table_cause_line(alloc: Global, cause: TableCause) -> Result<String, Memory>
-    ensures { IfOk result (λ l. string_bytes l ≡ table_cause_line cause) }
+// What stands behind the name of a refused table.
+fn refused_for(alloc: Global, cause: TableCause) -> Result<String, Memory>
+    ensures { IfOk result (λ l. string_bytes l ≡ refused_for cause) }
 {
     match cause {
         TableCause::Header { field } => Ok(format!(in alloc;
-            "table refused at header field {field}: B1 Header\n"
+            " refused at header field {field}: B1 Header\n"
         )?),
         TableCause::FieldCount { entry } => Ok(format!(in alloc;
-            "table refused at entry {entry}: B2 FieldCount\n"
+            " refused at entry {entry}: B2 FieldCount\n"
         )?),
         TableCause::BadInt { entry, field } => Ok(format!(in alloc;
-            "table refused at entry {entry} field {field}: B3 BadInt\n"
+            " refused at entry {entry} field {field}: B3 BadInt\n"
         )?),
         TableCause::BadVec { entry, field } => Ok(format!(in alloc;
-            "table refused at entry {entry} field {field}: B4 BadVec\n"
+            " refused at entry {entry} field {field}: B4 BadVec\n"
         )?),
         TableCause::TooMany { entry } => Ok(format!(in alloc;
-            "table refused at entry {entry}: B5 TooMany\n"
+            " refused at entry {entry}: B5 TooMany\n"
         )?),
         TableCause::BadCut { entry, field } => Ok(format!(in alloc;
-            "table refused at entry {entry} field {field}: B6 BadCut\n"
+            " refused at entry {entry} field {field}: B6 BadCut\n"
         )?),
+    }
+}
+
+// The line of a refused table of that name.
+fn refused(alloc: Global, name: &[u8], cause: TableCause) -> Result<Text, Memory>
+    ensures { IfOk result (λ text. text ≡ name.now ++ refused_for cause) }
+{
+    let mut text = Text::new(alloc);
+    text.extend(name)?;
+    text.extend(refused_for(alloc, cause)?.as_bytes())?;
+    Ok(text)
+}
+
+fn join_cause_line(alloc: Global, cause: JoinCause) -> Result<String, Memory>
+    ensures { IfOk result (λ l. string_bytes l ≡ join_cause_line cause) }
+{
+    match cause {
+        JoinCause::NoKey { friend: _ } => Ok(format!(in alloc; "friend refused: J1 NoKey\n")?),
+        JoinCause::NameTaken { column: _ } => {
+            Ok(format!(in alloc; "friend refused: J2 NameTaken\n")?)
+        }
+        JoinCause::TooManyColumns { count: _ } => {
+            Ok(format!(in alloc; "friend refused: J3 TooManyColumns\n")?)
+        }
+        JoinCause::Duplicate { entry } => {
+            Ok(format!(in alloc; "friend refused at entry {entry}: J4 Duplicate\n")?)
+        }
+        JoinCause::TooLarge { elements: _ } => {
+            Ok(format!(in alloc; "friend refused: J5 TooLarge\n")?)
+        }
     }
 }
 
@@ -113,7 +146,7 @@ pub fn refusal_line(alloc: Global, refusal: &Refusal) -> Result<Text, Memory>
     match refusal {
         Refusal::Words => whole(
             alloc,
-            b"usage: rdf SCRIPT TABLE [--slots N] [--cluster N] [--watch K] [--make]\n",
+            b"usage: rdf SCRIPT TABLE [--slots N] [--cluster N] [--watch K] [--make] [--friend FILE] [--key NAME] [--missing N]\n",
         ),
         Refusal::Read { name } => named(alloc, b"read failed: ", name),
         Refusal::NoFile { name } => named(alloc, b"no file ", name),
@@ -123,6 +156,9 @@ pub fn refusal_line(alloc: Global, refusal: &Refusal) -> Result<Text, Memory>
             whole(alloc, graph_cause_line(alloc, *line, *cause)?.as_bytes())
         }
         Refusal::TableLong => whole(alloc, b"table refused: longer than 67108864 bytes\n"),
-        Refusal::Table(cause) => whole(alloc, table_cause_line(alloc, *cause)?.as_bytes()),
+        Refusal::Table(cause) => refused(alloc, b"table", *cause),
+        Refusal::FriendLong => whole(alloc, b"friend refused: longer than 67108864 bytes\n"),
+        Refusal::Friend(cause) => refused(alloc, b"friend", *cause),
+        Refusal::Join(cause) => whole(alloc, join_cause_line(alloc, *cause)?.as_bytes()),
     }
 }

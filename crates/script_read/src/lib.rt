@@ -14,8 +14,6 @@ mod refusal;
 mod statement;
 mod stop;
 mod strings;
-#[cfg(test)]
-mod tests;
 mod token;
 mod tokenizer;
 mod walk;

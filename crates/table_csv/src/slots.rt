@@ -13,6 +13,7 @@ use crate::reading::read_table;
 use crate::refusal::TableRefusal;
 use std::alloc::Global;
 use std::thread::{Threads, join};
+use table_pieces::halves;
 
 // A piece of fewer bytes is read sooner than a thread is made for it.
 const LEAST_PIECE: usize = 16_384;
@@ -43,8 +44,7 @@ fn read_pieces<R: Threads + Sync>(
     if slots < 2 {
         return read_piece(alloc, head, lines);
     }
-    let half = slots / 2;
-    let others = slots - half;
+    let (half, others) = halves(slots);
     let (front, back) = cut_lines(lines, share(lines.len(), half, slots));
     let (first, second) = join(
         rt,

@@ -85,6 +85,18 @@ impl TablePieces {
         })
     }
 
+    /// The table of parts that hold one; no memory is taken.
+    pub fn from_parts(parts: PiecesParts) -> TablePieces
+        requires { HoldsTable parts.columns (map whole parts.pieces.items) parts.entries }
+        ensures { result ≡ record { columns = parts.columns; rows = rows_kept parts.entries (map whole parts.pieces.items) } }
+    {
+        TablePieces {
+            columns: parts.columns,
+            pieces: parts.pieces,
+            entries: parts.entries,
+        }
+    }
+
     /// The columns with their pieces; no memory is taken.
     pub fn into_parts(self) -> PiecesParts
         ensures holds { HoldsTable result.columns (map whole result.pieces.items) result.entries }

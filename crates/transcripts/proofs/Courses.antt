@@ -48,9 +48,9 @@ module _ (s : SessionView) (is : IsSession s) where
       by_count f at (suc n) e =
           let filled = is.filled l f at in
           record {
-            sets = filled.partials.sets;
-            chain = filled.partials.chain (omega (arith, e));
-            lines = λ w place g ls there its_place its_lines. filled.partials.each w place ls its_place (ap (λ (x : FilledLoop). slice_get x.partials w) (same_some (sym at ∙ there)) ∙ its_lines);
+            sets = filled.partials.over.are.sets;
+            chain = filled.partials.over.are.chain (omega (arith, e));
+            lines = λ w place g ls there its_place its_lines. filled.partials.over.are.each w place ls its_place (ap (λ (x : FilledLoop). slice_get x.partials w) (same_some (sym at ∙ there)) ∙ its_lines);
           }
         where
           same_some : {a b : FilledLoop} → ◌≡◌ {A = Option FilledLoop} (Some a) (Some b) → a ≡ b

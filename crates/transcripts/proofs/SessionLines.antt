@@ -62,7 +62,7 @@ module _ (s : SessionView) (is : IsSession s) where
   pub partials_have_runs : (b : Booked) (lines : List PartialLine) → ArePartials s b lines ⊎ ((lines ≡ []) × HasNoPartials s b) → All (λ (l : PartialLine). AreRuns l.runs) lines
   partials_have_runs b lines (inl p) =
       let filled = is.filled p.filled_at.number p.filled p.filled_at.its_loop in
-      each_has_runs (job_facts (session_job s p.filled_at.number)).facts p.place.first filled.partials.sets lines (its_lines b lines p filled.partials.sets filled.partials.each)
+      each_has_runs (job_facts (session_job s p.filled_at.number)).facts p.place.first filled.partials.over.are.sets lines (its_lines b lines p filled.partials.over.are.sets filled.partials.over.are.each)
   partials_have_runs b lines (inr q) = subst (All (λ (l : PartialLine). AreRuns l.runs)) (sym q.0) (λ k d lt. absurd (omega arith))
 
   -- the loop that the course has for the result

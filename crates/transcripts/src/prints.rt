@@ -52,7 +52,7 @@ fn put_print<R: Threads + Sync, G: Gate>(
     }
 }
 
-/// Runs the Prints in order over the columns that the graph was booked with, with so many slots.
+/// Runs the Prints in order over the columns that the graph was booked with. Loops share their clusters out to so many slots.
 /// Watched results are noted after every `watch`-th cluster.
 pub fn run_prints<R: Threads + Sync, G: Gate>(
     rt: &R,

@@ -8,6 +8,3 @@ pub mod variations;
 pub use crate::refusal::VarRefusal;
 pub use crate::var_set::VarSet;
 pub use crate::variations::Variations;
-
-#[cfg(test)]
-mod tests;

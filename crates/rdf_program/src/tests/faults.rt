@@ -87,7 +87,8 @@ fn a_file_that_is_not_there_is_named(rt: HostRuntime) -> Result<(), Fail> {
     Ok(())
 }
 
-const USAGE: &str = "usage: rdf SCRIPT TABLE [--slots N] [--cluster N] [--watch K] [--make]\n";
+const USAGE: &str =
+    "usage: rdf SCRIPT TABLE [--slots N] [--cluster N] [--watch K] [--make] [--friend FILE] [--key NAME] [--missing N]\n";
 
 #[test]
 fn words_out_of_form_give_the_usage_line(rt: HostRuntime) -> Result<(), Fail> {

@@ -1,11 +1,11 @@
 // Slots that wait for one another.
-ghost use Rattle.std.specs.Prelude.{◌≡◌, length};
+ghost use Rattle.std.specs.Prelude.{◌≡◌, length, slice_get};
 ghost use Rattle.entry_fns.specs.Shipped.{square_of};
 
 use super::*;
 use crate::tests::functions::name;
 use entry_fns::shipped::Square;
-use entry_fns::{Closure, Stored};
+use entry_fns::{Closure, Rule, Stored};
 use rdf_values::Text;
 use std::sync::Arc;
 use std::sync::atomic::{AtomicBool, AtomicU64, Ordering};
@@ -69,6 +69,79 @@ fn two_slots_at_once(rt: HostRuntime) -> Result<(), Fail> {
     assert!(rt; status == case.status);
     assert_eq!(rt; sink.bytes(), case.output.as_bytes());
     assert!(rt; gate.released.load(Ordering::SeqCst));
+    Ok(())
+}
+
+// A function that answers its argument.
+struct Same;
+
+impl Rule for Same {
+    ghost ARITY = { 1 };
+
+    const ARITY: u32 = 1;
+
+    ghost answers = { λ args. slice_get args 0 };
+}
+
+// It holds the first call until a second one has begun.
+#[derive(Drop)]
+struct Meeting {
+    begun: AtomicU64,
+    released: AtomicBool,
+}
+
+impl Meeting {
+    fn call(&self) {
+        if self.begun.fetch_add(1, Ordering::SeqCst) > 0 {
+            return;
+        }
+        for _ in 0..TURNS {
+            if self.begun.load(Ordering::SeqCst) > 1 {
+                self.released.store(true, Ordering::SeqCst);
+                return;
+            }
+        }
+    }
+}
+
+// Not only the gate's turns stand side by side, but also what comes of the entries.
+#[test]
+fn two_slots_evaluate_at_once(rt: HostRuntime) -> Result<(), Fail> {
+    let alloc = rt.alloc();
+    let meeting = Arc::new(
+        alloc,
+        Meeting {
+            begun: AtomicU64::new(0),
+            released: AtomicBool::new(false),
+        },
+    )?;
+    let own = meeting.clone()?;
+    let meet: Closure = Box::new(
+        alloc,
+        move |args: &[i64]| -> Option<i64>
+            requires { length args.now ≡ 1 }
+            ensures { result ≡ slice_get args.now 0 }
+        {
+            own.call();
+            Some(args[0])
+        },
+    )?;
+    let stored = Stored::new::<Same>(meet);
+    let mut functions = FnList::new(alloc);
+    if functions.add(name(alloc, b"meet")?, stored).is_err() {
+        return Err(Fail::from("not added"));
+    }
+    let case = Case {
+        script: "d = df.Define(\"z\", \"meet(w)\")\ns = d.Sum(\"z\")\nPrint(s)\n",
+        table: TABLE,
+        options: &["--slots", "2", "--cluster", "1"],
+        output: "s = 1\n",
+        status: Status::Done,
+    };
+    let (status, sink) = run(&rt, alloc, &case, &functions, &OpenGate)?;
+    assert!(rt; status == case.status);
+    assert_eq!(rt; sink.bytes(), case.output.as_bytes());
+    assert!(rt; meeting.released.load(Ordering::SeqCst));
     Ok(())
 }
 

@@ -14,4 +14,7 @@ returns c =
     let slots = c.in_ok-arg-3.ensures.shape c.option.ensures.local ∙ ap₂ with_rule table c.option.ensures.rule in
     let cluster = c.in_ok-arg-4.ensures.shape c.option-2.ensures.local ∙ ap₂ with_rule slots c.option-2.ensures.rule in
     let watch = c.in_ok-arg-5.ensures.shape c.option-3.ensures.local ∙ ap₂ with_rule cluster c.option-3.ensures.rule in
-    IfOk-weaker c.arg-6.result _ _ (λ r h. h.shape c.flag.ensures.local ∙ ap₂ with_rule watch c.flag.ensures.rule) c.arg-6.ensures
+    let make = c.in_ok-arg-6.ensures.shape c.flag.ensures.local ∙ ap₂ with_rule watch c.flag.ensures.rule in
+    let friend = c.in_ok-arg-7.ensures.shape c.option-4.ensures.local ∙ ap₂ with_rule make c.option-4.ensures.rule in
+    let key = c.in_ok-arg-8.ensures.shape c.option-5.ensures.local ∙ ap₂ with_rule friend c.option-5.ensures.rule in
+    IfOk-weaker c.arg-9.result _ _ (λ r h. h.shape c.option-6.ensures.local ∙ ap₂ with_rule key c.option-6.ensures.rule) c.arg-9.ensures

@@ -1,6 +1,10 @@
-use Rattle.std.proofs.Common.{map}
+use Rattle.std.proofs.Common.{map, subst, sym}
+use Rattle.std.proofs.lemmas.Result.{IfOk-weaker}
+use Rattle.partial_lines.specs.Chains.{HavePartialsOver, noted_sets}
+use Rattle.event_loop.specs.Ends.{AreNotedPartials}
+use Rattle.event_loop.specs.Filling.{dones_of, orders_of}
 use Rattle.event_loop.specs.Gathered.{finished_by}
-use Rattle.event_loop.proofs.Shares.{have_all, with_book}
+use Rattle.event_loop.proofs.Shares.{have_all, none_watched, noted_partials, unbooked, with_book}
 use Rattle.event_loop.proofs.filling.lines_in.Goals as goal
 
 pub close-requires-clause-all : goal.close-requires-clause-all
@@ -30,7 +34,14 @@ partial_lines-requires-clause-noted c =
 pub returns-clause-partials : goal.returns-clause-partials
 returns-clause-partials c = λ job slots can pieces shares.
     let w = with_book c.args.book c.in-Some.book c.args.watched c.args.clusters job slots c.args.shares c.in-Some.is can shares in
-    c.partial_lines.ensures.partials job.facts job.watched (map finished_by slots)
-    (w.noted c.in_ok-orders.orders.slots c.in_ok-orders.ensures.orders c.in_ok-orders.ensures.drawn)
-    (have_all c.args.book job slots c.args.pieces.now can.done.each pieces)
-    can.watches can.facts.ranges
+    let os = c.in_ok-orders.orders.slots in
+    let dones = map finished_by slots in
+    let noted = w.noted os c.in_ok-orders.ensures.orders c.in_ok-orders.ensures.drawn in
+    let lines = c.partial_lines.ensures.partials job.facts job.watched dones noted (have_all c.args.book job slots c.args.pieces.now can.done.each pieces) can.watches can.facts.ranges in
+    IfOk-weaker c.partial_lines.result (HavePartialsOver job.facts job.watched c.args.watch (noted_sets os dones c.args.clusters c.args.watch)) (AreNotedPartials job c.args.watch (orders_of slots) (dones_of slots))
+    (λ partials h. noted_partials job c.args.watch c.args.clusters os slots c.args.shares partials can.facts.ranges shares c.in_ok-orders.ensures.orders noted h) lines
+
+pub returns-in_default-clause-partials : goal.returns-in_default-clause-partials
+returns-in_default-clause-partials c = λ job slots can pieces shares.
+    subst (AreNotedPartials job c.args.watch (orders_of slots) (dones_of slots)) (sym c.new.ensures)
+    (none_watched job c.args.watch (orders_of slots) (dones_of slots) (unbooked c.args.book c.args.watched c.args.clusters job slots c.in_default.is can))

@@ -6,4 +6,4 @@ pub loop-i-preserved-in-Over : goal.loop-i-preserved-in-Over
 loop-i-preserved-in-Over c = next_over c.args.finished.now c.loop-i.i _ c.loop-i.least c.in-Over.field-0 (omega arith) c.loop-i.invariant c.in-Over.is
 
 pub loop-i-preserved : goal.loop-i-preserved
-loop-i-preserved c = next_faulted c.args.finished.now c.loop-i.i _ c.loop-i.least c.in-Faulted.fault c.lesser.result (omega arith) c.loop-i.invariant c.in-Faulted.is c.lesser.ensures
+loop-i-preserved c = next_faulted c.args.finished.now c.loop-i.i _ c.loop-i.least c.in-Faulted.field-0 c.in-Faulted.fault c.lesser.result (omega arith) c.loop-i.invariant c.in-Faulted.is c.lesser.ensures

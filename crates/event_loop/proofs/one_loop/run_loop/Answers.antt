@@ -72,4 +72,4 @@ returns-in_ok-filled-in-Processed g c =
     let ran : All (HasStopped claims book job) finished.items = λ k d lt. c.in_ok-finished.ensures.each k d (omega (arith, c.in_ok-finished.ensures.len)) in
     let ended = c.in_ok-fault.ensures book job (subst (λ (n : ℕ). AreFacts n job) (sym c.in_ok-claims.ensures.0) facts) ran in
     let can = can_fill book c.watched_in-watched.result c.args.slots clusters _ job _ c.in-Processed.slots facts ended c.in-Processed.is (c.in_ok-finished.ensures.len ∙ c.in_ok-fresh.ensures.many ∙ seats_many claims c.args.slots c.in_ok-claims.seats c.in_ok-claims.ensures.2) c.requires.slots.0 (sym c.watched_in-watched.ensures) c.in_ok-book.ensures.0 in
-    is_filled book _ c.args.watch job _ c.in-Processed.slots c.in_ok-filled-in-Processed.filled ended c.in-Processed.is (c.in_ok-filled-in-Processed.ensures job can)
+    is_filled book _ c.args.watch job _ c.in-Processed.slots c.in_ok-filled-in-Processed.filled ended c.in-Processed.is c.in-Processed.slots.items (c.in_ok-filled-in-Processed.ensures job can)

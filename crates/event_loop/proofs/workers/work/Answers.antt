@@ -2,7 +2,7 @@ use Rattle.std.proofs.Common.{◌≡◌, ◌+◌, ◌∷◌, ◌++◌, List, [],
 use Rattle.cluster_claims.specs.Seats.{IsOf, SeatSeen}
 use Rattle.entry_cache.specs.Jobs.{job_of}
 use Rattle.slot_state.specs.Jobs.{job_facts}
-use Rattle.event_loop.specs.Workers.{HasNoted}
+use Rattle.event_loop.specs.Workers.{AreSound, HasNoted}
 use Rattle.event_loop.proofs.Growing.{sound_more}
 use Rattle.event_loop.proofs.Rising.{below_drawn}
 use Rattle.event_loop.proofs.workers.work.Goals as goal
@@ -34,15 +34,17 @@ pub returns-in-Ok-Faulted : goal.returns-in-Ok-Faulted
 returns-in-Ok-Faulted g c =
     let inv = c.loop-cluster.invariant in
     let cluster = c.in-Some.cluster in
+    let faults = (job_facts (job_of c.args.job.now)).faults in
     let f = c.process.ensures.faulted c.in-Ok-Faulted.fault (c.in-Ok-Faulted.is ∙ ap Ok c.in-Ok-Faulted.field-0-is) in
     record {
       seat_of = subst (IsOf c.args.claims.now) (sym c.lower.ensures) c.in-Some.ensures.of.0;
       stopped = record {
         last = cluster;
-        others = c.loop-cluster.state.done;
-        drawn = ap (λ (s : SeatSeen). s.drawn) c.lower.ensures ∙ c.in-Some.ensures.some.1 ∙ ap (λ (l : List ℕ). l ++ cluster ∷ []) (sym inv.done);
-        sound = inv.sound;
-        noted = inv.noted;
+        slot = c.process.ensures.slot;
+        phase = f.3;
+        others = ap (λ (s : SeatSeen). s.drawn) c.lower.ensures ∙ c.in-Some.ensures.some.1 ∙ ap (λ (l : List ℕ). l ++ cluster ∷ []) (sym inv.done ∙ sym f.2);
+        sound = subst (AreSound faults) (sym f.2) inv.sound;
+        noted = subst (λ (l : List ℕ). HasNoted c.args.book.now (length l) c.loop-cluster.slot.share) (sym f.2) inv.noted;
         its_fault = f.1;
         lowered = ap (λ (s : SeatSeen). s.lowered) c.lower.ensures;
       };

@@ -1,6 +1,6 @@
 use Rattle.std.proofs.Common.{◌∙◌, subst}
 use Rattle.rdf_values.specs.FunctionNames.{AreFnNames}
-use Rattle.expr_eval.proofs.Callable.{can_call}
+use Rattle.expr_eval.proofs.CheckedCalls.{can_call}
 use Rattle.expr_eval.proofs.calls.callable.Goals as goal
 
 pub returns-clause-node : goal.returns-clause-node

@@ -1,12 +1,8 @@
-use Rattle.std.proofs.Common.{map, drop, length, [], ◌∷◌, ◌++◌, ◌+◌, ap, sym, ◌∙◌, subst, arith}
-use Rattle.std.specs.Prelude.{IsPermutation}
+use Rattle.std.proofs.Common.{ℕ, List, ◌≤◌, map, drop, length, [], ◌++◌, ◌+◌, ap, sym, ◌∙◌, subst, arith}
+use Rattle.std.specs.Prelude.{IfOk, IsPermutation}
 use Rattle.std.specs.List.Sorted.{IsStrictlyIncreasing}
-use Rattle.std.proofs.lemmas.List.{length-map}
-use Rattle.std.proofs.lemmas.List.Sorted.{IsNonDecreasingBy-from_sort}
-use Rattle.merge_core.specs.declared.noted.Noted.{Noted}
-use Rattle.merge_core.specs.Pieces.{Stand}
-use Rattle.partial_watch.specs.Chosen.{cluster_in, piece_in, chosen_in, chosen}
-use Rattle.partial_watch.proofs.Alone.{stand_alone, rises, unite}
+use Rattle.rdf_values.specs.Times.{times}
+use Rattle.partial_watch.specs.Chosen.{AreOf, cluster_in, piece_in, chosen_in, chosen}
 use Rattle.partial_watch.proofs.Turns.{as_many, trail_next, appended, all_chosen}
 use Rattle.partial_watch.proofs.partials.partial.Goals as goal
 
@@ -40,51 +36,32 @@ loop-i-preserved g c =
       pieces = appended piece_in c.loop-i.pieces.items c.choose.new.pieces.items [] _ here left whole c.in_ok-choose.ensures.pieces split c.loop-i.invariant.pieces;
     }
 
-pub merge_all-requires-clause-some : goal.merge_all-requires-clause-some
-merge_all-requires-clause-some g c =
+pub joined-requires : goal.joined-requires
+joined-requires g c =
     let os = c.args.orders.now.slots in
     let ts = c.args.trails.now in
-    let ns = chosen os c.args.below ts in
-    let pieces = all_chosen piece_in os ts c.args.below c.loop-i.i c.loop-i.pieces.items (map piece_in ns) (omega arith) c.loop-i.invariant.pieces in
-    omega (arith, c.requires.some, ap length (c.from_vec.ensures ∙ pieces), length-map ns piece_in)
-
-pub merge_all-requires-clause-apart : goal.merge_all-requires-clause-apart
-merge_all-requires-clause-apart g c =
-    let os = c.args.orders.now.slots in
-    let ts = c.args.trails.now in
-    let ns = chosen os c.args.below ts in
-    let given = c.requires.apart in
-    let sorted = c.sort_unstable.new.self.items in
-    let pieces = all_chosen piece_in os ts c.args.below c.loop-i.i c.loop-i.pieces.items (map piece_in ns) (omega arith) c.loop-i.invariant.pieces in
-    let clusters = all_chosen cluster_in os ts c.args.below c.loop-i.i c.loop-i.clusters.items (map cluster_in ns) (omega arith) c.loop-i.invariant.clusters in
-    let moved = subst (λ l. IsPermutation l sorted) clusters c.sort_unstable.ensures.permutation in
-    let up = IsNonDecreasingBy-from_sort (λ x. x) sorted c.sort_unstable.ensures.sorted in
-    let stands = g.P.Piece.stands given.0 in
-    let sets = map (λ (n : Noted g.row.P.Denot). n.cluster ∷ []) ns in
-    (given.0, sets, sorted, subst (Stand stands sets) (sym (c.from_vec.ensures ∙ pieces)) (stand_alone stands ns given.1), unite ns sorted up moved given.2)
+    let entries = chosen os c.args.below ts in
+    let e : AreOf c.loop-i.clusters.items c.loop-i.pieces.items entries = record {
+      clusters_are = all_chosen cluster_in os ts c.args.below c.loop-i.i c.loop-i.clusters.items (map cluster_in entries) (omega arith) c.loop-i.invariant.clusters;
+      pieces_are = all_chosen piece_in os ts c.args.below c.loop-i.i c.loop-i.pieces.items (map piece_in entries) (omega arith) c.loop-i.invariant.pieces;
+    } in
+    let apart = c.requires.apart in
+    record { entries = (apart.0, entries, e, c.requires.some, apart.1, λ x. subst (λ (l : List ℕ). times x l ≤ 1) (sym e.clusters_are) (apart.2 x)) }
 
 pub returns-clause-named : goal.returns-clause-named
 returns-clause-named g c =
     let os = c.args.orders.now.slots in
     let ts = c.args.trails.now in
-    let ns = chosen os c.args.below ts in
-    let sorted = c.sort_unstable.new.self.items in
-    let clusters = all_chosen cluster_in os ts c.args.below c.loop-i.i c.loop-i.clusters.items (map cluster_in ns) (omega arith) c.loop-i.invariant.clusters in
-    let moved = subst (λ l. IsPermutation l sorted) clusters c.sort_unstable.ensures.permutation in
-    let up = IsNonDecreasingBy-from_sort (λ x. x) sorted c.sort_unstable.ensures.sorted in
-    let same = sym c.from_vec-2.ensures in
-    (subst IsStrictlyIncreasing same (rises ns sorted up moved c.requires.apart.2), subst (IsPermutation (map cluster_in ns)) same moved)
+    let entries = chosen os c.args.below ts in
+    let is = all_chosen cluster_in os ts c.args.below c.loop-i.i c.loop-i.clusters.items (map cluster_in entries) (omega arith) c.loop-i.invariant.clusters in
+    subst (λ (l : List ℕ). IfOk c.joined.result (λ p. IsStrictlyIncreasing p.clusters × IsPermutation l p.clusters)) is c.joined.ensures.named
 
 pub returns-clause-stands : goal.returns-clause-stands
 returns-clause-stands g c = λ job alone.
     let os = c.args.orders.now.slots in
     let ts = c.args.trails.now in
-    let ns = chosen os c.args.below ts in
-    let sorted = c.sort_unstable.new.self.items in
-    let pieces = all_chosen piece_in os ts c.args.below c.loop-i.i c.loop-i.pieces.items (map piece_in ns) (omega arith) c.loop-i.invariant.pieces in
-    let clusters = all_chosen cluster_in os ts c.args.below c.loop-i.i c.loop-i.clusters.items (map cluster_in ns) (omega arith) c.loop-i.invariant.clusters in
-    let moved = subst (λ l. IsPermutation l sorted) clusters c.sort_unstable.ensures.permutation in
-    let up = IsNonDecreasingBy-from_sort (λ x. x) sorted c.sort_unstable.ensures.sorted in
-    let stands = g.P.Piece.stands job in
-    let sets = map (λ (n : Noted g.row.P.Denot). n.cluster ∷ []) ns in
-    subst (λ l. stands l c.in_ok-piece.piece) (sym c.from_vec-2.ensures) (c.in_ok-piece.ensures job sets sorted (subst (Stand stands sets) (sym (c.from_vec.ensures ∙ pieces)) (stand_alone stands ns alone)) (unite ns sorted up moved c.requires.apart.2))
+    let entries = chosen os c.args.below ts in
+    c.joined.ensures.stands job entries record {
+      clusters_are = all_chosen cluster_in os ts c.args.below c.loop-i.i c.loop-i.clusters.items (map cluster_in entries) (omega arith) c.loop-i.invariant.clusters;
+      pieces_are = all_chosen piece_in os ts c.args.below c.loop-i.i c.loop-i.pieces.items (map piece_in entries) (omega arith) c.loop-i.invariant.pieces;
+    } alone

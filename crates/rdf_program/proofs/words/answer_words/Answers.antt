@@ -12,11 +12,11 @@ answer_made-requires-clause-settings g c κs within = settings_fit c.args.words.
 
 pub returns-in-Files-clause-taken : goal.returns-in-Files-clause-taken
 returns-in-Files-clause-taken g c =
-    taken_files _ _ _ _ c.args.words.now c.in-Some.command _ _ _ _ _ (asked _ _ _ c.in_ok-command.ensures c.in-Some.is) c.in-Files.is (cc (c.as_str.ensures, c.in-Files.script-is)) (cc (c.as_str-in-Files.ensures, c.in-Files.table-is)) c.answer_files.ensures.answer
+    taken_files _ _ _ _ _ c.args.words.now c.in-Some.command _ _ _ _ _ _ _ (asked _ _ _ c.in_ok-command.ensures c.in-Some.is) c.in-Files.is (cc (c.as_str.ensures, c.in-Files.script-is)) (cc (c.as_str-in-Files.ensures, c.in-Files.table-is)) (cc c.in-Files.friend-is) c.answer_files.ensures.answer
 
 pub returns-in-Generated-clause-taken : goal.returns-in-Generated-clause-taken
 returns-in-Generated-clause-taken g c =
-    taken_made _ _ _ _ c.args.words.now c.in-Some.command _ _ _ (asked _ _ _ c.in_ok-command.ensures c.in-Some.is) c.in-Generated.is c.answer_made.ensures
+    taken_made _ _ _ _ _ c.args.words.now c.in-Some.command _ _ _ (asked _ _ _ c.in_ok-command.ensures c.in-Some.is) c.in-Generated.is c.answer_made.ensures
 
 pub returns-in-Generated-clause-made : goal.returns-in-Generated-clause-made
 returns-in-Generated-clause-made g c =

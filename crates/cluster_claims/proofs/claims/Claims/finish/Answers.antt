@@ -1,4 +1,4 @@
-use Rattle.std.proofs.Common.{◌≡◌, ◌≤◌, ◌<◌, [], ◌∷◌, ◌++◌, map, length, min, subst₂, Some, IfSome, sym, ap, ◌∙◌, subst, arith}
+use Rattle.std.proofs.Common.{◌≡◌, ◌≤◌, ◌<◌, [], ◌∷◌, ◌++◌, ◌+◌, map, length, min, subst₂, Some, IfSome, sym, ap, ◌∙◌, subst, arith}
 use Rattle.std.specs.List.{Contains}
 use Rattle.std.proofs.lemmas.List.{length-map}
 use Rattle.std.proofs.lemmas.List.Elements.{All-pop, All-weaker}
@@ -7,7 +7,7 @@ use Rattle.cluster_claims.specs.Seats.{IsOf, hand_seen, last_of}
 use Rattle.cluster_claims.specs.Claiming.{IsOver}
 use Rattle.cluster_claims.proofs.Steps.{gathers, finished, IsFinished}
 use Rattle.draw_sums.proofs.Hands.{taken_first, taken_next}
-use Rattle.cluster_claims.proofs.Dealt.{drawn_of, lowered_of, all_seen}
+use Rattle.cluster_claims.proofs.Dealt.{drawn_of, kept_of, lowered_of, all_seen}
 use Rattle.cluster_claims.proofs.claims.Claims.finish.Goals as goal
 
 pub loop-next-init : goal.loop-next-init
@@ -57,6 +57,9 @@ whole c =
 
 pub returns-clause-drawn : goal.returns-clause-drawn
 returns-clause-drawn c = subst (λ lists. DrawnBy lists (min c.word-word.result c.args.self.clusters)) (drawn_of c.args.seats) (whole c).drawn
+
+pub returns-clause-word : goal.returns-clause-word
+returns-clause-word c = (whole c).counted ∙ ap (λ n. min c.word-word.result c.args.self.clusters + n) (kept_of c.args.seats)
 
 pub returns-clause-kept : goal.returns-clause-kept
 returns-clause-kept c = all_seen (λ h. IfSome h.kept (λ k. (c.args.self.clusters ≤ k) × (k < c.word-word.result))) c.args.seats (whole c).kept

@@ -1,0 +1,108 @@
+-- Selections of the first places of a block.
+use Rattle.std.proofs.Common.{◌≡◌, ◌<◌, ◌≤◌, ◌+◌, ℕ, suc, zero, ℤ, true, false, ◌||◌, List, [], ◌∷◌, ◌++◌, length, get_or, take, set, ◌∙◌, ap, sym, subst, inl, inr, arith}
+use Rattle.std.specs.List.{range_with_len}
+use Rattle.std.proofs.lemmas.Bool.{cases_lt}
+use Rattle.std.proofs.lemmas.Bool.Decides.{eqb_tells}
+use Rattle.std.proofs.lemmas.List.{take_more_set}
+use Rattle.std.proofs.lemmas.List.FromFn.{length-range_with_len, get_or-range_with_len}
+use Rattle.rdf_model.specs.Evaluation.{Outcome, Gives}
+use Rattle.expr_lanes.specs.declared.TheConstants.{MAX_PLACES}
+use Rattle.expr_lanes.specs.declared.stopped.Stopped.{Stopped}
+use Rattle.expr_lanes.specs.Places.{is_in, at_place, EachPlace, Evaluated, IsReady}
+use Rattle.expr_lanes.proofs.Selected.{is_in_at}
+use Rattle.expr_lanes.proofs.Sequence.{come_told, come_alike, told}
+
+-- ---- the places
+
+range_more : (a n : ℕ) → range_with_len a (n + 1) ≡ range_with_len a n ++ (a + n) ∷ []
+range_more a zero = let same : a ≡ a + 0 = omega arith in ap (λ m. m ∷ []) same
+range_more a (suc n) =
+    let longer : suc n + 1 ≡ suc (n + 1) = omega arith in
+    let last : a + 1 + n ≡ a + suc n = omega arith in
+    ap (range_with_len a) longer ∙ ap (λ l. a ∷ l) (range_more (a + 1) n ∙ ap (λ m. range_with_len (a + 1) n ++ m ∷ []) last)
+
+-- one more place is numbered
+pub number_more : (places : List ℕ) (i : ℕ) → take i places ≡ range_with_len 0 i → i < length places → take (i + 1) (set places i i) ≡ range_with_len 0 (i + 1)
+number_more places i so_far inside =
+    let last : i ≡ 0 + i = omega arith in
+    take_more_set places i i inside ∙ ap (λ l. l ++ i ∷ []) so_far ∙ ap (λ m. range_with_len 0 i ++ m ∷ []) last ∙ sym (range_more 0 i)
+
+pub first_in_range : (n p : ℕ) → p < n → is_in p (range_with_len 0 n) ≡ true
+first_in_range n p h =
+    let there : get_or (range_with_len 0 n) p 0 ≡ p = get_or-range_with_len 0 n p 0 h ∙ omega arith in
+    let long : p < length (range_with_len 0 n) = omega (arith, length-range_with_len 0 n) in
+    subst (λ (q : ℕ). is_in q (range_with_len 0 n) ≡ true) there (is_in_at (range_with_len 0 n) p 0 long)
+
+below_end : (n a p : ℕ) → is_in p (range_with_len a n) ≡ true → p < a + n
+below_end zero a p h = absurd (cc h)
+below_end (suc n) a p h =
+    elim (eqb_tells p a) [
+      | inl e ↦ let same : p ≡ a = e.1 in omega arith
+      | inr o ↦
+          let rest : is_in p (range_with_len (a + 1) n) ≡ true = sym (ap (λ b. b || is_in p (range_with_len (a + 1) n)) o.0) ∙ h in
+          let below : p < a + 1 + n = below_end n (a + 1) p rest in
+          omega arith
+    ]
+
+pub below_range : (n p : ℕ) → is_in p (range_with_len 0 n) ≡ true → p < n
+below_range n p h = let below : p < 0 + n = below_end n 0 p h in omega arith
+
+pub outside_range : (n p : ℕ) → is_in p (range_with_len 0 n) ≡ false → n ≤ p
+outside_range n p h =
+    elim (cases_lt p n) [
+      | inl low ↦ let both : true ≡ false = sym (first_in_range n p low) ∙ h in absurd (cc both)
+      | inr high ↦ high
+    ]
+
+-- ---- a block that is covered
+
+-- no place stops
+pub covered : (f : ℕ → Outcome ℕ ℤ) (n : ℕ) (sel : List ℕ) (before after : List ℤ) (stops : List Stopped) → sel ≡ range_with_len 0 n → ((p : ℕ) → p < n → f p ≡ Gives (at_place after p)) → ((p : ℕ) → n ≤ p → at_place after p ≡ at_place before p)
+    → Evaluated f sel sel before after stops stops
+covered f n sel before after stops dense values others =
+    let same : EachPlace sel (λ p. told (at_place after) p ≡ f p) = λ p h. sym (values p (below_range n p (subst (λ (l : List ℕ). is_in p l ≡ true) dense h))) in
+    let come = come_alike f (told (at_place after)) sel sel (at_place after) stops stops same (come_told (at_place after) sel stops) in
+    record {
+      left_in = come.left_in;
+      values = come.values;
+      others = λ p h. others p (outside_range n p (subst (λ (l : List ℕ). is_in p l ≡ false) dense h));
+      joined = come.joined;
+    }
+
+-- one does: what was written until then is written over, or is of no place that is left
+pub sifted_anew : (f : ℕ → Outcome ℕ ℤ) (n : ℕ) (sel left : List ℕ) (before middle after : List ℤ) (stops more : List Stopped) → sel ≡ range_with_len 0 n → ((p : ℕ) → n ≤ p → at_place middle p ≡ at_place before p)
+    → Evaluated f sel left middle after stops more → Evaluated f sel left before after stops more
+sifted_anew f n sel left before middle after stops more dense others e = record {
+  left_in = e.left_in;
+  values = e.values;
+  others = λ p h. e.others p h ∙ others p (outside_range n p (subst (λ (l : List ℕ). is_in p l ≡ false) dense h));
+  joined = e.joined;
+}
+
+-- the lane was not written before, and the selection is seen as it is
+pub as_before : (f : ℕ → Outcome ℕ ℤ) (sel given left : List ℕ) (before middle after : List ℤ) (stops more : List Stopped) → given ≡ sel → middle ≡ before → Evaluated f given left middle after stops more → Evaluated f sel left before after stops more
+as_before f sel given left before middle after stops more same unwritten e =
+    subst (λ (l : List ℕ). Evaluated f l left before after stops more) same (subst (λ (l : List ℤ). Evaluated f given left l after stops more) unwritten e)
+
+-- ---- what each place of such a selection has, the first have
+
+pub dense_each : (n : ℕ) (sel : List ℕ) (P : ℕ → Type 0) → sel ≡ range_with_len 0 n → EachPlace sel P → (p : ℕ) → p < n → P p
+dense_each n sel P dense each p h = each p (subst (λ (l : List ℕ). is_in p l ≡ true) (sym dense) (first_in_range n p h))
+
+pub dense_long : (n bound : ℕ) (sel : List ℕ) → sel ≡ range_with_len 0 n → EachPlace sel (λ p. p < bound) → n ≤ bound
+dense_long n bound sel dense inside =
+    elim (cases_lt bound n) [
+      | inl low ↦ let none : bound < bound = dense_each n sel (λ p. p < bound) dense inside bound low in absurd (omega arith)
+      | inr high ↦ high
+    ]
+
+-- a block whose places are all selected is ready
+pub ready_first : (size : ℕ) (sel : List ℕ) (lane : List ℤ) (stops : List Stopped) → size ≤ MAX_PLACES → sel ≡ range_with_len 0 size → size ≤ length lane → stops ≡ [] → IsReady size sel lane stops
+ready_first size sel lane stops small dense long none = record {
+  selected = record {
+    small = small;
+    inside = λ p h. below_range size p (subst (λ (l : List ℕ). is_in p l ≡ true) dense h);
+    room = omega (arith, small, ap (λ (l : List ℕ). length l) dense, length-range_with_len 0 size, ap (λ (l : List Stopped). length l) none);
+  };
+  long = long;
+}

@@ -1,0 +1,12 @@
+pub mod Agreement
+pub mod ByValue
+pub mod Choices
+pub mod Dense
+pub mod Gathered
+pub mod Nodes
+pub mod PartSteps
+pub mod Ready
+pub mod Selected
+pub mod Sequence
+pub mod SiftSteps
+pub mod Whole

@@ -1,0 +1,115 @@
+-- One more place, as a loop over a selection meets it.
+use Rattle.std.proofs.Common.{◌≡◌, ◌≢◌, ◌<◌, ◌≤◌, ◌+◌, ℕ, ℤ, Bool, true, false, List, [], ◌∷◌, ◌++◌, length, get_or, take, drop, set, ◌∙◌, refl, ap, sym, subst, append_assoc, add-zero, arith, Result, Err}
+use Rattle.std.proofs.lemmas.List.{take_more, take_more_set, get_or-drop, get_or-take, length-take-le, length-append, append-nil}
+use Rattle.std.proofs.lemmas.List.Filters.{FiltersInPlace, FiltersInPlace-more_no, FiltersInPlace-more_set}
+use Rattle.rdf_model.specs.Evaluation.{Outcome, Gives, Faults, Needs}
+use Rattle.expr_eval.specs.declared.stop.ScalarStop.{ScalarStop}
+use Rattle.expr_eval.specs.declared.stop.ScalarStop.TheVariants.{Fault, Need}
+use Rattle.expr_lanes.specs.declared.stopped.Stopped.{Stopped}
+use Rattle.expr_lanes.specs.Places.{is_in, EachPlace, at_place, is_given, answered_at, stopped, with_stop, given_in, stops_in, times, Evaluated}
+use Rattle.expr_lanes.proofs.Selected.{is_in_at, values_more, kept_at}
+
+-- what wasn't reached yet is as it was
+pub at_rest : {X : Type 0} (ys xs : List X) (i : ℕ) (d : X) → drop i ys ≡ drop i xs → get_or ys i d ≡ get_or xs i d
+at_rest ys xs i d e =
+    let a : get_or (drop i ys) 0 d ≡ get_or ys i d = rw add-zero at (get_or-drop i ys 0 d) in
+    let b : get_or (drop i xs) 0 d ≡ get_or xs i d = rw add-zero at (get_or-drop i xs 0 d) in
+    sym a ∙ ap (λ l. get_or l 0 d) e ∙ b
+
+module _ (f : ℕ → Outcome ℕ ℤ) where
+  with_push : (o : Outcome ℕ ℤ) (x : ℕ) (whole one two : List Stopped) → whole ≡ one ++ two → with_stop x o whole ≡ with_stop x o one ++ two
+  with_push (Gives z) x whole one two e = e
+  with_push (Faults k) x whole one two e = ap (λ l. stopped x (Fault k) ∷ l) e
+  with_push (Needs c) x whole one two e = ap (λ l. stopped x (Need c) ∷ l) e
+
+  stops_push : (xs : List ℕ) (p : ℕ) → stops_in f (xs ++ p ∷ []) ≡ stops_in f xs ++ with_stop p (f p) []
+  stops_push [] p = refl
+  stops_push (x ∷ xs) p = with_push (f x) x (stops_in f (xs ++ p ∷ [])) (stops_in f xs) (with_stop p (f p) []) (stops_push xs p)
+
+  -- a place that comes to a value is no stop
+  pub stops_given : (xs : List ℕ) (i q : ℕ) (z : ℤ) → i < length xs → q ≡ get_or xs i q → f q ≡ Gives z → stops_in f (take (i + 1) xs) ≡ stops_in f (take i xs)
+  stops_given xs i q z inside read here =
+      ap (stops_in f) (take_more xs i q inside ∙ ap (λ n. take i xs ++ n ∷ []) (sym read)) ∙ stops_push (take i xs) q ∙ ap (λ o. stops_in f (take i xs) ++ with_stop q o []) here ∙ append-nil (stops_in f (take i xs))
+
+  -- any other is
+  pub stops_more : (xs : List ℕ) (i q : ℕ) (s : ScalarStop) → i < length xs → q ≡ get_or xs i q → (let r : Result ℤ ScalarStop = Err s in answered_at r ≡ f q)
+      → stops_in f (take (i + 1) xs) ≡ stops_in f (take i xs) ++ stopped q s ∷ []
+  stops_more xs i q (Fault k) inside read here =
+      ap (stops_in f) (take_more xs i q inside ∙ ap (λ n. take i xs ++ n ∷ []) (sym read)) ∙ stops_push (take i xs) q ∙ ap (λ o. stops_in f (take i xs) ++ with_stop q o []) (sym here)
+  stops_more xs i q (Need c) inside read here =
+      ap (stops_in f) (take_more xs i q inside ∙ ap (λ n. take i xs ++ n ∷ []) (sym read)) ∙ stops_push (take i xs) q ∙ ap (λ o. stops_in f (take i xs) ++ with_stop q o []) (sym here)
+
+-- a place that is reached among the first of the selection is one of them
+pub read_in : (xs ys : List ℕ) (count i d : ℕ) → drop i ys ≡ drop i xs → i < count → count ≤ length xs → is_in (get_or ys i d) (take count xs) ≡ true
+read_in xs ys count i d rest low high =
+    let there : get_or (take count xs) i d ≡ get_or ys i d = get_or-take count xs i d low ∙ sym (at_rest ys xs i d rest) in
+    subst (λ (n : ℕ). is_in n (take count xs) ≡ true) there (is_in_at (take count xs) i d (subst (λ (n : ℕ). i < n) (sym (length-take-le count xs high)) low))
+
+-- it stands there
+pub read_of : (xs ys : List ℕ) (i q : ℕ) → drop i ys ≡ drop i xs → q ≡ get_or ys i q → q ≡ get_or xs i q
+read_of xs ys i q rest read = read ∙ at_rest ys xs i q rest
+
+-- ---- the loop
+
+-- the first i of the selected places were seen to
+pub record SiftedTo (f : ℕ → Outcome ℕ ℤ) (count : ℕ) (places0 places : List ℕ) (out0 out : List ℤ) (stops0 stops : List Stopped) (kept i : ℕ) : Type 0 where
+  pub front : FiltersInPlace (λ p. is_given (f p)) places0 places kept i
+  pub values : EachPlace (take kept places) (λ p. f p ≡ Gives (at_place out p))
+  pub others : (p : ℕ) → is_in p (take count places0) ≡ false → at_place out p ≡ at_place out0 p
+  pub added : stops ≡ stops0 ++ stops_in f (take i places0)
+  pub bound : length stops + kept ≤ length stops0 + i
+
+module _
+    (f : ℕ → Outcome ℕ ℤ) (count : ℕ) (places0 places : List ℕ) (out0 out : List ℤ) (stops0 stops : List Stopped) (kept i q : ℕ) (so_far : SiftedTo f count places0 places out0 out stops0 stops kept i) (low : i < count)
+    (high : count ≤ length places0) (read : q ≡ get_or places i q)
+  where
+    within : i < length places
+    within = omega (arith, so_far.front.long)
+
+    at_first : q ≡ get_or places0 i q
+    at_first = read_of places0 places i q so_far.front.rest read
+
+    selected : is_in q (take count places0) ≡ true
+    selected = subst (λ (n : ℕ). is_in n (take count places0) ≡ true) (sym read) (read_in places0 places count i q so_far.front.rest low high)
+
+    among : i < length places0
+    among = omega arith
+
+    pub sift_given : (z : ℤ) → f q ≡ Gives z → q < length out → SiftedTo f count places0 (set places kept q) out0 (set out q z) stops0 stops (kept + 1) (i + 1)
+    sift_given z here inside = record {
+      front = FiltersInPlace-more_set so_far.front within (ap is_given here) read;
+      values = λ p h. values_more f out q z inside here (take kept places) so_far.values p (subst (λ (l : List ℕ). is_in p l ≡ true) (take_more_set places kept q (omega (arith, so_far.front.behind, within))) h);
+      others = λ p h. kept_at out p q z (other_than p h) ∙ so_far.others p h;
+      added = so_far.added ∙ ap (λ l. stops0 ++ l) (sym (stops_given f places0 i q z among at_first here));
+      bound = omega (arith, so_far.bound);
+    }
+      where
+        other_than : (p : ℕ) → is_in p (take count places0) ≡ false → p ≢ q
+        other_than p h same = let both : true ≡ false = sym selected ∙ subst (λ (n : ℕ). is_in n (take count places0) ≡ false) same h in absurd (cc both)
+
+    pub sift_stopped : (s : ScalarStop) → (let r : Result ℤ ScalarStop = Err s in answered_at r ≡ f q) → SiftedTo f count places0 places out0 out stops0 (stops ++ stopped q s ∷ []) kept (i + 1)
+    sift_stopped s here = record {
+      front = FiltersInPlace-more_no so_far.front within (is_stop s here) read;
+      values = so_far.values;
+      others = so_far.others;
+      added = ap (λ l. l ++ stopped q s ∷ []) so_far.added ∙ append_assoc stops0 (stops_in f (take i places0)) (stopped q s ∷ []) ∙ ap (λ l. stops0 ++ l) (sym (stops_more f places0 i q s among at_first here));
+      bound = omega (arith, so_far.bound, length-append stops (stopped q s ∷ []));
+    }
+      where
+        is_stop : (s : ScalarStop) → (let r : Result ℤ ScalarStop = Err s in answered_at r ≡ f q) → is_given (f q) ≡ false
+        is_stop (Fault k) e = ap is_given (sym e)
+        is_stop (Need c) e = ap is_given (sym e)
+
+times_append : (t : Stopped → Bool) (xs ys : List Stopped) → times t (xs ++ ys) ≡ times t xs + times t ys
+times_append t [] ys = omega arith
+times_append t (x ∷ xs) ys = omega (arith, times_append t xs ys)
+
+-- all were
+pub sifted : (f : ℕ → Outcome ℕ ℤ) (count : ℕ) (places0 places : List ℕ) (out0 out : List ℤ) (stops0 stops : List Stopped) (kept i : ℕ) → SiftedTo f count places0 places out0 out stops0 stops kept i → i ≡ count
+    → Evaluated f (take count places0) (take kept places) out0 out stops0 stops
+sifted f count places0 places out0 out stops0 stops kept i so_far all = record {
+  left_in = so_far.front.front ∙ ap (λ n. given_in f (take n places0)) all;
+  values = so_far.values;
+  others = so_far.others;
+  joined = λ t. ap (times t) (so_far.added ∙ ap (λ n. stops0 ++ stops_in f (take n places0)) all) ∙ times_append t stops0 (stops_in f (take count places0));
+}

@@ -1,0 +1,6 @@
+use Rattle.std.proofs.Common.{◌≡◌, ◌++◌, take}
+use Rattle.expr_lanes.specs.Marks.{numbers_at}
+use Rattle.expr_lanes.proofs.arguments.numbers_of.Given as goal
+
+abbrev pub invariant-loop-lane : goal.invariant-loop-lane
+invariant-loop-lane l = l.numbers.items ≡ l.initial.numbers.items ++ numbers_at (take l.lane-index l.lanes) l.place

@@ -1,0 +1,6 @@
+pub mod Depths
+pub mod LaneInputs
+pub mod Marks
+pub mod Places
+pub mod Sides
+pub mod Values

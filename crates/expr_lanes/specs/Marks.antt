@@ -1,0 +1,90 @@
+-- Expressions over numbers, where a truth value is its mark: what a lane holds of them.
+use Rattle.std.specs.Prelude.{ℕ, ℤ, pos, neg_ℤ, nat_abs, List, [], ◌∷◌, map, if◌then◌else◌, slice_get, Option, Some, None}
+use Rattle.rdf_values.specs.Functions.{Function}
+use Rattle.rdf_values.specs.Tree.{NumTree, Trees, Lit, Truth, Col, Neg, Not, Bin, Cond, Pick, Call, End, More}
+use Rattle.rdf_values.specs.declared.expr.BinOp.{BinOp}
+use Rattle.rdf_values.specs.declared.expr.BinOp.TheVariants as op
+use Rattle.rdf_values.specs.declared.num_expr.Callee.{Callee}
+use Rattle.rdf_values.specs.declared.num_expr.Callee.TheVariants as fn
+use Rattle.rdf_values.specs.declared.value.Value.{Value}
+use Rattle.rdf_values.specs.declared.value.Value.TheVariants as val
+use Rattle.rdf_values.specs.declared.value.ColType.{ColType}
+use Rattle.rdf_values.specs.declared.value.ColType.TheVariants as kind
+use Rattle.rdf_model.specs.Evaluation.{Outcome, Gives, Faults, Needs, ◌>>=◌, checked, mark, is_zero, is_set, number_operation, answer_outcome}
+use Rattle.expr_lanes.specs.declared.scratch.Scratch.{Scratch}
+use Rattle.expr_lanes.specs.Places.{at_place}
+
+-- the number that a lane holds for a value: 1 or 0 for a truth value
+abbrev pub lane_number : Value → ℤ
+lane_number (val.Int z) = z
+lane_number (val.Bool b) = mark b
+lane_number (val.Vect zs) = pos 0
+
+-- the value of that kind for which a lane holds the number
+abbrev pub lane_value : ColType → ℤ → Value
+lane_value kind.Int z = val.Int z
+lane_value kind.Bool z = val.Bool (is_set z)
+lane_value kind.Vect z = val.Vect []
+
+-- an outcome as a lane holds it
+abbrev pub lane_outcome : {M : Type 0} → Outcome M Value → Outcome M ℤ
+lane_outcome (Gives v) = Gives (lane_number v)
+lane_outcome (Faults kind) = Faults kind
+lane_outcome (Needs m) = Needs m
+
+-- an operator on marks: && and || take the right side only where the left doesn't decide
+abbrev pub lane_operation : BinOp → Outcome ℕ ℤ → Outcome ℕ ℤ → Outcome ℕ ℤ
+lane_operation op.And l r = l >>= λ x. if is_zero x then Gives x else r
+lane_operation op.Or l r = l >>= λ x. if is_zero x then r else Gives x
+lane_operation o l r = l >>= λ x. r >>= λ y. number_operation o x y
+
+-- the answer of a function of the list, or a fault where it has none
+abbrev pub answer_number : Option ℤ → Outcome ℕ ℤ
+answer_number (Some z) = Gives z
+answer_number None = lane_outcome (answer_outcome None)
+
+abbrev pub given_number : Option Function → List ℤ → Outcome ℕ ℤ
+given_number None zs = Gives (pos 0)
+given_number (Some f) zs = answer_number (f.answer zs)
+
+-- a call with numbers
+abbrev pub lane_call : List Function → Callee → List ℤ → Outcome ℕ ℤ
+lane_call functions fn.Abs (z ∷ []) = checked (pos (nat_abs z))
+lane_call functions (fn.Given i) zs = given_number (slice_get functions i) zs
+lane_call functions f zs = Gives (pos 0)
+
+-- an argument before others
+abbrev pub one_more : Outcome ℕ ℤ → Outcome ℕ (List ℤ) → Outcome ℕ (List ℤ)
+one_more o r = o >>= λ z. r >>= λ zs. Gives (z ∷ zs)
+
+-- with what each column comes to, and the functions
+module _ (look : ℕ → Outcome ℕ ℤ) (functions : List Function) where
+  abbrev mutual
+    -- what an expression comes to
+    pub lane_evaluate : NumTree → Outcome ℕ ℤ
+    lane_evaluate (Lit z) = Gives z
+    lane_evaluate (Truth b) = Gives (mark b)
+    lane_evaluate (Col c) = look c
+    lane_evaluate (Neg a) = lane_evaluate a >>= λ x. checked (neg_ℤ x)
+    lane_evaluate (Not a) = lane_evaluate a >>= λ x. Gives (mark (is_zero x))
+    lane_evaluate (Bin o a b) = lane_operation o (lane_evaluate a) (lane_evaluate b)
+    lane_evaluate (Cond c a b) = lane_evaluate c >>= λ x. if is_zero x then lane_evaluate b else lane_evaluate a
+    lane_evaluate (Pick v i) = Gives (pos 0)
+    lane_evaluate (Call f args) = lane_evaluate_all args >>= lane_call functions f
+
+    -- what the arguments of a call come to
+    pub lane_evaluate_all : Trees ℕ Callee → Outcome ℕ (List ℤ)
+    lane_evaluate_all End = Gives []
+    lane_evaluate_all (More a rest) = one_more (lane_evaluate a) (lane_evaluate_all rest)
+
+-- what an expression comes to at a place of the block
+abbrev pub lane_at : (ℕ → ℕ → Outcome ℕ Value) → List Function → NumTree → ℕ → Outcome ℕ ℤ
+lane_at look functions e p = lane_evaluate (λ c. lane_outcome (look p c)) functions e
+
+-- and the arguments of a call
+abbrev pub lanes_at : (ℕ → ℕ → Outcome ℕ Value) → List Function → Trees ℕ Callee → ℕ → Outcome ℕ (List ℤ)
+lanes_at look functions args p = lane_evaluate_all (λ c. lane_outcome (look p c)) functions args
+
+-- what the left lanes of some levels hold at a place
+abbrev pub numbers_at : List Scratch → ℕ → List ℤ
+numbers_at lanes p = map (λ (s : Scratch). at_place s.left p) lanes

@@ -1,0 +1,48 @@
+// What an evaluation over a block reads its columns from.
+ghost use Rattle.std.specs.Prelude.{◌≡◌, ◌<◌, ◌≤◌, ℕ, true, false, length};
+ghost use Rattle.rdf_model.specs.Evaluation.{Outcome, Gives};
+ghost use Rattle.rdf_values.specs.declared.value.Value.{Value};
+ghost use Rattle.expr_lanes.specs.LaneInputs.{is_known, HasMarks};
+ghost use Rattle.expr_lanes.specs.Marks.{lane_outcome};
+ghost use Rattle.expr_lanes.specs.Places.{at_place, is_given, answered_at};
+
+use expr_eval::ScalarStop;
+
+/// The places at which a column is known.
+#[derive(Clone, Copy, Debug)]
+pub enum Known<'a> {
+    Everywhere,
+    Marked(&'a [bool]),
+}
+
+/// A column over a block: its numbers, where a truth value is 1 or 0, and where it is known.
+#[derive(Clone, Copy, Debug)]
+pub struct LaneColumn<'a> {
+    pub numbers: &'a [i64],
+    pub known: Known<'a>,
+}
+
+/// The columns of a block by their numbers: how many places it has, which columns can be asked for, and what each comes to at
+/// each place.
+pub trait LaneInputs {
+    ghost size: { Self → ℕ };
+
+    ghost can: { Self → ℕ → Type 0 };
+
+    ghost look: { Self → ℕ → ℕ → Outcome ℕ Value };
+
+    /// What is known of the column over the block.
+    fn column(&self, col: u32) -> LaneColumn<'_>
+        requires { can self.now col }
+        ensures numbers { size self.now ≤ length result.numbers.now }
+        ensures marks { HasMarks (size self.now) result.known }
+        ensures known { (p : ℕ) → p < size self.now → is_known result.known p ≡ true → lane_outcome (look self.now p col) ≡ Gives (at_place result.numbers.now p) }
+        ensures unknown { (p : ℕ) → p < size self.now → is_known result.known p ≡ false → is_given (look self.now p col) ≡ false };
+
+    /// Why the column has no value at the place.
+    fn stop(&self, col: u32, place: u32) -> ScalarStop
+        requires can { can self.now col }
+        requires inside { place < size self.now }
+        requires unknown { is_given (look self.now place col) ≡ false }
+        ensures { lane_outcome (look self.now place col) ≡ answered_at (Err result) };
+}

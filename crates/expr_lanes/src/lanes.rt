@@ -1,0 +1,50 @@
+// Evaluation of an expression over a block.
+ghost use Rattle.std.specs.Prelude.{◌≡◌, ◌+◌, ◌<◌, ◌≤◌, ℕ, true, false, length, All};
+ghost use Rattle.rdf_values.specs.Functions.{fn_names};
+ghost use Rattle.rdf_model.specs.Evaluation.{Gives, evaluate, call_outcome};
+ghost use Rattle.rdf_model.specs.Laws.{FitsOutcome};
+ghost use Rattle.entry_fns.specs.Lists.{functions_in};
+ghost use Rattle.expr_check.specs.NumKinds.{is_plain, CallsFit};
+ghost use Rattle.expr_lanes.specs.Depths.{depth};
+ghost use Rattle.expr_lanes.specs.Places.{IsReady};
+ghost use Rattle.expr_lanes.specs.Values.{HasValues};
+
+use crate::MAX_PLACES;
+use crate::evaluation::eval_node;
+use crate::lane_inputs::LaneInputs;
+use crate::scope::Scope;
+use crate::scratch::Scratch;
+use crate::selection::Selection;
+use crate::stopped::Stopped;
+use arrayvec::ArrayVec;
+use entry_fns::FnList;
+use expr_check::Checked;
+use expr_eval::{Steps, callable};
+use std::sync::ledger::Ledger;
+
+/// Evaluates an expression of which no part is a vector at the selected places of a block, in a step each. The places that
+/// come to a value stay selected, and the lane then holds their values; each other place becomes a stop. It takes no memory.
+pub fn eval_lane<I: LaneInputs, L: Ledger>(
+    expr: &Checked,
+    inputs: &I,
+    functions: &FnList,
+    selection: &mut Selection,
+    lane: &mut [i64],
+    stops: &mut ArrayVec<Stopped, MAX_PLACES>,
+    scratch: &mut [Scratch],
+    steps: &mut Steps<L>,
+)
+    requires plain { is_plain expr.now.kinds expr.now.tree ≡ true }
+    requires can { All (λ c. I.can inputs.now c.0) expr.now.kinds }
+    requires fit { (p : ℕ) → p < I.size inputs.now → All (λ c. FitsOutcome c.1 (I.look inputs.now p c.0)) expr.now.kinds }
+    requires calls { CallsFit (fn_names (functions_in functions.now)) expr.now.tree }
+    requires deep { depth expr.now.tree ≤ length scratch.old }
+    requires ready { IsReady (I.size inputs.now) selection.old lane.old stops.old.items }
+    ensures values { HasValues expr.now.kind (λ p. evaluate (I.look inputs.now p) (call_outcome (functions_in functions.now)) expr.now.tree) selection.old selection.new lane.old lane.new stops.old.items stops.new.items }
+    ensures steps { steps.new ≡ steps.old + length selection.old }
+{
+    steps.add(selection.len() as u64);
+    let node = callable(expr, functions);
+    let scope = Scope { inputs, functions };
+    eval_node(node, &scope, selection, lane, stops, scratch)
+}

@@ -1,0 +1,30 @@
+//! Evaluates plain expressions column by column: over the selected places of a block of entries at once. At each place it comes to
+//! exactly what the definition of evaluation in `rdf_model` says. It stands on `expr_check`, whose expressions it evaluates, on
+//! `entry_fns`, whose functions it calls, and on `expr_eval`, which evaluates the same expressions entry by entry, for
+//! operations on numbers, stops and counted steps.
+#![tactic(auto)]
+
+mod arguments;
+mod columns;
+mod evaluation;
+mod kernel;
+mod kernels;
+pub mod lane_inputs;
+mod lanes;
+mod narrowing;
+mod numbers;
+mod operators;
+mod parting;
+mod scope;
+pub mod scratch;
+pub mod selection;
+pub mod stopped;
+
+pub use crate::lane_inputs::{Known, LaneColumn, LaneInputs};
+pub use crate::lanes::eval_lane;
+pub use crate::scratch::{Scratch, is_deep_enough};
+pub use crate::selection::Selection;
+pub use crate::stopped::Stopped;
+
+/// How many places a block has at most.
+pub const MAX_PLACES: usize = 1024;

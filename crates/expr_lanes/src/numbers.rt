@@ -1,0 +1,55 @@
+// Numbers that an operation reads.
+ghost use Rattle.std.specs.Prelude.{◌≡◌, ◌<◌, ◌≤◌, ℕ, ℤ, length};
+ghost use Rattle.expr_lanes.specs.Places.{at_place};
+
+/// A number at each place.
+pub(crate) trait Numbers {
+    ghost has: { Self → ℕ → Type 0 };
+
+    ghost number: { Self → ℕ → ℤ };
+
+    fn at(&self, place: u32) -> i64
+        requires { has self.now place }
+        ensures { result ≡ number self.now place };
+}
+
+/// The same number everywhere.
+#[derive(Clone, Copy)]
+pub(crate) struct Same {
+    pub(crate) number: i64,
+}
+
+impl Numbers for Same {
+    ghost has = { λ s p. Unit {0} };
+
+    ghost number = { λ s p. s.number };
+
+    #[inline(always)]
+    fn at(&self, _place: u32) -> i64 {
+        self.number
+    }
+}
+
+/// What a lane holds.
+#[derive(Clone, Copy)]
+pub(crate) struct Lane<'a> {
+    pub(crate) numbers: &'a [i64],
+}
+
+impl<'a> Numbers for Lane<'a> {
+    ghost has = { λ s p. p < length s.numbers.now };
+
+    ghost number = { λ s p. at_place s.numbers.now p };
+
+    #[inline(always)]
+    fn at(&self, place: u32) -> i64 {
+        self.numbers[place as usize]
+    }
+}
+
+/// A side of an operator: a number, or a lane.
+#[derive(Clone, Copy)]
+pub(crate) enum Side<'a> {
+    Number(i64),
+    Lane(&'a [i64]),
+}

@@ -1,0 +1,10 @@
+pub mod Removing
+pub mod Repeats
+pub mod Headers
+pub mod JoinedRows
+pub mod Fitting
+pub mod Counting
+pub mod Refusing
+pub mod Examples
+pub mod Stays
+pub mod Together

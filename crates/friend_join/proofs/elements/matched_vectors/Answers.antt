@@ -1,0 +1,20 @@
+use Rattle.std.proofs.Common.{◌≡◌, ◌≤◌, ◌+◌, arith, length, take}
+use Rattle.std.specs.List.{sum_by}
+use Rattle.friend_join.specs.Matches.{length_for}
+use Rattle.friend_join.proofs.Counting.{lengths_next, match_below, short_at}
+use Rattle.friend_join.proofs.elements.matched_vectors.Goals as goal
+
+pub vector_for-requires : goal.vector_for-requires
+vector_for-requires c = match_below _ c.args.matches.now c.loop-entry.entry-index _ c.requires.below c.loop-entry-test.true
+
+pub loop-entry-preserved : goal.loop-entry-preserved
+loop-entry-preserved c =
+    let vs = c.args.vectors.now in
+    let ms = c.args.matches.now in
+    let i = c.loop-entry.entry-index in
+    let v = c.vector_for.result.now in
+    let next : sum_by (length_for vs) (take (i + 1) ms) ≡ sum_by (length_for vs) (take i ms) + length v = lengths_next vs ms i _ v c.loop-entry-test.true c.vector_for.ensures in
+    let short : length v ≤ 4096 = short_at vs ms i _ v c.requires.small c.requires.below c.loop-entry-test.true c.vector_for.ensures in
+    let so_far = c.loop-entry.invariant.so_far in
+    let few = c.loop-entry.invariant.few in
+    record { so_far = omega (arith, next, so_far); few = omega (arith, short, few) }

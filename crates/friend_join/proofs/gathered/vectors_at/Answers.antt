@@ -1,0 +1,5 @@
+use Rattle.friend_join.proofs.Counting.{match_below}
+use Rattle.friend_join.proofs.gathered.vectors_at.Goals as goal
+
+pub vector_for-requires : goal.vector_for-requires
+vector_for-requires c = match_below _ c.args.matches.now c.loop-entry.entry-index _ c.requires c.loop-entry-test.true

@@ -1,0 +1,6 @@
+use Rattle.std.proofs.Common.{◌≡◌, map, take}
+use Rattle.friend_join.specs.Matches.{vector_for}
+use Rattle.friend_join.proofs.gathered.vectors_at.Given as goal
+
+abbrev pub invariant-loop-entry : goal.invariant-loop-entry
+invariant-loop-entry l = l.gathered ≡ map (vector_for l.vectors) (take l.entry-index l.matches)

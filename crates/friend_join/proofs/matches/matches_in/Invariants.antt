@@ -1,0 +1,7 @@
+use Rattle.std.proofs.Common.{◌≡◌, map, take}
+use Rattle.table_pieces.specs.Wholes.{joined}
+use Rattle.friend_join.specs.Matches.{entry_of}
+use Rattle.friend_join.proofs.matches.matches_in.Given as goal
+
+abbrev pub invariant-loop-piece : goal.invariant-loop-piece
+invariant-loop-piece l = l.matches.items ≡ map (entry_of l.keys.keys) (joined (take l.piece-index l.pieces))

@@ -1,0 +1,4 @@
+pub mod Joined
+pub mod JoinRefused
+pub mod Laws
+pub mod Matches

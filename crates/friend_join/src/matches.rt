@@ -1,0 +1,105 @@
+// The friend's entries that match.
+ghost use Rattle.std.specs.Prelude.{◌≡◌, ◌≤◌, ◌<◌, ◌^◌, ◌⊎◌, ◌++◌, ⊤, ℕ, None, Some, length, map, IfOk, OnOk, MatchOption, MatchResult};
+ghost use Rattle.rdf_values.specs.Kept.{count};
+ghost use Rattle.table_pieces.specs.Wholes.{joined, whole};
+ghost use Rattle.friend_join.specs.JoinRefused.{first_repeat};
+ghost use Rattle.friend_join.specs.Matches.{AreInts, entry_of, ints_in};
+
+use crate::cause::JoinCause;
+use crate::refusal::JoinRefusal;
+use indexmap::IndexSet;
+use rdf_values::{Cells, IntList, Memory};
+use std::alloc::Global;
+use table_pieces::ColumnPieces;
+
+// The keys in a set, in which each has its entry as its place; or the first one that stood before.
+fn numbered_keys(alloc: Global, keys: &[i64]) -> Result<IndexSet<i64>, JoinRefusal>
+    requires { length keys.now ≤ 1000000 }
+    ensures { MatchResult result (λ set. (set.keys ≡ keys.now) × (first_repeat keys.now ≡ None))
+        (λ e. (e ≡ JoinRefusal.Memory) ⊎ ((n : ℕ) × (e ≡ JoinRefusal.At (JoinCause.Duplicate n)) × (first_repeat keys.now ≡ Some n))) }
+{
+    let Ok(mut numbered) = IndexSet::with_capacity(alloc, keys.len()) else {
+        return Err(JoinRefusal::Memory);
+    };
+    for (entry, key) in keys.iter().enumerate() {
+        match numbered.insert(*key) {
+            Err(_) => return Err(JoinRefusal::Memory),
+            Ok(true) => {}
+            Ok(false) => {
+                let entry = entry as u32;
+                return Err(JoinRefusal::At(JoinCause::Duplicate { entry }));
+            }
+        }
+    }
+    Ok(numbered)
+}
+
+// An entry as a number of 32 bits.
+fn as_entry(place: Option<usize>) -> Option<u32>
+    requires { MatchOption place ⊤ (λ i. i < 2 ^ 32) }
+    ensures { result ≡ place }
+{
+    match place {
+        Some(place) => Some(place as u32),
+        None => None,
+    }
+}
+
+// Puts the entries at which these numbers stand among the keys behind those before.
+fn match_numbers(
+    keys: &IndexSet<i64>,
+    numbers: &[i64],
+    matches: &mut Vec<Option<u32>>,
+) -> Result<(), Memory>
+    requires { length keys.now.keys ≤ 1000000 }
+    ensures { OnOk result (matches.new.items ≡ matches.old.items ++ map (entry_of keys.now.keys) numbers.now) }
+{
+    for number in numbers {
+        matches.push(as_entry(keys.get_index_of(number)))?;
+    }
+    Ok(())
+}
+
+// For each number of the pieces the entry at which it stands among the keys, if it does.
+fn matches_in(
+    alloc: Global,
+    keys: &IndexSet<i64>,
+    pieces: &[IntList],
+) -> Result<Vec<Option<u32>>, Memory>
+    requires { length keys.now.keys ≤ 1000000 }
+    ensures { IfOk result (λ matches. matches.items ≡ map (entry_of keys.now.keys) (joined pieces.now)) }
+{
+    let mut matches = Vec::new(alloc);
+    for piece in pieces {
+        match_numbers(keys, piece.as_slice(), &mut matches)?;
+    }
+    Ok(matches)
+}
+
+/// For each number of a column the entry at which it stands among the keys of another column, if it does; or the first
+/// key that stood before.
+pub(crate) fn matches_of(
+    alloc: Global,
+    column: &ColumnPieces,
+    keys: Cells,
+) -> Result<Vec<Option<u32>>, JoinRefusal>
+    requires column { AreInts (whole column.now) }
+    requires keys { AreInts keys }
+    requires few { count keys ≤ 1000000 }
+    ensures { MatchResult result (λ matches. (first_repeat (ints_in keys) ≡ None) × (matches.items ≡ map (entry_of (ints_in keys)) (ints_in (whole column.now))))
+        (λ e. (e ≡ JoinRefusal.Memory) ⊎ ((n : ℕ) × (e ≡ JoinRefusal.At (JoinCause.Duplicate n)) × (first_repeat (ints_in keys) ≡ Some n))) }
+{
+    match (column, keys) {
+        (ColumnPieces::Ints(pieces), Cells::Ints(keys)) => {
+            let keys = match numbered_keys(alloc, keys.as_slice()) {
+                Ok(keys) => keys,
+                Err(refusal) => return Err(refusal),
+            };
+            match matches_in(alloc, &keys, pieces.as_slice()) {
+                Ok(matches) => Ok(matches),
+                Err(_) => Err(JoinRefusal::Memory),
+            }
+        }
+        _ => unreachable!(),
+    }
+}

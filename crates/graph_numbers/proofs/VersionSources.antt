@@ -1,0 +1,278 @@
+-- A version's source is what the version says.
+use Rattle.std.proofs.Common.{◌≡◌, ◌⊎◌, inl, inr, ℕ, zero, suc, ◌+◌, ◌<◌, Bool, true, false, List, [], ◌∷◌, length, map, Option, Some, None, option_map, refl, sym, ◌∙◌, ap, subst, arith, slice_get, if◌then◌else◌}
+use Rattle.std.proofs.lemmas.Option.{get_or_from_slice_get, slice_get_within}
+use Rattle.rdf_values.specs.Names.{same, place}
+use Rattle.rdf_values.specs.Path.{Under, Variation, own_variations, path, target_of, variations}
+use Rattle.rdf_values.specs.Kinds.{FunctionNames, scope_of}
+use Rattle.rdf_values.specs.Verdict.{AreAccepted, check_target, first_refusal, is_alias, is_visible, refuse_if, refuse_unless, scope_at}
+use Rattle.rdf_values.specs.declared.column.Column.{Column}
+use Rattle.rdf_values.specs.declared.graph_cause.GraphCause.TheVariants as cause
+use Rattle.rdf_values.specs.declared.vary_values.VaryValues.{VaryValues}
+use Rattle.rdf_values.specs.declared.vary_values.VaryValues.TheVariants.{Lists, Vector}
+use Rattle.rdf_values.specs.declared.statement.Statement.{Statement}
+use Rattle.rdf_values.specs.declared.statement.Statement.TheVariants.{Define, Redefine, Vary}
+use Rattle.rdf_model.specs.ColumnValues.{own_place}
+use Rattle.rdf_model.proofs.Accepted.{both_none, checked_of, if_fails, itself as same_as_itself, names_equal, no_target, there, unless_holds, visible_known}
+use Rattle.graph_numbers.specs.Kinds.{version_kinds}
+use Rattle.graph_numbers.specs.Results.{under_at}
+use Rattle.graph_numbers.specs.Sites.{list_start, site_count}
+use Rattle.graph_numbers.specs.Sources.{IsSourceOf, cell_sources, cell_versions, numbers_from, own_source, own_sources, own_versions, source_in, sources, tag_source, varied_sources, varied_version, varied_versions, versions}
+use Rattle.graph_numbers.specs.Versions.{named_version}
+use Rattle.graph_numbers.specs.declared.source.Source.{Source}
+use Rattle.graph_numbers.specs.declared.source.Source.TheVariants as from
+use Rattle.graph_numbers.specs.declared.version.Version.{Version}
+use Rattle.graph_numbers.specs.declared.version.Version.TheVariants as as_version
+use Rattle.graph_numbers.proofs.Apart.{variation_number}
+use Rattle.graph_numbers.proofs.Extending.{Extends, itself, further, source_count, source_kept, versions_count}
+use Rattle.graph_numbers.proofs.Listed.{kept_at, next_at, of_joined}
+use Rattle.graph_numbers.proofs.Passing.{shorter}
+use Rattle.graph_numbers.proofs.VersionKinds.{kind_count, visible_kind}
+
+-- ---- places of names and numbers
+
+-- a name stands at its place
+place_gives : (name : List ℕ) (names : List (List ℕ)) (k : ℕ) → place (same name) names ≡ Some k → slice_get names k ≡ Some name
+place_gives name [] k h = cc h
+place_gives name (x ∷ xs) k h = go (same name x) refl h (λ j q. place_gives name xs j q)
+  where
+    here : (j : ℕ) → j ≡ 0 → name ≡ x → slice_get (x ∷ xs) j ≡ Some name
+    here zero e is = ap Some (sym is)
+    here (suc j) e is = cc e
+
+    after : (o : Option ℕ) → option_map suc o ≡ Some k → ((j : ℕ) → o ≡ Some j → slice_get xs j ≡ Some name) → slice_get (x ∷ xs) k ≡ Some name
+    after None q next = cc q
+    after (Some j) q next = let e : suc j ≡ k = cc q in subst (λ (i : ℕ). slice_get (x ∷ xs) i ≡ Some name) e (next j refl)
+
+    go : (b : Bool) → same name x ≡ b → (if b then Some 0 else option_map suc (place (same name) xs)) ≡ Some k
+        → ((j : ℕ) → place (same name) xs ≡ Some j → slice_get xs j ≡ Some name) → slice_get (x ∷ xs) k ≡ Some name
+    go true p q next = here k (cc q) (names_equal name x p)
+    go false p q next = after (place (same name) xs) q next
+
+-- a name that stands among others has a place
+place_found : (name : List ℕ) (names : List (List ℕ)) (k : ℕ) → slice_get names k ≡ Some name → place (same name) names ≡ None → ⊥
+place_found name [] k h none = cc h
+place_found name (x ∷ xs) zero h none =
+    let is : x ≡ name = cc h in go (same name x) (ap (same name) is ∙ same_as_itself name) none
+  where
+    go : (b : Bool) → b ≡ true → (if b then Some 0 else option_map suc (place (same name) xs)) ≡ None → ⊥
+    go true e q = cc q
+    go false e q = cc e
+place_found name (x ∷ xs) (suc k) h none = go (same name x) none (place_found name xs k h)
+  where
+    after : (o : Option ℕ) → option_map suc o ≡ None → o ≡ None
+    after None q = refl
+    after (Some j) q = cc q
+
+    go : (b : Bool) → (if b then Some 0 else option_map suc (place (same name) xs)) ≡ None → (place (same name) xs ≡ None → ⊥) → ⊥
+    go true q next = cc q
+    go false q next = next (after (place (same name) xs) q)
+
+number_at : {A : Type 0} (n : ℕ) (xs : List A) (k : ℕ) → k < length xs → slice_get (numbers_from n xs) k ≡ Some (n + k)
+number_at n [] k lt = absurd (omega (arith, lt))
+number_at n (x ∷ xs) zero lt = let e : n ≡ n + 0 = omega arith in ap Some e
+number_at n (x ∷ xs) (suc k) lt = let e : suc n + k ≡ n + suc k = omega arith in number_at (suc n) xs k (omega (arith, lt)) ∙ ap Some e
+
+-- ---- variations
+
+variation_kept : (before after : List Statement) → Extends before after → (k : ℕ) (x : Variation) → slice_get (variations before) k ≡ Some x → slice_get (variations after) k ≡ Some x
+variation_kept before after itself k x h = h
+variation_kept before after (further {after = b} s e) k x h = kept_at (variations b) (own_variations s) k x (variation_kept before b e k x h)
+
+-- the variation of a tag
+tag_at : (vary : List ℕ) (tags : List (List ℕ)) (k : ℕ) (tag : List ℕ) → slice_get tags k ≡ Some tag → slice_get {X = Variation} (map (λ t. record { name = vary; tag = t }) tags) k ≡ Some (record { name = vary; tag = tag })
+tag_at vary [] k tag h = cc h
+tag_at vary (t ∷ tags) zero tag h = let e : t ≡ tag = cc h in ap (λ x. Some (record { name = vary; tag = x })) e
+tag_at vary (t ∷ tags) (suc k) tag h = tag_at vary tags k tag h
+
+module _ (header : List Column) (names : FunctionNames) (script : List Statement) (good : AreAccepted names (scope_of header) script) (v : Option ℕ) where
+  abbrev under : Under
+  under = under_at script v
+
+  -- the variation of that number has this place among so many tags from the first on, or none
+  abbrev IsPlaceOf : ℕ → ℕ → Option ℕ → Type 0
+  IsPlaceOf first tags (Some k) = (k < tags) × (v ≡ Some (first + k))
+  IsPlaceOf first tags None = (k : ℕ) → k < tags → v ≡ Some (first + k) → ⊥
+
+  -- the variation of a Vary's tag, in the whole script
+  tag_number : (before : List Statement) (node parent : List ℕ) (cs : List (List ℕ)) (values : VaryValues) (tags : List (List ℕ)) (vary : List ℕ)
+      → Extends (Vary node parent cs values tags vary ∷ before) script
+      → (k : ℕ) (tag : List ℕ) → slice_get tags k ≡ Some tag → slice_get (variations script) (length (variations before) + k) ≡ Some (record { name = vary; tag = tag })
+  tag_number before node parent cs values tags vary e k tag h =
+      variation_kept (Vary node parent cs values tags vary ∷ before) script e (length (variations before) + k) _
+      (next_at (variations before) (own_variations (Vary node parent cs values tags vary)) k _ refl ∙ tag_at vary tags k tag h)
+
+  own_place_is : (before : List Statement) (node parent : List ℕ) (cs : List (List ℕ)) (values : VaryValues) (tags : List (List ℕ)) (vary : List ℕ)
+      → Extends (Vary node parent cs values tags vary ∷ before) script → IsPlaceOf (length (variations before)) (length tags) (own_place under vary tags)
+  own_place_is before node parent cs values tags vary e = go (own_place under vary tags) refl
+    where
+      first : ℕ
+      first = length (variations before)
+
+      same_place : (n : ℕ) (w : Variation) → slice_get (variations script) n ≡ Some w → (b : Bool) → same w.name vary ≡ b → (k : ℕ)
+          → (if b then place (same w.tag) tags else None) ≡ Some k → (k < length tags) × (n ≡ length (variations before) + k)
+      same_place n w at true is k q =
+          let tag = place_gives w.tag tags k q in
+          let whole : ◌≡◌ {A = Variation} (record { name = vary; tag = w.tag }) w = (let f = names_equal w.name vary is in λ i. record { name = sym f i; tag = w.tag }) in
+          let there' = tag_number before node parent cs values tags vary e k w.tag tag ∙ ap Some whole in
+          let one = variation_number header names script good n w at in
+          let two = variation_number header names script good (length (variations before) + k) w there' in
+          let lt = slice_get_within tags k w.tag tag in
+          (lt, (let p : Some n ≡ Some (length (variations before) + k) = sym one ∙ two in cc p))
+      same_place n w at false is k q = cc q
+
+      found : (u : Option ℕ) (w : Under) → v ≡ u → under_at script u ≡ w → (k : ℕ) → own_place w vary tags ≡ Some k → (k < length tags) × (u ≡ Some (length (variations before) + k))
+      found None w p r k q = absurd (cc (sym q ∙ ap (λ (x : Under). own_place x vary tags) (sym r)))
+      found (Some n) None p r k q = cc q
+      found (Some n) (Some w) p r k q = let s = same_place n w r (same w.name vary) refl k q in (s.0, ap Some s.1)
+
+      none : own_place under vary tags ≡ None → (k : ℕ) → k < length tags → v ≡ Some (length (variations before) + k) → ⊥
+      none q k lt is =
+          let t = there tags k lt in
+          let at = tag_number before node parent cs values tags vary e k t.0 t.1 in
+          let u : under ≡ Some (record { name = vary; tag = t.0 }) = ap (under_at script) is ∙ at in
+          other (same vary vary) (same_as_itself vary) t.0 (place_found t.0 tags k t.1) (sym (ap (λ (x : Under). own_place x vary tags) u) ∙ q)
+        where
+          other : (b : Bool) → b ≡ true → (tag : List ℕ) → (place (same tag) tags ≡ None → ⊥) → (if b then place (same tag) tags else None) ≡ None → ⊥
+          other true e tag next h = next h
+          other false e tag next h = cc e
+
+      go : (o : Option ℕ) → own_place under vary tags ≡ o → IsPlaceOf (length (variations before)) (length tags) o
+      go (Some k) q = found v under refl refl k q
+      go None q = none q
+
+  -- ---- each version
+
+  abbrev list_of : List Statement → List Source
+  list_of before = sources header names under before
+
+  abbrev Says : List Statement → Version → Source → Type 0
+  Says before (as_version.Cell col) src = src ≡ from.Cell col
+  Says before (as_version.Computed site) src = src ≡ from.Site site
+  Says before (as_version.Varied below first tags its vector) src =
+      (b : Source) × (slice_get (list_of before) below ≡ Some b)
+      × ((k : ℕ) → k < tags → v ≡ Some (first + k) → Some src ≡ tag_source its tags vector k)
+      × (((k : ℕ) → k < tags → v ≡ Some (first + k) → ⊥) → src ≡ b)
+
+  says_further : (before : List Statement) (s : Statement) (x : Version) (src : Source) → Says before x src → Says (s ∷ before) x src
+  says_further before s (as_version.Cell col) src h = h
+  says_further before s (as_version.Computed site) src h = h
+  says_further before s (as_version.Varied below first tags its vector) src h = (h.0, source_kept header names under before (s ∷ before) (further s itself) below h.0 h.1, h.2, h.3)
+
+  abbrev HasSaid : List Statement → List Source → Version → ℕ → Type 0
+  HasSaid before list x c = (src : Source) × (slice_get list c ≡ Some src) × Says before x src
+
+  said_by_cell : (n : ℕ) (cs : List Column) (c : ℕ) (x : Version) → slice_get (cell_versions header names n cs) c ≡ Some x → HasSaid [] (cell_sources n cs) x c
+  said_by_cell n [] c x h = cc h
+  said_by_cell n (col ∷ cs) zero x h = let is : as_version.Cell n ≡ x = cc h in (from.Cell n, refl, subst (λ (y : Version). Says [] y (from.Cell n)) is refl)
+  said_by_cell n (col ∷ cs) (suc c) x h = said_by_cell (suc n) cs c x h
+
+  said_by_vary : (before : List Statement) (values : VaryValues) (below first site i : ℕ) (tags : List (List ℕ)) (o : Option ℕ) (b : Source)
+      → IsPlaceOf first (length tags) o → slice_get (list_of before) below ≡ Some b
+      → Says before (varied_version header names values below first site tags i) (own_source values site i (length tags) o b)
+  said_by_vary before (Lists lists) below first site i tags None b own at = (b, at, (λ k lt is. absurd (own k lt is)), λ none. refl)
+  said_by_vary before (Vector e) below first site i tags None b own at = (b, at, (λ k lt is. absurd (own k lt is)), λ none. refl)
+  said_by_vary before (Lists lists) below first site i tags (Some k) b own at = (
+    b,
+    at,
+    (λ j lt is.
+        let twice : Some (first + k) ≡ Some (first + j) = sym own.1 ∙ is in
+        let sum : first + k ≡ first + j = cc twice in
+        let one : j ≡ k = omega (arith, sum) in
+        let number : slice_get (numbers_from (site + list_start lists i) tags) j ≡ Some (site + list_start lists i + j) = number_at (site + list_start lists i) tags j lt in
+        ap (λ n. Some (from.Site (site + list_start lists i + n))) (sym one) ∙ sym (ap (option_map (λ s. from.Site s)) number)),
+    λ none. absurd (none k own.0 own.1),
+  )
+  said_by_vary before (Vector e) below first site i tags (Some k) b own at = (
+    b,
+    at,
+    (λ j lt is.
+        let twice : Some (first + k) ≡ Some (first + j) = sym own.1 ∙ is in
+        let sum : first + k ≡ first + j = cc twice in
+        let one : j ≡ k = omega (arith, sum) in
+        ap (λ n. Some (from.Element site n (length tags))) (sym one)),
+    λ none. absurd (none k own.0 own.1),
+  )
+
+  -- the version of a column that a Vary changes is there
+  below_there : (before : List Statement) → AreAccepted names (scope_of header) before → (parent name : List ℕ)
+      → check_target (scope_at names (scope_of header) before parent) (path before parent) name ≡ None
+      → (b : Source) × (slice_get (list_of before) (named_version header before parent name) ≡ Some b)
+  below_there before ok parent name h =
+      let p = both_none (refuse_unless (is_visible (scope_at names (scope_of header) before parent) name) cause.UnknownColumn) (refuse_if (is_alias (path before parent) name) cause.AliasTarget ∷ []) h in
+      let q = both_none (refuse_if (is_alias (path before parent) name) cause.AliasTarget) [] p.1 in
+      let t = visible_known (scope_at names (scope_of header) before parent) name (unless_holds (is_visible (scope_at names (scope_of header) before parent) name) cause.UnknownColumn p.0) in
+      let own : target_of (path before parent) name ≡ name = no_target (path before parent) name (if_fails (is_alias (path before parent) name) cause.AliasTarget q.0) in
+      let at : slice_get (version_kinds header names before) (named_version header before parent name) ≡ Some t.0 =
+      ap (λ n. slice_get (version_kinds header names before) (named_version header before parent n)) (sym own) ∙ visible_kind header names before ok parent name t.0 t.1 in
+      let lt = slice_get_within (version_kinds header names before) (named_version header before parent name) t.0 at in
+      let many = kind_count header names before in
+      let few = source_count header names under before in
+      there (list_of before) (named_version header before parent name) (omega (arith, lt, many, few))
+
+  said_by_columns : (before : List Statement) → AreAccepted names (scope_of header) before
+      → (parent : List ℕ) (values : VaryValues) (tags : List (List ℕ)) (vary : List ℕ) → IsPlaceOf (length (variations before)) (length tags) (own_place under vary tags)
+      → (i c : ℕ) (cs : List (List ℕ)) (x : Version) → first_refusal (map (check_target (scope_at names (scope_of header) before parent) (path before parent)) cs) ≡ None
+      → slice_get (varied_versions header names before parent values tags i cs) c ≡ Some x
+      → HasSaid before (varied_sources header names under before (list_of before) parent values tags vary i cs) x c
+  said_by_columns before ok parent values tags vary own i c [] x free h = cc h
+  said_by_columns before ok parent values tags vary own i zero (name ∷ cs) x free h =
+      let p = both_none (check_target (scope_at names (scope_of header) before parent) (path before parent) name) (map (check_target (scope_at names (scope_of header) before parent) (path before parent)) cs) free in
+      let b = below_there before ok parent name p.0 in
+      let below : source_in (list_of before) (named_version header before parent name) ≡ b.0 =
+      get_or_from_slice_get (list_of before) (named_version header before parent name) b.0 (from.Cell 0) b.1 in
+      let is : varied_version header names values (named_version header before parent name) (length (variations before)) (site_count header names before) tags i ≡ x = cc h in (
+        own_source values (site_count header names before) i (length tags) (own_place under vary tags) b.0,
+        ap (λ (s : Source). Some (own_source values (site_count header names before) i (length tags) (own_place under vary tags) s)) below,
+        subst (λ (y : Version). Says before y (own_source values (site_count header names before) i (length tags) (own_place under vary tags) b.0)) is
+            (said_by_vary before values (named_version header before parent name) (length (variations before)) (site_count header names before) i tags (own_place under vary tags) b.0 own b.1),
+      )
+  said_by_columns before ok parent values tags vary own i (suc c) (name ∷ cs) x free h =
+      let p = both_none (check_target (scope_at names (scope_of header) before parent) (path before parent) name) (map (check_target (scope_at names (scope_of header) before parent) (path before parent)) cs) free in
+      said_by_columns before ok parent values tags vary own (suc i) c cs x p.1 h
+
+  own_said : (before : List Statement) (s : Statement) → AreAccepted names (scope_of header) (s ∷ before) → Extends (s ∷ before) script → (c : ℕ) (x : Version)
+      → slice_get (own_versions header names before s) c ≡ Some x → HasSaid before (own_sources header names under before (list_of before) s) x c
+  own_said before (Define node parent column expr) ok e zero x h =
+      let is : as_version.Computed (site_count header names before) ≡ x = cc h in
+      (from.Site (site_count header names before), refl, subst (λ (y : Version). Says before y (from.Site (site_count header names before))) is refl)
+  own_said before (Redefine node parent column expr) ok e zero x h =
+      let is : as_version.Computed (site_count header names before) ≡ x = cc h in
+      (from.Site (site_count header names before), refl, subst (λ (y : Version). Says before y (from.Site (site_count header names before))) is refl)
+  own_said before (Vary node parent cs values tags vary) ok e c x h =
+      said_by_columns before ok.1 parent values tags vary (own_place_is before node parent cs values tags vary e) 0 c cs x
+      (checked_of names (scope_of header) before (Vary node parent cs values tags vary) ok.0).0 h
+  own_said before (Define node parent column expr) ok e (suc c) x h = cc h
+  own_said before (Redefine node parent column expr) ok e (suc c) x h = cc h
+  own_said before s ok e c x h = cc h
+
+  said : (before : List Statement) → AreAccepted names (scope_of header) before → Extends before script → (c : ℕ) (x : Version)
+      → slice_get (versions header names before) c ≡ Some x → HasSaid before (list_of before) x c
+  said [] ok e c x h = said_by_cell 0 header c x h
+  said (s ∷ before) ok e c x h = go (said before ok.1 (shorter s before script e) c x) (of_joined (versions header names before) (own_versions header names before s) c x h)
+    where
+      go : (slice_get (versions header names before) c ≡ Some x → HasSaid before (list_of before) x c)
+          → (slice_get (versions header names before) c ≡ Some x) ⊎ ((k : ℕ) × (c ≡ length (versions header names before) + k) × (slice_get (own_versions header names before s) k ≡ Some x))
+          → HasSaid (s ∷ before) (list_of (s ∷ before)) x c
+      go next (inl q) =
+          let n = next q in (n.0, source_kept header names under before (s ∷ before) (further s itself) c n.0 n.1, says_further before s x n.0 n.2)
+      go next (inr q) =
+          let o = own_said before s ok e q.0 x q.2 in
+          let many = versions_count header names before in
+          let few = source_count header names under before in
+          let is = q.1 in
+          let n : c ≡ length (list_of before) + q.0 = omega (arith, many, few, is) in
+          (o.0, next_at (list_of before) (own_sources header names under before (list_of before) s) q.0 c n ∙ o.1, says_further before s x o.0 o.2)
+
+  in_words : (x : Version) (src : Source) (c : ℕ) → slice_get (list_of script) c ≡ Some src → Says script x src → IsSourceOf (slice_get (list_of script)) v x (slice_get (list_of script) c)
+  in_words (as_version.Cell col) src c at h = at ∙ ap Some h
+  in_words (as_version.Computed site) src c at h = at ∙ ap Some h
+  in_words (as_version.Varied below first tags its vector) src c at h = ((λ k lt is. at ∙ h.2 k lt is), λ none. at ∙ ap Some (h.3 none) ∙ sym h.1)
+
+  pub version_source' : (c : ℕ) (x : Version) → slice_get (versions header names script) c ≡ Some x → IsSourceOf (slice_get (list_of script)) v x (slice_get (list_of script) c)
+  version_source' c x h = let s = said script good itself c x h in in_words x s.0 c s.1 s.2
+
+-- under nominal or the variation of that number each version has the source that it says
+pub version_source : (header : List Column) (names : FunctionNames) (script : List Statement) → AreAccepted names (scope_of header) script
+    → (v : Option ℕ) (c : ℕ) (x : Version) → slice_get (versions header names script) c ≡ Some x
+    → IsSourceOf (slice_get (sources header names (under_at script v) script)) v x (slice_get (sources header names (under_at script v) script) c)
+version_source header names script good v c x h = version_source' header names script good v c x h

@@ -1,0 +1,128 @@
+-- What is due to an accepted run has the status that the run ends in.
+use Rattle.std.proofs.Common.{◌≡◌, ◌≤◌, ◌+◌, ℕ, Bool, false, ◌||◌, List, [], ◌∷◌, length, map, Option, Some, None, Ok, nat_lt, option_map, inl, inr, ap, refl, sym, subst, ◌∙◌, if◌then◌else◌}
+use Rattle.std.specs.Prelude.{is_some, unwrap_or}
+use Rattle.std.specs.List.{list_any}
+use Rattle.std.proofs.lemmas.Bool.{le-ltb}
+use Rattle.rdf_values.specs.Bookings.{Booked}
+use Rattle.rdf_values.specs.Functions.{Function, fn_names}
+use Rattle.rdf_values.specs.Generator.{generated_script, generated_table}
+use Rattle.rdf_values.specs.Path.{history}
+use Rattle.rdf_values.specs.Scripts.{IsScript}
+use Rattle.rdf_values.specs.TableText.{MarkedTable, table_of}
+use Rattle.rdf_values.specs.Verdict.{verdict}
+use Rattle.rdf_values.specs.declared.fault.Fault.{Fault}
+use Rattle.rdf_values.specs.declared.script.Script.{Script}
+use Rattle.rdf_values.specs.declared.statement.Statement.{Statement}
+use Rattle.rdf_values.specs.declared.value.Value.{Value}
+use Rattle.rdf_values.proofs.OneScript.{one_script, script_or_refusal}
+use Rattle.rdf_model.specs.Loops.{Access, accesses, loop_passes}
+use Rattle.rdf_model.specs.PartialResults.{Course}
+use Rattle.rdf_model.specs.Results.{Dataset, first_fault, first_fault_from}
+use Rattle.rdf_model.specs.Transcript.{Printed, access_passes, access_printed, printed}
+use Rattle.expr_read.proofs.ReadOnce.{read_once}
+use Rattle.table_csv.specs.Csv.{csv_records}
+use Rattle.command_words.specs.declared.command.Friend.{Friend}
+use Rattle.command_words.specs.declared.command.Input.{Input}
+use Rattle.command_words.specs.declared.command.Input.TheVariants.{Files, Generated}
+use Rattle.rdf_program.specs.Accepted.{AcceptedRunsEnd, AreTexts, IsWithFriend, friend_of, has_fault, status_of_run}
+use Rattle.rdf_program.specs.Due.{Due, IsDueOver, IsDueToInput, IsDueToScript, IsDueToTable, IsDueToTables, IsPrinted, ReadsScript, WithFriend, WithScript, dataset_of, max_script, max_table}
+use Rattle.rdf_program.specs.Statuses.{printed_status}
+use Rattle.rdf_program.specs.declared.status.Status.{Status}
+use Rattle.rdf_program.specs.declared.status.Status.TheVariants.{Done, LoopFault}
+
+-- ---- the status of a transcript
+
+no_passes : (d : Dataset) (e : ℕ) (rows : List (List Value)) → first_fault_from d e rows [] ≡ None
+no_passes d e [] = refl
+no_passes d e (row ∷ rows) = no_passes d (e + 1) rows
+
+module _ (script : List Statement) (d : Dataset) (course : Course) where
+  -- the loop of a Print has a fault where the passes of the loop that it runs have one
+  fault_of_loop : (a : Access) → is_some (first_fault d (access_passes script d course a)) ≡ has_fault d (option_map (loop_passes script) a.fills)
+  fault_of_loop a = go a.fills
+    where
+      go : (fills : Option (List Booked)) → is_some (first_fault d (loop_passes script (unwrap_or fills []))) ≡ has_fault d (option_map (loop_passes script) fills)
+      go None = ap is_some (no_passes d 0 d.rows)
+      go (Some results) = refl
+
+  abbrev status_where : Bool → Status
+  status_where faulty = if faulty then LoopFault else Done
+
+  abbrev has_loop_fault : Access → Bool
+  has_loop_fault a = has_fault d (option_map (loop_passes script) a.fills)
+
+  at_access : (a : Access) (fault : Option Fault) (rest : Printed) (faulty : Bool) → printed_status rest.status ≡ status_where faulty
+      → printed_status (access_printed script d course a fault rest).status ≡ status_where (is_some fault || faulty)
+  at_access a None rest faulty h = h
+  at_access a (Some f) rest faulty h = refl
+
+  status_is : (accs : List Access) → printed_status (printed script d course accs).status ≡ status_where (list_any has_loop_fault accs)
+  status_is [] = refl
+  status_is (a ∷ accs) =
+      at_access a (first_fault d (access_passes script d course a)) (printed script d course accs) (list_any has_loop_fault accs) (status_is accs)
+      ∙ ap (λ b. status_where (b || list_any has_loop_fault accs)) (fault_of_loop a)
+
+  any_mapped : (accs : List Access) → list_any has_loop_fault accs ≡ list_any (has_fault d) (map (λ (a : Access). option_map (loop_passes script) a.fills) accs)
+  any_mapped [] = refl
+  any_mapped (a ∷ accs) = ap (λ b. has_loop_fault a || b) (any_mapped accs)
+
+  pub status_by_loops : (accs : List Access) → printed_status (printed script d course accs).status ≡ status_where (list_any (has_fault d) (map (λ (a : Access). option_map (loop_passes script) a.fills) accs))
+  status_by_loops accs = status_is accs ∙ ap status_where (any_mapped accs)
+
+-- ---- what is due
+
+module _ (fns : List Function) (size watch : ℕ) (script : Script) (table : MarkedTable) (accepted : verdict (fn_names fns) table.table.columns script ≡ None) (d : Due) where
+  over_table : IsPrinted fns size watch script table d → d.status ≡ status_of_run fns script table
+  over_table h = h.status ∙ status_by_loops (history script) (dataset_of fns size watch table.table) h.course (accesses (history script))
+
+  over_accepted : IsDueOver fns size watch script table d → d.status ≡ status_of_run fns script table
+  over_accepted h = over_table (rw accepted at h)
+
+  to_table : (bytes : List ℕ) → length bytes ≤ max_table → table_of (csv_records bytes) ≡ Ok table → IsDueToTable fns size watch script bytes d → d.status ≡ status_of_run fns script table
+  to_table bytes short is h =
+      let fits : nat_lt max_table (length bytes) ≡ false = le-ltb max_table (length bytes) short in
+      over_accepted (rw (fits, is) at h)
+
+  to_friend : (friend : Option Friend) (files : List ℕ → Option (List ℕ)) (own : MarkedTable) → IsWithFriend friend files own table
+      → WithFriend friend files own (λ t e. IsDueOver fns size watch script t e) d → d.status ≡ status_of_run fns script table
+  to_friend None files own w h = over_accepted (subst (λ (t : MarkedTable). IsDueOver fns size watch script t d) (sym w) h)
+  to_friend (Some friend) files own w h =
+      let fits : nat_lt max_table (length w.bytes) ≡ false = le-ltb max_table (length w.bytes) w.short in
+      let read = rw w.there at h in
+      let same : record { table = table.table; marks = own.marks } ≡ table = ap (λ (ms : List ℕ). let t : MarkedTable = record { table = table.table; marks = ms } in t) (sym w.marks) in
+      over_accepted (subst (λ (t : MarkedTable). IsDueOver fns size watch script t d) same (rw (fits, w.is_other, w.joins) at read))
+
+  to_tables : (bytes : List ℕ) (friend : Option Friend) (files : List ℕ → Option (List ℕ)) (own : MarkedTable) → length bytes ≤ max_table → table_of (csv_records bytes) ≡ Ok own → IsWithFriend friend files own table
+      → IsDueToTables fns size watch script bytes friend files d → d.status ≡ status_of_run fns script table
+  to_tables bytes friend files own short is w h =
+      let fits : nat_lt max_table (length bytes) ≡ false = le-ltb max_table (length bytes) short in
+      to_friend friend files own w (rw (fits, is) at h)
+
+  reading : (bytes : List ℕ) (Next : Script → Due → Type 0) → length bytes ≤ max_script → IsScript bytes script → WithScript bytes Next d → Next script d
+  reading bytes Next short is h =
+      let fits : nat_lt max_script (length bytes) ≡ false = le-ltb max_script (length bytes) short in
+      one (rw fits at h)
+    where
+      one : ReadsScript bytes Next d → Next script d
+      one (inl r) = absurd (script_or_refusal read_once bytes script r.0 is r.1)
+      one (inr r) = subst (λ (s : Script). Next s d) (one_script read_once bytes r.0 script r.1 is) r.2
+
+  to_input : (files : List ℕ → Option (List ℕ)) (input : Input) (script_bytes table_bytes : List ℕ) (own : MarkedTable) → AreTexts files input script_bytes table_bytes
+      → length script_bytes ≤ max_script → length table_bytes ≤ max_table → IsScript script_bytes script → table_of (csv_records table_bytes) ≡ Ok own → IsWithFriend (friend_of input) files own table
+      → IsDueToInput fns size watch files input d → d.status ≡ status_of_run fns script table
+  to_input files (Files s t friend) sb tb own texts short_script short_table is_script is_table w h =
+      let bytes = rw texts.0 at h in
+      let next : IsDueToScript fns size watch script t friend files d = reading sb (λ x e. IsDueToScript fns size watch x t friend files e) short_script is_script bytes in
+      to_tables tb friend files own short_table is_table w (rw texts.1 at next)
+  to_input files (Generated entries seed) sb tb own texts short_script short_table is_script is_table w h =
+      let script_short : length generated_script ≤ max_script = rw texts.0 at short_script in
+      let script_is : IsScript generated_script script = rw texts.0 at is_script in
+      let table_short : length (generated_table entries seed) ≤ max_table = rw texts.1 at short_table in
+      let table_is : table_of (csv_records (generated_table entries seed)) ≡ Ok own = rw texts.1 at is_table in
+      to_table (generated_table entries seed) table_short (table_is ∙ ap Ok (sym w)) (reading generated_script (λ x e. IsDueToTable fns size watch x (generated_table entries seed) e) script_short script_is h)
+
+pub accepted_runs_end : AcceptedRunsEnd
+accepted_runs_end fns words files script table d is h =
+    let c = is.command in
+    let asked : IsDueToInput fns c.cluster c.watch files c.input d = rw is.taken at h in
+    to_input fns c.cluster c.watch script table is.accepted d files c.input is.script_bytes is.table_bytes is.own is.texts is.short_script is.short_table is.is_script is.is_table is.with_friend asked

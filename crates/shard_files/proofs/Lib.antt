@@ -1,0 +1,12 @@
+pub mod Examples
+mod FileLines
+mod Following
+mod LineEnds
+mod Looping
+mod OneShard
+mod Ordering
+mod Refused
+mod Refusing
+mod Running
+mod Runs
+mod Splitting

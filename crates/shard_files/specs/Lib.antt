@@ -1,0 +1,6 @@
+pub mod Shards
+pub mod Laws
+pub mod LoopsAt
+pub mod Merging
+pub mod Reading
+pub mod Endless

@@ -1,0 +1,40 @@
+-- Lists that are added place by place, up to the end of the shorter one.
+use Rattle.std.proofs.Common.{◌≡◌, ◌≤◌, ◌⊎◌, ℕ, zero, suc, List, [], ◌∷◌, ◌++◌, length, drop, refl, ap, ◌∙◌, sym, arith, append-nil, inl, inr}
+use Rattle.filters_report.specs.declared.flow.Counts.{Counts}
+use Rattle.histograms.specs.declared.cell_sum.CellSum.{CellSum}
+use Rattle.shard_lines.specs.declared.shard_line.ShardLine.{ShardLine}
+use Rattle.shard_lines.specs.declared.pass_shape.PassShape.{PassShape}
+use Rattle.shard_lines.specs.Joining.{added_cells, added_counts, joined_lines}
+
+gone : {A : Type 0} (i : ℕ) (xs : List A) → length xs ≤ i → drop i xs ≡ []
+gone zero [] h = refl
+gone zero (x ∷ xs) h = absurd (omega arith)
+gone (suc i) [] h = refl
+gone (suc i) (x ∷ xs) h = gone i xs (omega arith)
+
+no_cells : (cs : List CellSum) → added_cells cs [] ≡ []
+no_cells [] = refl
+no_cells (c ∷ cs) = refl
+
+no_counts : (cs : List Counts) → added_counts cs [] ≡ []
+no_counts [] = refl
+no_counts (c ∷ cs) = refl
+
+no_lines : (ss : List PassShape) (qs : List ShardLine) → joined_lines ss [] qs ≡ []
+no_lines [] qs = refl
+no_lines (s ∷ ss) qs = refl
+
+no_others : (ss : List PassShape) (ps : List ShardLine) → joined_lines ss ps [] ≡ []
+no_others [] ps = refl
+no_others (s ∷ ss) [] = refl
+no_others (s ∷ ss) (p ∷ ps) = refl
+
+pub cells_end : (cs ds all : List CellSum) (i : ℕ) → all ++ added_cells (drop i cs) (drop i ds) ≡ added_cells cs ds → length ds ≤ i → all ≡ added_cells cs ds
+cells_end cs ds all i h l = sym (append-nil all) ∙ ap (λ t. all ++ t) (sym (ap (added_cells (drop i cs)) (gone i ds l) ∙ no_cells (drop i cs))) ∙ h
+
+pub counts_end : (cs ds all : List Counts) (i : ℕ) → all ++ added_counts (drop i cs) (drop i ds) ≡ added_counts cs ds → length ds ≤ i → all ≡ added_counts cs ds
+counts_end cs ds all i h l = sym (append-nil all) ∙ ap (λ t. all ++ t) (sym (ap (added_counts (drop i cs)) (gone i ds l) ∙ no_counts (drop i cs))) ∙ h
+
+pub lines_end : (ss : List PassShape) (ps qs all : List ShardLine) (i : ℕ) → all ++ joined_lines (drop i ss) (drop i ps) (drop i qs) ≡ joined_lines ss ps qs → (length ps ≤ i) ⊎ (length qs ≤ i) → all ≡ joined_lines ss ps qs
+lines_end ss ps qs all i h (inl l) = sym (append-nil all) ∙ ap (λ t. all ++ t) (sym (ap (λ xs. joined_lines (drop i ss) xs (drop i qs)) (gone i ps l) ∙ no_lines (drop i ss) (drop i qs))) ∙ h
+lines_end ss ps qs all i h (inr l) = sym (append-nil all) ∙ ap (λ t. all ++ t) (sym (ap (joined_lines (drop i ss) (drop i ps)) (gone i qs l) ∙ no_others (drop i ss) (drop i ps))) ∙ h

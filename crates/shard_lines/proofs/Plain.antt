@@ -1,0 +1,104 @@
+-- No byte of a word is a space or a line's end, so that the words of a line are found again.
+use Rattle.std.proofs.Common.{◌≡◌, ◌≢◌, ◌<◌, ℕ, suc, pos, negsuc, ℤ, Bool, true, false, ◌&&◌, List, [], ◌∷◌, length, map, flat_map, refl, ap, ◌∙◌, arith, codes, decimal, Option, None, Some}
+use Rattle.std.specs.Prelude.{◌==◌, nat_lt}
+use Rattle.std.specs.Fmt.{signed_decimal}
+use Rattle.std.proofs.lemmas.Bool.{ltb-true}
+use Rattle.std.proofs.lemmas.Bool.Decides.{nat_tests}
+use Rattle.rdf_values.specs.declared.value.Scalar.{Scalar}
+use Rattle.rdf_values.specs.declared.value.Scalar.TheVariants as scalar
+use Rattle.filters_report.specs.declared.flow.Counts.{Counts}
+use Rattle.histograms.specs.declared.cell_sum.CellSum.{CellSum}
+use Rattle.shard_lines.specs.Lines.{cell_words, count_words, extreme_word, joined_words, line_words, scalar_word}
+use Rattle.shard_lines.specs.Reading.{words_in}
+use Rattle.shard_lines.specs.declared.shard_line.ShardLine.{ShardLine}
+use Rattle.shard_lines.specs.declared.shard_line.ShardLine.TheVariants as pass
+use Rattle.shard_lines.proofs.Cutting.{Spaceless, cut_at, cut_none}
+use Rattle.shard_lines.proofs.Numerals.{Digits, decimal_digits}
+
+abbrev pub Plain : List ℕ → Type 0
+Plain [] = Unit {0}
+Plain (b ∷ bs) = (32 < b) × Plain bs
+
+abbrev pub AllPlain : List (List ℕ) → Type 0
+AllPlain [] = Unit {0}
+AllPlain (w ∷ ws) = Plain w × AllPlain ws
+
+-- ---- words
+
+digits_plain : (ds : List ℕ) → Digits ds → Plain ds
+digits_plain [] h = tt
+digits_plain (d ∷ ds) h = (let low = h.0 in omega arith, digits_plain ds h.2)
+
+pub decimal_plain : (n : ℕ) → Plain (decimal n)
+decimal_plain n = digits_plain (decimal n) (decimal_digits n)
+
+pub signed_plain : (z : ℤ) → Plain (signed_decimal z)
+signed_plain (pos n) = decimal_plain n
+signed_plain (negsuc n) = (omega arith, decimal_plain (suc n))
+
+and_both : (x y : Bool) → (x && y) ≡ true → (x ≡ true) × (y ≡ true)
+and_both true true h = (refl, refl)
+and_both true false h = cc h
+and_both false y h = cc h
+
+abbrev pub are_plain : List ℕ → Bool
+are_plain [] = true
+are_plain (b ∷ bs) = nat_lt 32 b && are_plain bs
+
+-- a word that is written out
+pub written : (w : List ℕ) → are_plain w ≡ true → Plain w
+written [] h = tt
+written (b ∷ bs) h = let both = and_both (nat_lt 32 b) (are_plain bs) h in (ltb-true 32 b both.0, written bs both.1)
+
+scalar_plain : (x : Scalar) → Plain (scalar_word x)
+scalar_plain (scalar.Int z) = signed_plain z
+scalar_plain (scalar.Bool true) = written (codes "true") refl
+scalar_plain (scalar.Bool false) = written (codes "false") refl
+
+scalars_plain : (xs : List Scalar) → AllPlain (map scalar_word xs)
+scalars_plain [] = tt
+scalars_plain (x ∷ xs) = (scalar_plain x, scalars_plain xs)
+
+extreme_plain : (z : Option ℤ) → Plain (extreme_word z)
+extreme_plain None = written (codes "none") refl
+extreme_plain (Some z) = signed_plain z
+
+cells_plain : (cs : List CellSum) → AllPlain (flat_map cell_words cs)
+cells_plain [] = tt
+cells_plain (c ∷ cs) = (signed_plain c.sum, (signed_plain c.squares, cells_plain cs))
+
+counts_plain : (cs : List Counts) → AllPlain (flat_map count_words cs)
+counts_plain [] = tt
+counts_plain (c ∷ cs) = (decimal_plain c.all, (decimal_plain c.pass, counts_plain cs))
+
+pub line_plain : (l : ShardLine) → AllPlain (line_words l)
+line_plain (pass.Count n) = (written (codes "count") refl, (decimal_plain n, tt))
+line_plain (pass.Sum z) = (written (codes "sum") refl, (signed_plain z, tt))
+line_plain (pass.Number z) = (written (codes "number") refl, (signed_plain z, tt))
+line_plain (pass.Extreme z) = (written (codes "extreme") refl, (extreme_plain z, tt))
+line_plain (pass.Take xs) = (written (codes "take") refl, (decimal_plain (length xs), scalars_plain xs))
+line_plain (pass.Cells cs) = (written (codes "cells") refl, (decimal_plain (length cs), cells_plain cs))
+line_plain (pass.Report cs) = (written (codes "report") refl, (decimal_plain (length cs), counts_plain cs))
+
+pub line_some : (l : ShardLine) → line_words l ≢ []
+line_some (pass.Count n) e = cc e
+line_some (pass.Sum z) e = cc e
+line_some (pass.Number z) e = cc e
+line_some (pass.Extreme z) e = cc e
+line_some (pass.Take xs) e = cc e
+line_some (pass.Cells cs) e = cc e
+line_some (pass.Report cs) e = cc e
+
+-- ---- words are found again
+
+no_space : (b : ℕ) → 32 < b → (b == 32) ≡ false
+no_space b h = grind (arith, nat_tests)
+
+spaceless : (w : List ℕ) → Plain w → Spaceless w
+spaceless [] h = tt
+spaceless (b ∷ bs) h = (no_space b h.0, spaceless bs h.1)
+
+pub words_found : (ws : List (List ℕ)) → ws ≢ [] → AllPlain ws → words_in (joined_words ws) ≡ ws
+words_found [] n h = absurd (n refl)
+words_found (w ∷ []) n h = cut_none w (spaceless w h.0)
+words_found (w ∷ v ∷ ws) n h = cut_at w 32 (joined_words (v ∷ ws)) (spaceless w h.0) refl ∙ ap (λ t. w ∷ t) (words_found (v ∷ ws) (λ e. cc e) h.1)

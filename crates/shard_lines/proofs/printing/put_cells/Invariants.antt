@@ -1,0 +1,8 @@
+use Rattle.std.proofs.Common.{◌≡◌, ◌++◌, take}
+use Rattle.std.specs.Prelude.{flat_map}
+use Rattle.shard_lines.specs.Lines.{cell_words}
+use Rattle.shard_lines.specs.Spaced.{spaced}
+use Rattle.shard_lines.proofs.printing.put_cells.Given as goal
+
+abbrev pub invariant-loop-cell : goal.invariant-loop-cell
+invariant-loop-cell l = l.text ≡ l.fn.text ++ spaced (flat_map cell_words (take l.cell-index l.cells))

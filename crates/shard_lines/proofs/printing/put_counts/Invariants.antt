@@ -1,0 +1,8 @@
+use Rattle.std.proofs.Common.{◌≡◌, ◌++◌, take}
+use Rattle.std.specs.Prelude.{flat_map}
+use Rattle.shard_lines.specs.Lines.{count_words}
+use Rattle.shard_lines.specs.Spaced.{spaced}
+use Rattle.shard_lines.proofs.printing.put_counts.Given as goal
+
+abbrev pub invariant-loop-count : goal.invariant-loop-count
+invariant-loop-count l = l.text ≡ l.fn.text ++ spaced (flat_map count_words (take l.count-index l.counts))

@@ -1,0 +1,7 @@
+use Rattle.std.proofs.Common.{◌≡◌, ◌++◌, map, take}
+use Rattle.shard_lines.specs.Lines.{scalar_word}
+use Rattle.shard_lines.specs.Spaced.{spaced}
+use Rattle.shard_lines.proofs.printing.put_scalars.Given as goal
+
+abbrev pub invariant-loop-value : goal.invariant-loop-value
+invariant-loop-value l = l.text ≡ l.fn.text ++ spaced (map scalar_word (take l.value-index l.values))

@@ -1,0 +1,1 @@
+"""Draws what a script books as a graph."""

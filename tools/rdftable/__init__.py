@@ -1,0 +1,1 @@
+"""A table at a glance: its columns, and its first entries."""
