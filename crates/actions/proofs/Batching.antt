@@ -1,11 +1,11 @@
 -- What a batch feeds, place by place.
 use Rattle.std.proofs.Common.{ℕ, zero, suc, ◌≡◌, ◌≤◌, ◌<◌, ◌+◌, All, List, [], ◌∷◌, ◌++◌, length, map, take, drop, get_or, refl, ap, sym, subst, ◌∙◌, append-nil, append_assoc, arith, length-append, lit≤, ◌*◌, ℤ, pos}
-use Rattle.std.specs.Prelude.{flat_map, Option, Some, None}
+use Rattle.std.specs.Prelude.{flat_map, Some, None, Bool, true, false, ◌&&◌, ◌||◌, nat_abs, nat_lt, ◌^◌}
 use Rattle.std.specs.List.{range_with_len}
-use Rattle.std.proofs.lemmas.List.{drop_more, length-map, map-append, take_more}
+use Rattle.std.proofs.lemmas.List.{drop_more, length-map, map-append, take_all, take_more}
 use Rattle.std.proofs.lemmas.List.FromFn.{get_or-range_with_len, length-range_with_len}
 use Rattle.std.proofs.lemmas.Grind.{flat_map-append}
-use Rattle.std.proofs.lemmas.List.Elements.{All-head, All-tail}
+use Rattle.std.proofs.lemmas.List.Elements.{All-append, All-cons, All-head, All-tail}
 use Rattle.rdf_values.specs.declared.action.ActionKind.{ActionKind}
 use Rattle.rdf_values.specs.declared.action.ActionKind.TheVariants as kind
 use Rattle.rdf_values.specs.declared.action.ReduceOp.{ReduceOp}
@@ -14,8 +14,7 @@ use Rattle.rdf_values.specs.declared.item.Item.TheVariants.{Number, Single, Unit
 use Rattle.rdf_values.specs.declared.value.Scalar.{Scalar}
 use Rattle.rdf_values.specs.declared.value.Value.{Value}
 use Rattle.rdf_values.specs.declared.value.Value.TheVariants as val
-use Rattle.rdf_values.specs.Spread.{feed_fault, numbers, spread}
-use Rattle.actions.specs.declared.batch.PlaceFault.{PlaceFault}
+use Rattle.rdf_values.specs.Spread.{feed_fault, is_weight, numbers, spread, weight_fault}
 use Rattle.actions.specs.declared.batch.Sources.{Sources}
 use Rattle.actions.specs.declared.batch.Sources.TheVariants.{Entry, One, Weighted, Pair, WeightedPair}
 use Rattle.actions.specs.declared.lane.Lane.{Lane}
@@ -24,7 +23,7 @@ use Rattle.actions.specs.declared.state.State.TheVariants as state
 use Rattle.actions.specs.declared.taken.TakenValue.{TakenValue}
 use Rattle.actions.specs.Batches.{HasPlace, HasValues, SuitsAt, fault_or_later, first_fault_in, first_lane, lane_value, numbers_in, values_at}
 use Rattle.actions.specs.Feeding.{Fed, from_cluster}
-use Rattle.actions.specs.Holding.{Holds, IsWithin}
+use Rattle.actions.specs.Holding.{IsWithin}
 use Rattle.actions.specs.Parts.{IsInteger, IsNumeric, first_numbers, first_scalar}
 use Rattle.actions.specs.Values.{values_from}
 
@@ -239,3 +238,114 @@ reduce_is_short o c (WeightedPair x y v) p h = absurd h
 pub one_each : (ps : List ℕ) → length (flat_map (λ (p : ℕ). Unit ∷ []) ps) ≡ length ps
 one_each [] = refl
 one_each (p ∷ ps) = ap (λ n. suc n) (one_each ps)
+
+-- a lane of numbers has one at each place
+pub numbers_listed : (zs : List ℤ) (ps : List ℕ) → flat_map (λ p. get_or zs p (pos 0) ∷ []) ps ≡ map (λ p. get_or zs p (pos 0)) ps
+numbers_listed zs [] = refl
+numbers_listed zs (p ∷ ps) = ap (λ l. get_or zs p (pos 0) ∷ l) (numbers_listed zs ps)
+
+pub count_listed : (zs : List ℤ) (ps : List ℕ) → length (flat_map (λ p. get_or zs p (pos 0) ∷ []) ps) ≡ length ps
+count_listed zs [] = refl
+count_listed zs (p ∷ ps) = ap (λ n. suc n) (count_listed zs ps)
+
+pub one_place_mapped : {A : Type 0} (f : ℕ → A) (ps : List ℕ) (i : ℕ) → i < length ps → map f (take (i + 1) ps) ≡ map f (take i ps) ++ f (get_or ps i 0) ∷ []
+one_place_mapped f ps i h = ap (map f) (take_more ps i 0 h) ∙ map-append f (take i ps) (get_or ps i 0 ∷ [])
+
+-- ---- faults of numbers
+
+pub none_found : (k : ActionKind) (s : Sources) (ps : List ℕ) → All (λ p. feed_fault k (values_at s p) ≡ None) ps → first_fault_in k s ps ≡ None
+none_found k s [] h = refl
+none_found k s (p ∷ ps) h =
+    ap (λ o. fault_or_later p o (first_fault_in k s ps)) (All-head (λ q. feed_fault k (values_at s q) ≡ None) p ps h)
+    ∙ none_found k s ps (All-tail (λ q. feed_fault k (values_at s q) ≡ None) p ps h)
+
+abbrev Light : ℤ → Type 0
+Light w = nat_abs w < 2 ^ 31
+
+light_is_weight : (w : ℤ) → Light w → is_weight (val.Int w) ≡ true
+light_is_weight w h = let e : nat_lt (nat_abs w) (2 ^ 31) ≡ true = grind (arith, h) in ap (λ b. b && true) e
+
+one_is_clean : (k : ActionKind) (v : Value) → feed_fault k (v ∷ []) ≡ None
+one_is_clean kind.Count v = refl
+one_is_clean (kind.Sum c) v = refl
+one_is_clean (kind.Min c) v = refl
+one_is_clean (kind.Max c) v = refl
+one_is_clean (kind.Take c) v = refl
+one_is_clean (kind.Reduce o c) v = refl
+one_is_clean (kind.Histo1D edges c o) v = refl
+one_is_clean (kind.Histo2D xs ys c d o) v = refl
+
+none_is_clean : (k : ActionKind) → feed_fault k [] ≡ None
+none_is_clean kind.Count = refl
+none_is_clean (kind.Sum c) = refl
+none_is_clean (kind.Min c) = refl
+none_is_clean (kind.Max c) = refl
+none_is_clean (kind.Take c) = refl
+none_is_clean (kind.Reduce o c) = refl
+none_is_clean (kind.Histo1D edges c o) = refl
+none_is_clean (kind.Histo2D xs ys c d o) = refl
+
+pub entry_is_clean : (k : ActionKind) (ps : List ℕ) → All (λ p. feed_fault k (values_at Entry p) ≡ None) ps
+entry_is_clean k ps = λ i d l. none_is_clean k
+
+pub one_lane_is_clean : (k : ActionKind) (x : Lane) (ps : List ℕ) → All (λ p. feed_fault k (values_at (One x) p) ≡ None) ps
+one_lane_is_clean k x ps = λ i d l. one_is_clean k (lane_value x (get_or ps i d))
+
+weighted_is_clean : (k : ActionKind) (x w : Lane) (p : ℕ) (a b : ℤ) → lane_value x p ≡ val.Int a → lane_value w p ≡ val.Int b → Light b → SuitsAt k (Weighted x w) p → feed_fault k (values_at (Weighted x w) p) ≡ None
+weighted_is_clean kind.Count x w p a b e f h s = absurd s
+weighted_is_clean (kind.Sum c) x w p a b e f h s = absurd s
+weighted_is_clean (kind.Min c) x w p a b e f h s = absurd s
+weighted_is_clean (kind.Max c) x w p a b e f h s = absurd s
+weighted_is_clean (kind.Take c) x w p a b e f h s = absurd s
+weighted_is_clean (kind.Reduce o c) x w p a b e f h s = absurd s
+weighted_is_clean (kind.Histo1D edges c o) x w p a b e f h s = rw (e, f) (ap (λ t. weight_fault (t && true)) (light_is_weight b h))
+weighted_is_clean (kind.Histo2D xs ys c d o) x w p a b e f h s = absurd s
+
+pair_is_clean : (k : ActionKind) (x y : Lane) (p : ℕ) (a b : ℤ) → lane_value x p ≡ val.Int a → lane_value y p ≡ val.Int b → SuitsAt k (Pair x y) p → feed_fault k (values_at (Pair x y) p) ≡ None
+pair_is_clean kind.Count x w p a b e f s = absurd s
+pair_is_clean (kind.Sum c) x w p a b e f s = absurd s
+pair_is_clean (kind.Min c) x w p a b e f s = absurd s
+pair_is_clean (kind.Max c) x w p a b e f s = absurd s
+pair_is_clean (kind.Take c) x w p a b e f s = absurd s
+pair_is_clean (kind.Reduce o c) x w p a b e f s = absurd s
+pair_is_clean (kind.Histo1D edges c o) x w p a b e f s = absurd s
+pair_is_clean (kind.Histo2D xs ys c d o) x w p a b e f s = rw e refl
+
+weighted_pair_is_clean : (k : ActionKind) (x y w : Lane) (p : ℕ) (a b v : ℤ) → lane_value x p ≡ val.Int a → lane_value y p ≡ val.Int b → lane_value w p ≡ val.Int v → Light v → SuitsAt k (WeightedPair x y w) p
+    → feed_fault k (values_at (WeightedPair x y w) p) ≡ None
+weighted_pair_is_clean kind.Count x y w p a b v e f g h s = absurd s
+weighted_pair_is_clean (kind.Sum c) x y w p a b v e f g h s = absurd s
+weighted_pair_is_clean (kind.Min c) x y w p a b v e f g h s = absurd s
+weighted_pair_is_clean (kind.Max c) x y w p a b v e f g h s = absurd s
+weighted_pair_is_clean (kind.Take c) x y w p a b v e f g h s = absurd s
+weighted_pair_is_clean (kind.Reduce o c) x y w p a b v e f g h s = absurd s
+weighted_pair_is_clean (kind.Histo1D edges c o) x y w p a b v e f g h s = absurd s
+weighted_pair_is_clean (kind.Histo2D xs ys c d o) x y w p a b v e f g h s = rw (e, g) (ap (λ t. weight_fault (t && true)) (light_is_weight v h))
+
+pub either_false : (a b : Bool) → (a || b) ≡ false → (a ≡ false) × (b ≡ false)
+either_false true b h = cc h
+either_false false b h = (refl, h)
+
+pub one_more_light : (zs : List ℤ) (ps : List ℕ) (i : ℕ) → i < length ps → All (λ p. nat_abs (get_or zs p (pos 0)) < 2 ^ 31) (take i ps) → nat_abs (get_or zs (get_or ps i 0) (pos 0)) < 2 ^ 31
+    → All (λ p. nat_abs (get_or zs p (pos 0)) < 2 ^ 31) (take (i + 1) ps)
+one_more_light zs ps i h all one =
+    subst (All (λ p. nat_abs (get_or zs p (pos 0)) < 2 ^ 31)) (sym (take_more ps i 0 h))
+    (All-append (λ p. nat_abs (get_or zs p (pos 0)) < 2 ^ 31) (take i ps) (get_or ps i 0 ∷ []) all (All-cons (λ p. nat_abs (get_or zs p (pos 0)) < 2 ^ 31) (get_or ps i 0) [] one (λ k d l. absurd (omega (arith, l)))))
+
+pub light_all : (zs : List ℤ) (ps : List ℕ) (i : ℕ) → length ps ≤ i → All (λ p. nat_abs (get_or zs p (pos 0)) < 2 ^ 31) (take i ps) → All (λ p. nat_abs (get_or zs p (pos 0)) < 2 ^ 31) ps
+light_all zs ps i h all = subst (All (λ p. nat_abs (get_or zs p (pos 0)) < 2 ^ 31)) (take_all i ps h) all
+
+-- a lane holds numbers
+abbrev pub HoldsNumbers : Lane → (ℕ → ℤ) → Type 0
+HoldsNumbers x f = (p : ℕ) → lane_value x p ≡ val.Int (f p)
+
+pub pairs_are_clean : (k : ActionKind) (x y : Lane) (ps : List ℕ) (f g : ℕ → ℤ) → HoldsNumbers x f → HoldsNumbers y g → All (SuitsAt k (Pair x y)) ps → All (λ p. feed_fault k (values_at (Pair x y) p) ≡ None) ps
+pairs_are_clean k x y ps f g a b s = λ i d l. let p = get_or ps i d in pair_is_clean k x y p (f p) (g p) (a p) (b p) (s i d l)
+
+pub weights_are_clean : (k : ActionKind) (x w : Lane) (ps : List ℕ) (f h : ℕ → ℤ) → HoldsNumbers x f → HoldsNumbers w h → All (λ p. nat_abs (h p) < 2 ^ 31) ps → All (SuitsAt k (Weighted x w)) ps
+    → All (λ p. feed_fault k (values_at (Weighted x w) p) ≡ None) ps
+weights_are_clean k x w ps f h a b light s = λ i d l. let p = get_or ps i d in weighted_is_clean k x w p (f p) (h p) (a p) (b p) (light i d l) (s i d l)
+
+pub weighted_pairs_are_clean : (k : ActionKind) (x y w : Lane) (ps : List ℕ) (f g h : ℕ → ℤ) → HoldsNumbers x f → HoldsNumbers y g → HoldsNumbers w h → All (λ p. nat_abs (h p) < 2 ^ 31) ps → All (SuitsAt k (WeightedPair x y w)) ps
+    → All (λ p. feed_fault k (values_at (WeightedPair x y w) p) ≡ None) ps
+weighted_pairs_are_clean k x y w ps f g h a b c light s = λ i d l. let p = get_or ps i d in weighted_pair_is_clean k x y w p (f p) (g p) (h p) (a p) (b p) (c p) (light i d l) (s i d l)

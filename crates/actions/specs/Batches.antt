@@ -1,5 +1,5 @@
 -- What the entries of a block feed to an action.
-use Rattle.std.specs.Prelude.{◌≡◌, ℕ, zero, ◌<◌, ◌≤◌, ⊤, Bool, true, false, List, [], ◌∷◌, length, ℤ, pos, Option, Some, None, All, slice_index_or, slice_range, flat_map}
+use Rattle.std.specs.Prelude.{ℕ, zero, ◌<◌, ◌≤◌, ⊤, Bool, true, false, List, [], ◌∷◌, length, ℤ, pos, Option, Some, None, All, slice_index_or, slice_range, flat_map}
 use Rattle.std.specs.List.{range_with_len}
 use Rattle.rdf_values.specs.Spread.{feed_fault, numbers, spread}
 use Rattle.rdf_values.specs.declared.action.ActionKind.{ActionKind}

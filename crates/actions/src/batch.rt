@@ -1,5 +1,6 @@
 // What the entries of a block feed to an action, all at once.
-ghost use Rattle.std.specs.Prelude.{◌≡◌, ◌≤◌, length};
+ghost use Rattle.std.specs.Prelude.{◌≡◌, ◌≤◌, ◌<◌, ◌^◌, None, false, length, nat_abs, pos, slice_index_or};
+ghost use Rattle.rdf_values.specs.Spread.{feed_fault};
 ghost use Rattle.rdf_values.specs.declared.action.ActionKind.{ActionKind};
 ghost use Rattle.actions.specs.Batches.{EachPlace, HasValues, SuitsAt, first_fault_in, first_lane, places_of, values_at};
 ghost use Rattle.actions.specs.Parts.{Suits, values_of};
@@ -85,7 +86,45 @@ impl<'a> Sources<'a> {
     }
 }
 
+// Whether one of the weights at some places is out of range.
+fn any_heavy(weights: &[i64], places: &Places<'_>) -> bool
+    requires few { length (places_of places.now) ≤ 1000000 }
+    requires there { EachPlace places.now (λ p. p < length weights.now) }
+    ensures { result ≡ false → EachPlace places.now (λ p. nat_abs (slice_index_or weights.now p (pos 0)) < 2 ^ 31) }
+{
+    let mut heavy = false;
+    for i in 0..places.len() {
+        heavy |= weights[places.at(i) as usize].unsigned_abs() >= 1 << 31;
+    }
+    heavy
+}
+
 impl Batch<'_> {
+    // Whether a place may have values that can't be fed: nearly always none has.
+    fn may_fault(&self) -> bool
+        requires few { length (places_of self.now.places) ≤ 1000000 }
+        requires there { EachPlace self.now.places (HasValues self.now.sources) }
+        ensures { result ≡ false → (kind : ActionKind) → EachPlace self.now.places (SuitsAt kind self.now.sources) → EachPlace self.now.places (λ p. feed_fault kind (values_at self.now.sources p) ≡ None) }
+    {
+        match &self.sources {
+            Sources::Entry | Sources::One { .. } => false,
+            Sources::Weighted {
+                x: Lane::Int(_),
+                w: Lane::Int(weights),
+            } => any_heavy(weights, &self.places),
+            Sources::Pair {
+                x: Lane::Int(_),
+                y: Lane::Int(_),
+            } => false,
+            Sources::WeightedPair {
+                x: Lane::Int(_),
+                y: Lane::Int(_),
+                w: Lane::Int(weights),
+            } => any_heavy(weights, &self.places),
+            _ => true,
+        }
+    }
+
     /// The first of the places whose values an action can't be fed with, and why: vectors of different lengths, and then a weight
     /// out of range.
     pub fn first_fault(&self) -> Option<PlaceFault>
@@ -93,6 +132,9 @@ impl Batch<'_> {
         requires there { EachPlace self.now.places (HasValues self.now.sources) }
         ensures { (kind : ActionKind) → EachPlace self.now.places (SuitsAt kind self.now.sources) → result ≡ first_fault_in kind self.now.sources (places_of self.now.places) }
     {
+        if !self.may_fault() {
+            return None;
+        }
         for i in 0..self.places.len() {
             let place = self.places.at(i);
             if let Some(kind) = self.sources.items(place).fault() {

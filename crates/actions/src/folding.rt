@@ -1,5 +1,5 @@
 // Folding the numbers of a lane.
-ghost use Rattle.std.specs.Prelude.{◌≡◌, ◌+◌, ◌-◌, ◌*◌, ◌^◌, ◌<◌, ◌≤◌, ◌++◌, ◌+ℤ◌, ℕ, ℤ, List, fold, length, nat_abs};
+ghost use Rattle.std.specs.Prelude.{◌≡◌, ◌+◌, ◌-◌, ◌*◌, ◌^◌, ◌<◌, ◌≤◌, ◌++◌, ◌+ℤ◌, ℕ, ℤ, All, List, fold, length, map, nat_abs, pos, slice_index_or};
 ghost use Rattle.std.specs.Int.{int_max, int_min};
 ghost use Rattle.rdf_values.specs.Fold.{reduce_step};
 ghost use Rattle.actions.specs.Batches.{EachPlace, HasPlace, HasValues, first_numbers_in, numbers_in, places_of, values_at};
@@ -11,6 +11,7 @@ use crate::lane::Lane;
 use crate::numbers::{Reduction, greatest_with, least_with, reduce_with, sum_with};
 use crate::places::Places;
 use rdf_values::ReduceOp;
+use std::slice;
 
 /// What takes in numbers, one after another.
 pub(crate) trait Folds {
@@ -87,6 +88,18 @@ impl Folds for Reduction {
     }
 }
 
+// Takes in the numbers of the listed places.
+fn fold_listed<F: Folds>(folder: &mut F, numbers: &[i64], listed: &[u32])
+    requires there { All (λ p. p < length numbers.now) listed.now }
+    requires room { F.size folder.old + length listed.now * 2 ^ 63 < 2 ^ 127 }
+    ensures folded { (start : F) (before : List ℤ) → F.folded start folder.old before → F.folded start folder.new (before ++ map (λ p. slice_index_or numbers.now p (pos 0)) listed.now) }
+    ensures bounded { F.size folder.new ≤ F.size folder.old + length listed.now * 2 ^ 63 }
+{
+    for place in listed {
+        folder.take_in(slice::from_ref(&numbers[*place as usize]));
+    }
+}
+
 /// Takes in the numbers of a lane at some places.
 pub(crate) fn fold_lane<F: Folds>(folder: &mut F, lane: &Lane<'_>, places: &Places<'_>)
     requires few { length (places_of places.now) ≤ 1000000 }
@@ -95,12 +108,14 @@ pub(crate) fn fold_lane<F: Folds>(folder: &mut F, lane: &Lane<'_>, places: &Plac
     ensures folded { (start : F) (before : List ℤ) → F.folded start folder.old before → F.folded start folder.new (before ++ numbers_in lane.now (places_of places.now)) }
     ensures bounded { F.size folder.new ≤ F.size folder.old + length (numbers_in lane.now (places_of places.now)) * 2 ^ 63 }
 {
-    if let (Lane::Int(numbers), Places::First(count)) = (lane, places) {
-        folder.take_in(&numbers[..*count as usize]);
-        return;
-    }
-    for i in 0..places.len() {
-        folder.take_in(lane.numbers(places.at(i)));
+    match (lane, places) {
+        (Lane::Int(numbers), Places::First(count)) => folder.take_in(&numbers[..*count as usize]),
+        (Lane::Int(numbers), Places::Listed(listed)) => fold_listed(folder, numbers, listed),
+        _ => {
+            for i in 0..places.len() {
+                folder.take_in(lane.numbers(places.at(i)));
+            }
+        }
     }
 }
 

@@ -1,6 +1,6 @@
-use Rattle.std.proofs.Common.{arith, ℤ, ◌++◌, List, [], append-nil, sym, subst, ◌∙◌, ap}
+use Rattle.std.proofs.Common.{arith, ℤ, ◌++◌, List, append-nil, sym, subst, ◌∙◌, ap}
 use Rattle.actions.specs.Batches.{places_of}
-use Rattle.actions.proofs.Batching.{few_numbers, lane_numbers_in, no_numbers_in}
+use Rattle.actions.proofs.Batching.{few_numbers, no_numbers_in}
 use Rattle.actions.proofs.folding.fold_batch.Goals as goal
 
 pub fold_lane-requires-clause-room : goal.fold_lane-requires-clause-room

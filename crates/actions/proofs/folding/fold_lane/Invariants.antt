@@ -1,4 +1,4 @@
-use Rattle.std.proofs.Common.{ℕ, ℤ, ◌≤◌, ◌+◌, ◌*◌, ◌^◌, ◌++◌, List, length, take}
+use Rattle.std.proofs.Common.{ℤ, ◌≤◌, ◌+◌, ◌*◌, ◌^◌, ◌++◌, List, length, take}
 use Rattle.actions.specs.Batches.{numbers_in, places_of}
 use Rattle.actions.proofs.folding.fold_lane.Given as goal
 

@@ -6,7 +6,6 @@ use Rattle.rdf_values.specs.declared.action.ActionKind.TheVariants as kind
 use Rattle.rdf_values.specs.Fold.{reduce_step}
 use Rattle.actions.specs.Batches.{first_numbers_in, places_of, values_at}
 use Rattle.actions.specs.Parts.{first_scalar}
-use Rattle.actions.specs.Values.{values_from}
 use Rattle.actions.proofs.Batching.{few_values, number_items, one_each, taken_items}
 use Rattle.actions.proofs.States.{either_way, holds_counted, holds_greatest, holds_least, holds_reduced, holds_summed, holds_taken, on_ok, spread_max, spread_min, spread_reduce, spread_sum}
 use Rattle.actions.proofs.state.State.feed_batch.Goals as goal
