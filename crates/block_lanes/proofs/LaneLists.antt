@@ -4,7 +4,7 @@ use Rattle.std.specs.List.{All, AllWithin}
 use Rattle.std.proofs.lemmas.List.{take_more}
 use Rattle.std.proofs.lemmas.List.Elements.{All-set, All-from_all_within, AllWithin-more_set, AllWithin-push, AllWithin-from_all}
 use Rattle.rdf_values.specs.declared.value.ColType.{ColType}
-use Rattle.block_lanes.specs.Lanes.{AreUnknown, HaveRoom, IsSameLane, IsUnknown, LaneView, kinds_of, room_of}
+use Rattle.block_lanes.specs.Lanes.{AreUnknown, HaveRoom, IsSameLane, IsUnknown, LaneView, kinds_of, room_of, rooms_of}
 
 -- ---- lanes that are made
 
@@ -35,23 +35,27 @@ kinds_set [] i l d inside same = refl
 kinds_set (x ∷ ls) zero l d inside same = ap (λ k. k ∷ kinds_of ls) same
 kinds_set (x ∷ ls) (suc i) l d inside same = ap (λ ks. x.kind ∷ ks) (kinds_set ls i l d (omega (arith, inside)) same)
 
+rooms_set : (ls : List LaneView) (i : ℕ) (l d : LaneView) → i < length ls → room_of l ≡ room_of (get_or ls i d) → rooms_of (set ls i l) ≡ rooms_of ls
+rooms_set [] i l d inside same = refl
+rooms_set (x ∷ ls) zero l d inside same = ap (λ k. k ∷ rooms_of ls) same
+rooms_set (x ∷ ls) (suc i) l d inside same = ap (λ ks. room_of x ∷ ks) (rooms_set ls i l d (omega (arith, inside)) same)
+
 -- the first so many lanes began it
-pub record AreBegunTo (count room : ℕ) (before : List LaneView) (i : ℕ) (ls : List LaneView) : Type 0 where
+pub record AreBegunTo (count : ℕ) (before : List LaneView) (i : ℕ) (ls : List LaneView) : Type 0 where
   pub many : length ls ≡ length before
   pub kinds_are : kinds_of ls ≡ kinds_of before
-  pub rooms : HaveRoom room ls
+  pub rooms_are : rooms_of ls ≡ rooms_of before
+  pub enough : All (λ l. count ≤ room_of l) ls
   pub begun : AllWithin (IsUnknown count) ls 0 i
 
-pub begun_none : (count room : ℕ) (before : List LaneView) → HaveRoom room before → AreBegunTo count room before 0 before
-begun_none count room before rooms = record { many = refl; kinds_are = refl; rooms = rooms; begun = λ k d low high. absurd (omega arith) }
+pub begun_none : (count : ℕ) (before : List LaneView) → All (λ l. count ≤ room_of l) before → AreBegunTo count before 0 before
+begun_none count before enough = record { many = refl; kinds_are = refl; rooms_are = refl; enough = enough; begun = λ k d low high. absurd (omega arith) }
 
-pub begun_more : (count room i : ℕ) (before ls : List LaneView) (l old : LaneView) → AreBegunTo count room before i ls → i < length ls → old ≡ get_or ls i old → IsSameLane old l → IsUnknown count l → AreBegunTo count room before (i + 1) (set ls i l)
-begun_more count room i before ls l old so_far inside is same unknown = record {
-  many = length-set ls i l ∙ so_far.many;
-  kinds_are = kinds_set ls i l old inside (same.kind ∙ ap (λ (x : LaneView). x.kind) is) ∙ so_far.kinds_are;
-  rooms = All-set (λ x. room_of x ≡ room) ls i l (same.room ∙ ap (λ (x : LaneView). room_of x) is ∙ so_far.rooms i old inside) so_far.rooms;
-  begun = AllWithin-more_set ls i l inside (IsUnknown count) so_far.begun unknown;
-}
-
-pub begun_all : (count room i : ℕ) (before ls : List LaneView) → AreBegunTo count room before i ls → length ls ≤ i → AreUnknown count ls
-begun_all count room i before ls so_far all = λ k d inside. so_far.begun k d (omega arith) (omega arith)
+pub begun_more : (count i : ℕ) (before ls : List LaneView) (l d : LaneView) → AreBegunTo count before i ls → i < length ls → IsSameLane (get_or ls i d) l → IsUnknown count l → AreBegunTo count before (i + 1) (set ls i l)
+begun_more count i before ls l d so_far inside same unknown = record {
+      many = length-set ls i l ∙ so_far.many;
+      kinds_are = kinds_set ls i l d inside same.kind ∙ so_far.kinds_are;
+      rooms_are = rooms_set ls i l d inside same.room ∙ so_far.rooms_are;
+      enough = All-set (λ x. count ≤ room_of x) ls i l (omega (arith, same.room, so_far.enough i d inside)) so_far.enough;
+      begun = AllWithin-more_set ls i l inside (IsUnknown count) so_far.begun unknown;
+    }

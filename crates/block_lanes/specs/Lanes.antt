@@ -85,6 +85,10 @@ pub record IsEvaluated (f : ℕ → Outcome ℕ Value) (sel left : List ℕ) (be
 abbrev pub kinds_of : List LaneView → List ColType
 kinds_of ls = map (λ (l : LaneView). l.kind) ls
 
+-- for how many places each has room
+abbrev pub rooms_of : List LaneView → List ℕ
+rooms_of ls = map room_of ls
+
 -- each has room for blocks of so many places
 abbrev pub HaveRoom : ℕ → List LaneView → Type 0
 HaveRoom room ls = All (λ l. room_of l ≡ room) ls

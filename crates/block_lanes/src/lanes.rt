@@ -1,67 +1,34 @@
 // What is known of all keys over a block.
-ghost use Rattle.std.specs.Prelude.{◌≡◌, ◌<◌, ◌≤◌, ℕ, List, All, IfOk, length, take, map, slice_get, Some};
-ghost use Rattle.block_lanes.specs.Lanes.{AreUnknown, HaveRoom, LaneView, kinds_of};
+ghost use Rattle.std.specs.Prelude.{◌≡◌, ◌≤◌, All, IfOk};
+ghost use Rattle.block_lanes.specs.Lanes.{AreUnknown, HaveRoom, kinds_of, room_of, rooms_of};
 
 use crate::lane::Lane;
 use expr_lanes::MAX_PLACES;
 use rdf_values::{ColType, Memory};
 use std::alloc::Global;
-use std::marker::Model;
 
-/// A lane for each key, in order.
-#[derive(Drop)]
-pub struct Lanes {
-    lanes: Vec<Lane>,
+/// A lane for each key with values of these kinds, with all the memory that they take for blocks of so many places.
+pub fn new_lanes(alloc: Global, kinds: &[ColType], room: usize) -> Result<Vec<Lane>, Memory>
+    requires { room ≤ MAX_PLACES }
+    ensures kinds { IfOk result (λ ls. kinds_of ls.items ≡ kinds.now) }
+    ensures rooms { IfOk result (λ ls. HaveRoom room ls.items) }
+    ensures unknown { IfOk result (λ ls. AreUnknown 0 ls.items) }
+{
+    let mut lanes = Vec::with_capacity(alloc, kinds.len())?;
+    for i in 0..kinds.len() {
+        lanes.push(Lane::new(alloc, kinds[i], room)?)?;
+    }
+    Ok(lanes)
 }
 
-impl Model for Lanes {
-    ghost use Rattle.std.specs.Prelude.{List};
-    ghost use Rattle.block_lanes.specs.Lanes.{LaneView};
-
-    ghost Value = { List LaneView };
-
-    ghost view = { λ l. l.lanes.items };
-}
-
-impl Lanes {
-    /// The lanes of keys with values of these kinds, with all the memory that they take for blocks of so many places.
-    pub fn new(alloc: Global, kinds: &[ColType], room: usize) -> Result<Lanes, Memory>
-        requires { room ≤ MAX_PLACES }
-        ensures kinds { IfOk result (λ ls. kinds_of ls ≡ kinds.now) }
-        ensures room { IfOk result (HaveRoom room) }
-        ensures unknown { IfOk result (AreUnknown 0) }
-    {
-        let mut lanes = Vec::with_capacity(alloc, kinds.len())?;
-        for i in 0..kinds.len() {
-            lanes.push(Lane::new(alloc, kinds[i], room)?)?;
-        }
-        Ok(Lanes { lanes })
-    }
-
-    /// Begins a block of so many places, of which nothing is known yet.
-    pub fn begin(&mut self, count: usize, _room: usize)
-        requires room { HaveRoom _room self.old }
-        requires count { count ≤ _room }
-        ensures kinds { kinds_of self.new ≡ kinds_of self.old }
-        ensures room { HaveRoom _room self.new }
-        ensures unknown { AreUnknown count self.new }
-    {
-        for i in 0..self.lanes.len() {
-            self.lanes[i].begin(count);
-        }
-    }
-
-    /// The lanes in order.
-    pub fn as_slice(&self) -> &[Lane]
-        ensures { result.now ≡ self.now }
-    {
-        self.lanes.as_slice()
-    }
-
-    /// The lanes in order, to be written.
-    pub fn as_mut_slice(&mut self) -> &mut [Lane]
-        ensures { result.now ≡ self.old }
-    {
-        self.lanes.as_mut_slice()
+/// Begins a block of so many places, of which nothing is known yet.
+pub fn begin_block(lanes: &mut [Lane], count: usize)
+    requires { All (λ l. count ≤ room_of l) lanes.old }
+    ensures kinds { kinds_of lanes.new ≡ kinds_of lanes.old }
+    ensures rooms { rooms_of lanes.new ≡ rooms_of lanes.old }
+    ensures unknown { AreUnknown count lanes.new }
+{
+    for i in 0..lanes.len() {
+        lanes[i].begin(count);
     }
 }

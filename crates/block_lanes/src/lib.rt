@@ -9,5 +9,5 @@ mod marks;
 pub mod sizes;
 
 pub use crate::lane::Lane;
-pub use crate::lanes::Lanes;
+pub use crate::lanes::{begin_block, new_lanes};
 pub use crate::sizes::{MAX_LANE_PLACES, block_size};
