@@ -6,14 +6,15 @@ use Rattle.std.proofs.Math.Seq.{take-append_seam}
 use Rattle.rdf_values.specs.declared.value.ColType.{ColType}
 use Rattle.rdf_values.specs.declared.value.Value.{Value}
 use Rattle.rdf_model.specs.Evaluation.{Outcome, Gives}
-use Rattle.expr_lanes.specs.Marks.{lane_value}
+use Rattle.expr_lanes.specs.Marks.{lane_number, lane_outcome, lane_value}
 use Rattle.expr_lanes.specs.Places.{at_place, is_given, is_in, is_marked, EachPlace}
 use Rattle.expr_lanes.specs.Values.{HasValues}
 use Rattle.expr_lanes.specs.declared.stopped.Stopped.{Stopped}
 use Rattle.expr_lanes.proofs.Sequence.{filtered_in, filtered_out, first_in, rest_in}
 use Rattle.std.proofs.lemmas.Bool.{cases_lt}
 use Rattle.block_lanes.proofs.Marking.{count_none}
-use Rattle.block_lanes.specs.Lanes.{LaneView, IsEvaluated, IsLane, IsUnknown}
+use Rattle.expr_lanes.specs.declared.TheConstants.{MAX_PLACES}
+use Rattle.block_lanes.specs.Lanes.{LaneView, IsEvaluated, IsLane, IsUnknown, room_of}
 
 -- ---- a filter by what holds of each place
 
@@ -47,6 +48,9 @@ newly_as places sel old seen new same_places same_marks newly =
 
 -- ---- an evaluation
 
+number_is : (y z : ℤ) → ◌≡◌ {A = Outcome ℕ ℤ} (Gives y) (Gives z) → y ≡ z
+number_is y z e = cc e
+
 first_false : (a b : Bool) → (a || b) ≡ false → a ≡ false
 first_false true b h = h
 first_false false b h = refl
@@ -76,8 +80,9 @@ module _
     after = record { kind = kind; count = count; numbers = numbers; tried = tried; held = held }
 
     -- the lane is one still
-    pub lane_after : IsLane before → EachPlace sel (λ p. p < count) → left ≡ filter (λ p. is_given (f p)) sel → length numbers ≡ length numbers0 → length tried ≡ length tried0 → length held ≡ length held0 → IsLane after
-    lane_after lane inside left_in long long_tried long_held = record {
+    pub lane_after : (stops more : List Stopped) → IsLane before → EachPlace sel (λ p. p < count) → EachPlace sel (λ p. is_marked held0 p ≡ false) → HasValues kind f sel left numbers0 numbers stops more → length numbers ≡ length numbers0
+        → length tried ≡ length tried0 → length held ≡ length held0 → IsLane after
+    lane_after stops more lane inside unknown come long long_tried long_held = record {
       small = omega (arith, lane.small);
       tried = long_tried ∙ lane.tried ∙ sym long;
       held = long_held ∙ lane.held ∙ sym long;
@@ -85,8 +90,20 @@ module _
       behind = λ p far. tried_at p ∙ neither (is_in p sel) (is_marked tried0 p) (outside (is_in p sel) (λ i. let near : p < count = inside p i in omega arith)) (lane.behind p far);
       begun = λ p none.
         let no : (is_in p sel || is_marked tried0 p) ≡ false = sym (tried_at p) ∙ none in
-        held_at p ∙ neither (is_in p left) (is_marked held0 p) (ap (λ l. is_in p l) left_in ∙ filtered_out (λ p. is_given (f p)) p sel (first_false (is_in p sel) (is_marked tried0 p) no)) (lane.begun p (last_false (is_in p sel) (is_marked tried0 p) no));
+        held_at p ∙ neither (is_in p left) (is_marked held0 p) (ap (λ l. is_in p l) come.left_in ∙ filtered_out (λ p. is_given (f p)) p sel (first_false (is_in p sel) (is_marked tried0 p) no)) (lane.begun p (last_false (is_in p sel) (is_marked tried0 p) no));
+      exact = λ p is. exact_at p (is_in p left) refl (is_in p sel) refl (sym (held_at p) ∙ is);
     }
+      where
+        exact_at : (p : ℕ) (b : Bool) → is_in p left ≡ b → (s : Bool) → is_in p sel ≡ s → (is_in p left || is_marked held0 p) ≡ true → lane_number (lane_value kind (at_place numbers p)) ≡ at_place numbers p
+        exact_at p true among s _ is = own (f p) (come.values p among) (come.exact p among)
+          where
+            own : (o : Outcome ℕ Value) → o ≡ Gives (lane_value kind (at_place numbers p)) → lane_outcome o ≡ Gives (at_place numbers p) → lane_number (lane_value kind (at_place numbers p)) ≡ at_place numbers p
+            own o e n = number_is (lane_number (lane_value kind (at_place numbers p))) (at_place numbers p) (ap lane_outcome (sym e) ∙ n)
+        exact_at p false not_left true among is = let no : is_marked held0 p ≡ true = sym (ap (λ b. b || is_marked held0 p) not_left) ∙ is in absurd (cc (no, unknown p among))
+        exact_at p false not_left false outside_sel is =
+            let was : is_marked held0 p ≡ true = sym (ap (λ b. b || is_marked held0 p) not_left) ∙ is in
+            let same : at_place numbers p ≡ at_place numbers0 p = come.others p outside_sel in
+            ap (λ z. lane_number (lane_value kind z)) same ∙ lane.exact p was ∙ sym same
 
     -- and the key was evaluated
     pub evaluated_after : (stops more : List Stopped) → HasValues kind f sel left numbers0 numbers stops more → length numbers ≡ length numbers0 → count_by (λ b. b) tried ≡ count_by (λ b. b) tried0 + count_by (λ p. not (is_marked tried0 p)) sel
@@ -125,3 +142,15 @@ unknown_after kind last size numbers tried0 tried held0 held lane tried_first tr
 
     no_held : (p : ℕ) → is_marked held p ≡ false
     no_held p = elim (cases_lt p last) [ inl low ↦ held_first p low | inr high ↦ held_rest p high ∙ lane.begun p (lane.behind p high) ]
+
+-- of which nothing is known, it is a lane
+pub unknown_lane : (l : LaneView) (size : ℕ) → room_of l ≤ MAX_PLACES → length l.tried ≡ room_of l → length l.held ≡ room_of l → l.count ≤ room_of l → IsUnknown size l → IsLane l
+unknown_lane l size small long_tried long_held within unknown = record {
+  small = small;
+  tried = long_tried;
+  held = long_held;
+  within = within;
+  behind = λ p far. unknown.tried p;
+  begun = λ p none. unknown.held p;
+  exact = λ p is. absurd (cc (is, unknown.held p));
+}

@@ -3,7 +3,7 @@ use Rattle.std.specs.Prelude.{◌≡◌, ◌<◌, ◌≤◌, ◌+◌, ℕ, ℤ, 
 use Rattle.rdf_values.specs.declared.value.ColType.{ColType}
 use Rattle.rdf_values.specs.declared.value.Value.{Value}
 use Rattle.rdf_model.specs.Evaluation.{Outcome, Gives}
-use Rattle.expr_lanes.specs.Marks.{lane_value}
+use Rattle.expr_lanes.specs.Marks.{lane_number, lane_value}
 use Rattle.expr_lanes.specs.Places.{at_place, is_in, is_marked, given_in, stops_in, EachPlace, IsJoined}
 use Rattle.expr_lanes.specs.declared.TheConstants.{MAX_PLACES}
 use Rattle.expr_lanes.specs.declared.stopped.Stopped.{Stopped}
@@ -39,7 +39,11 @@ value_of l p = lane_value l.kind (at_place l.numbers p)
 abbrev pub tried_count : LaneView → ℕ
 tried_count l = count_by (λ b. b) l.tried
 
--- a lane has marks for all its numbers; behind the block nothing was begun; and what is held was begun
+-- what is held of each place has the number of its value: 1 or 0 for a truth value
+abbrev pub IsExact : LaneView → Type 0
+IsExact l = (p : ℕ) → is_held l p ≡ true → lane_number (value_of l p) ≡ at_place l.numbers p
+
+-- a lane has marks for all its numbers; behind the block nothing was begun; what is held was begun, and its number is that of its value
 pub record IsLane (l : LaneView) : Type 0 where
   pub small : room_of l ≤ MAX_PLACES
   pub tried : length l.tried ≡ room_of l
@@ -47,6 +51,7 @@ pub record IsLane (l : LaneView) : Type 0 where
   pub within : l.count ≤ room_of l
   pub behind : (p : ℕ) → l.count ≤ p → is_tried l p ≡ false
   pub begun : (p : ℕ) → is_tried l p ≡ false → is_held l p ≡ false
+  pub exact : IsExact l
 
 -- nothing is held, or all places of the block hold a value
 abbrev pub IsExtent : Extent → LaneView → Type 0

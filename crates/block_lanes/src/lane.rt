@@ -1,5 +1,5 @@
 // What is known of one key over a block.
-ghost use Rattle.std.specs.Prelude.{◌≡◌, ◌<◌, ◌≤◌, ◌+◌, ℕ, true, not, length, All, IfOk};
+ghost use Rattle.std.specs.Prelude.{◌≡◌, ◌<◌, ◌≤◌, ◌+◌, ℕ, true, false, not, length, All, IfOk};
 ghost use Rattle.std.specs.List.{filter};
 ghost use Rattle.rdf_values.specs.Functions.{fn_names};
 ghost use Rattle.rdf_model.specs.Evaluation.{evaluate as evaluate_at, call_outcome};
@@ -9,7 +9,7 @@ ghost use Rattle.expr_check.specs.NumKinds.{is_plain, CallsFit};
 ghost use Rattle.expr_lanes.specs.Depths.{depth};
 ghost use Rattle.expr_lanes.specs.LaneInputs.{is_known, HasMarks};
 ghost use Rattle.expr_lanes.specs.Places.{EachPlace, IsSelected};
-ghost use Rattle.block_lanes.specs.Lanes.{is_held, room_of, IsEvaluated, IsExtent, IsSameLane, IsUnknown, LaneView};
+ghost use Rattle.block_lanes.specs.Lanes.{is_held, room_of, IsEvaluated, IsExact, IsExtent, IsSameLane, IsUnknown, LaneView};
 
 use crate::marks::{clear_first, mark};
 use arrayvec::ArrayVec;
@@ -102,6 +102,8 @@ impl Lane {
     /// What is known of the key, as an evaluation reads it.
     pub fn column(&self) -> LaneColumn<'_>
         ensures numbers { result.numbers.now ≡ self.now.numbers }
+        ensures exact { IsExact self.now }
+        ensures long { self.now.count ≤ length result.numbers.now }
         ensures marks { HasMarks self.now.count result.known }
         ensures known { (p : ℕ) → p < self.now.count → is_known result.known p ≡ is_held self.now p }
     {
@@ -113,7 +115,7 @@ impl Lane {
         LaneColumn { numbers, known }
     }
 
-    /// Evaluates the key's expression at the selected places, in a step each. Where it comes to a value the place stays selected, and
+    /// Evaluates the key's expression at the selected places, of which nothing is held, in a step each. Where it comes to a value the place stays selected, and
     /// the lane holds the value; each other place becomes a stop.
     pub fn evaluate<I: LaneInputs, L: Ledger>(
         &mut self,
@@ -133,6 +135,7 @@ impl Lane {
         requires deep { depth expr.now.tree ≤ length scratch.old }
         requires block { I.size inputs.now ≡ self.old.count }
         requires selected { IsSelected self.old.count selection.old stops.old.items }
+        requires unknown { EachPlace selection.old (λ p. is_held self.old p ≡ false) }
         ensures evaluated { IsEvaluated (λ p. evaluate_at (I.look inputs.now p) (call_outcome (functions_in functions.now)) expr.now.tree) selection.old selection.new self.old self.new stops.old.items stops.new.items }
         ensures steps { steps.new ≡ steps.old + length selection.old }
     {

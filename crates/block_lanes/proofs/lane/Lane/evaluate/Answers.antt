@@ -1,5 +1,5 @@
-use Rattle.std.proofs.Common.{◌≡◌, ◌<◌, ◌∙◌, ℕ, ap, sym, subst, arith, refl, length}
-use Rattle.expr_lanes.specs.Places.{EachPlace}
+use Rattle.std.proofs.Common.{◌≡◌, ◌<◌, ◌∙◌, ℕ, ap, sym, subst, arith, refl, length, false}
+use Rattle.expr_lanes.specs.Places.{is_marked, EachPlace}
 use Rattle.rdf_values.specs.declared.value.ColType.{ColType}
 use Rattle.block_lanes.specs.Lanes.{LaneView, IsEvaluated}
 use Rattle.block_lanes.proofs.LaneSteps.{come_as, either_held, evaluated_after, in_given, lane_after, marks_as, newly_as, written}
@@ -20,9 +20,12 @@ invariant_of-self g c =
     let held_at = marks_as _ _ _ _ _ c.as_slice-2.ensures.value c.deref_mut-3.ensures.value c.mark-2.ensures.marked in
     let same : c.self.inside.count ≡ c.args.self.now.count = ap (λ (v : LaneView). v.count) c.self.view_is in
     let inside : EachPlace c.args.selection.now (λ p. p < c.self.inside.count) = λ p h. subst (λ (n : ℕ). p < n) (sym same) (c.requires.selected.inside p h) in
+    let kind : c.args.expr.now.kind ≡ c.self.inside.kind = c.requires.kind ∙ sym (ap (λ (v : LaneView). v.kind) c.self.view_is) in
+    let come = come_as _ _ _ _ _ _ _ _ _ _ kind c.deref_mut-2.ensures.value c.eval_lane.ensures.values in
+    let unknown : EachPlace c.args.selection.now (λ p. is_marked c.self.inside.held.items p ≡ false) = λ p h. ap (λ (v : LaneView). is_marked v.held p) c.self.view_is ∙ c.requires.unknown p h in
     rw (numbers, tried, held)
-    ( lane_after _ c.args.selection.now c.eval_lane.new.selection c.self.inside.kind c.self.inside.count c.self.inside.numbers.items _ c.self.inside.tried.items _ c.self.inside.held.items _ tried_at held_at c.self.invariant.0 inside
-        c.eval_lane.ensures.values.left_in (c.eval_lane.auto.lane ∙ ap length c.deref_mut-2.ensures.value) (c.mark.auto.marks ∙ ap length c.deref_mut.ensures.value) (c.mark-2.auto.marks ∙ ap length c.deref_mut-3.ensures.value),
+    ( lane_after _ c.args.selection.now c.eval_lane.new.selection c.self.inside.kind c.self.inside.count c.self.inside.numbers.items _ c.self.inside.tried.items _ c.self.inside.held.items _ tried_at held_at _ _ c.self.invariant.0 inside unknown come
+        (c.eval_lane.auto.lane ∙ ap length c.deref_mut-2.ensures.value) (c.mark.auto.marks ∙ ap length c.deref_mut.ensures.value) (c.mark-2.auto.marks ∙ ap length c.deref_mut-3.ensures.value),
       c.extent_after-self-inside.ensures _ refl (λ p h. held_at p ∙ either_held _ _ h)
     )
 
