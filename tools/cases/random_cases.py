@@ -266,7 +266,7 @@ def random_friend(chance, columns):
         others.append(chance.choice([("y", "int"), ("j", "vec")]))
     header = others[:]
     header.insert(chance.randrange(len(header) + 1), (key, "int" if chance.random() < 0.97 else "vec"))
-    numbers = sorted({0, 1, -1} | set(range(-50, 100, chance.choice([1, 3]))))
+    numbers = sorted({0, 1, -1, 2 ** 63 - 1, -2 ** 63} | set(range(-50, 100, chance.choice([1, 3]))))
     chance.shuffle(numbers)
     entries = numbers[:chance.choice([0, 1, 3, 20, 150])]
     if entries and chance.random() < 0.05:
@@ -309,6 +309,8 @@ def random_case(seed, with_friend=0.3):
              "--watch", chance.choice(["1", "1", "2", "3"])]
     files = {"s.txt": script.encode(), "a.csv": table.encode()}
     if friend is not None:
+        if chance.random() < 0.08:
+            friend = spoiled(chance, friend, list(',;":-+05x\n\r ') + [":int", ":cut", "pt", "1\n1\n"])
         files["f.csv"] = friend.encode()
     return words + asked, files
 
