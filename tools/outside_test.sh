@@ -208,6 +208,81 @@ l = 999999"
 }
 if [ "${OUTSIDE_SMALL:-0}" = 1 ]; then skip "tables of a million entries"; else large; fi
 
+# ---- friends of a million entries
+
+# In at most 10 s of processor time: a join in quadratic time doesn't end in it.
+joined() { # NAME STATUS OUTPUT SCRIPT TABLE WORDS..
+    name=$1 wanted_status=$2 output=$3
+    shift 3
+    for slots in 1 3; do
+        run_within 10 "$@" --slots $slots
+        judge "$name, --slots $slots" "$wanted_status" "$output"
+    done
+}
+
+friends() {
+    printf 'k:int\n0\n-3\n999999\n' >three.csv
+    printf 't = df.Take("run")\nPrint(t)\n' >run.txt
+    awk 'BEGIN { print "k:int,run:int"; for (i = 0; i < 1000000; i++) print "0," i }' >friend.csv
+    joined "one key of a friend a million times" 9 "friend refused at entry 1: J4 Duplicate" \
+        run.txt three.csv --friend friend.csv --key k
+    # 7,368,787 and 1,000,000 have no common divisor, so each number below 1,000,000 comes once, in no order.
+    awk 'BEGIN { print "k:int,run:int"; for (i = 0; i < 1000000; i++) print i * 7368787 % 1000000 "," i }' >friend.csv
+    joined "a friend of 1,000,000 entries in no order" 0 "t = 0 7 $(awk -F , '$1 == 999999 { print $2 }' friend.csv)" \
+        run.txt three.csv --friend friend.csv --key k --missing 7
+    { sed '$d' friend.csv; echo 0,1; } >twice.csv
+    joined "the last of 1,000,000 entries has the first one's key" 9 "friend refused at entry 999999: J4 Duplicate" \
+        run.txt three.csv --friend twice.csv --key k
+    echo 3,1 >>friend.csv
+    joined "a friend of 1,000,001 entries" 9 "friend refused at entry 1000000: B5 TooMany" \
+        run.txt three.csv --friend friend.csv --key k
+    # Keys that differ by 2^44, so that what a hash keeps of their lower bits is one.
+    awk 'BEGIN { print "k:int,run:int"; for (i = 0; i < 1000000; i++) printf "%.0f,%d\n", (i - 500000) * 17592186044416, i }' >friend.csv
+    printf 'k:int\n0\n-8796093022208000000\n8796075430021955584\n17592186044415\n' >ends.csv
+    joined "1,000,000 keys that differ in their upper bits alone" 0 "t = 500000 0 999999 -1" \
+        run.txt ends.csv --friend friend.csv --key k --missing=-1
+
+    printf 'n = df.Count()\ns = df.Sum("v")\nPrint(n)\nPrint(s)\n' >elements.txt
+    awk 'BEGIN { print "k:int"; for (i = 0; i < 1000000; i++) print 5 }' >same.csv
+    { printf 'v:vec,k:int\n1'; awk 'BEGIN { for (i = 1; i < 33; i++) printf ";1"; print ",5" }'; } >friend.csv
+    joined "one key of the table a million times, 33,000,000 elements" 0 "n = 1000000
+s = 33000000" elements.txt same.csv --friend friend.csv --key k
+    { printf 'v:vec,k:int\n1'; awk 'BEGIN { for (i = 1; i < 34; i++) printf ";1"; print ",5" }'; } >friend.csv
+    joined "34,000,000 elements" 9 "friend refused: J5 TooLarge" elements.txt same.csv --friend friend.csv --key k
+    # 63 vectors of 4,096 elements at each of a million entries: 258,048,000,000 elements, in no 32 bits.
+    awk 'BEGIN {
+        row = 1; for (i = 1; i < 4096; i++) row = row ";1"
+        for (j = 0; j < 63; j++) { head = head "v" j ":vec,"; all = all row "," }
+        print head "k:int"; print all 5 }' >friend.csv
+    joined "258,048,000,000 elements" 9 "friend refused: J5 TooLarge" s.txt same.csv --friend friend.csv --key k
+    rm -f friend.csv twice.csv same.csv
+}
+if [ "${OUTSIDE_SMALL:-0}" = 1 ]; then skip "friends of a million entries"; else friends; fi
+
+# ---- files of a friend
+
+printf 'k:int,run:int\n2,20\n' >"a friend.csv"
+printf 'k:int\n2\n3\n' >keys.csv
+printf 't = df.Take("run")\nPrint(t)\n' >run.txt
+run run.txt keys.csv --friend "a friend.csv" --key k
+judge "a friend with a blank in its name" 0 "t = 20 0"
+run run.txt keys.csv --friend none.csv --key k
+judge "no file of a friend" 5 "no file none.csv"
+run run.txt keys.csv --friend dir --key k
+judge "a folder as friend" 3 "read failed: dir"
+run run.txt bad.csv --friend dir --key k
+judge "a table that is refused before the friend is read" 7 "table refused at entry 1 field 0: B3 BadInt"
+: >nothing.csv
+run run.txt keys.csv --friend nothing.csv --key k
+judge "an empty friend" 9 "friend refused at header field 0: B1 Header"
+{ cat "a friend.csv"; head -c 67108864 /dev/zero; } >huge.csv
+run run.txt keys.csv --friend huge.csv --key k
+judge "a friend of more than 67,108,864 bytes" 9 "friend refused: longer than 67108864 bytes"
+rm -f huge.csv
+printf 'run:int\n1\n2\n' >itself.csv
+run s.txt itself.csv --friend itself.csv --key run
+judge "a table as its own friend" 0 "n = 2"
+
 # ---- threads
 
 # Leaves in `most` the most threads that were seen while the program ran.
