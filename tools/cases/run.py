@@ -5,7 +5,8 @@
     tools/cases/run.py --reference      the reference in Python instead of a program
 
     --shard PROGRAM   the built rdf_shard (RDF_SHARD_PROGRAM, or crates/rdf_shard/out/rdf_shard); its cases are left
-                      out, with a line that says so, where there is neither a program nor a crate of this name
+                      out, with a line that says so, where there is no program, and either no crate of this name or
+                      another PROGRAM was named
     --only TEXT   only the cases whose file or name holds TEXT
     --jobs N      so many runs side by side (as many as there are processors)
     --heavy       with --reference, the cases too that take it minutes
@@ -80,7 +81,8 @@ def main():
     if not asked.reference:
         for name in [name for name, path in paths.items() if not os.access(path, os.X_OK)]:
             print("cases: no program at %s" % paths[name])
-            if name == "rdf" or asked.shard or os.path.isdir(os.path.join(TOP, "crates", name)):
+            expected = not asked.program and os.path.isdir(os.path.join(TOP, "crates", name))
+            if name == "rdf" or asked.shard or expected:
                 return 1
             del paths[name]
 
