@@ -10,8 +10,9 @@ sys.setrecursionlimit(1000000)
 
 import commands  # noqa: E402
 import shard_commands  # noqa: E402
+import snapshot_commands  # noqa: E402
 
-PROGRAMS = {"rdf": commands.run, "rdf_shard": shard_commands.run}
+PROGRAMS = {"rdf": commands.run, "rdf_shard": shard_commands.run, "rdf_snapshot": snapshot_commands.run}
 
 
 def reference_run(words, files, program="rdf"):
