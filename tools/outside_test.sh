@@ -405,6 +405,71 @@ else
     echo "outside_test: no program at $shard"
     failed=$((failed + 1))
 fi
+
+# ---- snapshots: rdf_snapshot is RDF_SNAPSHOT_PROGRAM, or crates/rdf_snapshot/out/rdf_snapshot
+
+snapshot=${RDF_SNAPSHOT_PROGRAM:-$top/crates/rdf_snapshot/out/rdf_snapshot}
+case $snapshot in /*) ;; *) snapshot=$old_folder/$snapshot ;; esac
+
+snapshots() {
+    program=$snapshot
+    usage="usage: rdf_snapshot SCRIPT TABLE NODE COLUMNS UNDER [--slots N] [--cluster N]"
+    run
+    judge "rdf_snapshot: no words" 2 "$usage"
+    run s.txt a.csv "$(printf 'd\377f')" x nominal
+    judge "rdf_snapshot: a word that isn't UTF-8" 2 "$usage"
+    run s.txt a.csv df x nominal --slots 2 --cluster 1
+    judge "rdf_snapshot: a table" 0 "$(cat a.csv)"
+    run dir a.csv df x nominal
+    judge "rdf_snapshot: a folder as script" 3 "read failed: dir"
+    run s.txt dir df x nominal
+    judge "rdf_snapshot: a folder as table" 3 "read failed: dir"
+    if [ -c /dev/full ]; then
+        "$snapshot" s.txt a.csv df x nominal >/dev/full 2>err </dev/null; echo $? >status; : >out
+        judge "rdf_snapshot: a full output" 4 ""
+    fi
+    # What is written reads back: the same Takes and Sums as over the table itself.
+    echo 'd = df.Define("load", "Sum(v)")' >load.txt
+    for slots in 1 3; do
+        program=$snapshot
+        run load.txt pieces.csv d x,load,v nominal --slots $slots --cluster 1777
+        mv out back.csv
+        sed 's/"Sum(v)"/"load + 0"/; s/Define("load"/Define("again"/; s/Take("load")/Take("again")/' pieces.txt >back.txt
+        program=$rdf
+        run back.txt back.csv
+        judge "rdf_snapshot: a table with vectors, read back, --slots $slots" 0 "$due"
+    done
+    rm -f back.csv
+}
+
+large_snapshots() {
+    program=$snapshot
+    awk 'BEGIN { print "x:int"; for (i = 0; i < 1000000; i++) printf "-922337203685%07d\n", i }' >long.csv
+    printf 'a = df.Define("y", "x")\nb = a.Define("z", "y + 0")\n' >copies.txt
+    "$snapshot" copies.txt long.csv b x,y,z nominal >out 2>err; echo $? >status
+    { head -n 2 out; wc -c <out; } >begin && mv begin out
+    # 18 bytes of header, and 63 for each entry
+    judge "rdf_snapshot: a text of 63 MB" 0 "x:int,y:int,z:int
+-9223372036850000000,-9223372036850000000,-9223372036850000000
+63000018"
+    echo 'c = b.Alias("w", "x")' >>copies.txt
+    run copies.txt long.csv c x,y,z,w nominal
+    judge "rdf_snapshot: a text of 84 MB" 14 "snapshot longer than 67108864 bytes"
+    echo 'e = c.Define("q", "1 / (x + 9223372036850999999)")' >>copies.txt
+    run copies.txt long.csv e x,y,z,w,q nominal
+    judge "rdf_snapshot: a fault before a text that is too long" 8 "fault at entry 999999 in e: F2 ZeroDivisor"
+    rm -f long.csv
+}
+
+if [ -x "$snapshot" ]; then
+    snapshots
+    if [ "${OUTSIDE_SMALL:-0}" = 1 ]; then skip "snapshots of a million entries"; else large_snapshots; fi
+elif [ -z "${RDF_SNAPSHOT_PROGRAM:-}" ] && [ ! -d "$top/crates/rdf_snapshot" ]; then
+    skip "snapshots: there is no rdf_snapshot yet"
+else
+    echo "outside_test: no program at $snapshot"
+    failed=$((failed + 1))
+fi
 program=$rdf
 
 echo "outside_test: $tests tests, $skipped skipped, $failed failed"
