@@ -101,8 +101,8 @@ fn feed_acc_batch(
     ensures fed { OnOk result (TookIn pass cluster batch.now accs.old accs.new) }
     ensures memory { (acc : Accumulator) → slice_get accs.old pass ≡ Some acc → OnErr result (IsTake acc.kind) }
 {
-    let acc = &mut accs[pass as usize];
-    acc.feed_batch(cluster, batch)
+    let fed = &mut accs[pass as usize];
+    fed.feed_batch(cluster, batch)
 }
 
 // Feeds a batch to the accumulator of a pass that is watched, if it is.
