@@ -1,6 +1,6 @@
 -- What a batch feeds, place by place.
 use Rattle.std.proofs.Common.{ℕ, zero, suc, ◌≡◌, ◌≤◌, ◌<◌, ◌+◌, All, List, [], ◌∷◌, ◌++◌, length, map, take, drop, get_or, refl, ap, sym, subst, ◌∙◌, append-nil, append_assoc, arith, length-append, lit≤, ◌*◌, ℤ, pos}
-use Rattle.std.specs.Prelude.{flat_map, Some, None, Bool, true, false, ◌&&◌, ◌||◌, nat_abs, nat_lt, ◌^◌}
+use Rattle.std.specs.Prelude.{flat_map, Option, Some, None, Bool, true, false, ◌&&◌, ◌||◌, nat_abs, nat_lt, ◌^◌}
 use Rattle.std.specs.List.{range_with_len}
 use Rattle.std.proofs.lemmas.List.{drop_more, length-map, map-append, take_all, take_more}
 use Rattle.std.proofs.lemmas.List.FromFn.{get_or-range_with_len, length-range_with_len}
@@ -10,7 +10,7 @@ use Rattle.rdf_values.specs.declared.action.ActionKind.{ActionKind}
 use Rattle.rdf_values.specs.declared.action.ActionKind.TheVariants as kind
 use Rattle.rdf_values.specs.declared.action.ReduceOp.{ReduceOp}
 use Rattle.rdf_values.specs.declared.item.Item.{Item}
-use Rattle.rdf_values.specs.declared.item.Item.TheVariants.{Number, Single, Unit}
+use Rattle.rdf_values.specs.declared.item.Item.TheVariants.{Number, Point, Single, Unit}
 use Rattle.rdf_values.specs.declared.value.Scalar.{Scalar}
 use Rattle.rdf_values.specs.declared.value.Value.{Value}
 use Rattle.rdf_values.specs.declared.value.Value.TheVariants as val
@@ -349,3 +349,39 @@ weights_are_clean k x w ps f h a b light s = λ i d l. let p = get_or ps i d in 
 pub weighted_pairs_are_clean : (k : ActionKind) (x y w : Lane) (ps : List ℕ) (f g h : ℕ → ℤ) → HoldsNumbers x f → HoldsNumbers y g → HoldsNumbers w h → All (λ p. nat_abs (h p) < 2 ^ 31) ps → All (SuitsAt k (WeightedPair x y w)) ps
     → All (λ p. feed_fault k (values_at (WeightedPair x y w) p) ≡ None) ps
 weighted_pairs_are_clean k x y w ps f g h a b c light s = λ i d l. let p = get_or ps i d in weighted_pair_is_clean k x y w p (f p) (g p) (h p) (a p) (b p) (c p) (light i d l) (s i d l)
+
+-- ---- points
+
+pub singles_mapped : {A : Type 0} (f : ℕ → A) (ps : List ℕ) → flat_map (λ p. f p ∷ []) ps ≡ map f ps
+singles_mapped f [] = refl
+singles_mapped f (p ∷ ps) = ap (λ l. f p ∷ l) (singles_mapped f ps)
+
+-- with one more point
+pub one_point_more : (before : List Item) (f : ℕ → Item) (ps : List ℕ) (i : ℕ) (item : Item) → i < length ps → item ≡ f (get_or ps i 0)
+    → (before ++ map f (take i ps)) ++ item ∷ [] ≡ before ++ map f (take (i + 1) ps)
+one_point_more before f ps i item h e =
+    append_assoc before (map f (take i ps)) (item ∷ []) ∙ ap (λ x. before ++ (map f (take i ps) ++ x ∷ [])) e ∙ ap (λ l. before ++ l) (sym (one_place_mapped f ps i h))
+
+-- a weight of an entry without a fault
+pub weight_fits : (edges : List ℤ) (x : List ℕ) (o : Option (List ℕ)) (a w : ℤ) → feed_fault (kind.Histo1D edges x o) (val.Int a ∷ val.Int w ∷ []) ≡ None → nat_abs w ≤ 2147483647
+weight_fits edges x o a w h = go (nat_lt (nat_abs w) (2 ^ 31)) refl h
+  where
+    go : (b : Bool) → nat_lt (nat_abs w) (2 ^ 31) ≡ b → weight_fault ((b && true) && true) ≡ None → nat_abs w ≤ 2147483647
+    go true e q = grind (arith, e)
+    go false e q = cc q
+
+-- a histogram of numbers is filled with a point for each place
+pub number_points : (edges : List ℤ) (c : List ℕ) (o : Option (List ℕ)) (s : Sources) (x : Lane) (ps : List ℕ) (f : ℕ → ℤ) → s ≡ One x → HoldsNumbers x f
+    → flat_map (λ p. spread (kind.Histo1D edges c o) (values_at s p)) ps ≡ map (λ p. Point (f p) (pos 1)) ps
+number_points edges c o s x ps f e h =
+    same_each (λ p. spread (kind.Histo1D edges c o) (values_at s p)) (λ p. Point (f p) (pos 1) ∷ []) ps
+    (λ p. ap (λ t. spread (kind.Histo1D edges c o) (values_at t p)) e ∙ ap (λ v. spread (kind.Histo1D edges c o) (v ∷ [])) (h p))
+    ∙ singles_mapped (λ p. Point (f p) (pos 1)) ps
+
+pub weighted_points : (edges : List ℤ) (c : List ℕ) (o : Option (List ℕ)) (s : Sources) (x w : Lane) (ps : List ℕ) (f g : ℕ → ℤ) → s ≡ Weighted x w → HoldsNumbers x f → HoldsNumbers w g
+    → flat_map (λ p. spread (kind.Histo1D edges c o) (values_at s p)) ps ≡ map (λ p. Point (f p) (g p)) ps
+weighted_points edges c o s x w ps f g e h k =
+    same_each (λ p. spread (kind.Histo1D edges c o) (values_at s p)) (λ p. Point (f p) (g p) ∷ []) ps
+    (λ p. ap (λ t. spread (kind.Histo1D edges c o) (values_at t p)) e ∙ ap (λ v. spread (kind.Histo1D edges c o) (v ∷ lane_value w p ∷ [])) (h p)
+    ∙ ap (λ v. spread (kind.Histo1D edges c o) (val.Int (f p) ∷ v ∷ [])) (k p))
+    ∙ singles_mapped (λ p. Point (f p) (g p)) ps
