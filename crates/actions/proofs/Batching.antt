@@ -1,6 +1,6 @@
 -- What a batch feeds, place by place.
 use Rattle.std.proofs.Common.{ℕ, zero, suc, ◌≡◌, ◌≤◌, ◌<◌, ◌+◌, All, List, [], ◌∷◌, ◌++◌, length, map, take, drop, get_or, refl, ap, sym, subst, ◌∙◌, append-nil, append_assoc, arith, length-append, lit≤, ◌*◌, ℤ, pos}
-use Rattle.std.specs.Prelude.{flat_map, Some, None, Bool, true, false, ◌&&◌, ◌||◌, nat_abs, nat_lt, ◌^◌}
+use Rattle.std.specs.Prelude.{flat_map, Option, Some, None, Bool, true, false, ◌||◌, nat_abs, ◌^◌}
 use Rattle.std.specs.List.{range_with_len}
 use Rattle.std.proofs.lemmas.List.{drop_more, length-map, map-append, take_all, take_more}
 use Rattle.std.proofs.lemmas.List.FromFn.{get_or-range_with_len, length-range_with_len}
@@ -8,23 +8,21 @@ use Rattle.std.proofs.lemmas.Grind.{flat_map-append}
 use Rattle.std.proofs.lemmas.List.Elements.{All-append, All-cons, All-head, All-tail}
 use Rattle.rdf_values.specs.declared.action.ActionKind.{ActionKind}
 use Rattle.rdf_values.specs.declared.action.ActionKind.TheVariants as kind
-use Rattle.rdf_values.specs.declared.action.ReduceOp.{ReduceOp}
 use Rattle.rdf_values.specs.declared.item.Item.{Item}
-use Rattle.rdf_values.specs.declared.item.Item.TheVariants.{Number, Single, Unit}
+use Rattle.rdf_values.specs.declared.item.Item.TheVariants.{Number, Point, Single, Unit}
 use Rattle.rdf_values.specs.declared.value.Scalar.{Scalar}
 use Rattle.rdf_values.specs.declared.value.Value.{Value}
 use Rattle.rdf_values.specs.declared.value.Value.TheVariants as val
-use Rattle.rdf_values.specs.Spread.{feed_fault, is_weight, numbers, spread, weight_fault}
+use Rattle.rdf_values.specs.Spread.{feed_fault, numbers, spread}
 use Rattle.actions.specs.declared.batch.Sources.{Sources}
 use Rattle.actions.specs.declared.batch.Sources.TheVariants.{Entry, One, Weighted, Pair, WeightedPair}
 use Rattle.actions.specs.declared.lane.Lane.{Lane}
 use Rattle.actions.specs.declared.state.State.{State}
 use Rattle.actions.specs.declared.state.State.TheVariants as state
-use Rattle.actions.specs.declared.taken.TakenValue.{TakenValue}
-use Rattle.actions.specs.Batches.{HasPlace, HasValues, SuitsAt, fault_or_later, first_fault_in, first_lane, lane_value, numbers_in, values_at}
+use Rattle.actions.specs.Batches.{fault_or_later, first_fault_in, first_lane, lane_value, numbers_in, values_at}
 use Rattle.actions.specs.Feeding.{Fed, from_cluster}
 use Rattle.actions.specs.Holding.{IsWithin}
-use Rattle.actions.specs.Parts.{IsInteger, IsNumeric, first_numbers, first_scalar}
+use Rattle.actions.specs.Parts.{first_numbers, first_scalar}
 use Rattle.actions.specs.Values.{values_from}
 
 -- ---- places
@@ -38,10 +36,6 @@ one_place_more f ps i h =
     ap (flat_map f) (take_more ps i 0 h) ∙ flat_map-append f (take i ps) (get_or ps i 0 ∷ []) ∙ ap (λ l. flat_map f (take i ps) ++ l) (append-nil (f (get_or ps i 0)))
 
 -- ---- faults
-
-pub fault_goes_on : (k : ActionKind) (s : Sources) (ps : List ℕ) (i : ℕ) → i < length ps
-    → first_fault_in k s (drop i ps) ≡ fault_or_later (get_or ps i 0) (feed_fault k (values_at s (get_or ps i 0))) (first_fault_in k s (drop (i + 1) ps))
-fault_goes_on k s ps i h = ap (first_fault_in k s) (drop_more ps i 0 h)
 
 -- ---- what is held
 
@@ -75,10 +69,6 @@ taken_items c s (p ∷ ps) =
     ∙ sym (map-append Single (first_scalar (values_at s p)) (flat_map (λ q. first_scalar (values_at s q)) ps))
 
 -- one value more, or none
-pub one_value_more : (cluster : ℕ) (xs ys all : List Scalar) (ts : List TakenValue) → all ≡ xs ++ ys → ts ≡ values_from cluster xs → ts ++ values_from cluster ys ≡ values_from cluster all
-one_value_more cluster xs ys all ts e h =
-    ap (λ l. l ++ values_from cluster ys) h ∙ sym (map-append (λ (x : Scalar). record { cluster = cluster; value = x }) xs ys) ∙ ap (values_from cluster) (sym e)
-
 few_scalars : (vs : List Value) → length (first_scalar vs) ≤ 1
 few_scalars [] = lit≤ tt
 few_scalars (val.Int z ∷ vs) = lit≤ tt
@@ -165,13 +155,6 @@ no_lane_numbers (Weighted y v) p h = cc h
 no_lane_numbers (Pair y v) p h = cc h
 no_lane_numbers (WeightedPair y u v) p h = cc h
 
-pub first_lane_has : (s : Sources) (x : Lane) (p : ℕ) → first_lane s ≡ Some x → HasValues s p → HasPlace x p
-first_lane_has Entry x p h v = cc h
-first_lane_has (One y) x p h v = let e : y ≡ x = cc h in subst (λ (z : Lane). HasPlace z p) e v
-first_lane_has (Weighted y u) x p h v = let e : y ≡ x = cc h in subst (λ (z : Lane). HasPlace z p) e v.0
-first_lane_has (Pair y u) x p h v = let e : y ≡ x = cc h in subst (λ (z : Lane). HasPlace z p) e v.0
-first_lane_has (WeightedPair y u t) x p h v = let e : y ≡ x = cc h in subst (λ (z : Lane). HasPlace z p) e v.0
-
 same_each : {A : Type 0} (f g : ℕ → List A) (ps : List ℕ) → ((p : ℕ) → f p ≡ g p) → flat_map f ps ≡ flat_map g ps
 same_each f g [] h = refl
 same_each f g (p ∷ ps) h = ap (λ l. l ++ flat_map f ps) (h p) ∙ ap (λ l. g p ++ l) (same_each f g ps h)
@@ -186,53 +169,12 @@ lane_numbers_in s x ps h = same_each (λ p. first_numbers (values_at s p)) (λ p
 pub no_numbers_in : (s : Sources) (ps : List ℕ) → first_lane s ≡ None → flat_map (λ p. first_numbers (values_at s p)) ps ≡ []
 no_numbers_in s ps h = nothing_each (λ p. first_numbers (values_at s p)) ps (λ p. no_lane_numbers s p h)
 
-pub lane_there : (s : Sources) (x : Lane) (ps : List ℕ) → first_lane s ≡ Some x → All (HasValues s) ps → All (HasPlace x) ps
-lane_there s x ps h all = λ i d l. first_lane_has s x (get_or ps i d) h (all i d l)
-
 pub few_numbers : (s : Sources) (x : Lane) (ps : List ℕ) → first_lane s ≡ Some x → All (λ p. length (first_numbers (values_at s p)) ≤ 4096) ps → length (numbers_in x ps) ≤ length ps * 4096
 few_numbers s x ps h all =
     let few = few_each (λ p. first_numbers (values_at s p)) ps all in
     let same = ap length (lane_numbers_in s x ps h) in omega (arith, few, same)
 
 -- ---- one number, or at most 4,096
-
-numeric_is_short : (v : Value) → IsNumeric v → length (numbers v) ≤ 4096
-numeric_is_short (val.Int z) h = lit≤ tt
-numeric_is_short (val.Bool b) h = absurd h
-numeric_is_short (val.Vect zs) h = h
-
-integer_is_short : (v : Value) → IsInteger v → length (numbers v) ≤ 4096
-integer_is_short (val.Int z) h = lit≤ tt
-integer_is_short (val.Bool b) h = absurd h
-integer_is_short (val.Vect zs) h = absurd h
-
-pub sum_is_short : (c : List ℕ) (s : Sources) (p : ℕ) → SuitsAt (kind.Sum c) s p → length (first_numbers (values_at s p)) ≤ 4096
-sum_is_short c Entry p h = absurd h
-sum_is_short c (One x) p h = numeric_is_short (lane_value x p) h
-sum_is_short c (Weighted x v) p h = absurd h
-sum_is_short c (Pair x y) p h = absurd h
-sum_is_short c (WeightedPair x y v) p h = absurd h
-
-pub min_is_short : (c : List ℕ) (s : Sources) (p : ℕ) → SuitsAt (kind.Min c) s p → length (first_numbers (values_at s p)) ≤ 4096
-min_is_short c Entry p h = absurd h
-min_is_short c (One x) p h = numeric_is_short (lane_value x p) h
-min_is_short c (Weighted x v) p h = absurd h
-min_is_short c (Pair x y) p h = absurd h
-min_is_short c (WeightedPair x y v) p h = absurd h
-
-pub max_is_short : (c : List ℕ) (s : Sources) (p : ℕ) → SuitsAt (kind.Max c) s p → length (first_numbers (values_at s p)) ≤ 4096
-max_is_short c Entry p h = absurd h
-max_is_short c (One x) p h = numeric_is_short (lane_value x p) h
-max_is_short c (Weighted x v) p h = absurd h
-max_is_short c (Pair x y) p h = absurd h
-max_is_short c (WeightedPair x y v) p h = absurd h
-
-pub reduce_is_short : (o : ReduceOp) (c : List ℕ) (s : Sources) (p : ℕ) → SuitsAt (kind.Reduce o c) s p → length (first_numbers (values_at s p)) ≤ 4096
-reduce_is_short o c Entry p h = absurd h
-reduce_is_short o c (One x) p h = integer_is_short (lane_value x p) h
-reduce_is_short o c (Weighted x v) p h = absurd h
-reduce_is_short o c (Pair x y) p h = absurd h
-reduce_is_short o c (WeightedPair x y v) p h = absurd h
 
 -- a Count is fed one item at each place
 pub one_each : (ps : List ℕ) → length (flat_map (λ (p : ℕ). Unit ∷ []) ps) ≡ length ps
@@ -259,69 +201,6 @@ none_found k s (p ∷ ps) h =
     ap (λ o. fault_or_later p o (first_fault_in k s ps)) (All-head (λ q. feed_fault k (values_at s q) ≡ None) p ps h)
     ∙ none_found k s ps (All-tail (λ q. feed_fault k (values_at s q) ≡ None) p ps h)
 
-abbrev Light : ℤ → Type 0
-Light w = nat_abs w < 2 ^ 31
-
-light_is_weight : (w : ℤ) → Light w → is_weight (val.Int w) ≡ true
-light_is_weight w h = let e : nat_lt (nat_abs w) (2 ^ 31) ≡ true = grind (arith, h) in ap (λ b. b && true) e
-
-one_is_clean : (k : ActionKind) (v : Value) → feed_fault k (v ∷ []) ≡ None
-one_is_clean kind.Count v = refl
-one_is_clean (kind.Sum c) v = refl
-one_is_clean (kind.Min c) v = refl
-one_is_clean (kind.Max c) v = refl
-one_is_clean (kind.Take c) v = refl
-one_is_clean (kind.Reduce o c) v = refl
-one_is_clean (kind.Histo1D edges c o) v = refl
-one_is_clean (kind.Histo2D xs ys c d o) v = refl
-
-none_is_clean : (k : ActionKind) → feed_fault k [] ≡ None
-none_is_clean kind.Count = refl
-none_is_clean (kind.Sum c) = refl
-none_is_clean (kind.Min c) = refl
-none_is_clean (kind.Max c) = refl
-none_is_clean (kind.Take c) = refl
-none_is_clean (kind.Reduce o c) = refl
-none_is_clean (kind.Histo1D edges c o) = refl
-none_is_clean (kind.Histo2D xs ys c d o) = refl
-
-pub entry_is_clean : (k : ActionKind) (ps : List ℕ) → All (λ p. feed_fault k (values_at Entry p) ≡ None) ps
-entry_is_clean k ps = λ i d l. none_is_clean k
-
-pub one_lane_is_clean : (k : ActionKind) (x : Lane) (ps : List ℕ) → All (λ p. feed_fault k (values_at (One x) p) ≡ None) ps
-one_lane_is_clean k x ps = λ i d l. one_is_clean k (lane_value x (get_or ps i d))
-
-weighted_is_clean : (k : ActionKind) (x w : Lane) (p : ℕ) (a b : ℤ) → lane_value x p ≡ val.Int a → lane_value w p ≡ val.Int b → Light b → SuitsAt k (Weighted x w) p → feed_fault k (values_at (Weighted x w) p) ≡ None
-weighted_is_clean kind.Count x w p a b e f h s = absurd s
-weighted_is_clean (kind.Sum c) x w p a b e f h s = absurd s
-weighted_is_clean (kind.Min c) x w p a b e f h s = absurd s
-weighted_is_clean (kind.Max c) x w p a b e f h s = absurd s
-weighted_is_clean (kind.Take c) x w p a b e f h s = absurd s
-weighted_is_clean (kind.Reduce o c) x w p a b e f h s = absurd s
-weighted_is_clean (kind.Histo1D edges c o) x w p a b e f h s = rw (e, f) (ap (λ t. weight_fault (t && true)) (light_is_weight b h))
-weighted_is_clean (kind.Histo2D xs ys c d o) x w p a b e f h s = absurd s
-
-pair_is_clean : (k : ActionKind) (x y : Lane) (p : ℕ) (a b : ℤ) → lane_value x p ≡ val.Int a → lane_value y p ≡ val.Int b → SuitsAt k (Pair x y) p → feed_fault k (values_at (Pair x y) p) ≡ None
-pair_is_clean kind.Count x w p a b e f s = absurd s
-pair_is_clean (kind.Sum c) x w p a b e f s = absurd s
-pair_is_clean (kind.Min c) x w p a b e f s = absurd s
-pair_is_clean (kind.Max c) x w p a b e f s = absurd s
-pair_is_clean (kind.Take c) x w p a b e f s = absurd s
-pair_is_clean (kind.Reduce o c) x w p a b e f s = absurd s
-pair_is_clean (kind.Histo1D edges c o) x w p a b e f s = absurd s
-pair_is_clean (kind.Histo2D xs ys c d o) x w p a b e f s = rw e refl
-
-weighted_pair_is_clean : (k : ActionKind) (x y w : Lane) (p : ℕ) (a b v : ℤ) → lane_value x p ≡ val.Int a → lane_value y p ≡ val.Int b → lane_value w p ≡ val.Int v → Light v → SuitsAt k (WeightedPair x y w) p
-    → feed_fault k (values_at (WeightedPair x y w) p) ≡ None
-weighted_pair_is_clean kind.Count x y w p a b v e f g h s = absurd s
-weighted_pair_is_clean (kind.Sum c) x y w p a b v e f g h s = absurd s
-weighted_pair_is_clean (kind.Min c) x y w p a b v e f g h s = absurd s
-weighted_pair_is_clean (kind.Max c) x y w p a b v e f g h s = absurd s
-weighted_pair_is_clean (kind.Take c) x y w p a b v e f g h s = absurd s
-weighted_pair_is_clean (kind.Reduce o c) x y w p a b v e f g h s = absurd s
-weighted_pair_is_clean (kind.Histo1D edges c o) x y w p a b v e f g h s = absurd s
-weighted_pair_is_clean (kind.Histo2D xs ys c d o) x y w p a b v e f g h s = rw (e, g) (ap (λ t. weight_fault (t && true)) (light_is_weight v h))
-
 pub either_false : (a b : Bool) → (a || b) ≡ false → (a ≡ false) × (b ≡ false)
 either_false true b h = cc h
 either_false false b h = (refl, h)
@@ -339,13 +218,31 @@ light_all zs ps i h all = subst (All (λ p. nat_abs (get_or zs p (pos 0)) < 2 ^ 
 abbrev pub HoldsNumbers : Lane → (ℕ → ℤ) → Type 0
 HoldsNumbers x f = (p : ℕ) → lane_value x p ≡ val.Int (f p)
 
-pub pairs_are_clean : (k : ActionKind) (x y : Lane) (ps : List ℕ) (f g : ℕ → ℤ) → HoldsNumbers x f → HoldsNumbers y g → All (SuitsAt k (Pair x y)) ps → All (λ p. feed_fault k (values_at (Pair x y) p) ≡ None) ps
-pairs_are_clean k x y ps f g a b s = λ i d l. let p = get_or ps i d in pair_is_clean k x y p (f p) (g p) (a p) (b p) (s i d l)
+-- ---- points
 
-pub weights_are_clean : (k : ActionKind) (x w : Lane) (ps : List ℕ) (f h : ℕ → ℤ) → HoldsNumbers x f → HoldsNumbers w h → All (λ p. nat_abs (h p) < 2 ^ 31) ps → All (SuitsAt k (Weighted x w)) ps
-    → All (λ p. feed_fault k (values_at (Weighted x w) p) ≡ None) ps
-weights_are_clean k x w ps f h a b light s = λ i d l. let p = get_or ps i d in weighted_is_clean k x w p (f p) (h p) (a p) (b p) (light i d l) (s i d l)
+pub singles_mapped : {A : Type 0} (f : ℕ → A) (ps : List ℕ) → flat_map (λ p. f p ∷ []) ps ≡ map f ps
+singles_mapped f [] = refl
+singles_mapped f (p ∷ ps) = ap (λ l. f p ∷ l) (singles_mapped f ps)
 
-pub weighted_pairs_are_clean : (k : ActionKind) (x y w : Lane) (ps : List ℕ) (f g h : ℕ → ℤ) → HoldsNumbers x f → HoldsNumbers y g → HoldsNumbers w h → All (λ p. nat_abs (h p) < 2 ^ 31) ps → All (SuitsAt k (WeightedPair x y w)) ps
-    → All (λ p. feed_fault k (values_at (WeightedPair x y w) p) ≡ None) ps
-weighted_pairs_are_clean k x y w ps f g h a b c light s = λ i d l. let p = get_or ps i d in weighted_pair_is_clean k x y w p (f p) (g p) (h p) (a p) (b p) (c p) (light i d l) (s i d l)
+-- with one more point
+pub one_point_more : (before : List Item) (f : ℕ → Item) (ps : List ℕ) (i : ℕ) (item : Item) → i < length ps → item ≡ f (get_or ps i 0)
+    → (before ++ map f (take i ps)) ++ item ∷ [] ≡ before ++ map f (take (i + 1) ps)
+one_point_more before f ps i item h e =
+    append_assoc before (map f (take i ps)) (item ∷ []) ∙ ap (λ x. before ++ (map f (take i ps) ++ x ∷ [])) e ∙ ap (λ l. before ++ l) (sym (one_place_mapped f ps i h))
+
+-- a weight of an entry without a fault
+-- a histogram of numbers is filled with a point for each place
+pub number_points : (edges : List ℤ) (c : List ℕ) (o : Option (List ℕ)) (s : Sources) (x : Lane) (ps : List ℕ) (f : ℕ → ℤ) → s ≡ One x → HoldsNumbers x f
+    → flat_map (λ p. spread (kind.Histo1D edges c o) (values_at s p)) ps ≡ map (λ p. Point (f p) (pos 1)) ps
+number_points edges c o s x ps f e h =
+    same_each (λ p. spread (kind.Histo1D edges c o) (values_at s p)) (λ p. Point (f p) (pos 1) ∷ []) ps
+    (λ p. ap (λ t. spread (kind.Histo1D edges c o) (values_at t p)) e ∙ ap (λ v. spread (kind.Histo1D edges c o) (v ∷ [])) (h p))
+    ∙ singles_mapped (λ p. Point (f p) (pos 1)) ps
+
+pub weighted_points : (edges : List ℤ) (c : List ℕ) (o : Option (List ℕ)) (s : Sources) (x w : Lane) (ps : List ℕ) (f g : ℕ → ℤ) → s ≡ Weighted x w → HoldsNumbers x f → HoldsNumbers w g
+    → flat_map (λ p. spread (kind.Histo1D edges c o) (values_at s p)) ps ≡ map (λ p. Point (f p) (g p)) ps
+weighted_points edges c o s x w ps f g e h k =
+    same_each (λ p. spread (kind.Histo1D edges c o) (values_at s p)) (λ p. Point (f p) (g p) ∷ []) ps
+    (λ p. ap (λ t. spread (kind.Histo1D edges c o) (values_at t p)) e ∙ ap (λ v. spread (kind.Histo1D edges c o) (v ∷ lane_value w p ∷ [])) (h p)
+    ∙ ap (λ v. spread (kind.Histo1D edges c o) (val.Int (f p) ∷ v ∷ [])) (k p))
+    ∙ singles_mapped (λ p. Point (f p) (g p)) ps

@@ -2,11 +2,12 @@
 ghost use Rattle.std.specs.Prelude.{◌≡◌, ◌↔◌, IfOk, IsTrue};
 ghost use Rattle.histograms.specs.Axis.{IsAxis};
 
-use crate::batch::Batch;
+use crate::batch::{Batch, Sources};
 use crate::filled::Filled;
-use crate::fills::{fill_pairs, fill_points};
+use crate::fills::{fill_numbers, fill_pairs, fill_points, fill_weighted};
 use crate::folding::{greatest_batch, least_batch, reduce_batch, sum_batch};
 use crate::items::Items;
+use crate::lane::Lane;
 use crate::numbers::{
     Reduction, greatest_of, greatest_with, least_of, least_with, reduce, reduce_with, start,
     sum_with,
@@ -99,7 +100,7 @@ fn same_edges(edges: &[i64], other: &[i64]) -> bool
 }
 
 impl State {
-    ghost use Rattle.std.specs.Prelude.{◌≡◌, ◌↔◌, ◌≤◌, ◌+◌, ◌-◌, ◌++◌, [], ℕ, List, All, None, IfOk, IsTrue, OnErr, OnOk, length};
+    ghost use Rattle.std.specs.Prelude.{◌≡◌, ◌↔◌, ◌≤◌, ◌+◌, ◌-◌, ◌++◌, [], ℕ, List, All, None, IfOk, IsTrue, OnErr, OnOk, false, length, true};
     ghost use Rattle.rdf_values.specs.Spread.{feed_fault, spread};
     ghost use Rattle.actions.specs.Batches.{EachPlace, HasValues, SuitsAt, batch_items, places_of, values_at};
     ghost use Rattle.actions.specs.Feeding.{Fed, from_cluster};
@@ -225,6 +226,39 @@ impl State {
         }
     }
 
+    // Fills a histogram of one axis with numbers, one at each place, and tells whether that was what the batch is for.
+    fn fill_at_once(&mut self, batch: &Batch<'_>) -> bool
+        requires few { length (places_of batch.now.places) ≤ 1000000 }
+        requires there { EachPlace batch.now.places (HasValues batch.now.sources) }
+        requires no_fault { EachPlace batch.now.places (λ p. feed_fault (kind_of self.old) (values_at batch.now.sources p) ≡ None) }
+        requires room { IsWithin (1000000 - length (places_of batch.now.places)) self.old }
+        ensures other { result ≡ false → self.new ≡ self.old }
+        ensures kind { kind_of self.new ≡ kind_of self.old }
+        ensures within { result ≡ true → (n : ℕ) → IsWithin n self.old → IsWithin (n + length (places_of batch.now.places)) self.new }
+        ensures fed { result ≡ true → (cluster : ℕ) (fed : List Fed) → All (λ f. f.cluster ≤ cluster) fed → Holds self.old fed
+            → Holds self.new (fed ++ from_cluster cluster (batch_items (kind_of self.old) batch.now)) }
+    {
+        if let State::Histo1D { hist, .. } = self {
+            match &batch.sources {
+                Sources::One {
+                    x: Lane::Int(numbers),
+                } => {
+                    fill_numbers(hist, numbers, &batch.places);
+                    return true;
+                }
+                Sources::Weighted {
+                    x: Lane::Int(numbers),
+                    w: Lane::Int(weights),
+                } => {
+                    fill_weighted(hist, numbers, weights, &batch.places);
+                    return true;
+                }
+                _ => {}
+            }
+        }
+        false
+    }
+
     /// Takes in what the places of a block feed; after `Memory` nothing has changed.
     pub fn feed_batch(
         &mut self,
@@ -269,7 +303,9 @@ impl State {
                 Ok(())
             }
             State::Histo1D { .. } | State::Histo2D { .. } => {
-                self.feed_each(cluster, batch);
+                if !self.fill_at_once(batch) {
+                    self.feed_each(cluster, batch);
+                }
                 Ok(())
             }
         }

@@ -1,12 +1,10 @@
 -- Batches are appended, and are what each pass by itself gives.
-use Rattle.std.proofs.Common.{◌≡◌, ◌≢◌, ℕ, suc, ◌+◌, ◌<◌, Bool, true, false, List, [], ◌∷◌, ◌++◌, length, map, take, drop, Some, None, refl, sym, ◌∙◌, ap, ap₂, arith, if◌then◌else◌}
+use Rattle.std.proofs.Common.{◌≡◌, ℕ, suc, ◌+◌, Bool, true, false, List, [], ◌∷◌, ◌++◌, length, map, Some, None, refl, ◌∙◌, ap, ap₂, arith, if◌then◌else◌}
 use Rattle.std.specs.Prelude.{slice_get, flat_map, count_by}
-use Rattle.std.proofs.lemmas.Grind.{flat_map-append}
-use Rattle.std.proofs.lemmas.List.Sums.{sum_by-append, sum_by-cons}
+use Rattle.std.proofs.lemmas.List.Sums.{sum_by-cons}
 use Rattle.rdf_values.specs.Bookings.{Booking, ActionAt, ReportOn, Pass, columns_of}
 use Rattle.rdf_values.specs.Path.{Path, Under}
 use Rattle.rdf_values.specs.declared.action.ActionKind.{ActionKind}
-use Rattle.rdf_values.specs.declared.item.Item.{Item}
 use Rattle.rdf_values.specs.declared.statement.Statement.{Statement}
 use Rattle.rdf_values.specs.declared.statement.Statement.TheVariants.{Filter}
 use Rattle.rdf_values.specs.declared.value.Value.{Value}
@@ -14,42 +12,10 @@ use Rattle.rdf_model.specs.Evaluation.{Outcome, Gives, Faults, Needs, ◌>>=◌,
 use Rattle.rdf_model.specs.ColumnValues.{column_value, expression_value}
 use Rattle.rdf_model.specs.EntryOutcomes.{Skip, feed_outcome, through, truth_of}
 use Rattle.rdf_model.specs.Laws.{action_pass}
-use Rattle.rdf_model.specs.LoopFacts.{filter_reach, reach_of, if_there, is_passed, is_reached, kind_in, kinds_in, list_at, spread_in, spreads_of}
+use Rattle.rdf_model.specs.LoopFacts.{filter_reach, reach_of, is_passed, is_reached, kind_in, kinds_in, list_at, spread_in, spreads_of}
 use Rattle.rdf_model.specs.Results.{Dataset, fault_in, is_true, items_fed, items_of}
 use Rattle.rdf_model.specs.declared.loop_facts.Reach.{Reach}
-use Rattle.block_laws.specs.Feeds.{taken_in, feeds_of, batch_of, reaches_in, reach_batch, selected}
-use Rattle.block_laws.proofs.BlockFaults.{take_plus}
-
--- ---- what is taken in
-
-pub in_batches : {A B : Type 0} (f : A → List B) (n m : ℕ) (xs : List A) → flat_map f (take (n + m) xs) ≡ flat_map f (take n xs) ++ flat_map f (take m (drop n xs))
-in_batches f n m xs = ap (flat_map f) (take_plus n m xs) ∙ flat_map-append f (take n xs) (take m (drop n xs))
-
-at_own : (n m i : ℕ) → taken_in n m (i + 1) i ≡ n + m
-at_own n m i = grind arith
-
-before_own : (n m i : ℕ) → taken_in n m i i ≡ n
-before_own n m i = grind arith
-
-pub batch_is_appended : (spreads : List (List (List Item))) (n m i : ℕ)
-    → feeds_of spreads i (taken_in n m (i + 1) i) ≡ feeds_of spreads i (taken_in n m i i) ++ batch_of spreads i n m
-batch_is_appended spreads n m i =
-    ap (feeds_of spreads i) (at_own n m i) ∙ in_batches (λ row. list_at row i) n m spreads
-    ∙ ap (λ k. feeds_of spreads i k ++ batch_of spreads i n m) (sym (before_own n m i))
-
-pub others_stay : (n m i k : ℕ) → k ≢ i → taken_in n m (i + 1) k ≡ taken_in n m i k
-others_stay n m i k h = grind (arith, h)
-
-pub block_is_taken_in : (n m next limit i : ℕ) → i < limit → taken_in n m limit i ≡ taken_in (n + m) next 0 i
-block_is_taken_in n m next limit i h = grind (arith, h)
-
-pub reaches_are_added : (reaches : List (List Reach)) (n m i : ℕ)
-    → (count_by is_reached (reaches_in reaches i (n + m)) ≡ count_by is_reached (reaches_in reaches i n) + count_by is_reached (reach_batch reaches i n m))
-    × (count_by is_passed (reaches_in reaches i (n + m)) ≡ count_by is_passed (reaches_in reaches i n) + count_by is_passed (reach_batch reaches i n m))
-reaches_are_added reaches n m i = (added is_reached, added is_passed)
-  where
-    added : (test : Reach → Bool) → count_by test (reaches_in reaches i (n + m)) ≡ count_by test (reaches_in reaches i n) + count_by test (reach_batch reaches i n m)
-    added test = ap (count_by test) (in_batches (λ row. if_there (slice_get row i)) n m reaches) ∙ sum_by-append _ (reaches_in reaches i n) (reach_batch reaches i n m)
+use Rattle.block_laws.specs.Feeds.{selected}
 
 -- ---- what the batch is
 

@@ -1,10 +1,11 @@
-use Rattle.std.proofs.Common.{rules, arith, ◌++◌, ◌+ℤ◌, length, length-append, ap, ◌∙◌, w64, FitsSigned}
+use Rattle.std.proofs.Common.{rules, arith, ◌≡◌, true, false, subst, sym, ◌++◌, ◌+ℤ◌, length, length-append, ap, ◌∙◌, w64, FitsSigned}
 use Rattle.std.specs.Prelude.{flat_map, fold}
 use Rattle.std.specs.Int.{w128}
 use Rattle.std.proofs.lemmas.Int.{to_z-of_z}
 use Rattle.rdf_values.specs.declared.action.ActionKind.TheVariants as kind
 use Rattle.rdf_values.specs.Fold.{reduce_step}
 use Rattle.actions.specs.Batches.{first_numbers_in, places_of, values_at}
+use Rattle.actions.specs.Holding.{IsWithin}
 use Rattle.actions.specs.Parts.{first_scalar}
 use Rattle.actions.proofs.Batching.{few_values, number_items, one_each, taken_items}
 use Rattle.actions.proofs.States.{either_way, holds_counted, holds_greatest, holds_least, holds_reduced, holds_summed, holds_taken, on_ok, spread_max, spread_min, spread_reduce, spread_sum}
@@ -62,3 +63,13 @@ returns-in-Reduce-clause-fed c = λ fed below held.
     rw c.in-Reduce.is (holds_reduced fed c.args.cluster below c.in-Reduce.column op c.in-Reduce.reduction.value _ zs _
     (to_z-of_z w64 c.reduce_batch-reduction.result fits ∙ c.reduce_batch-reduction.ensures ∙ ap (λ z. fold (reduce_step op) z zs) (to_z-of_z w64 c.in-Reduce.reduction.value fits_value))
     (number_items (kind.Reduce op c.in-Reduce.column) c.args.batch.now.sources (places_of c.args.batch.now.places) (spread_reduce op c.in-Reduce.column)) (rw c.in-Reduce.is at held))
+
+pub returns-then-not-fill_at_once-clause-within : goal.returns-then-not-fill_at_once-clause-within
+returns-then-not-fill_at_once-clause-within c = λ n w.
+    let none : c.fill_at_once.result ≡ false = search rules in
+    c.feed_each.ensures.within n (subst (IsWithin n) (sym (c.fill_at_once.ensures.other none)) w)
+
+pub returns-else-not-fill_at_once-clause-within : goal.returns-else-not-fill_at_once-clause-within
+returns-else-not-fill_at_once-clause-within c = λ n w.
+    let all : c.fill_at_once.result ≡ true = search rules in
+    c.fill_at_once.ensures.within all n w
