@@ -56,8 +56,8 @@ taken (l ∷ lanes) (suc k) (suc i) p h P none is = taken lanes k i p h P none i
 pub sound_below : (j : JobView) (entry n k p : ℕ) (lanes : List LaneView) → IsSound j entry (cells_at n lanes p) → IsSound j entry (cells_at n (take k lanes) p)
 sound_below j entry n k p lanes sound = record {
   each = λ u s inside.
-    let i = key (job_graph j) s u in
-    subst (λ (h : Held). IsRight (site_in j entry u s) h) (sym (held_of_lane n (take k lanes) p i))
+      let i = key (job_graph j) s u in
+      subst (λ (h : Held). IsRight (site_in j entry u s) h) (sym (held_of_lane n (take k lanes) p i))
       (taken lanes k i p held.Nothing (IsRight (site_in j entry u s)) tt (subst (λ (h : Held). IsRight (site_in j entry u s) h) (held_of_lane n lanes p i) (sound.each u s inside)));
 }
 

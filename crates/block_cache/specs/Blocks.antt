@@ -14,7 +14,7 @@ use Rattle.expr_lanes.specs.Places.{at_place}
 use Rattle.block_lanes.specs.Lanes.{IsEvaluated, LaneView, is_held, value_of}
 use Rattle.entry_cache.specs.Jobs.{JobView, job_graph}
 use Rattle.entry_cache.specs.Keys.{key, key_count}
-use Rattle.entry_cache.specs.Store.{IsMissing, IsReadable, IsSound, MeetsAt, row_of, site_in, source_at}
+use Rattle.entry_cache.specs.Store.{IsMissing, IsReadable, IsSound, MeetsAt, row_in, site_in, source_at}
 use Rattle.entry_cache.specs.declared.held.Held.{Held}
 use Rattle.entry_cache.specs.declared.held.Held.TheVariants as held
 
@@ -35,13 +35,13 @@ cells_at keys lanes p = map (λ (l : LaneView). held_at l p) lanes ++ replicate 
 -- ---- the table's columns
 
 -- the numbers of a column at so many entries, from one on
-pub record IsColumn (j : JobView) (first count col : ℕ) (numbers : List ℤ) : Type 0 where
+pub record IsColumn (rows : List (List Value)) (first count col : ℕ) (numbers : List ℤ) : Type 0 where
   pub long : count ≤ length numbers
-  pub each : (p : ℕ) → p < count → slice_get (row_of j (first + p)) col ≡ Some (val.Int (at_place numbers p))
+  pub each : (p : ℕ) → p < count → slice_get (row_in rows (first + p)) col ≡ Some (val.Int (at_place numbers p))
 
 -- the column is there, as numbers
 abbrev pub HasColumn : JobView → ℕ → ℕ → List (List ℤ) → ℕ → Type 0
-HasColumn j first count cells col = (numbers : List ℤ) × (slice_get cells col ≡ Some numbers) × IsColumn j first count col numbers
+HasColumn j first count cells col = (numbers : List ℤ) × (slice_get cells col ≡ Some numbers) × IsColumn j.dataset.rows first count col numbers
 
 -- ---- what can be read
 

@@ -16,7 +16,9 @@ use arrayvec::ArrayVec;
 use entry_fns::FnList;
 use expr_check::Checked;
 use expr_eval::Steps;
-use expr_lanes::{Known, LaneColumn, LaneInputs, MAX_PLACES, Scratch, Selection, Stopped, eval_lane};
+use expr_lanes::{
+    Known, LaneColumn, LaneInputs, MAX_PLACES, Scratch, Selection, Stopped, eval_lane,
+};
 use rdf_values::{ColType, Memory};
 use std::alloc::Global;
 use std::marker::Model;
@@ -140,7 +142,16 @@ impl Lane {
         ensures steps { steps.new ≡ steps.old + length selection.old }
     {
         mark(selection.as_slice(), &mut self.tried);
-        eval_lane(expr, inputs, functions, selection, &mut self.numbers, stops, scratch, steps);
+        eval_lane(
+            expr,
+            inputs,
+            functions,
+            selection,
+            &mut self.numbers,
+            stops,
+            scratch,
+            steps,
+        );
         mark(selection.as_slice(), &mut self.held);
         self.extent = extent_after(selection, self.count);
     }

@@ -53,5 +53,5 @@ returns-clause-tried g c =
     let at = own_part c.args.below.now c.args.others.now (key_of (job_graph (job_of c.args.block.now.at.now.job.now)) c.args.site c.args.block.now.at.now.under) c.index-others-0.result c.requires.own some in
     let below = first_part (c.args.below.now ++ c.args.others.now) c.args.below.now c.args.others.now (key_of (job_graph (job_of c.args.block.now.at.now.job.now)) c.args.site c.args.block.now.at.now.under) refl c.requires.own in
     tried_parts (job_of c.args.block.now.at.now.job.now) c.requires.job.job c.args.block.now.at.now.entry c.args.block.now.at.now.under c.args.block.now.count c.args.site c.requires.site c.expression-expr.result.now c.expression-expr.ensures (c.args.below.now ++ c.args.others.now) c.requires.ready (get_or c.args.others.now 0 c.index-others-0.result) at c.args.selection.now c.evaluate.new.selection c.evaluate.new.self c.args.stops.now.items c.evaluate.new.stops.items
-      (told_below (job_of c.args.block.now.at.now.job.now) c.requires.job.job c.args.block.now.at.now.entry c.args.block.now.at.now.under c.args.block.now.count c.args.site c.requires.site c.expression-expr.result.now c.expression-expr.ensures (c.args.below.now ++ c.args.others.now) c.requires.ready (get_or c.args.others.now 0 c.index-others-0.result) at c.args.below.now below c.args.selection.now c.evaluate.new.selection c.evaluate.new.self c.args.stops.now.items c.evaluate.new.stops.items c.evaluate.ensures.evaluated)
-      (c.requires.unknown (get_or c.args.others.now 0 c.index-others-0.result) at) c.args.below.now c.args.others.now _ refl c.requires.own refl
+    (told_below (job_of c.args.block.now.at.now.job.now) c.requires.job.job c.args.block.now.at.now.entry c.args.block.now.at.now.under c.args.block.now.count c.args.site c.requires.site c.expression-expr.result.now c.expression-expr.ensures (c.args.below.now ++ c.args.others.now) c.requires.ready (get_or c.args.others.now 0 c.index-others-0.result) at c.args.below.now below c.args.selection.now c.evaluate.new.selection c.evaluate.new.self c.args.stops.now.items c.evaluate.new.stops.items c.evaluate.ensures.evaluated)
+    (c.requires.unknown (get_or c.args.others.now 0 c.index-others-0.result) at) c.args.below.now c.args.others.now _ refl c.requires.own refl

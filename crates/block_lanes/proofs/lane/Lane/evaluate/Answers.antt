@@ -23,10 +23,10 @@ invariant_of-self g c =
     let kind : c.args.expr.now.kind ≡ c.self.inside.kind = c.requires.kind ∙ sym (ap (λ (v : LaneView). v.kind) c.self.view_is) in
     let come = come_as _ _ _ _ _ _ _ _ _ _ kind c.deref_mut-2.ensures.value c.eval_lane.ensures.values in
     let unknown : EachPlace c.args.selection.now (λ p. is_marked c.self.inside.held.items p ≡ false) = λ p h. ap (λ (v : LaneView). is_marked v.held p) c.self.view_is ∙ c.requires.unknown p h in
-    rw (numbers, tried, held)
-    ( lane_after _ c.args.selection.now c.eval_lane.new.selection c.self.inside.kind c.self.inside.count c.self.inside.numbers.items _ c.self.inside.tried.items _ c.self.inside.held.items _ tried_at held_at _ _ c.self.invariant.0 inside unknown come
-        (c.eval_lane.auto.lane ∙ ap length c.deref_mut-2.ensures.value) (c.mark.auto.marks ∙ ap length c.deref_mut.ensures.value) (c.mark-2.auto.marks ∙ ap length c.deref_mut-3.ensures.value),
-      c.extent_after-self-inside.ensures _ refl (λ p h. held_at p ∙ either_held _ _ h)
+    rw (numbers, tried, held) (
+      lane_after _ c.args.selection.now c.eval_lane.new.selection c.self.inside.kind c.self.inside.count c.self.inside.numbers.items _ c.self.inside.tried.items _ c.self.inside.held.items _ tried_at held_at _ _ c.self.invariant.0 inside unknown come
+          (c.eval_lane.auto.lane ∙ ap length c.deref_mut-2.ensures.value) (c.mark.auto.marks ∙ ap length c.deref_mut.ensures.value) (c.mark-2.auto.marks ∙ ap length c.deref_mut-3.ensures.value),
+      c.extent_after-self-inside.ensures _ refl (λ p h. held_at p ∙ either_held _ _ h),
     )
 
 pub returns-clause-evaluated : goal.returns-clause-evaluated
