@@ -141,7 +141,7 @@ impl Lane {
         ensures evaluated { IsEvaluated (λ p. evaluate_at (I.look inputs.now p) (call_outcome (functions_in functions.now)) expr.now.tree) selection.old selection.new self.old self.new stops.old.items stops.new.items }
         ensures steps { steps.new ≡ steps.old + length selection.old }
     {
-        mark(selection.as_slice(), &mut self.tried);
+        mark(selection, &mut self.tried);
         eval_lane(
             expr,
             inputs,
@@ -152,7 +152,7 @@ impl Lane {
             scratch,
             steps,
         );
-        mark(selection.as_slice(), &mut self.held);
+        mark(selection, &mut self.held);
         self.extent = extent_after(selection, self.count);
     }
 }
