@@ -53,9 +53,9 @@ begun_none count before enough = record { many = refl; kinds_are = refl; rooms_a
 
 pub begun_more : (count i : ℕ) (before ls : List LaneView) (l d : LaneView) → AreBegunTo count before i ls → i < length ls → IsSameLane (get_or ls i d) l → IsUnknown count l → AreBegunTo count before (i + 1) (set ls i l)
 begun_more count i before ls l d so_far inside same unknown = record {
-      many = length-set ls i l ∙ so_far.many;
-      kinds_are = kinds_set ls i l d inside same.kind ∙ so_far.kinds_are;
-      rooms_are = rooms_set ls i l d inside same.room ∙ so_far.rooms_are;
-      enough = All-set (λ x. count ≤ room_of x) ls i l (omega (arith, same.room, so_far.enough i d inside)) so_far.enough;
-      begun = AllWithin-more_set ls i l inside (IsUnknown count) so_far.begun unknown;
-    }
+  many = length-set ls i l ∙ so_far.many;
+  kinds_are = kinds_set ls i l d inside same.kind ∙ so_far.kinds_are;
+  rooms_are = rooms_set ls i l d inside same.room ∙ so_far.rooms_are;
+  enough = All-set (λ x. count ≤ room_of x) ls i l (omega (arith, same.room, so_far.enough i d inside)) so_far.enough;
+  begun = AllWithin-more_set ls i l inside (IsUnknown count) so_far.begun unknown;
+}

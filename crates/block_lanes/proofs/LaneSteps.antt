@@ -89,8 +89,8 @@ module _
       within = omega (arith, lane.within);
       behind = λ p far. tried_at p ∙ neither (is_in p sel) (is_marked tried0 p) (outside (is_in p sel) (λ i. let near : p < count = inside p i in omega arith)) (lane.behind p far);
       begun = λ p none.
-        let no : (is_in p sel || is_marked tried0 p) ≡ false = sym (tried_at p) ∙ none in
-        held_at p ∙ neither (is_in p left) (is_marked held0 p) (ap (λ l. is_in p l) come.left_in ∙ filtered_out (λ p. is_given (f p)) p sel (first_false (is_in p sel) (is_marked tried0 p) no)) (lane.begun p (last_false (is_in p sel) (is_marked tried0 p) no));
+          let no : (is_in p sel || is_marked tried0 p) ≡ false = sym (tried_at p) ∙ none in
+          held_at p ∙ neither (is_in p left) (is_marked held0 p) (ap (λ l. is_in p l) come.left_in ∙ filtered_out (λ p. is_given (f p)) p sel (first_false (is_in p sel) (is_marked tried0 p) no)) (lane.begun p (last_false (is_in p sel) (is_marked tried0 p) no));
       exact = λ p is. exact_at p (is_in p left) refl (is_in p sel) refl (sym (held_at p) ∙ is);
     }
       where

@@ -16,7 +16,9 @@ use arrayvec::ArrayVec;
 use entry_fns::FnList;
 use expr_check::Checked;
 use expr_eval::Steps;
-use expr_lanes::{Known, LaneColumn, LaneInputs, MAX_PLACES, Scratch, Selection, Stopped, eval_lane};
+use expr_lanes::{
+    Known, LaneColumn, LaneInputs, MAX_PLACES, Scratch, Selection, Stopped, eval_lane,
+};
 use rdf_values::{ColType, Memory};
 use std::alloc::Global;
 use std::marker::Model;
@@ -139,9 +141,18 @@ impl Lane {
         ensures evaluated { IsEvaluated (λ p. evaluate_at (I.look inputs.now p) (call_outcome (functions_in functions.now)) expr.now.tree) selection.old selection.new self.old self.new stops.old.items stops.new.items }
         ensures steps { steps.new ≡ steps.old + length selection.old }
     {
-        mark(selection.as_slice(), &mut self.tried);
-        eval_lane(expr, inputs, functions, selection, &mut self.numbers, stops, scratch, steps);
-        mark(selection.as_slice(), &mut self.held);
+        mark(selection, &mut self.tried);
+        eval_lane(
+            expr,
+            inputs,
+            functions,
+            selection,
+            &mut self.numbers,
+            stops,
+            scratch,
+            steps,
+        );
+        mark(selection, &mut self.held);
         self.extent = extent_after(selection, self.count);
     }
 }

@@ -1,6 +1,9 @@
 // Marks of places.
 ghost use Rattle.std.specs.Prelude.{◌≡◌, ◌<◌, ◌≤◌, ◌+◌, ℕ, ◌||◌, not, false, length, count_by};
+ghost use Rattle.std.specs.List.{range_with_len};
 ghost use Rattle.expr_lanes.specs.Places.{is_in, is_marked, AreRising, EachPlace};
+
+use expr_lanes::Selection;
 
 /// Takes the marks of the first places away.
 pub(crate) fn clear_first(marks: &mut [bool], count: usize)
@@ -13,8 +16,8 @@ pub(crate) fn clear_first(marks: &mut [bool], count: usize)
     }
 }
 
-/// Marks the places.
-pub(crate) fn mark(places: &[u32], marks: &mut [bool])
+/// Marks the places of a list.
+fn mark_listed(places: &[u32], marks: &mut [bool])
     requires inside { EachPlace places.now (λ p. p < length marks.old) }
     requires rising { AreRising places.now }
     ensures marked { (p : ℕ) → is_marked marks.new p ≡ (is_in p places.now || is_marked marks.old p) }
@@ -22,5 +25,28 @@ pub(crate) fn mark(places: &[u32], marks: &mut [bool])
 {
     for i in 0..places.len() {
         marks[places[i] as usize] = true;
+    }
+}
+
+/// Marks the first places.
+fn mark_first(count: usize, marks: &mut [bool])
+    requires { count ≤ length marks.old }
+    ensures marked { (p : ℕ) → is_marked marks.new p ≡ (is_in p (range_with_len 0 count) || is_marked marks.old p) }
+    ensures newly { count_by (λ b. b) marks.new ≡ count_by (λ b. b) marks.old + count_by (λ p. not (is_marked marks.old p)) (range_with_len 0 count) }
+{
+    for i in 0..count {
+        marks[i] = true;
+    }
+}
+
+/// Marks the selected places.
+pub(crate) fn mark(selection: &Selection, marks: &mut [bool])
+    requires { EachPlace selection.now (λ p. p < length marks.old) }
+    ensures marked { (p : ℕ) → is_marked marks.new p ≡ (is_in p selection.now || is_marked marks.old p) }
+    ensures newly { count_by (λ b. b) marks.new ≡ count_by (λ b. b) marks.old + count_by (λ p. not (is_marked marks.old p)) selection.now }
+{
+    match selection.first_count() {
+        Some(count) => mark_first(count, marks),
+        None => mark_listed(selection.as_slice(), marks),
     }
 }

@@ -1,22 +1,21 @@
-use Rattle.std.proofs.Common.{◌≡◌, ◌<◌, arith, refl, get_or, length, take}
-use Rattle.std.proofs.lemmas.List.{take_all}
-use Rattle.block_lanes.proofs.Marking.{mark_one, marked_all, marked_to_none, newly_all}
-use Rattle.expr_lanes.proofs.Selected.{is_in_at}
+use Rattle.std.proofs.Common.{refl, sym}
+use Rattle.expr_lanes.proofs.Dense.{dense_long}
+use Rattle.block_lanes.proofs.LaneSteps.{marks_as, newly_as}
 use Rattle.block_lanes.proofs.marks.mark.Goals as goal
 
-pub bounds-marks-places : goal.bounds-marks-places
-bounds-marks-places c =
-    let inside : get_or c.args.places.now c.loop-i.i 0 < length c.args.marks.now = c.requires.inside _ (is_in_at c.args.places.now c.loop-i.i 0 (omega arith)) in
-    omega (arith, c.loop-i.invariant.long)
+pub mark_first-requires : goal.mark_first-requires
+mark_first-requires c = dense_long _ _ _ (c.in-Some.ensures {u = tt}) c.requires
 
-pub loop-i-init : goal.loop-i-init
-loop-i-init c = marked_to_none _ _
+pub returns-in-Some : goal.returns-in-Some
+returns-in-Some c =
+    let first = sym (c.in-Some.ensures {u = tt}) in
+    record {
+      marked = marks_as _ c.args.selection.now c.args.marks.now c.args.marks.now c.mark_first.new.marks first refl c.mark_first.ensures.marked;
+      newly = newly_as _ c.args.selection.now c.args.marks.now c.args.marks.now c.mark_first.new.marks first refl c.mark_first.ensures.newly;
+    }
 
-pub loop-i-preserved : goal.loop-i-preserved
-loop-i-preserved c = mark_one _ _ _ _ _ c.loop-i.invariant c.requires.rising (omega arith) refl (c.requires.inside _ (is_in_at c.args.places.now c.loop-i.i 0 (omega arith)))
-
-pub returns-clause-marked : goal.returns-clause-marked
-returns-clause-marked c = λ p. marked_all _ _ _ _ p c.loop-i.invariant (take_all c.loop-i.i c.args.places.now (omega arith))
-
-pub returns-clause-newly : goal.returns-clause-newly
-returns-clause-newly c = newly_all _ _ _ _ c.loop-i.invariant (take_all c.loop-i.i c.args.places.now (omega arith))
+pub returns-in-None : goal.returns-in-None
+returns-in-None c = record {
+  marked = marks_as _ c.args.selection.now c.args.marks.now c.args.marks.now c.mark_listed.new.marks c.as_slice.ensures.value refl c.mark_listed.ensures.marked;
+  newly = newly_as _ c.args.selection.now c.args.marks.now c.args.marks.now c.mark_listed.new.marks c.as_slice.ensures.value refl c.mark_listed.ensures.newly;
+}

@@ -13,5 +13,5 @@ returns-in-All c =
     let extent = rw c.in-All.is at c.self.invariant.1 in
     c.select_first.ensures
     ∙ sym
-      (filter_none (λ p. not (is_held c.args.self.now p)) c.args.selection.now
-        (λ p h. ap (λ (l : LaneView). not (is_held l p)) (sym c.self.view_is) ∙ ap not (extent p (subst (λ (n : ℕ). p < n) (ap (λ (l : LaneView). l.count) (sym c.self.view_is)) (c.requires p h)))))
+    (filter_none (λ p. not (is_held c.args.self.now p)) c.args.selection.now
+    (λ p h. ap (λ (l : LaneView). not (is_held l p)) (sym c.self.view_is) ∙ ap not (extent p (subst (λ (n : ℕ). p < n) (ap (λ (l : LaneView). l.count) (sym c.self.view_is)) (c.requires p h)))))

@@ -1,0 +1,1 @@
+use Rattle.block_cache.proofs.attempt.try_lane.Goals as goal
