@@ -1,0 +1,2 @@
+pub mod FilterCounts
+pub mod MergedPrints
