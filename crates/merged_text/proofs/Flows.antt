@@ -1,12 +1,11 @@
 -- The lines of a report's filters, by their numbers.
-use Rattle.std.proofs.Common.{◌≡◌, ◌⊎◌, inl, inr, ℕ, zero, suc, ◌+◌, ◌<◌, ◌≤◌, List, [], ◌∷◌, ◌++◌, length, map, drop, Option, None, Some, refl, sym, ap, ap₂, ◌∙◌, arith, append_assoc, append-nil}
+use Rattle.std.proofs.Common.{◌≡◌, ◌⊎◌, inl, inr, ℕ, ◌+◌, ◌<◌, ◌≤◌, List, [], ◌∷◌, ◌++◌, length, map, drop, Option, None, Some, refl, sym, ap, ap₂, ◌∙◌, arith, append_assoc, append-nil}
 use Rattle.std.specs.Prelude.{codes, flat_map, option_map, slice_get, unwrap_or}
 use Rattle.std.proofs.lemmas.List.{map-append}
 use Rattle.std.proofs.lemmas.Option.{same_Some, slice_get-map}
 use Rattle.rdf_values.specs.Bookings.{named_before}
 use Rattle.rdf_values.specs.Kinds.{FunctionNames}
-use Rattle.rdf_values.specs.Path.{Path, history, path}
-use Rattle.rdf_values.specs.RefusalLines.{line}
+use Rattle.rdf_values.specs.Path.{Path, path}
 use Rattle.rdf_values.specs.declared.column.Column.{Column}
 use Rattle.rdf_values.specs.declared.statement.Statement.{Statement}
 use Rattle.rdf_values.specs.declared.statement.Statement.TheVariants.{Filter}
@@ -16,7 +15,7 @@ use Rattle.filters_report.specs.declared.flow.Counts.{Counts}
 use Rattle.graph_numbers.specs.Results.{FilterAt, filters, own_filters}
 use Rattle.result_text.specs.FilledLines.{counts_seen}
 use Rattle.result_text.proofs.Lists.{drop_whole, one_left, put_last, put_next}
-use Rattle.merged_text.specs.FilterCounts.{filter_counts, label_of}
+use Rattle.merged_text.specs.Numbered.{filter_counts, label_of}
 use Rattle.merged_text.specs.MergedPrints.{with_labels}
 
 -- the lines of filters, of which the first shown was reached by so many entries

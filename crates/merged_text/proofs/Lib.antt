@@ -1,3 +1,4 @@
 pub mod Flows
 pub mod LoopPasses
+pub mod Printing
 pub mod Rows

@@ -1,5 +1,5 @@
 -- A pass of a graph's loop by its number, and its printed lines.
-use Rattle.std.proofs.Common.{◌≡◌, ℕ, ◌<◌, ◌≤◌, List, [], ◌∷◌, ◌++◌, length, map, drop, Option, None, Some, refl, sym, ap, ap₂, ◌∙◌, subst, arith}
+use Rattle.std.proofs.Common.{◌≡◌, ℕ, List, [], ◌∷◌, ◌++◌, length, map, Option, None, Some, refl, sym, ap, ap₂, ◌∙◌, subst}
 use Rattle.std.specs.Prelude.{codes, option_map, slice_get, unwrap_or}
 use Rattle.std.proofs.lemmas.List.{length-map}
 use Rattle.std.proofs.lemmas.Option.{same_Some, slice_get-map}
@@ -26,7 +26,11 @@ use Rattle.result_text.specs.FilledLines.{passes_at, under_in, value_lines}
 use Rattle.result_text.proofs.PassLines.{filled_is}
 use Rattle.result_text.proofs.Passes.{IsPassAt}
 use Rattle.shard_lines.specs.declared.shard_line.ShardLine.{ShardLine}
+use Rattle.shard_lines.specs.Joining.{counts_of}
+use Rattle.rdf_model.specs.ResultLines.{flow_lines}
 use Rattle.merged_text.specs.MergedPrints.{booking_text, line_filled, pass_text}
+use Rattle.merged_text.specs.Numbered.{filter_counts}
+use Rattle.merged_text.proofs.Flows.{labels_with}
 
 module _ (g : GraphView) where
   -- a loop has as many passes by numbers
@@ -56,7 +60,7 @@ module _ (g : GraphView) where
 
   -- ---- functions of these names
 
-  nameless : FnName → Function
+  abbrev nameless : FnName → Function
   nameless n = record { name = n.name; arity = n.arity; answer = λ args. None }
 
   names_back : (ns : FunctionNames) → fn_names (map nameless ns) ≡ ns
@@ -136,3 +140,11 @@ module _ (g : GraphView) where
             booking = of;
             numbered = ap (map (slice_get (named_before (history g.script)))) (sym mine) ∙ (λ i. map (λ f. by_number f i) row.0.covers) ∙ covers_filters p.result row.0 fs row.1 (ap (λ (b : Booked). b.booking) row_is ∙ of);
           }
+
+      -- its lines
+      pub report_text : (covers : List ℕ) (line : ShardLine) (name : List ℕ) → IsReportOn covers → option_map (λ (x : ResultAt). x.booked.name) (slice_get (graph_results g) p.result) ≡ Some name
+          → flow_lines name (filter_counts (graph_filters g) covers (counts_of line)) ≡ pass_text q line
+      report_text covers line name on named =
+          ap (λ x. flow_lines x (filter_counts (graph_filters g) covers (counts_of line))) (name_of name named)
+          ∙ ap (flow_lines q.result.name) (labels_with g.header g.names (history g.script) covers on.filters (counts_of line) on.numbered)
+          ∙ sym (ap (λ b. booking_text q.result.name q.under b line) on.booking)

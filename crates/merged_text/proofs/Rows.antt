@@ -1,5 +1,5 @@
 -- The rows of the cells of a plane.
-use Rattle.std.proofs.Common.{◌≡◌, ℕ, ℤ, zero, suc, ◌+◌, ◌-◌, ◌<◌, ◌≤◌, append-nil, List, [], ◌∷◌, ◌++◌, length, map, take, drop, refl, sym, ap, ◌∙◌, arith}
+use Rattle.std.proofs.Common.{◌≡◌, ℕ, ℤ, zero, suc, ◌+◌, ◌-◌, ◌<◌, ◌≤◌, append-nil, List, [], ◌∷◌, ◌++◌, map, take, drop, refl, sym, ap, ◌∙◌, arith}
 use Rattle.rdf_values.specs.Fold.{Cell}
 use Rattle.histograms.specs.Cells.{cell_seen}
 use Rattle.histograms.specs.declared.cell_sum.CellSum.{CellSum}

@@ -1,2 +1,2 @@
-pub mod FilterCounts
 pub mod MergedPrints
+pub mod Numbered

@@ -4,12 +4,10 @@ use Rattle.rdf_values.specs.Bookings.{ActionAt, Booking, Pass, ReportOn}
 use Rattle.rdf_values.specs.Fold.{Cell, Filled}
 use Rattle.rdf_values.specs.Fold as f
 use Rattle.rdf_values.specs.Names.{same}
-use Rattle.rdf_values.specs.Path.{Path, Under, history}
+use Rattle.rdf_values.specs.Path.{Path, Under}
 use Rattle.rdf_values.specs.declared.action.ActionKind.{ActionKind}
 use Rattle.rdf_values.specs.declared.action.ActionKind.TheVariants as kind
 use Rattle.rdf_values.specs.declared.fault.Fault.{Fault}
-use Rattle.rdf_values.specs.declared.script.Script.{Script}
-use Rattle.rdf_values.specs.declared.statement.Statement.{Statement}
 use Rattle.rdf_model.specs.Loops.{Access, accesses, loop_of}
 use Rattle.rdf_model.specs.ResultLines.{fault_line, filled_lines, filter_label, flow_lines, label}
 use Rattle.rdf_model.specs.Results.{FilterCounts}
@@ -17,7 +15,6 @@ use Rattle.rdf_model.specs.Transcript.{Printed, in_front_of}
 use Rattle.filters_report.specs.declared.flow.Counts.{Counts}
 use Rattle.graph_numbers.specs.Graphs.{GraphView, booked_statements, graph_loops}
 use Rattle.histograms.specs.Cells.{cell_seen}
-use Rattle.histograms.specs.declared.cell_sum.CellSum.{CellSum}
 use Rattle.result_text.specs.FilledLines.{counts_seen, passes_at}
 use Rattle.shard_lines.specs.Joining.{counts_of}
 use Rattle.shard_lines.specs.declared.shard_line.ShardLine.{ShardLine}

@@ -1,12 +1,12 @@
 // The lines of passes, by the lines that shards hold of them.
-ghost use Rattle.std.specs.Prelude.{◌≡◌, ◌<◌, ◌++◌, All, OnOk, Some, length, slice_get};
+ghost use Rattle.std.specs.Prelude.{◌≡◌, ◌<◌, ◌++◌, ℕ, All, OnOk, Some, length, slice_get};
 ghost use Rattle.rdf_model.specs.ResultLines.{flow_lines};
 ghost use Rattle.rdf_values.specs.Bookings as bookings;
 ghost use Rattle.graph_numbers.specs.Graphs.{graph_filters, graph_loops};
 ghost use Rattle.result_text.specs.FilledLines.{passes_at};
 ghost use Rattle.shard_lines.specs.Joining.{counts_of};
 ghost use Rattle.merged_text.specs.MergedPrints.{lines_of_result, named_text, pass_text};
-ghost use Rattle.merged_text.specs.FilterCounts.{filter_counts};
+ghost use Rattle.merged_text.specs.Numbered.{IsPassIn, filter_counts};
 
 use crate::values::put_line;
 use filters_report::Counts;
@@ -54,20 +54,17 @@ fn put_flows(
     Ok(())
 }
 
-// Appends the lines of the pass of that number in a loop.
+// Appends the lines of a pass.
 fn put_pass(
     alloc: Global,
     text: &mut Text,
     graph: &Graph,
-    l: u32,
-    number: usize,
+    pass: Pass,
     line: &ShardLine,
 ) -> Result<(), Memory>
-    requires its_loop { l < length (graph_loops graph.now) }
-    requires its_pass { (p : bookings.Pass) × (slice_get (passes_at graph.now l) number ≡ Some p) }
-    ensures { (p : bookings.Pass) → slice_get (passes_at graph.now l) number ≡ Some p → OnOk result (text.new ≡ text.old ++ pass_text p line.now) }
+    requires its_pass { (l n : ℕ) × IsPassIn graph.now l n pass }
+    ensures { (l n : ℕ) (p : bookings.Pass) → IsPassIn graph.now l n pass → slice_get (passes_at graph.now l) n ≡ Some p → OnOk result (text.new ≡ text.old ++ pass_text p line.now) }
 {
-    let pass = graph.passes(l)[number];
     let name = graph.result_name(pass.result);
     match graph.kind(pass.result) {
         ResultKind::Action(kind) => {
@@ -82,23 +79,20 @@ fn put_pass(
     }
 }
 
-// Appends the lines of the pass of that number in a loop, where it is of the result of that name.
+// Appends the lines of a pass, where it is of the result of that name.
 fn put_named(
     alloc: Global,
     text: &mut Text,
     graph: &Graph,
-    at: (u32, usize),
+    pass: Pass,
     name: &Name,
     line: &ShardLine,
 ) -> Result<(), Memory>
-    requires its_loop { at.0 < length (graph_loops graph.now) }
-    requires its_pass { (p : bookings.Pass) × (slice_get (passes_at graph.now at.0) at.1 ≡ Some p) }
-    ensures { (p : bookings.Pass) → slice_get (passes_at graph.now at.0) at.1 ≡ Some p → OnOk result (text.new ≡ text.old ++ named_text name.now p line.now) }
+    requires its_pass { (l n : ℕ) × IsPassIn graph.now l n pass }
+    ensures { (l n : ℕ) (p : bookings.Pass) → IsPassIn graph.now l n pass → slice_get (passes_at graph.now l) n ≡ Some p → OnOk result (text.new ≡ text.old ++ named_text name.now p line.now) }
 {
-    let (l, number) = at;
-    let pass = graph.passes(l)[number];
     if graph.result_name(pass.result).is(name) {
-        put_pass(alloc, text, graph, l, number, line)
+        put_pass(alloc, text, graph, pass, line)
     } else {
         Ok(())
     }
@@ -121,7 +115,7 @@ pub(crate) fn put_result(
         if i >= passes.len() {
             return Ok(());
         }
-        put_named(alloc, text, graph, (l, i), name, line)?;
+        put_named(alloc, text, graph, passes[i], name, line)?;
     }
     Ok(())
 }

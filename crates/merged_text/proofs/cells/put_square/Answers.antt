@@ -1,6 +1,5 @@
-use Rattle.std.proofs.Common.{◌≡◌, ◌++◌, ◌+◌, ◌-◌, ◌≤◌, suc, ap, ◌∙◌, arith, drop, length, map, take}
+use Rattle.std.proofs.Common.{◌≡◌, ◌++◌, ◌+◌, suc, ap, ◌∙◌, arith, drop, length, map, take}
 use Rattle.histograms.specs.Cells.{cell_seen}
-use Rattle.result_text.specs.FilledLines.{planes_on}
 use Rattle.result_text.proofs.CellNames.{planes_are}
 use Rattle.merged_text.specs.MergedPrints.{rows_of}
 use Rattle.merged_text.proofs.Rows.{row_next, rows_begin, rows_end}
