@@ -7,4 +7,7 @@
 
 mod laws;
 
-pub use crate::laws::first_faulty_cluster_has_the_fault_of_its_span;
+pub use crate::laws::{
+    first_faulty_cluster_has_the_fault_of_its_span, joined_lines_are_of_both,
+    shards_join_to_one_run,
+};
