@@ -2,3 +2,4 @@ pub mod Flows
 pub mod LoopPasses
 pub mod Printing
 pub mod Rows
+pub mod SamePasses

@@ -1,2 +1,3 @@
+pub mod Laws
 pub mod MergedPrints
 pub mod Numbered

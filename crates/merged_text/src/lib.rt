@@ -3,8 +3,10 @@
 #![tactic(auto)]
 
 mod cells;
+mod laws;
 mod prints;
 mod told;
 mod values;
 
+pub use crate::laws::lines_print_their_passes;
 pub use crate::prints::{Merging, merged_text};
