@@ -38,7 +38,6 @@ drop_front (suc n) [] ys h = absurd (omega arith)
 drop_front (suc n) (x ∷ xs) ys h = drop_front n xs ys (omega arith)
 
 module _ (g : ℕ → ℕ → Cell) (js : List ℕ) (width : ℕ) (wide : length js ≡ width) where
-
   seen_flat : (is : List ℕ) → map cell_seen (flat_map (λ cells. map cell_sum cells) (map (λ i. map (g i) js) is)) ≡ flat_map (λ i. map (g i) js) is
   seen_flat [] = refl
   seen_flat (i ∷ is) = map-append cell_seen (map cell_sum (map (g i) js)) (flat_map (λ cells. map cell_sum cells) (map (λ k. map (g k) js) is)) ∙ ap₂ (λ (a b : List Cell). a ++ b) (cells_back (map (g i) js)) (seen_flat is)
