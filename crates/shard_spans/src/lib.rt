@@ -1,0 +1,13 @@
+//! What a run over a span of clusters finds, and what the loops of merged shards print: definitions, and laws that bind them
+//! to the table's clusters. Stands on `loop_pieces` and `shard_files`.
+//!
+//! `specs/Spans.antt` has the rows of a span, its first fault and its lines; `specs/MergedText.antt` has what merged loops
+//! print.
+#![tactic(auto)]
+
+mod laws;
+
+pub use crate::laws::{
+    first_faulty_cluster_has_the_fault_of_its_span, joined_lines_are_of_both,
+    shards_join_to_one_run,
+};
