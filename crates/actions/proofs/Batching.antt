@@ -35,8 +35,6 @@ pub one_place_more : {A : Type 0} (f : ℕ → List A) (ps : List ℕ) (i : ℕ)
 one_place_more f ps i h =
     ap (flat_map f) (take_more ps i 0 h) ∙ flat_map-append f (take i ps) (get_or ps i 0 ∷ []) ∙ ap (λ l. flat_map f (take i ps) ++ l) (append-nil (f (get_or ps i 0)))
 
--- ---- faults
-
 -- ---- what is held
 
 -- with the items of one place more
@@ -174,8 +172,6 @@ few_numbers s x ps h all =
     let few = few_each (λ p. first_numbers (values_at s p)) ps all in
     let same = ap length (lane_numbers_in s x ps h) in omega (arith, few, same)
 
--- ---- one number, or at most 4,096
-
 -- a Count is fed one item at each place
 pub one_each : (ps : List ℕ) → length (flat_map (λ (p : ℕ). Unit ∷ []) ps) ≡ length ps
 one_each [] = refl
@@ -193,7 +189,7 @@ count_listed zs (p ∷ ps) = ap (λ n. suc n) (count_listed zs ps)
 pub one_place_mapped : {A : Type 0} (f : ℕ → A) (ps : List ℕ) (i : ℕ) → i < length ps → map f (take (i + 1) ps) ≡ map f (take i ps) ++ f (get_or ps i 0) ∷ []
 one_place_mapped f ps i h = ap (map f) (take_more ps i 0 h) ∙ map-append f (take i ps) (get_or ps i 0 ∷ [])
 
--- ---- faults of numbers
+-- ---- faults, and weights in range
 
 pub none_found : (k : ActionKind) (s : Sources) (ps : List ℕ) → All (λ p. feed_fault k (values_at s p) ≡ None) ps → first_fault_in k s ps ≡ None
 none_found k s [] h = refl
