@@ -1,17 +1,16 @@
 -- What is held of the entries of a block, key by key.
-use Rattle.std.proofs.Common.{◌≡◌, ◌<◌, ◌≤◌, ◌+◌, ◌-◌, ◌++◌, ◌||◌, ℕ, zero, suc, Bool, true, false, List, [], ◌∷◌, length, map, take, replicate, get_or, Option, Some, None, refl, sym, ◌∙◌, ap, subst, arith, if◌then◌else◌, slice_get}
+use Rattle.std.proofs.Common.{◌≡◌, ◌≤◌, ◌+◌, ◌-◌, ◌++◌, ℕ, zero, suc, true, List, [], ◌∷◌, length, map, take, replicate, get_or, Option, Some, None, refl, sym, ◌∙◌, ap, subst, arith, slice_get}
 use Rattle.std.proofs.lemmas.List.{length-replicate}
 use Rattle.rdf_values.specs.declared.value.Value.{Value}
 use Rattle.rdf_values.specs.declared.value.Value.TheVariants as val
-use Rattle.rdf_values.specs.declared.fault.EntryFault.{EntryFault}
 use Rattle.rdf_model.specs.Evaluation.{Outcome, Gives, Faults, Needs, evaluate, call_outcome}
 use Rattle.rdf_values.specs.Tree.{NumTree}
 use Rattle.expr_check.specs.NumKinds.{CheckedExpr}
-use Rattle.graph_numbers.specs.Graphs.{IsSiteExpr, graph_sites}
-use Rattle.block_lanes.specs.Lanes.{LaneView, is_held, value_of}
+use Rattle.graph_numbers.specs.Graphs.{IsSiteExpr}
+use Rattle.block_lanes.specs.Lanes.{LaneView}
 use Rattle.entry_cache.specs.Jobs.{JobView, IsJob, job_graph}
-use Rattle.entry_cache.specs.Keys.{key, key_count}
-use Rattle.entry_cache.specs.Store.{CanLook, IsMissing, IsRight, IsSound, MeetsAt, held_in, held_or_need, is_held as has_held, look_at, site_in}
+use Rattle.entry_cache.specs.Keys.{key}
+use Rattle.entry_cache.specs.Store.{IsRight, IsSound, held_in, held_or_need, is_held as has_held, look_at, site_in}
 use Rattle.entry_cache.specs.declared.held.Held.{Held}
 use Rattle.entry_cache.specs.declared.held.Held.TheVariants as held
 use Rattle.entry_cache.proofs.EvaluateLaws.{found_right, needed_met, needed_missing}

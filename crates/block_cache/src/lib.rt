@@ -5,4 +5,5 @@
 
 pub mod attempt;
 pub mod cells;
+pub mod faults;
 mod view;

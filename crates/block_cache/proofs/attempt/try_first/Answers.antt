@@ -1,4 +1,4 @@
-use Rattle.std.proofs.Common.{◌≡◌, ◌<◌, ◌++◌, ◌∙◌, refl, sym, ap, subst, ℕ, List, length, get_or, arith}
+use Rattle.std.proofs.Common.{◌<◌, ◌++◌, refl, sym, subst, ℕ, length, get_or, arith}
 use Rattle.expr_lanes.specs.Places.{IsSelected}
 use Rattle.entry_cache.specs.Jobs.{job_graph, job_of}
 use Rattle.entry_cache.specs.Keys.{key as key_of}
