@@ -1,0 +1,5 @@
+pub mod Asked
+pub mod Causes
+pub mod Counted
+pub mod Found
+pub mod Varied
