@@ -1,0 +1,12 @@
+// Laws of part files. Each function does nothing; its contract is the law, and its proof the law's.
+ghost use Rattle.chain_files.specs.Laws.{TextBreaksNowhere, TextIsOfOnePart};
+
+/// A text is of one part at most: what was printed reads as what it was printed from.
+pub fn a_text_is_of_one_part()
+    ensures { TextIsOfOnePart }
+{}
+
+/// No line of a part's text is refused.
+pub fn a_text_breaks_nowhere()
+    ensures { TextBreaksNowhere }
+{}
