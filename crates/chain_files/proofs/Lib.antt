@@ -1,6 +1,8 @@
 mod PartLines
 mod Following
+mod Grouping
 mod OnePart
+mod Reductions
 mod Refused
 mod Running
 mod Runs
