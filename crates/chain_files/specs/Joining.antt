@@ -1,5 +1,5 @@
 -- Parts of one script, joined in the order of their files.
-use Rattle.std.specs.Prelude.{◌≡◌, ◌+◌, ℕ, List, [], ◌∷◌, ◌++◌, fold}
+use Rattle.std.specs.Prelude.{◌≡◌, ◌+◌, ℕ, Bool, true, false, List, [], ◌∷◌, ◌++◌, fold}
 use Rattle.shard_lines.specs.Joining.{joined_lines}
 use Rattle.shard_lines.specs.declared.pass_shape.PassShape.{PassShape}
 use Rattle.chain_files.specs.Parts.{PartView}
@@ -11,6 +11,10 @@ abbrev pub joined_loop : List PassShape → PartLoop → PartLoop → PartLoop
 joined_loop shapes (Faulted f) m = Faulted f
 joined_loop shapes (Whole ps) (Faulted g) = Faulted g
 joined_loop shapes (Whole ps) (Whole qs) = Whole (joined_lines shapes ps qs)
+
+abbrev pub is_faulty : PartLoop → Bool
+is_faulty (Whole ps) = false
+is_faulty (Faulted f) = true
 
 -- a faulty loop is the last one
 abbrev pub up_to_fault : PartLoop → List PartLoop → List PartLoop

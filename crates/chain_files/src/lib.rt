@@ -7,6 +7,7 @@
 #![tactic(auto)]
 
 mod chain_fault;
+mod joining;
 mod laws;
 mod limits;
 mod part;
@@ -20,6 +21,7 @@ mod reading;
 mod refusal;
 
 pub use crate::chain_fault::ChainFault;
+pub use crate::joining::joined_loops;
 pub use crate::laws::{
     a_text_breaks_nowhere, a_text_is_of_one_part, groups_are_free, joining_is_associative,
 };
