@@ -40,7 +40,7 @@ FitsFileLine file.End = Unit {0}
 small_reads : (most n : ℕ) → most ≤ 1000000 → n ≤ most → magnitude_of most (decimal n) ≡ Some n
 small_reads most n m l = count_reads most n (omega arith) l
 
-kind_reads : (t : ColType) → IsStored t → stored_kind_of (kind_word t) ≡ Some t
+pub kind_reads : (t : ColType) → IsStored t → stored_kind_of (kind_word t) ≡ Some t
 kind_reads k.Int h = refl
 kind_reads k.Bool h = absurd h
 kind_reads k.Vect h = refl
@@ -55,7 +55,7 @@ kind_of_fault VaryCount = (omega arith, refl)
 kind_of_fault Weight = (omega arith, refl)
 kind_of_fault Function = (omega arith, refl)
 
-fault_reads : (f : EntryFault) → fault_kind_of (decimal (fault_number f)) ≡ Some f
+pub fault_reads : (f : EntryFault) → fault_kind_of (decimal (fault_number f)) ≡ Some f
 fault_reads f = let q = kind_of_fault f in ap (option_and_then fault_of_number) (small_reads 8 (fault_number f) (omega arith) q.0) ∙ q.1
 
 pass_reads : (l : ShardLine) → FitsLine shard_limits l → file_line_of (line_words l) ≡ Some (file.Pass l)
@@ -94,14 +94,14 @@ Says ws l = (words_of l ≡ ws) × FitsFileLine l
 small_says : (most n : ℕ) (w : List ℕ) → most ≤ 1000000 → magnitude_of most w ≡ Some n → (decimal n ≡ w) × (n ≤ most)
 small_says most n w m h = count_says most n w (omega arith) h
 
-name_says : (w name : List ℕ) → name_of w ≡ Some name → (name ≡ w) × (is_name name ≡ true)
+pub name_says : (w name : List ℕ) → name_of w ≡ Some name → (name ≡ w) × (is_name name ≡ true)
 name_says w name h = by (is_name w) refl h
   where
     by : (b : Bool) → is_name w ≡ b → (if b then Some w else None) ≡ Some name → (name ≡ w) × (is_name name ≡ true)
     by true e h = let same : w ≡ name = cc h in (sym same, ap is_name (sym same) ∙ e)
     by false e h = cc h
 
-kind_says : (w : List ℕ) (t : ColType) → stored_kind_of w ≡ Some t → (kind_word t ≡ w) × IsStored t
+pub kind_says : (w : List ℕ) (t : ColType) → stored_kind_of w ≡ Some t → (kind_word t ≡ w) × IsStored t
 kind_says w t h = by (same w (codes "int")) (same w (codes "vec")) refl refl h
   where
     by : (a b : Bool) → same w (codes "int") ≡ a → same w (codes "vec") ≡ b → (if a then Some k.Int else (if b then Some k.Vect else None)) ≡ Some t → (kind_word t ≡ w) × IsStored t
@@ -129,7 +129,7 @@ then_says : (o : Option ℕ) (f : EntryFault) → option_and_then fault_of_numbe
 then_says None f h = cc h
 then_says (Some n) f h = (n, refl, h)
 
-fault_says : (w : List ℕ) (f : EntryFault) → fault_kind_of w ≡ Some f → decimal (fault_number f) ≡ w
+pub fault_says : (w : List ℕ) (f : EntryFault) → fault_kind_of w ≡ Some f → decimal (fault_number f) ≡ w
 fault_says w f h =
     let q = then_says (magnitude_of 8 w) f h in
     ap decimal (fault_number_says q.0 f q.2) ∙ (small_says 8 q.0 w (omega arith) q.1).0

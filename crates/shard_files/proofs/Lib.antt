@@ -1,5 +1,5 @@
 pub mod Examples
-mod FileLines
+pub mod FileLines
 mod Following
 mod LineEnds
 mod Looping
@@ -9,4 +9,4 @@ mod Refused
 mod Refusing
 mod Running
 mod Runs
-mod Splitting
+pub mod Splitting

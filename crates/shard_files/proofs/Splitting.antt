@@ -23,11 +23,11 @@ use Rattle.shard_files.proofs.FileLines.{FitsFileLine, same_line}
 
 -- ---- words are plain
 
-and_first : (x y : Bool) → (x && y) ≡ true → x ≡ true
+pub and_first : (x y : Bool) → (x && y) ≡ true → x ≡ true
 and_first true y e = refl
 and_first false y e = e
 
-and_second : (x y : Bool) → (x && y) ≡ true → y ≡ true
+pub and_second : (x y : Bool) → (x && y) ≡ true → y ≡ true
 and_second true y e = e
 and_second false y e = absurd (let no : false ≡ true = e in cc no)
 
@@ -45,13 +45,13 @@ word_plain : (name : List ℕ) → is_word name ≡ true → Plain name
 word_plain [] h = tt
 word_plain (b ∷ bs) h = (word_start b (and_first (is_word_start b) (list_all is_word_byte bs) h), word_bytes bs (and_second (is_word_start b) (list_all is_word_byte bs) h))
 
-name_plain : (name : List ℕ) → is_name name ≡ true → Plain name
+pub name_plain : (name : List ℕ) → is_name name ≡ true → Plain name
 unfolding is_name
 name_plain name h =
     word_plain name (and_first (is_word name) (nat_le (length name) 64)
     (and_first (is_word name && nat_le (length name) 64) (not (same name (codes "true"))) (and_first (is_word name && nat_le (length name) 64 && not (same name (codes "true"))) (not (same name (codes "false"))) h)))
 
-kind_plain : (t : ColType) → Plain (kind_word t)
+pub kind_plain : (t : ColType) → Plain (kind_word t)
 kind_plain k.Int = written (codes "int") refl
 kind_plain k.Bool = written (codes "bool") refl
 kind_plain k.Vect = written (codes "vec") refl
@@ -93,7 +93,7 @@ endless_word : (w rest : List ℕ) → Plain w → Endless rest → Endless (w +
 endless_word [] rest p h = h
 endless_word (b ∷ bs) rest p h = (no_end b p.0, endless_word bs rest p.1 h)
 
-endless_words : (ws : List (List ℕ)) → AllPlain ws → Endless (joined_words ws)
+pub endless_words : (ws : List (List ℕ)) → AllPlain ws → Endless (joined_words ws)
 endless_words [] h = tt
 endless_words (w ∷ []) h = endless_alone w h.0
   where

@@ -41,7 +41,8 @@ fn read_small(word: &[u8], most: u32) -> Option<u32>
     }
 }
 
-fn read_kind(word: &[u8]) -> Option<ColType>
+/// The kind of a column of a table.
+pub fn read_kind(word: &[u8]) -> Option<ColType>
     ensures { result ≡ stored_kind_of word.now }
 {
     if word == b"int".as_slice() {
@@ -69,7 +70,8 @@ fn fault_of_number(number: u32) -> Option<EntryFault>
     }
 }
 
-fn read_fault_kind(word: &[u8]) -> Option<EntryFault>
+/// The kind of a fault, by its number.
+pub fn read_fault_kind(word: &[u8]) -> Option<EntryFault>
     ensures { result ≡ fault_kind_of word.now }
 {
     fault_of_number(read_small(word, 8)?)

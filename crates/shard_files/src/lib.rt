@@ -22,11 +22,14 @@ mod shard_loop;
 mod text_lines;
 
 pub use crate::file_line::FileLine;
+pub use crate::file_words::{read_fault_kind, read_kind};
 pub use crate::laws::{a_text_breaks_nowhere, a_text_is_of_one_shard};
 pub use crate::merge_cause::{MergeCause, MergeRefusal};
-pub use crate::merging::merge_shards;
-pub use crate::printing::print_shard;
+pub use crate::merging::{merge_shards, same_columns};
+pub use crate::printing::{fault_number, kind_word, print_shard, put_word};
+pub use crate::progress::has_name;
 pub use crate::reading::read_shard;
 pub use crate::refusal::ShardRefusal;
 pub use crate::shard::{Shard, ShardParts};
 pub use crate::shard_loop::ShardLoop;
+pub use crate::text_lines::first_line;

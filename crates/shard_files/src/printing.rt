@@ -19,8 +19,8 @@ use rdf_values::{ColType, Column, EntryFault, Fault, Memory, Text};
 use shard_lines::{ShardLine, put_count, put_line};
 use std::alloc::Global;
 
-// The number of a fault, as in F1 to F8.
-fn fault_number(kind: EntryFault) -> u64
+/// The number of a fault, as in F1 to F8.
+pub fn fault_number(kind: EntryFault) -> u64
     ensures { result ≡ fault_number kind }
 {
     match kind {
@@ -85,7 +85,8 @@ fn put_loops(alloc: Global, text: &mut Text, loops: &[ShardLoop]) -> Result<(), 
     Ok(())
 }
 
-fn kind_word(kind: ColType) -> &'static str
+/// The type of a column, as a header writes it.
+pub fn kind_word(kind: ColType) -> &'static str
     ensures { result.now ≡ kind_word kind }
 {
     match kind {
@@ -95,8 +96,8 @@ fn kind_word(kind: ColType) -> &'static str
     }
 }
 
-// A space, and a word.
-fn put_word(text: &mut Text, word: &[u8]) -> Result<(), Memory>
+/// A space, and a word.
+pub fn put_word(text: &mut Text, word: &[u8]) -> Result<(), Memory>
     ensures { OnOk result (text.new ≡ text.old ++ spaced (word.now ∷ [])) }
 {
     text.push(b' ')?;

@@ -50,7 +50,8 @@ pub(crate) struct Progress {
     pub(crate) lines: ListOf<ShardLine>,
 }
 
-fn has_name(columns: &[Column], name: &Name) -> bool
+/// Whether one of the columns has that name.
+pub fn has_name(columns: &[Column], name: &Name) -> bool
     ensures { result ≡ has_name columns.now name.now }
 {
     for column in columns {

@@ -1,0 +1,10 @@
+mod PartLines
+mod Following
+mod Grouping
+mod OnePart
+mod Reductions
+mod Refused
+mod Running
+mod Runs
+mod Splitting
+mod Within

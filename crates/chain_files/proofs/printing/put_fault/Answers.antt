@@ -1,0 +1,25 @@
+use Rattle.std.proofs.Common.{List, ℕ, ◌∙◌, ap, ◌++◌, ◌∷◌, [], codes, decimal}
+use Rattle.shard_files.specs.Shards.{fault_number}
+use Rattle.chain_files.specs.Parts.{line_text}
+use Rattle.shard_lines.specs.Spaced.{spaced}
+use Rattle.chain_files.proofs.Runs.{line_on}
+use Rattle.shard_lines.proofs.Runs.{on_ok, spaced_on, words_on}
+use Rattle.shard_lines.specs.Lines.{joined_words}
+use Rattle.chain_files.proofs.printing.put_fault.Goals as goal
+
+pub returns : goal.returns
+unfolding line_text
+returns c =
+    let file = decimal c.args.fault.file in
+    let entry = decimal c.args.fault.entry in
+    let pass = decimal c.args.fault.pass in
+    let kind = decimal (fault_number c.args.fault.kind) in
+    let ws : List (List ℕ) = file ∷ entry ∷ pass ∷ kind ∷ [] in
+    on_ok c.push.result _ _
+    (λ e. line_on c.args.text.now c.put_count-4.new.text c.push.new.self (joined_words (codes "fault" ∷ ws))
+    (words_on c.args.text.now c.extend.new.self c.put_count-4.new.text (codes "fault") ws c.in_ok-extend.ensures.ok
+    (spaced_on c.extend.new.self c.put_count.new.text c.put_count-4.new.text file (entry ∷ pass ∷ kind ∷ []) c.in_ok-put_count.ensures
+    (spaced_on c.put_count.new.text c.put_count-2.new.text c.put_count-4.new.text entry (pass ∷ kind ∷ []) c.in_ok-put_count-2.ensures
+    (spaced_on c.put_count-2.new.text c.put_count-3.new.text c.put_count-4.new.text pass (kind ∷ []) c.in_ok-put_count-3.ensures
+    (c.in_ok-put_count-4.ensures ∙ ap (λ n. c.put_count-3.new.text ++ spaced (decimal n ∷ [])) c.fault_number.ensures))))) e)
+    c.push.ensures.ok

@@ -1,0 +1,7 @@
+use Rattle.std.proofs.Common.{◌≡◌, ◌++◌, take}
+use Rattle.std.specs.Prelude.{flat_map}
+use Rattle.chain_files.specs.Parts.{lines_text, loop_lines}
+use Rattle.chain_files.proofs.printing.put_loops.Given as goal
+
+abbrev pub invariant-loop-one : goal.invariant-loop-one
+invariant-loop-one l = l.text ≡ l.fn.text ++ lines_text (flat_map loop_lines (take l.one-index l.loops))

@@ -1,0 +1,4 @@
+pub mod Parts
+pub mod Joining
+pub mod Laws
+pub mod Reading

@@ -1,0 +1,33 @@
+//! Part files: what a run over some files of a chain of tables found, as a text that other steps join. Stands on
+//! `shard_lines`, which has the lines of passes, and on `shard_files`, which has the same of one table's clusters.
+//!
+//! `specs/Parts.antt` says which values are a part and what its lines are; each part has one text, and its limits grow with
+//! its entries. Bytes are refused at the first line that no part has after the lines before it. `specs/Joining.antt` says what two parts
+//! come to together; parts may be joined in any groups.
+#![tactic(auto)]
+
+mod chain_fault;
+mod joining;
+mod laws;
+mod limits;
+mod part;
+mod part_line;
+mod part_loop;
+mod part_word;
+mod part_words;
+mod printing;
+mod progress;
+mod reading;
+mod refusal;
+
+pub use crate::chain_fault::ChainFault;
+pub use crate::joining::joined_loops;
+pub use crate::laws::{
+    a_text_breaks_nowhere, a_text_is_of_one_part, groups_are_free, joining_is_associative,
+};
+pub use crate::part::{Part, PartFields};
+pub use crate::part_line::PartLine;
+pub use crate::part_loop::PartLoop;
+pub use crate::printing::print_part;
+pub use crate::reading::read_part;
+pub use crate::refusal::PartRefusal;
