@@ -1,8 +1,7 @@
-//! What a run over a span of clusters finds, and what the loops of merged shards print: definitions, and laws that bind them
-//! to the table's clusters. Stands on `loop_pieces` and `shard_files`.
+//! What a run over a span of clusters finds: definitions, and laws that bind them to the table's clusters and tell what shards of
+//! several spans come to together. Stands on `loop_pieces` and `shard_files`.
 //!
-//! `specs/Spans.antt` has the rows of a span, its first fault and its lines; `specs/MergedText.antt` has what merged loops
-//! print.
+//! `specs/Spans.antt` has the rows of a span, its first fault and its lines.
 #![tactic(auto)]
 
 mod laws;
