@@ -2,4 +2,5 @@ pub mod Asked
 pub mod Causes
 pub mod Counted
 pub mod Found
+pub mod Headed
 pub mod Varied

@@ -1,8 +1,9 @@
 -- What a contract sees of a plan: what it was made for.
-use Rattle.std.specs.Prelude.{◌≡◌, ◌<◌, ◌≤◌, ℕ, true, slice_get, List, [], length, Option, Some, None, Result, Ok, Err, ⊤}
-use Rattle.rdf_values.specs.Kinds.{Scope, scope_of}
+use Rattle.std.specs.Prelude.{◌≡◌, ◌<◌, ◌≤◌, ℕ, true, slice_get, List, [], length, map, Option, Some, None, Result, Ok, Err, ⊤}
+use Rattle.rdf_values.specs.Kinds.{Scope, column_kind, scope_of}
 use Rattle.rdf_values.specs.Path.{Under, Variation}
-use Rattle.rdf_values.specs.Verdict.{scope_at}
+use Rattle.rdf_values.specs.Verdict.{kind_or_int, scope_at}
+use Rattle.rdf_values.specs.declared.column.Column.{Column}
 use Rattle.graph_numbers.specs.Graphs.{GraphView, booked_statements, graph_under, graph_variations}
 use Rattle.snapshot_plan.specs.Plans.{cause_of, is_under}
 use Rattle.snapshot_plan.specs.declared.cause.SnapCause.{SnapCause}
@@ -36,6 +37,13 @@ pub record PlanView : Type 0 where
 -- why there is no such plan
 abbrev pub cause_in : GraphView → List ℕ → List (List ℕ) → Under → Option SnapCause
 cause_in g node columns u = cause_of (booked_statements g) g.header g.names node columns u
+
+-- a column of the snapshot with its kind at the node; an alias keeps the name that was asked for
+abbrev pub column_at : Scope → List ℕ → Column
+column_at scope name = record { name = name; kind = kind_or_int (column_kind scope name) }
+
+abbrev pub plan_columns : PlanView → List Column
+plan_columns p = map (column_at (scope_in p.graph p.node)) p.columns
 
 -- what holds of each plan
 pub record IsPlan (p : PlanView) : Type 0 where

@@ -7,11 +7,13 @@
 mod amounts;
 mod cause;
 mod columns;
+mod laws;
 mod planning;
 mod refusal;
 mod under;
 
 pub use crate::cause::SnapCause;
+pub use crate::laws::plans_have_headers;
 pub use crate::planning::{SnapPlan, plan};
 pub use crate::refusal::SnapRefusal;
 pub use crate::under::Under;
