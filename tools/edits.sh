@@ -22,7 +22,8 @@ folder=$(mktemp -d) || exit 2
 trap 'rm -rf "$folder"' EXIT
 trap 'exit 130' INT TERM HUP
 
-# A copy of the crate and of those below it, with its edits alone; links where the file system has them.
+# A copy of the crate and of those below it, with its edits alone. What is proved is linked where the file system can; the
+# sources are copied, so that they may be written on meanwhile.
 copy() { # NAME
     rm -rf "$folder/repo"
     mkdir -p "$folder/repo/crates"
@@ -31,10 +32,15 @@ copy() { # NAME
     awk -v names="$below" 'BEGIN { split(names, name, "\n"); for (i in name) wanted[name[i]] }
         { head = $1; sub(/:.*/, "", head) } head in wanted' "$top/crates.txt" >"$folder/repo/crates.txt"
     for crate in $below; do
-        cp -al "$top/crates/$crate" "$folder/repo/crates" 2>/dev/null ||
-            { rm -rf "$folder/repo/crates/$crate"; cp -a "$top/crates/$crate" "$folder/repo/crates"; } || exit 2
+        mkdir "$folder/repo/crates/$crate" || exit 2
+        for part in "$top/crates/$crate"/*; do
+            case $part in
+                */out) cp -al "$part" "$folder/repo/crates/$crate" 2>/dev/null || cp -a "$part" "$folder/repo/crates/$crate" ;;
+                */must-fail) ;;
+                *) cp -a "$part" "$folder/repo/crates/$crate" ;;
+            esac || exit 2
+        done
     done
-    rm -rf "$folder/repo/crates/$1/must-fail"
     cp -R "$top/edits/$1" "$folder/repo/crates/$1/must-fail"
 }
 
