@@ -112,7 +112,8 @@ class ChainTrial(Trial):
             entry, file = int(entry), 0
             while entry >= len(tables[file].rows):
                 entry, file = entry - len(tables[file].rows), file + 1
-            output = b"".join(line + b"\n" for line in lines + [b"fault in file %d at entry %d %s" % (file, entry, behind)])
+            lines.append(b"fault in file %d at entry %d %s" % (file, entry, behind))
+            output = b"".join(line + b"\n" for line in lines)
         self.law((status, output) == due, "a chain that isn't one table:\n" + output.decode())
 
     # ---- parts
@@ -132,7 +133,8 @@ class ChainTrial(Trial):
     def grouped(self, names):
         """One part of all, joined in random groups of neighbours, or what refused."""
         while len(names) > 1:
-            cuts = sorted({0, len(names)} | set(self.chance.sample(range(1, len(names)), self.chance.randrange(len(names)))))
+            inner = self.chance.sample(range(1, len(names)), self.chance.randrange(len(names)))
+            cuts = sorted({0, len(names), *inner})
             if len(cuts) > len(names):
                 continue
             groups = []

@@ -1,4 +1,4 @@
-"""Random cases of a program in which files are written that other runs read: laws of the reference, and the program against it."""
+"""Random cases of a program whose files other runs read: laws of the reference, and the program against it."""
 import argparse
 import collections
 import concurrent.futures
