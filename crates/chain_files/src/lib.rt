@@ -2,8 +2,8 @@
 //! `shard_lines`, which has the lines of passes, and on `shard_files`, which has the same of one table's clusters.
 //!
 //! `specs/Parts.antt` says which values are a part and what its lines are; each part has one text, and its limits grow with
-//! its entries. Bytes are refused at the first line that no part has after the lines before it. `specs/Joining.antt` says what two parts
-//! come to together; parts may be joined in any groups.
+//! its entries. Bytes are refused at the first line that no part has after the lines before it. `specs/Joining.antt` says
+//! what two parts come to together; parts may be joined in any groups.
 #![tactic(auto)]
 
 mod chain_fault;
