@@ -38,12 +38,15 @@ ONE_LINE = {
                   rb"| at line [0-9]+: S[0-9]+ [A-Za-z]+)"),
     7: re.compile(rb"table refused(?:: longer than 67108864 bytes| at header field [0-9]+: B1 Header"
                   rb"| at entry [0-9]+(?: field [0-9]+)?: B[2-6] [A-Za-z]+)"),
+    9: re.compile(rb"friend refused(?:: longer than 67108864 bytes| at header field [0-9]+: B1 Header"
+                  rb"| at entry [0-9]+(?: field [0-9]+)?: B[2-6] [A-Za-z]+"
+                  rb"|: J[1235] [A-Za-z]+| at entry [0-9]+: J4 Duplicate)"),
 }
 
 
 def complaint(status, output):
     """Why this output doesn't go with this status, or None."""
-    if not 0 <= status <= 8 or status in (1, 3, 4, 5):
+    if not 0 <= status <= 9 or status in (1, 3, 4, 5):
         return "status %d" % status
     if output and not output.endswith(b"\n"):
         return "the last line doesn't end"
@@ -126,45 +129,51 @@ def mutated(chance, text, other):
 
 
 def starting_points():
-    """Pairs of a script and a table, none of them long: those that are accepted, and all."""
+    """Scripts, tables and at times friends, with the friend's options, none of them long: those that are accepted, and all."""
     accepted, found = [], []        # all_cases() has the examples too
     for case in all_cases():
         files = case.contents()
-        if len(files) == 2 and sum(map(len, files.values())) < 20000:
-            chosen = accepted if case.status in (0, 8) else found
-            chosen.append((files["s.txt"], files["a.csv"]))
+        if sum(map(len, files.values())) >= 20000:
+            continue
+        chosen = accepted if case.status in (0, 8) else found
+        if set(files) == {"s.txt", "a.csv"}:
+            chosen.append((files, []))
+        elif set(files) == {"s.txt", "a.csv", "f.csv"} and case.words[:2] == ["s.txt", "a.csv"]:
+            chosen.append((files, case.words[2:]))
     return accepted, accepted + found
 
 
 def attempt(seed, points):
     chance = random.Random(seed)
     accepted, every = points
-    script, table = chance.choice(accepted if chance.random() < 0.8 else every)
-    other = chance.choice(every)
+    files, asked = chance.choice(accepted if chance.random() < 0.8 else every)
+    files, other = dict(files), chance.choice(every)[0]
     what = chance.randrange(4)
     if what != 0:
-        script = mutated(chance, script, other[0])
+        files["s.txt"] = mutated(chance, files["s.txt"], other["s.txt"])
     if what in (0, 1):
-        table = mutated(chance, table, other[1])
+        files["a.csv"] = mutated(chance, files["a.csv"], other["a.csv"])
+    if "f.csv" in files and what != 3:
+        files["f.csv"] = mutated(chance, files["f.csv"], other["a.csv"])
     options = ["--slots", chance.choice(["1", "1", "2", "4", "16"]), "--cluster", chance.choice(["1", "3", "10000"]),
                "--watch", chance.choice(["1", "2", "100"])]
     with tempfile.TemporaryDirectory() as folder:
-        for name, text in (("s.txt", script), ("a.csv", table)):
+        for name, text in files.items():
             with open(os.path.join(folder, name), "wb") as file:
                 file.write(text)
         begun = time.monotonic()
         try:
-            done = subprocess.run([PROGRAM, "s.txt", "a.csv", *options], cwd=folder, stdin=subprocess.DEVNULL,
+            done = subprocess.run([PROGRAM, "s.txt", "a.csv", *asked, *options], cwd=folder, stdin=subprocess.DEVNULL,
                                   stdout=subprocess.PIPE, stderr=subprocess.PIPE, timeout=6 * SECONDS)
         except subprocess.TimeoutExpired:
-            return None, "no end after %d s" % (6 * SECONDS), script, table
+            return None, "no end after %d s" % (6 * SECONDS), files
         seconds = time.monotonic() - begun
     wrong = complaint(done.returncode, done.stdout)
     if done.stderr:
         wrong = "standard error: %r" % done.stderr[:200]
     if seconds > SECONDS:
         wrong = "%.1f s" % seconds
-    return done.returncode, wrong, script, table
+    return done.returncode, wrong, files
 
 
 def main():
@@ -178,11 +187,13 @@ def main():
     statuses, wrong_runs = collections.Counter(), 0
     with concurrent.futures.ThreadPoolExecutor(jobs) as workers:
         seeds = ["%s/%d" % (seed, number) for number in range(count)]
-        for name, (status, wrong, script, table) in zip(seeds, workers.map(lambda s: attempt(s, points), seeds)):
+        for name, (status, wrong, files) in zip(seeds, workers.map(lambda s: attempt(s, points), seeds)):
             statuses[status] += 1
             if wrong is not None:
                 wrong_runs += 1
-                print("WRONG seed %s: %s\n  script %r\n  table %r" % (name, wrong, script[:1000], table[:500]))
+                print("WRONG seed %s: %s" % (name, wrong))
+                for file, text in files.items():
+                    print("  %s %r" % (file, text[:1000]))
     told = ", ".join("%d of status %s" % (n, status) for status, n in sorted(statuses.items(), key=str))
     print("%d runs from seed %s (%s), %d wrong" % (count, seed, told, wrong_runs))
     return 1 if wrong_runs else 0

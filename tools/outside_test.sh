@@ -9,6 +9,7 @@ program=${RDF_PROGRAM:-$top/crates/rdf/out/rdf}
 case $program in /*) ;; *) program=$PWD/$program ;; esac
 [ -x "$program" ] || { echo "outside_test: no program at $program"; exit 1; }
 
+old_folder=$PWD
 folder=$(mktemp -d) || exit 1
 trap 'rm -rf "$folder"' EXIT
 cd "$folder" || exit 1
@@ -208,6 +209,81 @@ l = 999999"
 }
 if [ "${OUTSIDE_SMALL:-0}" = 1 ]; then skip "tables of a million entries"; else large; fi
 
+# ---- friends of a million entries
+
+# In at most 10 s of processor time: a join in quadratic time doesn't end in it.
+joined() { # NAME STATUS OUTPUT SCRIPT TABLE WORDS..
+    name=$1 wanted_status=$2 output=$3
+    shift 3
+    for slots in 1 3; do
+        run_within 10 "$@" --slots $slots
+        judge "$name, --slots $slots" "$wanted_status" "$output"
+    done
+}
+
+friends() {
+    printf 'k:int\n0\n-3\n999999\n' >three.csv
+    printf 't = df.Take("run")\nPrint(t)\n' >run.txt
+    awk 'BEGIN { print "k:int,run:int"; for (i = 0; i < 1000000; i++) print "0," i }' >friend.csv
+    joined "one key of a friend a million times" 9 "friend refused at entry 1: J4 Duplicate" \
+        run.txt three.csv --friend friend.csv --key k
+    # 7,368,787 and 1,000,000 have no common divisor, so each number below 1,000,000 comes once, in no order.
+    awk 'BEGIN { print "k:int,run:int"; for (i = 0; i < 1000000; i++) print i * 7368787 % 1000000 "," i }' >friend.csv
+    joined "a friend of 1,000,000 entries in no order" 0 "t = 0 7 $(awk -F , '$1 == 999999 { print $2 }' friend.csv)" \
+        run.txt three.csv --friend friend.csv --key k --missing 7
+    { sed '$d' friend.csv; echo 0,1; } >twice.csv
+    joined "the last of 1,000,000 entries has the first one's key" 9 "friend refused at entry 999999: J4 Duplicate" \
+        run.txt three.csv --friend twice.csv --key k
+    echo 3,1 >>friend.csv
+    joined "a friend of 1,000,001 entries" 9 "friend refused at entry 1000000: B5 TooMany" \
+        run.txt three.csv --friend friend.csv --key k
+    # Keys that differ by 2^44, so that what a hash keeps of their lower bits is one.
+    awk 'BEGIN { print "k:int,run:int"; for (i = 0; i < 1000000; i++) printf "%.0f,%d\n", (i - 500000) * 17592186044416, i }' >friend.csv
+    printf 'k:int\n0\n-8796093022208000000\n8796075430021955584\n17592186044415\n' >ends.csv
+    joined "1,000,000 keys that differ in their upper bits alone" 0 "t = 500000 0 999999 -1" \
+        run.txt ends.csv --friend friend.csv --key k --missing=-1
+
+    printf 'n = df.Count()\ns = df.Sum("v")\nPrint(n)\nPrint(s)\n' >elements.txt
+    awk 'BEGIN { print "k:int"; for (i = 0; i < 1000000; i++) print 5 }' >same.csv
+    { printf 'v:vec,k:int\n1'; awk 'BEGIN { for (i = 1; i < 33; i++) printf ";1"; print ",5" }'; } >friend.csv
+    joined "one key of the table a million times, 33,000,000 elements" 0 "n = 1000000
+s = 33000000" elements.txt same.csv --friend friend.csv --key k
+    { printf 'v:vec,k:int\n1'; awk 'BEGIN { for (i = 1; i < 34; i++) printf ";1"; print ",5" }'; } >friend.csv
+    joined "34,000,000 elements" 9 "friend refused: J5 TooLarge" elements.txt same.csv --friend friend.csv --key k
+    # 63 vectors of 4,096 elements at each of a million entries: 258,048,000,000 elements, in no 32 bits.
+    awk 'BEGIN {
+        row = 1; for (i = 1; i < 4096; i++) row = row ";1"
+        for (j = 0; j < 63; j++) { head = head "v" j ":vec,"; all = all row "," }
+        print head "k:int"; print all 5 }' >friend.csv
+    joined "258,048,000,000 elements" 9 "friend refused: J5 TooLarge" s.txt same.csv --friend friend.csv --key k
+    rm -f friend.csv twice.csv same.csv
+}
+if [ "${OUTSIDE_SMALL:-0}" = 1 ]; then skip "friends of a million entries"; else friends; fi
+
+# ---- files of a friend
+
+printf 'k:int,run:int\n2,20\n' >"a friend.csv"
+printf 'k:int\n2\n3\n' >keys.csv
+printf 't = df.Take("run")\nPrint(t)\n' >run.txt
+run run.txt keys.csv --friend "a friend.csv" --key k
+judge "a friend with a blank in its name" 0 "t = 20 0"
+run run.txt keys.csv --friend none.csv --key k
+judge "no file of a friend" 5 "no file none.csv"
+run run.txt keys.csv --friend dir --key k
+judge "a folder as friend" 3 "read failed: dir"
+run run.txt bad.csv --friend dir --key k
+judge "a table that is refused before the friend is read" 7 "table refused at entry 1 field 0: B3 BadInt"
+: >nothing.csv
+run run.txt keys.csv --friend nothing.csv --key k
+judge "an empty friend" 9 "friend refused at header field 0: B1 Header"
+{ cat "a friend.csv"; head -c 67108864 /dev/zero; } >huge.csv
+run run.txt keys.csv --friend huge.csv --key k
+judge "a friend of more than 67,108,864 bytes" 9 "friend refused: longer than 67108864 bytes"
+rm -f huge.csv
+printf 'run:int\n1\n2\n' >itself.csv
+run s.txt itself.csv --friend itself.csv --key run
+judge "a table as its own friend" 0 "n = 2"
+
 # ---- threads
 
 # Leaves in `most` the most threads that were seen while the program ran.
@@ -286,6 +362,190 @@ awk 'BEGIN { for (i = 0; i < 16; i++) print "t" i " = df.Take(\"x\")"; for (i = 
 "$program" takes.txt long.csv 2>err </dev/null | wc -c >out; echo 0 >status
 # 16 lines, each of 88,890 digits and 20,000 blanks or line ends, and labels of 5 or 6 bytes
 judge "1.7 MB of output through a pipe" 0 1742326
+
+# ---- shards: rdf_shard is RDF_SHARD_PROGRAM, or crates/rdf_shard/out/rdf_shard
+
+rdf=$program
+shard=${RDF_SHARD_PROGRAM:-$top/crates/rdf_shard/out/rdf_shard}
+case $shard in /*) ;; *) shard=$old_folder/$shard ;; esac
+
+# Leaves in `p0`, `p1`.. what rdf_shard writes for spans of so many clusters.
+write_shards() { # SCRIPT TABLE SIZE CLUSTERS SPAN
+    low=0 files=
+    while [ $low -lt $4 ]; do
+        high=$((low + $5 < $4 ? low + $5 : $4))
+        "$shard" run "$1" "$2" "$3" $low $high >p$low 2>err || echo "FAILED run $1 $2 $3 $low $high: status $?"
+        files="p$low $files"
+        low=$high
+    done
+}
+
+shards() {
+    program=$shard
+    usage="usage: rdf_shard run SCRIPT TABLE SIZE LO HI | merge SCRIPT FILE"
+    run
+    judge "rdf_shard: no words" 2 "$usage"
+    run run s.txt "$(printf 'a\377.csv')" 1 0 1
+    judge "rdf_shard: a word that isn't UTF-8" 2 "$usage"
+    run run s.txt a.csv 2 0 1
+    judge "rdf_shard: a file" 0 "rdfshard 1
+table 3 2
+column x int
+span 0 1
+loop
+count 2
+end"
+    run run dir a.csv 2 0 1
+    judge "rdf_shard: a folder as script" 3 "read failed: dir"
+    run run s.txt dir 2 0 1
+    judge "rdf_shard: a folder as table" 3 "read failed: dir"
+    write_shards s.txt a.csv 1 3 1
+    run merge s.txt $files
+    judge "rdf_shard: three files" 0 "n = 3"
+    cp p0 "a file"
+    run merge s.txt "a file" ./p1 "$folder/p2"
+    judge "rdf_shard: blanks and paths in names" 0 "n = 3"
+    run merge s.txt p0 dir p2
+    judge "rdf_shard: a folder as file" 3 "read failed: dir"
+    run merge s.txt a.csv dir
+    judge "rdf_shard: a file that is refused before a folder" 21 "file a.csv refused at line 1"
+    run merge bad.txt dir
+    judge "rdf_shard: a script that is refused before a folder" 6 "script refused at line 1 place 13: S1 Syntax"
+    cat p2 | "$shard" merge s.txt p0 /dev/stdin p1 >out 2>err; echo $? >status
+    judge "rdf_shard: a pipe as file" 0 "n = 3"
+    if [ -c /dev/full ]; then
+        "$shard" run s.txt a.csv 2 0 1 >/dev/full 2>err </dev/null; echo $? >status; : >out
+        judge "rdf_shard: a full output" 4 ""
+    fi
+    write_shards pieces.txt pieces.csv 1777 "$(cuts_of pieces.csv 1777)" 3
+    run merge pieces.txt $files
+    judge "rdf_shard: spans of a table with marks and vectors" 0 "$due"
+    rm -f p*
+
+    head -c 134217728 /dev/zero >huge
+    run merge s.txt huge
+    judge "rdf_shard: a file of 134,217,728 bytes" 21 "file huge refused at line 1"
+    printf x >>huge
+    run merge s.txt huge
+    judge "rdf_shard: a file of 134,217,729 bytes" 24 "files longer than 134217728 bytes"
+    "$shard" run s.txt a.csv 3 0 1 >p0
+    head -c $((134217729 - $(wc -c <p0))) /dev/zero >huge
+    run merge s.txt p0 huge
+    judge "rdf_shard: files of 134,217,729 bytes together" 24 "files longer than 134217728 bytes"
+    run merge s.txt huge p0
+    judge "rdf_shard: a file that is refused before they are too long" 21 "file huge refused at line 1"
+    rm -f huge
+}
+
+# How many clusters a table has, whose last column marks their beginnings.
+cuts_of() { # TABLE SIZE
+    awk -F , -v size="$2" 'NR > 1 { if (NR == 2 || held == size || $NF == 1) { cuts++; held = 0 } held++ } END { print cuts }' "$1"
+}
+
+large_shards() {
+    program=$shard
+    awk 'BEGIN { print "x:int"; for (i = 0; i < 1000000; i++) print i }' >million.csv
+    write_shards sum.txt million.csv 10000 100 9
+    run merge sum.txt $files
+    judge "rdf_shard: 1,000,000 entries in 12 files" 0 "n = 1000000
+s = 499999500000
+l = 999999"
+    rm -f p*
+    awk 'BEGIN { print "x:int"; for (i = 0; i < 1000000; i++) printf "-922337203685%07d\n", i }' >long.csv
+    for takes in 6 7; do
+        awk -v takes=$takes 'BEGIN { for (i = 0; i < takes; i++) print "t" i " = df.Take(\"x\")"; print "Print(t0)" }' >takes.txt
+        "$shard" run takes.txt long.csv 1000000 0 1 >text 2>err; echo $? >status
+        { head -n 4 text; wc -c <text; } >out
+        if [ $takes = 6 ]; then
+            # 54 bytes of first lines, 6 lines of 13 bytes and 21 for each value, and `end`
+            judge "rdf_shard: a text of 126 MB" 0 "rdfshard 1
+table 1000000 1
+column x int
+span 0 1
+126000136"
+        else
+            judge "rdf_shard: a text of 147 MB" 24 "files longer than 134217728 bytes
+34"
+        fi
+    done
+    rm -f million.csv long.csv text
+}
+
+if [ -x "$shard" ]; then
+    shards
+    if [ "${OUTSIDE_SMALL:-0}" = 1 ]; then skip "shards of a million entries"; else large_shards; fi
+elif [ -z "${RDF_SHARD_PROGRAM:-}" ] && [ ! -d "$top/crates/rdf_shard" ]; then
+    skip "shards: there is no rdf_shard yet"
+else
+    echo "outside_test: no program at $shard"
+    failed=$((failed + 1))
+fi
+
+# ---- snapshots: rdf_snapshot is RDF_SNAPSHOT_PROGRAM, or crates/rdf_snapshot/out/rdf_snapshot
+
+snapshot=${RDF_SNAPSHOT_PROGRAM:-$top/crates/rdf_snapshot/out/rdf_snapshot}
+case $snapshot in /*) ;; *) snapshot=$old_folder/$snapshot ;; esac
+
+snapshots() {
+    program=$snapshot
+    usage="usage: rdf_snapshot SCRIPT TABLE NODE COLUMNS UNDER [--slots N] [--cluster N]"
+    run
+    judge "rdf_snapshot: no words" 2 "$usage"
+    run s.txt a.csv "$(printf 'd\377f')" x nominal
+    judge "rdf_snapshot: a word that isn't UTF-8" 2 "$usage"
+    run s.txt a.csv df x nominal --slots 2 --cluster 1
+    judge "rdf_snapshot: a table" 0 "$(cat a.csv)"
+    run dir a.csv df x nominal
+    judge "rdf_snapshot: a folder as script" 3 "read failed: dir"
+    run s.txt dir df x nominal
+    judge "rdf_snapshot: a folder as table" 3 "read failed: dir"
+    if [ -c /dev/full ]; then
+        "$snapshot" s.txt a.csv df x nominal >/dev/full 2>err </dev/null; echo $? >status; : >out
+        judge "rdf_snapshot: a full output" 4 ""
+    fi
+    # What is written reads back: the same Takes and Sums as over the table itself.
+    echo 'd = df.Define("load", "Sum(v)")' >load.txt
+    for slots in 1 3; do
+        program=$snapshot
+        run load.txt pieces.csv d x,load,v nominal --slots $slots --cluster 1777
+        mv out back.csv
+        sed 's/"Sum(v)"/"load + 0"/; s/Define("load"/Define("again"/; s/Take("load")/Take("again")/' pieces.txt >back.txt
+        program=$rdf
+        run back.txt back.csv
+        judge "rdf_snapshot: a table with vectors, read back, --slots $slots" 0 "$due"
+    done
+    rm -f back.csv
+}
+
+large_snapshots() {
+    program=$snapshot
+    awk 'BEGIN { print "x:int"; for (i = 0; i < 1000000; i++) printf "-922337203685%07d\n", i }' >long.csv
+    printf 'a = df.Define("y", "x")\nb = a.Define("z", "y + 0")\n' >copies.txt
+    "$snapshot" copies.txt long.csv b x,y,z nominal >out 2>err; echo $? >status
+    { head -n 2 out; wc -c <out; } >begin && mv begin out
+    # 18 bytes of header, and 63 for each entry
+    judge "rdf_snapshot: a text of 63 MB" 0 "x:int,y:int,z:int
+-9223372036850000000,-9223372036850000000,-9223372036850000000
+63000018"
+    echo 'c = b.Alias("w", "x")' >>copies.txt
+    run copies.txt long.csv c x,y,z,w nominal
+    judge "rdf_snapshot: a text of 84 MB" 14 "snapshot longer than 67108864 bytes"
+    echo 'e = c.Define("q", "1 / (x + 9223372036850999999)")' >>copies.txt
+    run copies.txt long.csv e x,y,z,w,q nominal
+    judge "rdf_snapshot: a fault before a text that is too long" 8 "fault at entry 999999 in e: F2 ZeroDivisor"
+    rm -f long.csv
+}
+
+if [ -x "$snapshot" ]; then
+    snapshots
+    if [ "${OUTSIDE_SMALL:-0}" = 1 ]; then skip "snapshots of a million entries"; else large_snapshots; fi
+elif [ -z "${RDF_SNAPSHOT_PROGRAM:-}" ] && [ ! -d "$top/crates/rdf_snapshot" ]; then
+    skip "snapshots: there is no rdf_snapshot yet"
+else
+    echo "outside_test: no program at $snapshot"
+    failed=$((failed + 1))
+fi
+program=$rdf
 
 echo "outside_test: $tests tests, $skipped skipped, $failed failed"
 [ $failed -eq 0 ]

@@ -11,11 +11,14 @@ NO_FILE = None
 
 
 class Case:
-    def __init__(self, file, name, options):
+    def __init__(self, file, name, options, program="rdf"):
         self.file = file
         self.name = name
+        self.program = program
         self.options = options          # lists of words, one list for each run
+        self.makes = []                 # files that the program writes beforehand: (name, words, content or None)
         self.words = ["s.txt", "a.csv"]
+        self.others = []                # words of further runs, without options
         self.files = {"s.txt": NO_FILE, "a.csv": NO_FILE}
         self.status = 0
         self.output = b""
@@ -25,7 +28,7 @@ class Case:
         return "%s: %s" % (os.path.basename(self.file), self.name)
 
     def runs(self):
-        return [self.words + options for options in self.options]
+        return [self.words + options for options in self.options] + self.others
 
     def contents(self):
         return {name: text for name, text in self.files.items() if text is not NO_FILE}
@@ -65,13 +68,15 @@ def option_sets(text):
 
 
 def rows_of(pattern, template, lines):
-    """A case for each line `TEXT => OUTPUT`: the script is the template with the text for its `@`."""
+    """A case for each line `TEXT => OUTPUT`: a file is the template with the text for its `@`."""
     found = []
+    name, _, template = template.rpartition(" <- ")
     for line in filter(None, lines):
         text, _, output = line.rpartition(" => ")
         case = copy.copy(pattern)
         case.name = "%s `%s`" % (pattern.name, text)
-        case.files = dict(pattern.files, **{"s.txt": unescaped(template.replace("@", text).encode()) + b"\n"})
+        content = unescaped(template.replace("@", text).encode()) + b"\n"
+        case.files = dict(pattern.files, **{name or "s.txt": content})
         case.output = unescaped(output.encode()) + b"\n"
         found.append(case)
     return found
@@ -80,7 +85,7 @@ def rows_of(pattern, template, lines):
 def read_case_file(path):
     with open(path, encoding="utf-8", newline="\n") as file:
         lines = file.read().split("\n")[:-1]
-    tables, cases, usual = {}, [], [[]]
+    tables, cases, usual, program = {}, [], [[]], "rdf"
     at = 0
     while at < len(lines):
         line = lines[at]
@@ -98,8 +103,10 @@ def read_case_file(path):
             tables[rest] = body("", text)
         elif line.startswith("=== with "):
             usual = option_sets(rest)
+        elif line.startswith("=== program "):
+            program = rest
         elif line.startswith("=== case "):
-            cases.append(Case(path, rest, list(usual)))
+            cases.append(Case(path, rest, list(usual), program))
             fresh = True
         elif mark == "---" and key in ("script", "table"):
             name = "s.txt" if key == "script" else "a.csv"
@@ -107,9 +114,14 @@ def read_case_file(path):
         elif mark == "---" and key == "file":
             name, _, form = rest.partition(" ")
             cases[-1].files[name] = body(form, text)
+        elif mark == "---" and key == "makes":
+            name, *words = shlex.split(rest)
+            cases[-1].makes.append((name, words, body("", text) if text else None))
         elif mark == "---" and key == "words":
             cases[-1].words = shlex.split(rest)
             cases[-1].options, fresh = [[]], False
+        elif mark == "---" and key == "or":
+            cases[-1].others.append(shlex.split(rest))
         elif mark == "---" and key == "with":
             cases[-1].options = ([] if fresh else cases[-1].options) + option_sets(rest)
             fresh = False
@@ -147,7 +159,7 @@ def example_cases():
     return found
 
 
-def all_cases(folder=CASES):
+def all_cases(folder=CASES, programs=("rdf",)):
     files = sorted(name for name in os.listdir(folder) if name.endswith(".case"))
     cases = [case for name in files for case in read_case_file(os.path.join(folder, name))]
-    return cases + example_cases()
+    return [case for case in cases + example_cases() if case.program in programs]

@@ -6,7 +6,8 @@
 PROGRAM is RDF_PROGRAM or crates/rdf/out/rdf where it isn't named, COUNT 500, SEED 1. Case number i
 has the seed `SEED/i`; each difference is printed with its seed, its words, script and table.
 `--show SEED/i` prints that case and what the reference says of it, and runs no program.
-`--reference` runs the reference alone and says how often each status came.
+`--reference` runs the reference alone and says how often each status came. `--friends` gives each
+case a friend, which three in ten have else.
 """
 import argparse
 import collections
@@ -265,7 +266,7 @@ def random_friend(chance, columns):
         others.append(chance.choice([("y", "int"), ("j", "vec")]))
     header = others[:]
     header.insert(chance.randrange(len(header) + 1), (key, "int" if chance.random() < 0.97 else "vec"))
-    numbers = sorted({0, 1, -1} | set(range(-50, 100, chance.choice([1, 3]))))
+    numbers = sorted({0, 1, -1, 2 ** 63 - 1, -2 ** 63} | set(range(-50, 100, chance.choice([1, 3]))))
     chance.shuffle(numbers)
     entries = numbers[:chance.choice([0, 1, 3, 20, 150])]
     if entries and chance.random() < 0.05:
@@ -294,10 +295,10 @@ def spoiled(chance, text, pieces):
     return text[:at] + chance.choice(pieces) + text[at + 1:]
 
 
-def random_case(seed):
+def random_case(seed, with_friend=0.3):
     chance = random.Random(seed)
     columns, table = random_table(chance)
-    asked, friend, more = random_friend(chance, columns) if chance.random() < 0.3 else ([], None, [])
+    asked, friend, more = random_friend(chance, columns) if chance.random() < with_friend else ([], None, [])
     script = Script(chance, columns + [c for c in more if c[0] not in dict(columns)]).written()
     if chance.random() < 0.12:
         script = spoiled(chance, script, list('"(),.=[]{}#;&|<>!?:+-*/% \n0a') + ["zz", "true", "df", "05", "99999999999999999999"])
@@ -308,6 +309,8 @@ def random_case(seed):
              "--watch", chance.choice(["1", "1", "2", "3"])]
     files = {"s.txt": script.encode(), "a.csv": table.encode()}
     if friend is not None:
+        if chance.random() < 0.08:
+            friend = spoiled(chance, friend, list(',;":-+05x\n\r ') + [":int", ":cut", "pt", "1\n1\n"])
         files["f.csv"] = friend.encode()
     return words + asked, files
 
@@ -325,9 +328,11 @@ def main():
     parser.add_argument("seed", nargs="?", default="1")
     parser.add_argument("--show")
     parser.add_argument("--reference", action="store_true")
+    parser.add_argument("--friends", action="store_true")
     asked = parser.parse_args()
+    with_friend = 1 if asked.friends else 0.3
     if asked.show:
-        words, files = random_case(asked.show)
+        words, files = random_case(asked.show, with_friend)
         status, output = reference_run(words, files)
         print("%s--- status %d\n%s" % (shown(words, files), status, output.decode()))
         return 0
@@ -336,7 +341,7 @@ def main():
 
     def attempt(number):
         seed = "%s/%d" % (asked.seed, number)
-        words, files = random_case(seed)
+        words, files = random_case(seed, with_friend)
         wanted = reference_run(words, files)
         statuses[wanted[0]] += 1
         if asked.reference:

@@ -9,12 +9,16 @@ sys.path.insert(0, os.path.join(TOP, "tools", "reference"))
 sys.setrecursionlimit(1000000)
 
 import commands  # noqa: E402
+import shard_commands  # noqa: E402
+import snapshot_commands  # noqa: E402
+
+PROGRAMS = {"rdf": commands.run, "rdf_shard": shard_commands.run, "rdf_snapshot": snapshot_commands.run}
 
 
-def reference_run(words, files):
+def reference_run(words, files, program="rdf"):
     """The status and output of a command over files in memory."""
     shelf = {os.fsencode(name): text for name, text in files.items()}
-    return commands.run([os.fsencode(word) for word in words], shelf.get)
+    return PROGRAMS[program]([os.fsencode(word) for word in words], shelf.get)
 
 
 def has_several_slots(words):

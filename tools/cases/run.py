@@ -4,6 +4,10 @@
     tools/cases/run.py [PROGRAM]        the built program (RDF_PROGRAM, or crates/rdf/out/rdf)
     tools/cases/run.py --reference      the reference in Python instead of a program
 
+    --shard PROGRAM, --snapshot PROGRAM
+                  the built rdf_shard and rdf_snapshot (RDF_SHARD_PROGRAM, or crates/rdf_shard/out/rdf_shard); the cases
+                  of one are left out, with a line that says so, where there is no program, and either no crate of this
+                  name or another PROGRAM was named
     --only TEXT   only the cases whose file or name holds TEXT
     --jobs N      so many runs side by side (as many as there are processors)
     --heavy       with --reference, the cases too that take it minutes
@@ -24,8 +28,9 @@ from reference import difference, reference_run  # noqa: E402
 SECONDS = 120
 
 
-def usual_program():
-    return os.environ.get("RDF_PROGRAM") or os.path.join(TOP, "crates", "rdf", "out", "rdf")
+def usual_program(name="rdf"):
+    named = os.environ.get(name.upper() + "_PROGRAM")
+    return os.path.abspath(named or os.path.join(TOP, "crates", name, "out", name))
 
 
 def program_run(program, words, files):
@@ -39,9 +44,15 @@ def program_run(program, words, files):
         return done.returncode, done.stdout + done.stderr
 
 
-def failure(case, words, answer):
-    """What is wrong with a run, as text, or None."""
-    status, output = answer
+def failure(case, words, run):
+    """What is wrong with a run of a case, as text, or None. `run` answers status and output of words over files."""
+    files = case.contents()
+    for name, making, content in case.makes:
+        status, files[name] = run(making, files)
+        if status != 0 or content not in (None, files[name]):
+            return "FAILED %s\n  words: %s\n  status %d, wanted 0, for\n%s" % (
+                case.title(), " ".join(making), status, files[name].decode(errors="backslashreplace"))
+    status, output = run(words, files)
     found = difference(words, case.contents(), case.output, output)
     if status == case.status and found is None:
         return None
@@ -61,24 +72,35 @@ def main():
     parser = argparse.ArgumentParser(usage=__doc__)
     parser.add_argument("program", nargs="?")
     parser.add_argument("--reference", action="store_true")
+    parser.add_argument("--shard")
+    parser.add_argument("--snapshot")
     parser.add_argument("--only", default="")
     parser.add_argument("--jobs", type=int, default=os.cpu_count() or 1)
     parser.add_argument("--heavy", action="store_true")
     asked = parser.parse_args()
-    program = os.path.abspath(asked.program or usual_program())
-    if not asked.reference and not os.access(program, os.X_OK):
-        print("cases: no program at %s" % program)
-        return 1
+    paths = {"rdf": os.path.abspath(asked.program or usual_program()),
+             "rdf_shard": os.path.abspath(asked.shard or usual_program("rdf_shard")),
+             "rdf_snapshot": os.path.abspath(asked.snapshot or usual_program("rdf_snapshot"))}
+    named = {"rdf", asked.shard and "rdf_shard", asked.snapshot and "rdf_snapshot"}
+    if not asked.reference:
+        for name in [name for name, path in paths.items() if not os.access(path, os.X_OK)]:
+            print("cases: no program at %s" % paths[name])
+            expected = not asked.program and os.path.isdir(os.path.join(TOP, "crates", name))
+            if name in named or expected:
+                return 1
+            del paths[name]
 
     def attempt(case, words):
-        try:
+        def run(given, files):
             if asked.reference:
-                return failure(case, words, reference_run(words, case.contents()))
-            return failure(case, words, program_run(program, words, case.contents()))
+                return reference_run(given, files, case.program)
+            return program_run(paths[case.program], given, files)
+        try:
+            return failure(case, words, run)
         except subprocess.TimeoutExpired:
             return "FAILED %s\n  words: %s\n  no end after %d s" % (case.title(), " ".join(words), SECONDS)
 
-    cases = [case for case in all_cases() if asked.only in case.title()]
+    cases = [case for case in all_cases(programs=paths) if asked.only in case.title()]
     if asked.reference and not asked.heavy:
         cases = [case for case in cases if not case.heavy]
     runs = [(case, words) for case in cases for words in case.runs()]

@@ -39,34 +39,57 @@ def made_table(entries, seed):
 
 
 class Words:
-    """SCRIPT and TABLE, or with --make ENTRIES and SEED; and the options, a friend's among them."""
+    """A simple command's words: the names, and the options that take a value. `--` ends the options."""
 
-    def __init__(self, words):
-        self.named = []
-        self.make = False
-        self.options = {}
+    def __init__(self, words, usage, options, flags=()):
+        self.named, self.flags, self.options = [], set(), {}
+        self.usage = usage
         given = list(words)
         for word in given:
             try:
                 word.decode()
             except UnicodeDecodeError:
-                raise Refusal(2, USAGE) from None
+                self.refuse()
         while given:
             word = given.pop(0)
+            name, equals, value = word[2:].partition(b"=")
             if word == b"--":
                 self.named += given
                 break
             if not word.startswith(b"-") or word == b"-":
                 self.named.append(word)
-            elif word == b"--make" and not self.make:
-                self.make = True
+            elif word[:2] == b"--" and not equals and name in flags and name not in self.flags:
+                self.flags.add(name)
+            elif word[:2] == b"--" and name in options and name not in self.options:
+                self.options[name] = value if equals else self.value(given)
             else:
-                self.take_option(word, given)
+                self.refuse()
+
+    def refuse(self):
+        raise Refusal(2, self.usage) from None
+
+    def value(self, given):
+        if not given or given[0].startswith(b"-") and given[0] != b"-":
+            self.refuse()
+        return given.pop(0)
+
+    def number(self, name):
+        """The value of an option that is a number in its limits."""
+        least, most, usual = LIMITS[name]
+        value = integer(self.options.get(name, b"%d" % usual))
+        if value is None or not least <= value <= most:
+            self.refuse()
+        return value
+
+
+class RdfWords(Words):
+    """SCRIPT and TABLE, or with --make ENTRIES and SEED; and the options, a friend's among them."""
+
+    def __init__(self, words):
+        super().__init__(words, USAGE, OPTIONS, (b"make",))
+        self.slots, self.cluster, self.watch = [self.number(name) for name in (b"slots", b"cluster", b"watch")]
+        self.make = b"make" in self.flags
         refused = len(self.named) != 2
-        for name, (least, most, usual) in LIMITS.items():
-            value = integer(self.options.get(name, b"%d" % usual))
-            refused = refused or value is None or not least <= value <= most
-            setattr(self, name.decode(), value)
         if self.make and not refused:
             self.entries, self.seed = [integer(word) for word in self.named]
             refused = (self.entries is None or not 1 <= self.entries <= 1000000
@@ -80,22 +103,12 @@ class Words:
             refused = (refused or self.make or self.key is None or not is_name(self.key)
                        or self.missing is None)
         if refused:
-            raise Refusal(2, USAGE)
-
-    def take_option(self, word, given):
-        name, equals, value = word[2:].partition(b"=")
-        if not word.startswith(b"--") or name not in OPTIONS or name in self.options:
-            raise Refusal(2, USAGE)
-        if not equals:
-            if not given or given[0].startswith(b"-") and given[0] != b"-":
-                raise Refusal(2, USAGE)
-            value = given.pop(0)
-        self.options[name] = value
+            self.refuse()
 
 
 def prepared(words, shelf):
     """A checked run. `shelf` gives the bytes of a file, or None where there is none."""
-    taken = Words(words)
+    taken = RdfWords(words)
     if taken.make:
         script, text = read_script(MADE_SCRIPT), made_table(taken.entries, taken.seed)
     else:

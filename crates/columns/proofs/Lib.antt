@@ -1,7 +1,8 @@
 pub mod BlockSteps
 pub mod Examples
+pub mod InPieces
 pub mod Joining
 pub mod Keeping
-pub mod InPieces
+pub mod LowBytes
 pub mod Tight
 pub mod Unpacking

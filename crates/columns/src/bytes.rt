@@ -1,9 +1,10 @@
 // Numbers in bytes.
-ghost use Rattle.std.specs.Prelude.{◌≡◌, ◌≤◌, ◌<◌, ◌+◌, ◌++◌, OnOk, drop, length};
+ghost use Rattle.std.specs.Prelude.{◌≡◌, ◌≤◌, ◌<◌, ◌+◌, ◌*◌, ◌++◌, All, FitsSigned, IfOk, drop, length, vec_capacity, vec_len};
 ghost use Rattle.std.specs.Int.{from_le_bytes, w16, w32, w64};
-ghost use Rattle.columns.specs.Packings.{low_bytes, number_in};
+ghost use Rattle.columns.specs.Packings.{number_in, packed_by};
 ghost use Rattle.columns.specs.Widths.{IsWidth};
 
+use crate::packing::Packing;
 use rdf_values::Memory;
 
 fn two_at(bytes: &[u8], at: usize) -> u64
@@ -51,18 +52,42 @@ pub(crate) fn number_at(bytes: &[u8], at: usize, width: u32) -> u64
     }
 }
 
-/// Appends so many bytes of a number, lowest first. Each width has a copy of its own, which takes no call.
-pub(crate) fn push_low(bytes: &mut Vec<u8>, number: u64, width: u32) -> Result<(), Memory>
-    requires { IsWidth width }
-    ensures { OnOk result (bytes.new.items ≡ bytes.old.items ++ low_bytes width number) }
+// Appends the bytes of numbers, for which there is room: each one's difference to the least in so many, lowest first.
+// The bytes come by value, so that how many they are can stay in a register.
+fn push_each<const WIDTH: usize>(values: &[i64], least: i64, mut bytes: Vec<u8>) -> Vec<u8>
+    requires width { IsWidth WIDTH }
+    requires room { vec_len bytes + length values.now * WIDTH ≤ vec_capacity bytes }
+    ensures grown { result.items ≡ bytes.items ++ packed_by (record { least = least; width = WIDTH }) values.now }
+    ensures words { All (FitsSigned w64) values.now }
 {
-    let low = number.to_le_bytes();
-    match width {
-        0 => {}
-        1 => bytes.extend_from_slice(&low[..1])?,
-        2 => bytes.extend_from_slice(&low[..2])?,
-        4 => bytes.extend_from_slice(&low[..4])?,
-        _ => bytes.extend_from_slice(&low)?,
+    for value in values {
+        let low = value.abs_diff(least).to_le_bytes();
+        for byte in &low[..WIDTH] {
+            bytes.push_reserved(*byte);
+        }
     }
-    Ok(())
+    bytes
+}
+
+/// Appends the bytes of numbers, as they are packed. Each width has a loop of its own, without a call or a test for each
+/// number.
+pub(crate) fn push_packed(
+    values: &[i64],
+    packing: Packing,
+    mut bytes: Vec<u8>,
+) -> Result<Vec<u8>, Memory>
+    requires width { IsWidth packing.width }
+    requires few { length values.now ≤ 1000000 }
+    ensures grown { IfOk result (λ all. all.items ≡ bytes.items ++ packed_by packing values.now) }
+    ensures words { IfOk result (λ _. All (FitsSigned w64) values.now) }
+{
+    let least = packing.least;
+    bytes.reserve(values.len() * packing.width as usize)?;
+    Ok(match packing.width {
+        0 => push_each::<0>(values, least, bytes),
+        1 => push_each::<1>(values, least, bytes),
+        2 => push_each::<2>(values, least, bytes),
+        4 => push_each::<4>(values, least, bytes),
+        _ => push_each::<8>(values, least, bytes),
+    })
 }

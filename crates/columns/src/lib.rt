@@ -4,6 +4,7 @@
 mod block;
 mod bytes;
 pub mod columns;
+mod grown;
 mod kept;
 pub mod over;
 mod packed_ints;

@@ -6,7 +6,8 @@ ghost use Rattle.columns.specs.Packings.{packed_of, packing_of};
 ghost use Rattle.table_pieces.specs.Wholes.{joined};
 
 use crate::block::Block;
-use crate::bytes::{number_at, push_low};
+use crate::bytes::{number_at, push_packed};
+use crate::grown::Grown;
 use crate::packing::Packing;
 use crate::pieces::{gather, in_one_piece};
 use clusters::Cuts;
@@ -33,23 +34,21 @@ impl Model for PackedInts {
 }
 
 // Appends the bytes of a cluster's numbers, and tells where they stand.
-fn pack_cluster(values: &[i64], bytes: &mut Vec<u8>) -> Result<Block, Memory>
+fn pack_cluster(values: &[i64], bytes: Vec<u8>) -> Result<Grown, Memory>
     requires some { 0 < length values.now }
     requires few { length values.now ≤ 1000000 }
-    ensures block { IfOk result (λ block. IsBlock bytes.new.items block values.now) }
-    ensures grown { IfOk result (λ _. bytes.new.items ≡ bytes.old.items ++ packed_of values.now) }
+    ensures block { IfOk result (λ g. IsBlock g.bytes.items g.block values.now) }
+    ensures grown { IfOk result (λ g. g.bytes.items ≡ bytes.items ++ packed_of values.now) }
 {
     let packing = Packing::of(values);
-    let begin = bytes.len();
-    for value in values {
-        push_low(bytes, value.abs_diff(packing.least), packing.width)?;
-    }
-    Ok(Block {
+    let block = Block {
         least: packing.least,
-        begin,
+        begin: bytes.len(),
         width: packing.width,
         entries: values.len() as u32,
-    })
+    };
+    let bytes = push_packed(values, packing, bytes)?;
+    Ok(Grown { block, bytes })
 }
 
 // Appends the bytes of a range's numbers, and tells where they stand. `gathered` is where numbers of several pieces
@@ -58,13 +57,13 @@ fn pack_range(
     pieces: &[IntList],
     range: Span,
     gathered: &mut Vec<i64>,
-    bytes: &mut Vec<u8>,
-) -> Result<Block, Memory>
+    bytes: Vec<u8>,
+) -> Result<Grown, Memory>
     requires some { range.lo < range.hi }
     requires within { range.hi ≤ length (joined pieces.now) }
     requires few { length (joined pieces.now) ≤ 1000000 }
-    ensures block { IfOk result (λ block. IsBlock bytes.new.items block (slice_range (joined pieces.now) range.lo range.hi)) }
-    ensures grown { IfOk result (λ _. bytes.new.items ≡ bytes.old.items ++ packed_of (slice_range (joined pieces.now) range.lo range.hi)) }
+    ensures block { IfOk result (λ g. IsBlock g.bytes.items g.block (slice_range (joined pieces.now) range.lo range.hi)) }
+    ensures grown { IfOk result (λ g. g.bytes.items ≡ bytes.items ++ packed_of (slice_range (joined pieces.now) range.lo range.hi)) }
 {
     let lo = range.lo as usize;
     let hi = range.hi as usize;
@@ -86,7 +85,9 @@ pub(crate) fn pack(alloc: Global, pieces: &[IntList], cuts: &Cuts) -> Result<Pac
     let mut gathered = Vec::new(alloc);
     for cluster in 0..cuts.count() {
         let range = cuts.range(cluster);
-        blocks.push(pack_range(pieces, range, &mut gathered, &mut bytes)?)?;
+        let grown = pack_range(pieces, range, &mut gathered, bytes)?;
+        bytes = grown.bytes;
+        blocks.push(grown.block)?;
     }
     Ok(PackedInts { blocks, bytes })
 }

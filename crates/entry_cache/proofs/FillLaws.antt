@@ -33,10 +33,10 @@ there (x ∷ xs) (suc i) lt = there xs i (omega (arith, lt))
 -- ---- an expression of a site
 
 module _ (j : JobView) (job : IsJob j) (entry : ℕ) (u : Option ℕ) (cells : List Held) (sound : IsSound j entry cells) (s : ℕ) (e : CheckedExpr) (its : IsSiteExpr (job_graph j) s e) where
-  abbrev HasTree : Type 0
+  abbrev pub HasTree : Type 0
   HasTree = (x : SiteAt) × (slice_get (graph_sites (job_graph j)) s ≡ Some x) × (x.tree ≡ e.tree)
 
-  has_tree : HasTree
+  pub has_tree : HasTree
   has_tree = go (slice_get (graph_sites (job_graph j)) s) refl its.tree
     where
       go : (o : Option SiteAt) → slice_get (graph_sites (job_graph j)) s ≡ o → option_map (λ (x : SiteAt). x.tree) o ≡ Some e.tree → HasTree

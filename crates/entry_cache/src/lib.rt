@@ -13,7 +13,7 @@ pub mod job;
 pub mod keys;
 mod named;
 pub mod outcome;
-mod reading;
+pub mod reading;
 pub mod rows;
 mod store;
 mod view;

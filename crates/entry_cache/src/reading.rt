@@ -13,15 +13,15 @@ use graph_numbers::Source;
 
 /// An entry of a job, under nominal or a variation, and where what is read of it stands.
 #[derive(Clone, Copy)]
-pub(crate) struct Reading<'a> {
-    pub(crate) job: &'a Job<'a>,
-    pub(crate) row: &'a Row,
-    pub(crate) entry: u32,
-    pub(crate) under: Option<u32>,
+pub struct Reading<'a> {
+    pub job: &'a Job<'a>,
+    pub row: &'a Row,
+    pub entry: u32,
+    pub under: Option<u32>,
 }
 
 /// The key of a site.
-pub(crate) fn key(at: &Reading<'_>, site: u32) -> usize
+pub fn key(at: &Reading<'_>, site: u32) -> usize
     requires row { IsRow (job_graph (job_of at.now.job.now)) at.now.under at.now.row.now }
     requires site { site < length (graph_sites (job_graph (job_of at.now.job.now))) }
     ensures key { result ≡ key_of (job_graph (job_of at.now.job.now)) site at.now.under }
@@ -31,7 +31,7 @@ pub(crate) fn key(at: &Reading<'_>, site: u32) -> usize
 }
 
 /// A site's expression.
-pub(crate) fn expression<'a>(at: &Reading<'a>, site: u32) -> &'a Checked
+pub fn expression<'a>(at: &Reading<'a>, site: u32) -> &'a Checked
     requires job { Fits at.now.job.now }
     requires site { site < length (graph_sites (job_graph (job_of at.now.job.now))) }
     ensures { IsSiteExpr (job_graph (job_of at.now.job.now)) site result.now }
@@ -40,7 +40,7 @@ pub(crate) fn expression<'a>(at: &Reading<'a>, site: u32) -> &'a Checked
 }
 
 /// What gives a version its value.
-pub(crate) fn source_of(at: &Reading<'_>, version: u32) -> Source
+pub fn source_of(at: &Reading<'_>, version: u32) -> Source
     requires job { Fits at.now.job.now }
     requires version { version < length (graph_versions (job_graph (job_of at.now.job.now))) }
     ensures { source_at (job_of at.now.job.now) at.now.under version ≡ result }
@@ -49,7 +49,7 @@ pub(crate) fn source_of(at: &Reading<'_>, version: u32) -> Source
 }
 
 /// Where the value of a version stands.
-pub(crate) fn place(at: &Reading<'_>, version: u32) -> Place
+pub fn place(at: &Reading<'_>, version: u32) -> Place
     requires row { IsRow (job_graph (job_of at.now.job.now)) at.now.under at.now.row.now }
     requires version { version < length (graph_versions (job_graph (job_of at.now.job.now))) }
     ensures { place_of (key_under (job_graph (job_of at.now.job.now)) at.now.under) (source_at (job_of at.now.job.now) at.now.under version) ≡ result }

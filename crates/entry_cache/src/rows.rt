@@ -106,7 +106,7 @@ fn row_under(
 }
 
 /// The row of nominal, and then that of each variation; and how many keys there are.
-pub(crate) fn rows_of(alloc: Global, graph: &Graph) -> Result<(ListOf<Row>, usize), Memory>
+pub fn rows_of(alloc: Global, graph: &Graph) -> Result<(ListOf<Row>, usize), Memory>
     ensures { IfOk result (λ r. AreKeys graph.now r.0 × (r.1 ≡ key_count graph.now)) }
 {
     let (sites, count) = keys_of(alloc, graph)?;
@@ -119,7 +119,7 @@ pub(crate) fn rows_of(alloc: Global, graph: &Graph) -> Result<(ListOf<Row>, usiz
 }
 
 /// The row of nominal or a variation. Under a variation that isn't there all is as under nominal.
-pub(crate) fn row_at<'a>(rows: &'a [Row], _graph: &Graph, under: Option<u32>) -> &'a Row
+pub fn row_at<'a>(rows: &'a [Row], _graph: &Graph, under: Option<u32>) -> &'a Row
     requires rows { AreKeys _graph.now rows.now }
     ensures { IsRow _graph.now under result.now }
 {

@@ -1,5 +1,5 @@
 -- What is known of a lane's numbers, said of values.
-use Rattle.std.proofs.Common.{◌≡◌, ◌+◌, ℕ, ℤ, List, [], ◌∷◌, ◌∙◌, refl, ap, cond}
+use Rattle.std.proofs.Common.{◌≡◌, ◌+◌, ℕ, ℤ, List, [], ◌∷◌, ◌∙◌, refl, ap, sym, cond}
 use Rattle.rdf_values.specs.declared.value.ColType.{ColType}
 use Rattle.rdf_values.specs.declared.value.Value.{Value}
 use Rattle.rdf_model.specs.Evaluation.{Outcome, Gives, Faults, Needs}
@@ -37,6 +37,7 @@ module _ (f : ℕ → Outcome ℕ Value) (g : ℕ → Outcome ℕ ℤ) where
   by_value k sel left before after stops more same read e = record {
     left_in = e.left_in ∙ given_by_value sel same;
     values = λ p h. read p (left_of g sel left before after stops more e p h) (at_place after p) (e.values p h);
+    exact = λ p h. sym (same p (left_of g sel left before after stops more e p h)) ∙ e.values p h;
     others = e.others;
     joined = λ t. e.joined t ∙ ap (λ l. times t stops + times t l) (stops_by_value sel same);
   }

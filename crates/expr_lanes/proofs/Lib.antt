@@ -6,6 +6,7 @@ pub mod Gathered
 pub mod Nodes
 pub mod PartSteps
 pub mod Ready
+pub mod Rising
 pub mod Selected
 pub mod Sequence
 pub mod SiftSteps

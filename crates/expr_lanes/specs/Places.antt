@@ -15,6 +15,11 @@ is_in p sel = list_any (nat_eq p) sel
 abbrev pub EachPlace : List ℕ → (ℕ → Type 0) → Type 0
 EachPlace sel P = (p : ℕ) → is_in p sel ≡ true → P p
 
+-- each place of the selection is below those behind it
+abbrev pub AreRising : List ℕ → Type 0
+AreRising [] = Unit {0}
+AreRising (p ∷ sel) = EachPlace sel (λ q. p < q) × AreRising sel
+
 -- what a lane holds at a place
 abbrev pub at_place : List ℤ → ℕ → ℤ
 at_place lane p = slice_index_or lane p (pos 0)

@@ -1,5 +1,5 @@
 // Selections that are narrowed by a test.
-ghost use Rattle.std.specs.Prelude.{◌≡◌, ◌<◌, ◌≤◌, ℕ, Bool, nat_lt, length, take};
+ghost use Rattle.std.specs.Prelude.{◌≡◌, ◌<◌, ◌≤◌, ℕ, Bool, nat_lt, not, length, take};
 ghost use Rattle.std.specs.List.{filter};
 ghost use Rattle.rdf_model.specs.Evaluation.{is_set};
 ghost use Rattle.expr_lanes.specs.Places.{at_place, is_marked, EachPlace};
@@ -29,6 +29,23 @@ impl<'a> PlaceTest for Marked<'a> {
     #[inline(always)]
     fn passes_at(&self, place: u32) -> bool {
         self.marks[place as usize]
+    }
+}
+
+/// The places that are not marked.
+#[derive(Drop)]
+pub(crate) struct Unmarked<'a> {
+    pub(crate) marks: &'a [bool],
+}
+
+impl<'a> PlaceTest for Unmarked<'a> {
+    ghost can = { λ t p. p < length t.marks.now };
+
+    ghost passes = { λ t p. not (is_marked t.marks.now p) };
+
+    #[inline(always)]
+    fn passes_at(&self, place: u32) -> bool {
+        !self.marks[place as usize]
     }
 }
 

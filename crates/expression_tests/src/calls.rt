@@ -1,10 +1,10 @@
 // Functions that the caller hands in.
 ghost use Rattle.std.specs.Prelude.{◌≡◌, length};
-ghost use Rattle.entry_fns.specs.Shipped.{square_of, hyp2_of, clampto_of};
+ghost use Rattle.entry_fns.specs.Shipped.{square_of, hyp2_of};
 
-use crate::answer::{differences, scalar_answer, value_answer};
+use crate::answer::{scalar_answer, value_answer};
 use crate::cells::{int, missing, truth, vect};
-use entry_fns::shipped::{Clampto, Hyp2, Square};
+use entry_fns::shipped::{Hyp2, Square};
 use entry_fns::{Closure, FnList, Stored};
 use rdf_values::{ColType, Memory, Name};
 use std::alloc::Global;
@@ -17,67 +17,6 @@ fn name(alloc: Global, bytes: &[u8]) -> Result<Name, Memory> {
         Some(name) => Ok(name),
         None => Err(Memory),
     }
-}
-
-#[test]
-fn the_function_of_the_name_is_called(rt: HostRuntime) -> Result<(), Fail> {
-    let alloc = rt.alloc();
-    let mut functions = FnList::new(alloc);
-    let square: Closure = Box::new(
-        alloc,
-        |args: &[i64]| -> Option<i64>
-            requires { length args.now ≡ 1 }
-            ensures { result ≡ square_of args.now }
-        { Square::answer(args) },
-    )?;
-    if functions
-        .add(name(alloc, b"square")?, Stored::new::<Square>(square))
-        .is_err()
-    {
-        return Err(Fail::from("not added"));
-    }
-    let hyp2: Closure = Box::new(
-        alloc,
-        |args: &[i64]| -> Option<i64>
-            requires { length args.now ≡ 2 }
-            ensures { result ≡ hyp2_of args.now }
-        { Hyp2::answer(args) },
-    )?;
-    if functions
-        .add(name(alloc, b"hyp2")?, Stored::new::<Hyp2>(hyp2))
-        .is_err()
-    {
-        return Err(Fail::from("not added"));
-    }
-    let clampto: Closure = Box::new(
-        alloc,
-        |args: &[i64]| -> Option<i64>
-            requires { length args.now ≡ 3 }
-            ensures { result ≡ clampto_of args.now }
-        { Clampto::answer(args) },
-    )?;
-    if functions
-        .add(name(alloc, b"clampto")?, Stored::new::<Clampto>(clampto))
-        .is_err()
-    {
-        return Err(Fail::from("not added"));
-    }
-    let cells = [int("w", -3), vect("v", &[3, 4]), missing("x", ColType::Int)];
-    let rows = [
-        ("square(w)", "9"),
-        ("hyp2(3, 4)", "25"),
-        ("hyp2(v[0], v[1])", "25"),
-        ("clampto(9, 5, 2)", "2"),
-        ("clampto(square(w), 0, hyp2(1, 2))", "5"),
-        ("square(4000000000)", "F8 Function"),
-        ("square(1 / 0)", "F2 ZeroDivisor"),
-        ("hyp2(x, 1 / 0)", "need x"),
-        ("1 / 0 + square(4000000000)", "F2 ZeroDivisor"),
-        ("square(4000000000) + 1 / 0", "F8 Function"),
-    ];
-    let wrong = differences(alloc, &rows, &cells, &functions)?;
-    assert_eq!(rt; wrong.as_str(), "");
-    Ok(())
 }
 
 // How often the text calls its functions, and what it comes to: by `eval`, and by `eval_int` where no part is a vector.

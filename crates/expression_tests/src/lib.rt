@@ -8,10 +8,8 @@ mod answer;
 mod calls;
 pub mod cells;
 #[cfg(test)]
-mod numbers;
+mod needs;
 #[cfg(test)]
 mod texts;
-#[cfg(test)]
-mod vectors;
 #[cfg(test)]
 mod words;

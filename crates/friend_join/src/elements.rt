@@ -5,6 +5,7 @@ ghost use Rattle.rdf_values.specs.Kept.{count};
 ghost use Rattle.table_pieces.specs.Wholes.{joined, whole};
 ghost use Rattle.friend_join.specs.Matches.{AreBelow, AreEntries, AreSmall, IsSmall, column_elements, length_for, matched_elements};
 
+use crate::friend_entry::FriendEntry;
 use crate::gathered::vector_for;
 use rdf_values::{Cells, Vects};
 use table_pieces::ColumnPieces;
@@ -63,7 +64,7 @@ pub(crate) fn elements(columns: &[ColumnPieces]) -> u64
 }
 
 // Those of a column's vectors at the entries that match.
-fn matched_vectors(vectors: &Vects, matches: &[Option<u32>]) -> u64
+fn matched_vectors(vectors: &Vects, matches: &[FriendEntry]) -> u64
     requires below { AreBelow (length vectors.now) matches.now }
     requires few { length matches.now ≤ 1000000 }
     requires small { All (λ (v : List ℤ). length v ≤ 4096) vectors.now }
@@ -72,12 +73,12 @@ fn matched_vectors(vectors: &Vects, matches: &[Option<u32>]) -> u64
 {
     let mut elements = 0;
     for entry in matches {
-        elements += vector_for(vectors, *entry).len() as u64;
+        elements += vector_for(vectors, entry).len() as u64;
     }
     elements
 }
 
-fn matched_column(cells: &Cells, matches: &[Option<u32>]) -> u64
+fn matched_column(cells: &Cells, matches: &[FriendEntry]) -> u64
     requires below { AreBelow (count cells.now) matches.now }
     requires few { length matches.now ≤ 1000000 }
     requires small { IsSmall cells.now }
@@ -91,7 +92,7 @@ fn matched_column(cells: &Cells, matches: &[Option<u32>]) -> u64
 }
 
 /// Those of all columns at the entries that match.
-pub(crate) fn matched_elements(columns: &[Cells], matches: &[Option<u32>]) -> u64
+pub(crate) fn matched_elements(columns: &[Cells], matches: &[FriendEntry]) -> u64
     requires entries { AreEntries matches.now columns.now }
     requires columns { length columns.now ≤ 64 }
     requires few { length matches.now ≤ 1000000 }

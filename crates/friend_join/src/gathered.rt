@@ -4,6 +4,7 @@ ghost use Rattle.rdf_values.specs.Kept.{count};
 ghost use Rattle.table_pieces.specs.Wholes.{whole};
 ghost use Rattle.friend_join.specs.Matches.{AreBelow, AreEntries, matched_cells, number_for, vector_for};
 
+use crate::friend_entry::FriendEntry;
 use rdf_values::{Cells, IntList, Memory, Vects};
 use std::alloc::Global;
 use table_pieces::ColumnPieces;
@@ -12,7 +13,7 @@ use table_pieces::ColumnPieces;
 fn ints_at(
     alloc: Global,
     numbers: &[i64],
-    matches: &[Option<u32>],
+    matches: &[FriendEntry],
     missing: i64,
 ) -> Result<IntList, Memory>
     requires { AreBelow (length numbers.now) matches.now }
@@ -20,8 +21,8 @@ fn ints_at(
 {
     let mut gathered = IntList::new(alloc);
     for entry in matches {
-        let number = match entry {
-            Some(entry) => numbers[*entry as usize],
+        let number = match entry.get() {
+            Some(entry) => numbers[entry as usize],
             None => missing,
         };
         gathered.push(number)?;
@@ -30,24 +31,24 @@ fn ints_at(
 }
 
 /// The vector at an entry that matches, and the empty one where none does.
-pub(crate) fn vector_for(vectors: &Vects, entry: Option<u32>) -> &[i64]
-    requires { MatchOption entry ⊤ (λ e. e < length vectors.now) }
-    ensures { result.now ≡ vector_for vectors.now entry }
+pub(crate) fn vector_for<'a>(vectors: &'a Vects, entry: &FriendEntry) -> &'a [i64]
+    requires { MatchOption entry.now ⊤ (λ e. e < length vectors.now) }
+    ensures { result.now ≡ vector_for vectors.now entry.now }
 {
-    match entry {
+    match entry.get() {
         Some(entry) => vectors.at(entry as usize),
         None => &[],
     }
 }
 
 // The vectors of a vec column, and the empty one where no entry matches.
-fn vectors_at(alloc: Global, vectors: &Vects, matches: &[Option<u32>]) -> Result<Vects, Memory>
+fn vectors_at(alloc: Global, vectors: &Vects, matches: &[FriendEntry]) -> Result<Vects, Memory>
     requires { AreBelow (length vectors.now) matches.now }
     ensures { IfOk result (λ list. list ≡ map (vector_for vectors.now) matches.now) }
 {
     let mut gathered = Vects::new(alloc);
     for entry in matches {
-        gathered.push(vector_for(vectors, *entry))?;
+        gathered.push(vector_for(vectors, entry))?;
     }
     Ok(gathered)
 }
@@ -55,7 +56,7 @@ fn vectors_at(alloc: Global, vectors: &Vects, matches: &[Option<u32>]) -> Result
 fn column_at(
     alloc: Global,
     cells: &Cells,
-    matches: &[Option<u32>],
+    matches: &[FriendEntry],
     missing: i64,
 ) -> Result<Cells, Memory>
     requires { AreBelow (count cells.now) matches.now }
@@ -78,7 +79,7 @@ pub(crate) fn put_behind(
     alloc: Global,
     mut columns: Vec<ColumnPieces>,
     others: Vec<Cells>,
-    matches: &[Option<u32>],
+    matches: &[FriendEntry],
     missing: i64,
 ) -> Result<Vec<ColumnPieces>, Memory>
     requires { AreEntries matches.now others.items }

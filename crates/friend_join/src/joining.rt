@@ -12,6 +12,7 @@ ghost use Rattle.friend_join.specs.Matches.{AreEntries, keyed_in, matched_cells}
 use crate::cause::JoinCause;
 use crate::columns::{first_taken, key_place};
 use crate::elements::{elements, matched_elements};
+use crate::friend_entry::FriendEntry;
 use crate::gathered::put_behind;
 use crate::matches::matches_of;
 use crate::one_piece::in_one_piece;
@@ -30,7 +31,7 @@ fn put_together(
     main: PiecesParts,
     columns: Vec<Column>,
     others: Vec<Cells>,
-    matches: &[Option<u32>],
+    matches: &[FriendEntry],
     missing: i64,
 ) -> Result<TablePieces, Memory>
     requires entries { AreEntries matches.now others.items }

@@ -10,6 +10,7 @@
 mod cause;
 mod columns;
 mod elements;
+mod friend_entry;
 mod gathered;
 mod joining;
 mod laws;

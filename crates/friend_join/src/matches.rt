@@ -6,6 +6,7 @@ ghost use Rattle.friend_join.specs.JoinRefused.{first_repeat};
 ghost use Rattle.friend_join.specs.Matches.{AreInts, entry_of, ints_in};
 
 use crate::cause::JoinCause;
+use crate::friend_entry::FriendEntry;
 use crate::refusal::JoinRefusal;
 use indexmap::IndexSet;
 use rdf_values::{Cells, IntList, Memory};
@@ -34,28 +35,17 @@ fn numbered_keys(alloc: Global, keys: &[i64]) -> Result<IndexSet<i64>, JoinRefus
     Ok(numbered)
 }
 
-// An entry as a number of 32 bits.
-fn as_entry(place: Option<usize>) -> Option<u32>
-    requires { MatchOption place ⊤ (λ i. i < 2 ^ 32) }
-    ensures { result ≡ place }
-{
-    match place {
-        Some(place) => Some(place as u32),
-        None => None,
-    }
-}
-
 // Puts the entries at which these numbers stand among the keys behind those before.
 fn match_numbers(
     keys: &IndexSet<i64>,
     numbers: &[i64],
-    matches: &mut Vec<Option<u32>>,
+    matches: &mut Vec<FriendEntry>,
 ) -> Result<(), Memory>
     requires { length keys.now.keys ≤ 1000000 }
     ensures { OnOk result (matches.new.items ≡ matches.old.items ++ map (entry_of keys.now.keys) numbers.now) }
 {
     for number in numbers {
-        matches.push(as_entry(keys.get_index_of(number)))?;
+        matches.push(FriendEntry::new(keys.get_index_of(number)))?;
     }
     Ok(())
 }
@@ -65,7 +55,7 @@ fn matches_in(
     alloc: Global,
     keys: &IndexSet<i64>,
     pieces: &[IntList],
-) -> Result<Vec<Option<u32>>, Memory>
+) -> Result<Vec<FriendEntry>, Memory>
     requires { length keys.now.keys ≤ 1000000 }
     ensures { IfOk result (λ matches. matches.items ≡ map (entry_of keys.now.keys) (joined pieces.now)) }
 {
@@ -82,7 +72,7 @@ pub(crate) fn matches_of(
     alloc: Global,
     column: &ColumnPieces,
     keys: Cells,
-) -> Result<Vec<Option<u32>>, JoinRefusal>
+) -> Result<Vec<FriendEntry>, JoinRefusal>
     requires column { AreInts (whole column.now) }
     requires keys { AreInts keys }
     requires few { count keys ≤ 1000000 }

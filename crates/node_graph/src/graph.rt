@@ -20,7 +20,7 @@ use crate::sources::source_of;
 use crate::walks::label_of;
 use expr_check::Checked;
 use graph_numbers::{Pass, ResultKind, Source, Version};
-use rdf_values::{Column, FnName, FnNames, Label, Line, ListOf, Memory, Name, Script};
+use rdf_values::{ColType, Column, FnName, FnNames, Label, Line, ListOf, Memory, Name, Script};
 use statement_checks::Tables;
 use statement_checks::laws::{result_sets_are_dependence, site_sets_are_dependence};
 use std::alloc::Global;
@@ -67,7 +67,7 @@ impl Graph {
     ghost use Rattle.node_graph.specs.GraphFields.{view_of};
     ghost use Rattle.std.specs.List.{AllByRecursion};
     ghost use Rattle.rdf_values.specs.Bookable.{IsShort};
-    ghost use Rattle.statement_checks.specs.Lookups.{statements};
+    ghost use Rattle.statement_checks.specs.Lookups.{AreKinds, statements};
     ghost use Rattle.node_graph.specs.Bookings.{IsBooking};
 
     /// Books a script over a table's columns: each line is checked after those before it, and the first that is refused is
@@ -132,6 +132,30 @@ impl Graph {
         ensures { IsGraph self.now }
     {
         let _lines = self.lines.is_empty();
+    }
+
+    // ---- the statements
+
+    /// The lines that were booked, the latest first, as look-ups in them walk.
+    pub fn lines(&self) -> &[Line]
+        ensures value { statements result.now ≡ booked_statements self.now }
+        ensures few { length result.now ≤ 256 }
+    {
+        self.lines.as_slice()
+    }
+
+    /// The table's columns.
+    pub fn header(&self) -> &[Column]
+        ensures { result.now ≡ self.now.header }
+    {
+        self.header.as_slice()
+    }
+
+    /// The kinds of the versions, as look-ups of columns ask for them.
+    pub fn kinds(&self) -> &[ColType]
+        ensures { AreKinds self.now.header self.now.names (booked_statements self.now) result.now }
+    {
+        self.tables.kinds.as_slice()
     }
 
     // ---- results

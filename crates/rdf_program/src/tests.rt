@@ -1,4 +1,4 @@
-// Whole runs over files in memory.
+// Whole runs over files in memory: what no case of `cases/` can show.
 ghost use Rattle.std.specs.Prelude.{◌≡◌, IfOk};
 ghost use Rattle.rdf_outside.specs.Memory.{shelf_made};
 
@@ -12,8 +12,6 @@ use std::thread::Threads;
 mod faults;
 mod friends;
 mod functions;
-mod limits;
-mod rows;
 mod side_by_side;
 
 // 56 bytes.
@@ -69,20 +67,4 @@ fn run<R: Threads + Sync, G: Gate>(
     let mut sink = MemorySink::new(alloc, ROOM)?;
     let status = rdf_top(rt, alloc, &words, &mut shelf, &mut sink, functions, gate);
     Ok((status, sink))
-}
-
-// The script of the first run that isn't as it should be.
-fn first_wrong<R: Threads + Sync>(
-    rt: &R,
-    alloc: Global,
-    cases: &[Case],
-) -> Result<Option<&'static str>, Fail> {
-    let functions = FnList::new(alloc);
-    for case in cases {
-        let (status, sink) = run(rt, alloc, case, &functions, &OpenGate)?;
-        if status != case.status || sink.bytes() != case.output.as_bytes() {
-            return Ok(Some(case.script));
-        }
-    }
-    Ok(None)
 }

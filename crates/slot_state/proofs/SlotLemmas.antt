@@ -1,9 +1,10 @@
 -- A slot before and after a cluster.
-use Rattle.std.proofs.Common.{◌≡◌, ℕ, ◌+◌, ◌<◌, ◌≤◌, List, [], ◌∷◌, ◌++◌, length, Option, Some, refl, sym, ap, ◌∙◌, subst, arith, slice_get}
+use Rattle.std.proofs.Common.{◌≡◌, ℕ, ◌+◌, ◌<◌, ◌≤◌, List, [], ◌∷◌, ◌++◌, length, map, Option, Some, refl, sym, ap, ◌∙◌, subst, arith, slice_get}
 use Rattle.std.specs.Prelude.{All}
 use Rattle.std.specs.List.Sorted.{IsStrictlyIncreasing}
-use Rattle.std.proofs.lemmas.List.{length-map}
+use Rattle.std.proofs.lemmas.List.{length-map, map-append}
 use Rattle.std.proofs.lemmas.List.Elements.{All-cons, All-contains, All-head, All-nil, All-tail, All-weaker, Contains-push}
+use Rattle.std.specs.declared.snapshot.Snapshot.{Snapshot}
 use Rattle.rdf_values.proofs.Below.{length-below, slice_get-below}
 use Rattle.rdf_values.proofs.UnionLemmas.{Rises, rises_from}
 use Rattle.rdf_values.specs.Cuts.{below}
@@ -39,6 +40,10 @@ few_rising x (y ∷ ys) c up high = let lt = up.0.0 in let rest = few_rising y y
 pub fewer : (xs : List ℕ) (c : ℕ) → IsStrictlyIncreasing xs → All (λ d. d < c) xs → length xs ≤ c
 fewer [] c up high = omega arith
 fewer (x ∷ xs) c up high = let few = few_rising x xs c (rises_from (x ∷ xs) up) high in omega arith
+
+-- what snapshots show, with one more
+pub seen_with : (done more : List (Snapshot ℕ)) (cluster : ℕ) (s : Snapshot ℕ) → s.value ≡ cluster → more ≡ done ++ s ∷ [] → map (λ (d : Snapshot ℕ). d.value) more ≡ map (λ (d : Snapshot ℕ). d.value) done ++ cluster ∷ []
+seen_with done more cluster s shows is = ap (map (λ (d : Snapshot ℕ). d.value)) is ∙ map-append (λ (d : Snapshot ℕ). d.value) done (s ∷ []) ∙ ap (λ c. map (λ (d : Snapshot ℕ). d.value) done ++ c ∷ []) shows
 
 -- ---- phases
 

@@ -20,6 +20,7 @@ use loop_pieces::LoopPiece;
 use rdf_values::{Fault, Memory};
 use std::alloc::Global;
 use std::marker::Model;
+use std::snapshot::Snapshot;
 use std::sync::ledger::Ledger;
 
 /// One slot of a loop.
@@ -28,17 +29,18 @@ pub struct SlotState {
     cache: EntryCache,
     plan: EntryPlan,
     tally: Tally,
-    done: Vec<u32>,
+    // contracts alone read the finished clusters: a snapshot takes no bytes
+    done: Vec<Snapshot<u32>>,
     phase: Phase,
 }
 
 impl Model for SlotState {
-    ghost use Rattle.std.specs.Prelude.{vec_capacity};
+    ghost use Rattle.std.specs.Prelude.{map, vec_capacity};
     ghost use Rattle.slot_state.specs.Slots.{SlotView};
 
     ghost Value = { SlotView };
 
-    ghost view = { λ s. record { cache = s.cache; plan = s.plan; tally = s.tally; room = vec_capacity s.done; done = s.done.items; phase = s.phase } };
+    ghost view = { λ s. record { cache = s.cache; plan = s.plan; tally = s.tally; room = vec_capacity s.done; done = map (λ c. c.value) s.done.items; phase = s.phase } };
 }
 
 impl SlotState {
@@ -99,7 +101,7 @@ impl SlotState {
         ) {
             Ok(()) => match self.tally.close(cluster) {
                 Ok(()) => {
-                    self.done.push_reserved(cluster);
+                    self.done.push_reserved(Snapshot::of(&cluster));
                     Ok(Progress::Done)
                 }
                 Err(Memory) => {

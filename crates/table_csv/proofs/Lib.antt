@@ -11,6 +11,7 @@ pub mod LineCuts
 pub mod MarkAnswers
 pub mod Onto
 pub mod Parts
+pub mod PushSteps
 pub mod PieceSteps
 pub mod ShiftedRows
 pub mod Steps

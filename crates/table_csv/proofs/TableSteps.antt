@@ -2,12 +2,15 @@
 use Rattle.std.proofs.Common.{◌≡◌, ◌≤◌, ◌<◌, ◌+◌, ℕ, Bool, true, false, List, [], ◌∷◌, ◌++◌, length, map, All, Result, Ok, Err, arith, refl, ap, ap₂, sym, subst, ◌∙◌, length-append, if◌then◌else◌}
 use Rattle.std.proofs.lemmas.List.{append-nil, length-map, map-append}
 use Rattle.std.proofs.lemmas.List.Elements.{All-cons}
+use Rattle.rdf_values.specs.Kept.{rows_kept}
 use Rattle.rdf_values.specs.Tables.{TableView}
 use Rattle.rdf_values.specs.TableText.{Header, MarkedRow, MarkedTable, header_from, marks_from, on_ok, row_of, rows_from, table_of, table_with}
+use Rattle.rdf_values.specs.declared.cells.Cells.{Cells}
 use Rattle.rdf_values.specs.declared.column.Column.{Column}
 use Rattle.rdf_values.specs.declared.table_cause.TableCause.{TableCause}
 use Rattle.rdf_values.specs.declared.table_cause.TableCause.TheVariants as cause
 use Rattle.rdf_values.specs.declared.value.Value.{Value}
+use Rattle.rdf_values.proofs.RowPushed.{length-rows_kept}
 use Rattle.table_csv.specs.Entries.{entries_of}
 use Rattle.table_csv.proofs.Onto.{result_onto, result_onto-cons, result_onto-none}
 
@@ -114,3 +117,21 @@ pub reading_end : (answer : Result MarkedTable TableCause) (marked : Bool) (tabl
 reading_end answer marked table marks entry left r l =
     r.so_far ∙ ap (table_from (record { columns = table.columns; marked = marked }) r.read) l ∙ end (record { columns = table.columns; marked = marked }) r.read
     ∙ ap₂ (λ rows ms. Ok (record { table = record { columns = table.columns; rows = rows }; marks = ms })) r.rows r.marks_read
+
+-- ---- a table without rows, taken apart
+
+abbrev IsEmpty : List Column → List Column → List Cells → ℕ → Type 0
+IsEmpty columns cols cells n = ◌≡◌ {A = TableView} (record { columns = columns; rows = [] }) (record { columns = cols; rows = rows_kept n cells })
+
+no_rows_yet : (columns cols : List Column) (cells : List Cells) (n : ℕ) → IsEmpty columns cols cells n → [] ≡ rows_kept n cells
+no_rows_yet columns cols cells n e = ap (λ (v : TableView). v.rows) e
+
+no_entries_yet : (columns cols : List Column) (cells : List Cells) (n : ℕ) → IsEmpty columns cols cells n → n ≡ 0
+no_entries_yet columns cols cells n e = sym (length-rows_kept n cells) ∙ ap length (sym (no_rows_yet columns cols cells n e))
+
+pub same_columns : (columns cols : List Column) (cells : List Cells) (n : ℕ) → IsEmpty columns cols cells n → cols ≡ columns
+same_columns columns cols cells n e = sym (ap (λ (v : TableView). v.columns) e)
+
+pub reading_opened : (columns cols : List Column) (cells : List Cells) (n : ℕ) (marked : Bool) (left : List (List (List ℕ))) → IsEmpty columns cols cells n
+    → Reading (entries_of (record { columns = columns; marked = marked }) left) marked (record { columns = columns; rows = rows_kept n cells }) [] n left
+reading_opened columns cols cells n marked left e = rw (sym (no_rows_yet columns cols cells n e), no_entries_yet columns cols cells n e) (reading_start columns marked left)

@@ -1,5 +1,6 @@
 pub mod Csv
 pub mod Entries
+pub mod Filled
 pub mod Joins
 pub mod Lines
 pub mod Pieces

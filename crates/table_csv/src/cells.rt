@@ -1,40 +1,58 @@
-// Rows from entries.
+// Values from entries, put behind those of their columns.
 ghost use Rattle.std.specs.Prelude.{◌≡◌, ◌≤◌, ◌<◌, [], List, ℕ, Ok, MatchResult, length};
 ghost use Rattle.rdf_values.specs.Answers.{Answers, Refuses};
+ghost use Rattle.rdf_values.specs.Kept.{AreKept};
 ghost use Rattle.rdf_values.specs.TableText.{cell_of, cells_from, mark_of, row_of};
+ghost use Rattle.rdf_values.specs.declared.cells.Cells.TheVariants as kept;
+ghost use Rattle.rdf_values.specs.declared.value.ColType.TheVariants as k;
 ghost use Rattle.csv.specs.Records.{fields_of};
+ghost use Rattle.table_csv.specs.Filled.{AreCellsPushed, IsCellPushed, IsRowPushed, kind_of};
 
 use crate::records::field;
 use crate::refusal::TableRefusal;
 use crate::vectors::read_vector;
 use csv::ByteRecord;
-use rdf_values::{ColType, Column, ListOf, TableCause, Value, read_integer};
-use std::alloc::Global;
+use rdf_values::{Cells, Column, IntList, TableCause, Vects, read_integer};
 
 const MAX_ENTRIES: u32 = 1_000_000;
 
-// The value of one cell.
+// Puts the vector of a cell behind the others of its column; `elements` is where it is put together.
 #[tactic(auto, unfolding(rdf_values::specs::TableText::cell_of))]
-fn read_cell(
-    alloc: Global,
+fn push_vector(
     entry: u32,
     field: u32,
-    kind: ColType,
     cell: &[u8],
-) -> Result<Value, TableRefusal>
-    ensures { Answers TableRefusal.At TableRefusal.Memory (cell_of entry field kind cell.now) result }
+    vectors: &mut Vects,
+    elements: &mut IntList,
+) -> Result<(), TableRefusal>
+    ensures { MatchResult result (λ _. IsCellPushed (cell_of entry field k.Vect cell.now) (kept.Vects vectors.old) (kept.Vects vectors.new))
+        (Refuses TableRefusal.At TableRefusal.Memory (cell_of entry field k.Vect cell.now)) }
 {
-    match kind {
-        ColType::Int => match read_integer(cell) {
-            Some(n) => Ok(Value::Int(n)),
+    if !read_vector(cell, elements)? {
+        return Err(TableRefusal::At(TableCause::BadVec { entry, field }));
+    }
+    vectors.push(elements.as_slice())?;
+    Ok(())
+}
+
+// Puts the value of a cell behind the others of its column.
+#[tactic(auto, unfolding(rdf_values::specs::TableText::cell_of))]
+fn push_cell(
+    entry: u32,
+    field: u32,
+    cell: &[u8],
+    column: &mut Cells,
+    elements: &mut IntList,
+) -> Result<(), TableRefusal>
+    ensures { MatchResult result (λ _. IsCellPushed (cell_of entry field (kind_of column.old) cell.now) column.old column.new)
+        (Refuses TableRefusal.At TableRefusal.Memory (cell_of entry field (kind_of column.old) cell.now)) }
+{
+    match column {
+        Cells::Ints(numbers) => match read_integer(cell) {
+            Some(n) => Ok(numbers.push(n)?),
             None => Err(TableRefusal::At(TableCause::BadInt { entry, field })),
         },
-        ColType::Vect => match read_vector(alloc, cell)? {
-            Some(elements) => Ok(Value::Vect(elements)),
-            None => Err(TableRefusal::At(TableCause::BadVec { entry, field })),
-        },
-        // No header names this type.
-        ColType::Bool => Err(TableRefusal::At(TableCause::BadInt { entry, field })),
+        Cells::Vects(vectors) => push_vector(entry, field, cell, vectors, elements),
     }
 }
 
@@ -52,39 +70,39 @@ fn read_mark(entry: u32, field: u32, cell: &[u8]) -> Result<bool, TableRefusal>
     }
 }
 
-// Puts the values of an entry's columns into `row`, in place of what it held.
-fn read_cells(
-    alloc: Global,
+// Puts the values of an entry's cells behind the others of their columns.
+fn push_cells(
     entry: u32,
     columns: &[Column],
     fields: &ByteRecord,
-    row: &mut ListOf<Value>,
+    cells: &mut [Cells],
+    elements: &mut IntList,
 ) -> Result<(), TableRefusal>
     requires few { length columns.now ≤ 64 }
     requires all { length columns.now ≤ length (fields_of fields.now) }
-    ensures { MatchResult result (λ _. cells_from entry 0 columns.now (fields_of fields.now) ≡ Ok row.new)
+    requires kept { AreKept entry columns.now cells.old }
+    ensures { MatchResult result (λ _. AreCellsPushed (cells_from entry 0 columns.now (fields_of fields.now)) cells.old cells.new)
         (Refuses TableRefusal.At TableRefusal.Memory (cells_from entry 0 columns.now (fields_of fields.now))) }
 {
-    row.clear();
     for i in 0..columns.len() {
-        let value = read_cell(alloc, entry, i as u32, columns[i].kind, field(fields, i))?;
-        row.push(value)?;
+        push_cell(entry, i as u32, field(fields, i), &mut cells[i], elements)?;
     }
     Ok(())
 }
 
-/// Puts the values of an entry into `row`, in place of what it held, and tells whether a cluster begins there.
-/// With `marked` a field of marks stands behind the columns.
-pub(crate) fn read_row(
-    alloc: Global,
+/// Puts the values of an entry behind the others of their columns, and tells whether a cluster begins there.
+/// With `marked` a field of marks stands behind the columns. Where the entry is refused, a part of it may be left.
+pub(crate) fn push_row(
     entry: u32,
     columns: &[Column],
     marked: bool,
     fields: &ByteRecord,
-    row: &mut ListOf<Value>,
+    cells: &mut [Cells],
+    elements: &mut IntList,
 ) -> Result<bool, TableRefusal>
-    requires { length columns.now ≤ 64 }
-    ensures { MatchResult result (λ begins. row_of entry (record { columns = columns.now; marked = marked }) (fields_of fields.now) ≡ Ok (record { row = row.new; marked = begins }))
+    requires few { length columns.now ≤ 64 }
+    requires kept { AreKept entry columns.now cells.old }
+    ensures { MatchResult result (λ begins. IsRowPushed (row_of entry (record { columns = columns.now; marked = marked }) (fields_of fields.now)) begins cells.old cells.new)
         (Refuses TableRefusal.At TableRefusal.Memory (row_of entry (record { columns = columns.now; marked = marked }) (fields_of fields.now))) }
 {
     if entry >= MAX_ENTRIES {
@@ -93,7 +111,7 @@ pub(crate) fn read_row(
     if fields.len() != columns.len() + usize::from(marked) {
         return Err(TableRefusal::At(TableCause::FieldCount { entry }));
     }
-    read_cells(alloc, entry, columns, fields, row)?;
+    push_cells(entry, columns, fields, cells, elements)?;
     if !marked {
         return Ok(false);
     }

@@ -6,13 +6,13 @@ ghost use Rattle.rdf_values.specs.TableText.{table_of};
 ghost use Rattle.table_csv.specs.Csv.{Leaves};
 ghost use Rattle.table_csv.specs.Entries.{IsHeaded, entries_of};
 
-use crate::cells::read_row;
+use crate::cells::push_row;
 use crate::header::{Heading, read_header};
 use crate::marked::Marked;
 use crate::records::next;
 use crate::refusal::TableRefusal;
 use csv::{ByteRecord, Reader};
-use rdf_values::{ListOf, Marks, Table, TableCause};
+use rdf_values::{IntList, Marks, Table, TableCause, TableParts};
 use std::alloc::Global;
 
 /// The header that the next record spells.
@@ -45,18 +45,31 @@ pub(crate) fn read_entries(
     ensures within { IfOk result (λ m. All (λ e. e < length m.table.rows) m.marks) }
 {
     let marked = heading.marked;
-    let mut table = Table::new(alloc, heading.columns)?;
+    let parts = Table::new(alloc, heading.columns)?.into_parts();
+    let columns = parts.columns;
+    let mut cells = parts.cells;
+    let mut entry = parts.entries;
     let mut marks = Marks::new(alloc);
     let mut fields = ByteRecord::new(alloc);
-    let mut row = ListOf::new(alloc);
-    let mut entry = 0;
+    let mut elements = IntList::new(alloc);
     while next(reader, &mut fields)? {
-        let begins = read_row(alloc, entry, table.columns(), marked, &fields, &mut row)?;
-        table.push(&mut row)?;
+        let begins = push_row(
+            entry,
+            columns.as_slice(),
+            marked,
+            &fields,
+            &mut cells,
+            &mut elements,
+        )?;
         if begins {
             marks.push(entry)?;
         }
         entry += 1;
     }
+    let table = Table::from_parts(TableParts {
+        columns,
+        cells,
+        entries: entry,
+    });
     Ok(Marked { table, marks })
 }

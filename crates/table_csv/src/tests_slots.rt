@@ -66,29 +66,6 @@ fn cuts_at_each_byte(rt: HostRuntime) -> Result<(), Fail> {
     Ok(())
 }
 
-// More slots than lines, a byte order mark, and a last line without its end.
-#[test]
-fn reads_marks_and_vectors_in_pieces(rt: HostRuntime) -> Result<(), Fail> {
-    let text = "\u{feff}x:int,v:vec,k:cut\n1,,1\r\n\n2,7;8,0\n3,9,1\r\n4,,0\n5,1,1\n\n6,,0";
-    for slots in 1..20 {
-        let marked = read_side_by_side(&rt, rt.alloc(), text.as_bytes(), slots).expect(
-            &rt, "plain",
-        );
-        assert_eq!(rt; marked.marks.as_slice(), [0, 2, 4].as_slice());
-        let parts = marked.table.into_parts();
-        assert_eq!(rt; parts.entries, 6);
-        let [ColumnPieces::Ints(numbers), ColumnPieces::Vects(vectors)] = parts.pieces.as_slice()
-        else {
-            panic!(rt; "other columns");
-        };
-        assert!(rt; numbers.iter().any(|piece| piece.as_slice().contains(&6)));
-        assert!(rt;
-            vectors.iter().any(|piece| (0..piece.len()).any(|i| piece.at(i) == [7, 8].as_slice()))
-        );
-    }
-    Ok(())
-}
-
 #[test]
 fn leaves_other_bytes_to_one_reader(rt: HostRuntime) -> Result<(), Fail> {
     let cases = [
@@ -142,18 +119,5 @@ fn refuses_the_first_entry_of_all_pieces(rt: HostRuntime) -> Result<(), Fail> {
         let answer = read_table_in_slots(&rt, alloc, text.as_bytes(), 4).err();
         assert_eq!(rt; answer, Some(TableRefusal::At(cause)));
     }
-    Ok(())
-}
-
-#[test]
-fn takes_a_million_entries_of_all_pieces(rt: HostRuntime) -> Result<(), Fail> {
-    let alloc = rt.alloc();
-    let text = padded(alloc, 999_999, "7\n", 0)?;
-    let marked = read_table_in_slots(&rt, alloc, text.as_bytes(), 4)?;
-    assert!(rt; holds(marked, 999_999, [7].as_slice(), 0));
-    let text = padded(alloc, 1_000_000, "7\n", 0)?;
-    let answer = read_table_in_slots(&rt, alloc, text.as_bytes(), 4).err();
-    let cause = TableCause::TooMany { entry: 1_000_000 };
-    assert_eq!(rt; answer, Some(TableRefusal::At(cause)));
     Ok(())
 }

@@ -1,10 +1,9 @@
 // Vectors from cells.
-ghost use Rattle.std.specs.Prelude.{◌≡◌, ◌<◌, [], ◌∷◌, List, ℕ, IfOk, length, position, MatchOption};
+ghost use Rattle.std.specs.Prelude.{◌≡◌, ◌<◌, [], ◌∷◌, List, ℕ, IfOk, None, Some, if◌then◌else◌, length, position, MatchOption};
 ghost use Rattle.std.specs.List.{slice_split};
 ghost use Rattle.rdf_values.specs.TableText.{is_semicolon, vector_of};
 
 use rdf_values::{IntList, Memory, read_integer};
-use std::alloc::Global;
 
 const MAX_ELEMENTS: usize = 4096;
 
@@ -25,25 +24,25 @@ fn first_part(cell: &[u8]) -> (&[u8], Option<&[u8]>)
     }
 }
 
-/// The elements of a vector's cell, if it is one.
-pub(crate) fn read_vector(alloc: Global, cell: &[u8]) -> Result<Option<IntList>, Memory>
-    ensures { IfOk result (λ elements. elements ≡ vector_of cell.now) }
+/// Puts the elements of a vector's cell into `elements`, in place of what they held; `false` where the cell is none.
+pub(crate) fn read_vector(cell: &[u8], elements: &mut IntList) -> Result<bool, Memory>
+    ensures { IfOk result (λ is_vector. vector_of cell.now ≡ (if is_vector then Some elements.new else None)) }
 {
-    let mut elements = IntList::new(alloc);
+    elements.truncate(0);
     if cell.is_empty() {
-        return Ok(Some(elements));
+        return Ok(true);
     }
     let mut rest = Some(cell);
     while let Some(left) = rest {
         let (part, after) = first_part(left);
         let Some(element) = read_integer(part) else {
-            return Ok(None);
+            return Ok(false);
         };
         if elements.len() >= MAX_ELEMENTS {
-            return Ok(None);
+            return Ok(false);
         }
         elements.push(element)?;
         rest = after;
     }
-    Ok(Some(elements))
+    Ok(true)
 }

@@ -22,7 +22,7 @@ pub loop-cluster-preserved : goal.loop-cluster-preserved
 loop-cluster-preserved c =
     let spans = cut c.args.cuts.now.entries c.args.cuts.now.size c.args.cuts.now.marks in
     let one = take_next_of (cluster_values spans (joined c.args.pieces.now)) c.loop-cluster.cluster _ (values_of_cluster spans (joined c.args.pieces.now) c.loop-cluster.cluster c.range-range.result c.range-range.ensures) in
-    rw (one, c.in_ok-push.ensures.items) (block_more c.loop-cluster.bytes.items c.pack_range.new.bytes.items c.loop-cluster.blocks.items _ c.in_ok-pack_range.field-0 _ c.loop-cluster.invariant c.in_ok-pack_range.ensures.grown c.in_ok-pack_range.ensures.block)
+    rw (one, c.in_ok-push.ensures.items) (block_more c.loop-cluster.bytes.items c.in_ok-grown.grown.bytes.items c.loop-cluster.blocks.items _ c.in_ok-grown.grown.block _ c.loop-cluster.invariant c.in_ok-grown.ensures.grown c.in_ok-grown.ensures.block)
 
 pub invariant_of-result : goal.invariant_of-result
 invariant_of-result c = blocks_hold c.loop-cluster.bytes.items c.loop-cluster.blocks.items _ c.loop-cluster.invariant

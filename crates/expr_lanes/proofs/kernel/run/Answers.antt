@@ -1,6 +1,7 @@
-use Rattle.std.proofs.Common.{◌≡◌, take}
+use Rattle.std.proofs.Common.{◌≡◌, take, arith}
 use Rattle.std.specs.List.{range_with_len}
 use Rattle.expr_lanes.proofs.Dense.{as_before, covered, dense_each, dense_long, sifted_anew}
+use Rattle.expr_lanes.proofs.Rising.{rising_left}
 use Rattle.expr_lanes.proofs.kernel.run.Goals as goal
 use Rattle.expr_lanes.proofs.kernel.run.Goals.{else-selection-via-then-selection+else-cover, else-selection-via-else-selection}
 
@@ -32,3 +33,10 @@ returns g c =
           sifted_anew _ _ _ _ _ _ _ _ _ dense w.cover.ensures.others (as_before _ _ _ _ _ _ _ _ _ seen w.lane-is c.sift-selection-inside.ensures.evaluated)
       | else-selection-via-else-selection w ↦ as_before _ _ _ _ _ _ _ _ _ seen w.lane-is c.sift-selection-inside.ensures.evaluated
     ]
+
+pub invariant_of-selection : goal.invariant_of-selection
+invariant_of-selection g c = (
+  omega (arith, c.selection.invariant.0, c.sift-selection-inside.ensures.within),
+  λ all. absurd (cc all),
+  rising_left _ _ _ c.selection.invariant.2 c.sift-selection-inside.ensures.evaluated.left_in,
+)

@@ -9,6 +9,6 @@ loop-number-preserved c =
     let i = c.loop-number.number-index in
     let f = entry_of c.args.keys.now.keys in
     let below : i < length ns = search rules in
-    let entry = c.as_entry.ensures ∙ c.get_index_of.ensures.index in
+    let entry = c.new.ensures ∙ c.get_index_of.ensures.index in
     c.in_ok-push.ensures.items ∙ ap (λ e. c.loop-number.matches.items ++ e ∷ []) entry ∙ ap (λ xs. xs ++ f (get_or ns i (pos 0)) ∷ []) c.loop-number.invariant
     ∙ append_assoc c.args.matches.now.items (map f (take i ns)) (f (get_or ns i (pos 0)) ∷ []) ∙ ap (λ xs. c.args.matches.now.items ++ xs) (sym (map_next f ns i (pos 0) below))

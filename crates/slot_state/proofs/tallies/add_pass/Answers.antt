@@ -1,4 +1,4 @@
-use Rattle.std.proofs.Common.{◌+◌, ◌++◌, ◌∷◌, [], ◌∙◌, subst, sym, take}
+use Rattle.std.proofs.Common.{◌++◌, ◌∷◌, [], ◌∙◌, subst, sym, take}
 use Rattle.rdf_model.specs.LoopFacts.{kinds_in}
 use Rattle.entry_cache.specs.Jobs.{job_of, passes_in}
 use Rattle.cluster_tally.specs.Feedings.{IsFresh, place_if}

@@ -1,82 +1,78 @@
-use Rattle.std.proofs.Common.{◌≡◌, ◌∙◌, ◌++◌, ◌∷◌, [], arith, inl, inr, rules, refl, append-nil}
+use Rattle.std.proofs.Common.{◌≡◌, ◌∙◌, ◌<◌, ◌++◌, ap, inl, inr, length, rules, refl, append-nil, sym}
 use Rattle.std.proofs.lemmas.Result.{err_from_is_err_and}
 use Rattle.csv.specs.Records.{fields_of}
+use Rattle.rdf_values.specs.Kept.{rows_kept}
 use Rattle.rdf_values.proofs.CellWords.{row_fits_columns}
+use Rattle.rdf_values.proofs.RowPushed.{holds_push, length-rows_kept, pushed_back, rows_after_push}
 use Rattle.table_csv.proofs.CellSteps.{row_early}
-use Rattle.table_csv.proofs.TableSteps.{mark_if, reading_end, reading_marks, reading_more, reading_rows, reading_start, reading_stop}
+use Rattle.table_csv.proofs.TableSteps.{mark_if, reading_end, reading_marks, reading_more, reading_opened, reading_stop, same_columns}
 use Rattle.table_csv.proofs.entries.read_entries.Goals as goal
-use Rattle.table_csv.proofs.entries.read_entries.Goals.{then-begins+in_ok-push-2, else-begins}
+use Rattle.table_csv.proofs.entries.read_entries.Goals.{then-begins+in_ok-push, else-begins}
 
-pub loop-row-init : goal.loop-row-init
-loop-row-init c =
-    let narrow = c.requires.header.few in
-    rw (c.in_ok-table.ensures, c.new-marks.ensures) (λ whole h. (whole, h, reading_start c.args.heading.columns c.args.heading.marked whole), omega arith, narrow)
+pub loop-elements-init : goal.loop-elements-init
+loop-elements-init c =
+    let e = sym c.in_ok-new.ensures ∙ c.into_parts-parts.ensures.same in
+    let cols = same_columns _ _ _ _ e in
+    (λ whole h. (whole, h, rw c.new-marks.ensures (reading_opened _ _ _ _ c.args.heading.marked whole e)), rw cols at c.into_parts-parts.ensures.holds)
 
 pub next-requires : goal.next-requires
 next-requires c =
-    let inv = c.loop-row.invariant.0 c.requires.left.0 c.requires.left.1 in
+    let inv = c.loop-elements.invariant.0 c.requires.left.0 c.requires.left.1 in
     (inv.0, inv.1)
 
 pub returns-in_err-begins-clause-value : goal.returns-in_err-begins-clause-value
 returns-in_err-begins-clause-value c whole h =
-    let inv = c.loop-row.invariant.0 whole h in
+    let inv = c.loop-elements.invariant.0 whole h in
     let took = rw c.if-branch.true at (c.in_ok-next.ensures _ inv.1) in
+    let cols = c.as_slice.ensures ∙ same_columns _ _ _ _ (sym c.in_ok-new.ensures ∙ c.into_parts-parts.ensures.same) in
     let p = err_from_is_err_and c.from_residual-in_err-begins.result c.from_residual-in_err-begins.ensures.1 in
     rw (p.1, p.2) (elim c.in_err-begins.ensures [
       | inl memory ↦ inl memory
-      | inr bad ↦ inr (bad.0, bad.1, reading_stop _ _ _ _ _ _ _ _ _ inv.2 took.1 (rw (← c.columns.ensures.value) bad.2))
+      | inr bad ↦ inr (bad.0, bad.1, reading_stop _ _ _ _ _ _ _ _ _ inv.2 took.1 (rw cols at bad.2))
     ])
 
-pub push-requires-clause-fits : goal.push-requires-clause-fits
-push-requires-clause-fits c =
-    let read = rw c.columns.ensures.value at c.in_ok-begins.ensures in
-    rw read at (row_fits_columns c.loop-row.entry (record { columns = c.loop-row.table.columns; marked = c.args.heading.marked }) (fields_of c.next.new.fields))
-
-pub push-requires-clause-room : goal.push-requires-clause-room
-push-requires-clause-room c =
-    let read = rw c.columns.ensures.value at c.in_ok-begins.ensures in
-    let early = row_early c.loop-row.entry (record { columns = c.loop-row.table.columns; marked = c.args.heading.marked }) (fields_of c.next.new.fields) _ read in
-    let inv = c.loop-row.invariant.0 c.requires.left.0 c.requires.left.1 in
-    let rows = reading_rows _ _ _ _ _ _ inv.2 in
-    omega (arith, early, rows)
-
-pub push-requires-then-begins-clause-above : goal.push-requires-then-begins-clause-above
-push-requires-then-begins-clause-above c =
-    let inv = c.loop-row.invariant.0 c.requires.left.0 c.requires.left.1 in
+pub push-requires-clause-above : goal.push-requires-clause-above
+push-requires-clause-above c =
+    let inv = c.loop-elements.invariant.0 c.requires.left.0 c.requires.left.1 in
     reading_marks _ _ _ _ _ _ inv.2
 
-pub push-requires-then-begins-clause-few : goal.push-requires-then-begins-clause-few
-push-requires-then-begins-clause-few c =
-    let read = rw c.columns.ensures.value at c.in_ok-begins.ensures in
-    row_early c.loop-row.entry (record { columns = c.loop-row.table.columns; marked = c.args.heading.marked }) (fields_of c.next.new.fields) _ read
+pub push-requires-clause-few : goal.push-requires-clause-few
+push-requires-clause-few c = row_early c.loop-elements.entry _ (fields_of c.next.new.fields) _ c.in_ok-begins.ensures.spelt
 
-pub loop-row-preserved : goal.loop-row-preserved
-loop-row-preserved c =
-    let read = rw c.columns.ensures.value at c.in_ok-begins.ensures in
-    let early = row_early c.loop-row.entry (record { columns = c.loop-row.table.columns; marked = c.args.heading.marked }) (fields_of c.next.new.fields) _ read in
-    let pushed : c.push.new.self ≡ record { columns = c.loop-row.table.columns; rows = c.loop-row.table.rows ++ c.read_row.new.row ∷ [] } = search rules in
-    let marks : c.if-begins.marks ≡ c.loop-row.marks ++ mark_if c.in_ok-begins.begins c.loop-row.entry = elim c.if-begins.branch [
-      | then-begins+in_ok-push-2 w ↦ w.marks-is ∙ w.in_ok-push-2.ensures.ok ∙ rw w.if-begins.true refl
+pub loop-elements-preserved : goal.loop-elements-preserved
+loop-elements-preserved c =
+    let columns = c.args.heading.columns in
+    let entry = c.loop-elements.entry in
+    let cells = c.loop-elements.cells.items in
+    let cols = c.as_slice.ensures ∙ same_columns _ _ _ _ (sym c.in_ok-new.ensures ∙ c.into_parts-parts.ensures.same) in
+    let read = rw (cols, c.deref_mut.ensures.value) at c.in_ok-begins.ensures in
+    let early = row_early entry (record { columns = columns; marked = c.args.heading.marked }) (fields_of c.next.new.fields) _ read.spelt in
+    let fits = rw read.spelt at (row_fits_columns entry (record { columns = columns; marked = c.args.heading.marked }) (fields_of c.next.new.fields)) in
+    let size : c.loop-elements.cells.len ≡ length cells = search rules in
+    let back = pushed_back c.loop-elements.cells.len c.push_row.new.cells cells read.row read.added size in
+    let holds = c.loop-elements.invariant.1 in
+    let room : length (rows_kept entry cells) < 1000000 = rw (length-rows_kept entry cells) early in
+    let rows = rows_after_push columns cells _ read.row entry _ holds.kept fits back refl in
+    let marks : c.if-begins.marks ≡ c.loop-elements.marks ++ mark_if c.in_ok-begins.begins entry = elim c.if-begins.branch [
+      | then-begins+in_ok-push w ↦ w.marks-is ∙ w.in_ok-push.ensures.ok ∙ rw w.if-begins.true refl
       | else-begins w ↦ w.marks-is ∙ rw (w.if-begins.false, append-nil) refl
-    ] in
-    let narrow = c.loop-row.invariant.2 in (
+    ] in (
       λ whole h.
-          let inv = c.loop-row.invariant.0 whole h in
+          let inv = c.loop-elements.invariant.0 whole h in
           let took = rw c.if-branch.true at (c.in_ok-next.ensures _ inv.1) in
-          let more = reading_more _ _ _ _ _ _ _ _ _ _ _ inv.2 took.1 read pushed in
+          let more = reading_more _ _ _ _ _ _ _ _ _ _ _ inv.2 took.1 read.spelt (ap (λ t. record { columns = columns; rows = t }) rows) in
           (took.0, took.2, rw marks more),
-      omega (arith, early),
-      rw pushed narrow,
+      holds_push columns cells _ read.row entry _ holds fits room back refl,
     )
 
 pub returns-clause-value : goal.returns-clause-value
 returns-clause-value c whole h =
-    let inv = c.loop-row.invariant.0 whole h in
+    let inv = c.loop-elements.invariant.0 whole h in
     let none = rw c.if-branch.false at (c.in_ok-next.ensures _ inv.1) in
-    reading_end _ _ _ _ _ _ inv.2 none
+    let cols = same_columns _ _ _ _ (sym c.in_ok-new.ensures ∙ c.into_parts-parts.ensures.same) in
+    rw (c.from_parts-table.ensures, cols) (reading_end _ _ _ _ _ _ inv.2 none)
 
 pub returns-clause-within : goal.returns-clause-within
 returns-clause-within c =
-    let inv = c.loop-row.invariant.0 c.requires.left.0 c.requires.left.1 in
-    let rows = reading_rows _ _ _ _ _ _ inv.2 in
-    rw rows (reading_marks _ _ _ _ _ _ inv.2)
+    let inv = c.loop-elements.invariant.0 c.requires.left.0 c.requires.left.1 in
+    rw (c.from_parts-table.ensures, length-rows_kept) (reading_marks _ _ _ _ _ _ inv.2)

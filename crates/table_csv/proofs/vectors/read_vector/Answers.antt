@@ -1,4 +1,4 @@
-use Rattle.std.proofs.Common.{◌≡◌, ◌∙◌, arith, sym, length, None, rules}
+use Rattle.std.proofs.Common.{◌≡◌, ◌∙◌, arith, length, None, rules}
 use Rattle.std.proofs.lemmas.Grind.{common_steps}
 use Rattle.std.proofs.lemmas.Bool.Decides.{nat_tests}
 use Rattle.std.specs.List.{slice_split}
@@ -34,4 +34,4 @@ pub returns : goal.returns
 returns c =
     let none : c.loop-rest.rest ≡ None = search rules in
     let inv = rw none at c.loop-rest.invariant.0 in
-    sym (inv ∙ vector_end c.loop-rest.elements c.loop-rest.invariant.1)
+    inv ∙ vector_end c.loop-rest.elements c.loop-rest.invariant.1

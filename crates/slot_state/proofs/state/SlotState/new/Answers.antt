@@ -1,4 +1,5 @@
-use Rattle.std.proofs.Common.{arith, refl}
+use Rattle.std.proofs.Common.{ap, arith, map, refl, ℕ}
+use Rattle.std.specs.declared.snapshot.Snapshot.{Snapshot}
 use Rattle.entry_cache.specs.Jobs.{job_of}
 use Rattle.slot_state.specs.contracts.state.SlotState.{the_view}
 use Rattle.slot_state.specs.declared.progress.Phase.TheVariants as phase
@@ -11,4 +12,4 @@ returns g c =
     let d = c.in_ok-done in
     begun (job_of c.args.job.now) c.requires.job.job c.answers_have_64_bits.ensures c.requires.words
     (the_view (record { cache = c.in_ok-cache.cache; plan = c.in_ok-plan.plan; tally = t.tally; done = d.done; phase = phase.Going }))
-    c.in_ok-cache.ensures.1 c.in_ok-plan.ensures t.ensures.fresh t.ensures.flow (omega (arith, d.ensures.capacity, c.count.ensures.value)) d.ensures.items refl
+    c.in_ok-cache.ensures.1 c.in_ok-plan.ensures t.ensures.fresh t.ensures.flow (omega (arith, d.ensures.capacity, c.count.ensures.value)) (ap (map (λ (s : Snapshot ℕ). s.value)) d.ensures.items) refl

@@ -1,6 +1,6 @@
-use Rattle.std.proofs.Common.{◌≡◌, ◌∙◌, ◌<◌, ◌++◌, ◌∷◌, [], Ok, Err, None, Some, length, ap, arith, refl, subst, sym}
-use Rattle.std.specs.Prelude.{Result}
-use Rattle.rdf_values.specs.declared.fault.Fault.{Fault}
+use Rattle.std.proofs.Common.{ℕ, ◌≡◌, ◌∙◌, ◌<◌, ◌++◌, ◌∷◌, [], Err, None, Some, length, ap, arith, refl, subst, sym}
+use Rattle.std.proofs.lemmas.List.{length-map}
+use Rattle.std.specs.declared.snapshot.Snapshot.{Snapshot}
 use Rattle.entry_cache.specs.Jobs.{job_of}
 use Rattle.entry_passes.specs.Entries.{facts_in}
 use Rattle.cluster_tally.specs.Stages.{at_begin}
@@ -9,14 +9,8 @@ use Rattle.slot_state.specs.Clusters.{IsClusterAnswer, at_end}
 use Rattle.slot_state.specs.Jobs.{job_facts}
 use Rattle.slot_state.specs.Slots.{SlotView}
 use Rattle.slot_state.specs.contracts.state.SlotState.{the_view}
-use Rattle.slot_state.specs.declared.progress.Progress.{Progress}
-use Rattle.slot_state.specs.declared.progress.Progress.TheVariants.{Faulted}
-use Rattle.slot_state.specs.declared.progress.SlotStop.{SlotStop}
-use Rattle.slot_state.proofs.SlotLemmas.{begins, cluster_within, fault_at, goes_on, has_room, is_at_end, went_on}
+use Rattle.slot_state.proofs.SlotLemmas.{begins, cluster_within, fault_at, goes_on, has_room, is_at_end, seen_with, went_on}
 use Rattle.slot_state.proofs.state.SlotState.process.Goals as goal
-
-same_fault : (x y : Fault) → ◌≡◌ {A = Result Progress SlotStop} (Ok (Faulted x)) (Ok (Faulted y)) → x ≡ y
-same_fault x y e = cc e
 
 pub try_cluster-requires-clause-cluster : goal.try_cluster-requires-clause-cluster
 try_cluster-requires-clause-cluster g c = cluster_within (job_of c.args.job.now) c.args.cluster c.requires.cluster
@@ -48,7 +42,8 @@ push_reserved-requires g c =
     let room = has_room (job_of c.args.job.now) c.args.self.now c.requires.slot going c.args.cluster c.requires.cluster c.requires.above in
     let here = subst (λ (s : SlotView). length s.done < s.room) (sym c.self.view_is) room in
     let len = c.self.inside.done.ok.0 in
-    omega (arith, here, len)
+    let many = length-map c.self.inside.done.items (λ (d : Snapshot ℕ). d.value) in
+    omega (arith, here, len, many)
 
 pub returns-in-Ok-close-clause-slot : goal.returns-in-Ok-close-clause-slot
 returns-in-Ok-close-clause-slot g c =
@@ -61,7 +56,7 @@ returns-in-Ok-close-clause-slot g c =
     (the_view (record { cache = c.try_cluster.new.cache; plan = c.self.inside.plan; tally = c.close.new.self; done = c.push_reserved.new.self; phase = c.self.inside.phase }))
     c.try_cluster.ensures.sized (ap (λ (s : SlotView). s.plan) c.self.view_is)
     (c.push_reserved.ensures.capacity ∙ ap (λ (s : SlotView). s.room) c.self.view_is)
-    (c.push_reserved.ensures.items ∙ ap (λ (s : SlotView). s.done ++ c.args.cluster ∷ []) c.self.view_is)
+    (seen_with c.self.inside.done.items c.push_reserved.new.self.items c.args.cluster c.of.result c.of.ensures c.push_reserved.ensures.items ∙ ap (λ (s : SlotView). s.done ++ c.args.cluster ∷ []) c.self.view_is)
     (λ next later. c.in-Ok-close.ensures.holds (facts_in j) (job_facts j).watched (at_end (facts_in j) c.args.self.now.done c.args.cluster) next taken (is_at_end j c.args.self.now.done c.args.cluster) later)
 
 pub returns-in-Ok-close-clause-done : goal.returns-in-Ok-close-clause-done
@@ -70,7 +65,7 @@ returns-in-Ok-close-clause-done g c = λ e.
     let going = goes_on c.args.self.now.phase (λ e. c.in_default.not-NoMemory (ap (λ (s : SlotView). s.phase) c.self.view_is ∙ e)) c.requires.open in (
       going,
       fault_at j c.args.cluster None c.requires.cluster (subst (IsClusterAnswer j c.args.cluster) c.in-Ok.is c.try_cluster.ensures.answer),
-      c.push_reserved.ensures.items ∙ ap (λ (s : SlotView). s.done ++ c.args.cluster ∷ []) c.self.view_is,
+      seen_with c.self.inside.done.items c.push_reserved.new.self.items c.args.cluster c.of.result c.of.ensures c.push_reserved.ensures.items ∙ ap (λ (s : SlotView). s.done ++ c.args.cluster ∷ []) c.self.view_is,
       ap (λ (s : SlotView). s.phase) c.self.view_is ∙ going,
     )
 
@@ -87,7 +82,7 @@ pub returns-in-Err-Fault-clause-faulted : goal.returns-in-Err-Fault-clause-fault
 returns-in-Err-Fault-clause-faulted g c = λ f e.
     let j = job_of c.args.job.now in
     let going = goes_on c.args.self.now.phase (λ e. c.in_default.not-NoMemory (ap (λ (s : SlotView). s.phase) c.self.view_is ∙ e)) c.requires.open in
-    let same = same_fault c.in-Err-Fault.fault f e in (
+    let same : c.in-Err-Fault.fault ≡ f = cc e in (
       going,
       fault_at j c.args.cluster (Some f) c.requires.cluster (subst (IsClusterAnswer j c.args.cluster) (c.in-Err-Fault.is ∙ ap Err c.in-Err-Fault.field-0-is) c.try_cluster.ensures.answer ∙ ap Some same),
       ap (λ (s : SlotView). s.done) c.self.view_is,

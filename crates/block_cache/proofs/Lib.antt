@@ -1,0 +1,4 @@
+pub mod BlockLaws
+pub mod OverLaws
+pub mod ColumnCells
+pub mod LeastFaults

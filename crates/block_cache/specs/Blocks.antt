@@ -1,0 +1,101 @@
+-- What is held of the entries of a block.
+use Rattle.std.specs.Prelude.{◌≡◌, ◌<◌, ◌≤◌, ◌+◌, ◌-◌, ◌++◌, ℕ, ℤ, true, List, length, map, take, replicate, All, Option, Some, if◌then◌else◌, slice_get, slice_set}
+use Rattle.rdf_values.specs.declared.value.ColType.{ColType}
+use Rattle.rdf_values.specs.declared.value.Value.{Value}
+use Rattle.rdf_values.specs.declared.value.Value.TheVariants as val
+use Rattle.rdf_model.specs.Evaluation.{Outcome, Gives, Faults, Needs}
+use Rattle.expr_check.specs.NumKinds.{CheckedExpr, is_plain}
+use Rattle.expr_lanes.specs.Depths.{depth}
+use Rattle.expr_lanes.specs.declared.stopped.Stopped.{Stopped}
+use Rattle.graph_numbers.specs.Graphs.{IsSiteExpr}
+use Rattle.graph_numbers.specs.declared.source.Source.{Source}
+use Rattle.graph_numbers.specs.declared.source.Source.TheVariants as from
+use Rattle.expr_lanes.specs.Places.{at_place}
+use Rattle.block_lanes.specs.Lanes.{IsEvaluated, LaneView, is_held, value_of}
+use Rattle.entry_cache.specs.Jobs.{JobView, job_graph}
+use Rattle.entry_cache.specs.Keys.{key, key_count}
+use Rattle.entry_cache.specs.Store.{IsMissing, IsReadable, IsSound, MeetsAt, row_in, site_in, source_at}
+use Rattle.entry_cache.specs.declared.held.Held.{Held}
+use Rattle.entry_cache.specs.declared.held.Held.TheVariants as held
+
+-- a value that is held
+abbrev pub held_value : Value → Held
+held_value (val.Int z) = held.Int z
+held_value (val.Bool b) = held.Bool b
+held_value (val.Vect zs) = held.Vect zs
+
+-- what a lane holds at a place
+abbrev pub held_at : LaneView → ℕ → Held
+held_at l p = if is_held l p then held_value (value_of l p) else held.Nothing
+
+-- what so many keys hold of the entry at a place, by the lanes of the first of them: nothing of the others
+abbrev pub cells_at : ℕ → List LaneView → ℕ → List Held
+cells_at keys lanes p = map (λ (l : LaneView). held_at l p) lanes ++ replicate (keys - length lanes) held.Nothing
+
+-- ---- the table's columns
+
+-- the numbers of a column at so many entries, from one on
+pub record IsColumn (rows : List (List Value)) (first count col : ℕ) (numbers : List ℤ) : Type 0 where
+  pub long : count ≤ length numbers
+  pub each : (p : ℕ) → p < count → slice_get (row_in rows (first + p)) col ≡ Some (val.Int (at_place numbers p))
+
+-- the column is there, as numbers
+abbrev pub HasColumn : JobView → ℕ → ℕ → List (List ℤ) → ℕ → Type 0
+HasColumn j first count cells col = (numbers : List ℤ) × (slice_get cells col ≡ Some numbers) × IsColumn j.dataset.rows first count col numbers
+
+-- ---- what can be read
+
+-- the lane is there, in a block of so many places
+abbrev pub HasLane : ℕ → List LaneView → ℕ → Type 0
+HasLane count lanes k = (l : LaneView) × (slice_get lanes k ≡ Some l) × (l.count ≡ count)
+
+-- the source is a column of numbers, or a site with a lane
+abbrev pub HasSource : JobView → ℕ → Option ℕ → ℕ → List LaneView → List (List ℤ) → Source → Type 0
+HasSource j first u count lanes cells (from.Cell col) = HasColumn j first count cells col
+HasSource j first u count lanes cells (from.Site s) = HasLane count lanes (key (job_graph j) s u)
+HasSource j first u count lanes cells (from.Element s k tags) = ⊥
+
+-- the version can be read over the block
+pub record CanRead (j : JobView) (first : ℕ) (u : Option ℕ) (count : ℕ) (lanes : List LaneView) (cells : List (List ℤ)) (c : ℕ) : Type 0 where
+  pub readable : IsReadable j u c
+  pub source : HasSource j first u count lanes cells (source_at j u c)
+
+-- ---- one evaluation of a site over a block
+
+-- a lane for each key, in a block of so many places, one at least, whose entries are of the table; and what is held is right
+pub record AreReady (j : JobView) (first count : ℕ) (lanes : List LaneView) : Type 0 where
+  pub many : length lanes ≡ key_count (job_graph j)
+  pub counts : All (λ (l : LaneView). l.count ≡ count) lanes
+  pub some : 0 < count
+  pub within : first + count ≤ length j.dataset.rows
+  pub sound : (p : ℕ) → p < count → IsSound j (first + p) (cells_at (key_count (job_graph j)) lanes p)
+
+-- the site's expression has no vector, its lane is of its kind, the levels are enough for it, and each version that it reads is a column
+-- of numbers or has a lane below
+pub record IsPlainOver (j : JobView) (first : ℕ) (u : Option ℕ) (count : ℕ) (lanes : List LaneView) (cells : List (List ℤ)) (levels s : ℕ) (e : CheckedExpr) : Type 0 where
+  pub plain : is_plain e.kinds e.tree ≡ true
+  pub kind : (l : LaneView) → slice_get lanes (key (job_graph j) s u) ≡ Some l → e.kind ≡ l.kind
+  pub deep : depth e.tree ≤ levels
+  pub sources : All (λ (c : ℕ × ColType). HasSource j first u count (take (key (job_graph j) s u) lanes) cells (source_at j u c.0)) e.kinds
+
+-- so much for the site of that number
+abbrev pub CanTry : JobView → ℕ → Option ℕ → ℕ → List LaneView → List (List ℤ) → ℕ → ℕ → Type 0
+CanTry j first u count lanes cells levels s = (e : CheckedExpr) → IsSiteExpr (job_graph j) s e → IsPlainOver j first u count lanes cells levels s e
+
+-- an evaluation over what is held tells what the site comes to, or a version that it meets and that is missing
+abbrev pub IsTelling : JobView → ℕ → Option ℕ → List Held → ℕ → Outcome ℕ Value → Type 0
+IsTelling j entry u cells s (Gives v) = site_in {M = ⊥} j entry u s ≡ Gives v
+IsTelling j entry u cells s (Faults k) = site_in {M = ⊥} j entry u s ≡ Faults k
+IsTelling j entry u cells s (Needs c) = IsMissing j u cells s c × MeetsAt j entry u s c
+
+-- the site's lane after the site was evaluated at the places of a selection, with what was told at each; the other lanes are as they
+-- were, and what is held is right
+pub record IsTriedOver (j : JobView) (first : ℕ) (u : Option ℕ) (count s : ℕ) (sel left : List ℕ) (before after : List LaneView) (stops more : List Stopped) : Type 0 where
+  pub own : LaneView
+  pub is_own : slice_get before (key (job_graph j) s u) ≡ Some own
+  pub lane : LaneView
+  pub written : after ≡ slice_set before (key (job_graph j) s u) lane
+  pub told : ℕ → Outcome ℕ Value
+  pub telling : (p : ℕ) → p < count → IsTelling j (first + p) u (cells_at (key_count (job_graph j)) (take (key (job_graph j) s u) before) p) s (told p)
+  pub evaluated : IsEvaluated told sel left own lane stops more
+  pub ready : AreReady j first count after

@@ -1,0 +1,9 @@
+//! What the passes of an event loop share of a block of entries: an expression is evaluated over all entries that call for it at once,
+//! and once for all variations under which it comes to the same. It stands on `block_lanes`, which keeps what is known, and on
+//! `entry_cache` for the numbers of keys and for what is known of one entry.
+#![tactic(auto)]
+
+pub mod attempt;
+pub mod cells;
+pub mod faults;
+mod view;

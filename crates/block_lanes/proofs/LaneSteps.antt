@@ -1,0 +1,156 @@
+-- A lane before and after an evaluation.
+use Rattle.std.proofs.Common.{◌≡◌, ◌<◌, ◌≤◌, ◌+◌, ◌||◌, ◌++◌, not, ℕ, ℤ, suc, zero, Bool, true, false, inl, inr, List, [], ◌∷◌, length, take, drop, ◌∙◌, refl, ap, sym, subst, cond, arith}
+use Rattle.std.specs.Prelude.{count_by}
+use Rattle.std.specs.List.{filter, range_with_len}
+use Rattle.std.proofs.Math.Seq.{take-append_seam}
+use Rattle.rdf_values.specs.declared.value.ColType.{ColType}
+use Rattle.rdf_values.specs.declared.value.Value.{Value}
+use Rattle.rdf_model.specs.Evaluation.{Outcome, Gives}
+use Rattle.expr_lanes.specs.Marks.{lane_number, lane_outcome, lane_value}
+use Rattle.expr_lanes.specs.Places.{at_place, is_given, is_in, is_marked, EachPlace}
+use Rattle.expr_lanes.specs.Values.{HasValues}
+use Rattle.expr_lanes.specs.declared.stopped.Stopped.{Stopped}
+use Rattle.expr_lanes.proofs.Sequence.{filtered_in, filtered_out, first_in, rest_in}
+use Rattle.std.proofs.lemmas.Bool.{cases_lt}
+use Rattle.block_lanes.proofs.Marking.{count_none}
+use Rattle.expr_lanes.specs.declared.TheConstants.{MAX_PLACES}
+use Rattle.block_lanes.specs.Lanes.{LaneView, IsEvaluated, IsLane, IsUnknown, room_of}
+
+-- ---- a filter by what holds of each place
+
+kept_all : (f : ℕ → Bool) (p : ℕ) (sel : List ℕ) → f p ≡ true → filter f sel ≡ sel → filter f (p ∷ sel) ≡ p ∷ sel
+kept_all f p sel here rest = ap (λ b. cond b (p ∷ filter f sel) (filter f sel)) here ∙ ap (λ l. p ∷ l) rest
+
+pub filter_all : (f : ℕ → Bool) (sel : List ℕ) → EachPlace sel (λ p. f p ≡ true) → filter f sel ≡ sel
+filter_all f [] each = refl
+filter_all f (p ∷ sel) each = kept_all f p sel (each p (first_in p sel)) (filter_all f sel (λ q i. each q (rest_in q p sel i)))
+
+pub filter_none : (f : ℕ → Bool) (sel : List ℕ) → EachPlace sel (λ p. f p ≡ false) → filter f sel ≡ []
+filter_none f [] each = refl
+filter_none f (p ∷ sel) each = ap (λ b. cond b (p ∷ filter f sel) (filter f sel)) (each p (first_in p sel)) ∙ filter_none f sel (λ q i. each q (rest_in q p sel i))
+
+-- ---- what a slice leaves in its vector
+
+pub written : {A : Type 0} (n : ℕ) (new seen old : List A) → length new ≡ length seen → length seen ≡ n → take n (new ++ drop (length new) old) ≡ new
+written n new seen old same many =
+    let long : length new ≡ n = omega arith in
+    ap (λ k. take k (new ++ drop (length new) old)) (sym long) ∙ take-append_seam new (drop (length new) old)
+
+-- ---- marks, seen as the lane's
+
+pub marks_as : (places sel : List ℕ) (old seen new : List Bool) → places ≡ sel → old ≡ seen → ((p : ℕ) → is_marked new p ≡ (is_in p places || is_marked old p)) → (p : ℕ) → is_marked new p ≡ (is_in p sel || is_marked seen p)
+marks_as places sel old seen new same_places same_marks marked p = marked p ∙ ap (λ l. is_in p l || is_marked old p) same_places ∙ ap (λ l. is_in p sel || is_marked l p) same_marks
+
+pub newly_as : (places sel : List ℕ) (old seen new : List Bool) → places ≡ sel → old ≡ seen → count_by (λ b. b) new ≡ count_by (λ b. b) old + count_by (λ p. not (is_marked old p)) places
+    → count_by (λ b. b) new ≡ count_by (λ b. b) seen + count_by (λ p. not (is_marked seen p)) sel
+newly_as places sel old seen new same_places same_marks newly =
+    newly ∙ ap (λ l. count_by (λ b. b) old + count_by (λ p. not (is_marked old p)) l) same_places ∙ ap (λ l. count_by (λ b. b) l + count_by (λ p. not (is_marked l p)) sel) same_marks
+
+-- ---- an evaluation
+
+number_is : (y z : ℤ) → ◌≡◌ {A = Outcome ℕ ℤ} (Gives y) (Gives z) → y ≡ z
+number_is y z e = cc e
+
+first_false : (a b : Bool) → (a || b) ≡ false → a ≡ false
+first_false true b h = h
+first_false false b h = refl
+
+last_false : (a b : Bool) → (a || b) ≡ false → b ≡ false
+last_false true b h = absurd (cc h)
+last_false false b h = h
+
+neither : (a b : Bool) → a ≡ false → b ≡ false → (a || b) ≡ false
+neither a b h k = ap (λ c. c || b) h ∙ k
+
+pub either_held : (a b : Bool) → a ≡ true → (a || b) ≡ true
+either_held a b h = ap (λ c. c || b) h
+
+outside : (a : Bool) → (a ≡ true → ⊥) → a ≡ false
+outside true h = absurd (h refl)
+outside false h = refl
+
+module _
+    (f : ℕ → Outcome ℕ Value) (sel left : List ℕ) (kind : ColType) (count : ℕ) (numbers0 numbers : List ℤ) (tried0 tried held0 held : List Bool)
+    (tried_at : (p : ℕ) → is_marked tried p ≡ (is_in p sel || is_marked tried0 p)) (held_at : (p : ℕ) → is_marked held p ≡ (is_in p left || is_marked held0 p))
+  where
+    abbrev before : LaneView
+    before = record { kind = kind; count = count; numbers = numbers0; tried = tried0; held = held0 }
+
+    abbrev after : LaneView
+    after = record { kind = kind; count = count; numbers = numbers; tried = tried; held = held }
+
+    -- the lane is one still
+    pub lane_after : (stops more : List Stopped) → IsLane before → EachPlace sel (λ p. p < count) → EachPlace sel (λ p. is_marked held0 p ≡ false) → HasValues kind f sel left numbers0 numbers stops more → length numbers ≡ length numbers0
+        → length tried ≡ length tried0 → length held ≡ length held0 → IsLane after
+    lane_after stops more lane inside unknown come long long_tried long_held = record {
+      small = omega (arith, lane.small);
+      tried = long_tried ∙ lane.tried ∙ sym long;
+      held = long_held ∙ lane.held ∙ sym long;
+      within = omega (arith, lane.within);
+      behind = λ p far. tried_at p ∙ neither (is_in p sel) (is_marked tried0 p) (outside (is_in p sel) (λ i. let near : p < count = inside p i in omega arith)) (lane.behind p far);
+      begun = λ p none.
+          let no : (is_in p sel || is_marked tried0 p) ≡ false = sym (tried_at p) ∙ none in
+          held_at p ∙ neither (is_in p left) (is_marked held0 p) (ap (λ l. is_in p l) come.left_in ∙ filtered_out (λ p. is_given (f p)) p sel (first_false (is_in p sel) (is_marked tried0 p) no)) (lane.begun p (last_false (is_in p sel) (is_marked tried0 p) no));
+      exact = λ p is. exact_at p (is_in p left) refl (is_in p sel) refl (sym (held_at p) ∙ is);
+    }
+      where
+        exact_at : (p : ℕ) (b : Bool) → is_in p left ≡ b → (s : Bool) → is_in p sel ≡ s → (is_in p left || is_marked held0 p) ≡ true → lane_number (lane_value kind (at_place numbers p)) ≡ at_place numbers p
+        exact_at p true among s _ is = own (f p) (come.values p among) (come.exact p among)
+          where
+            own : (o : Outcome ℕ Value) → o ≡ Gives (lane_value kind (at_place numbers p)) → lane_outcome o ≡ Gives (at_place numbers p) → lane_number (lane_value kind (at_place numbers p)) ≡ at_place numbers p
+            own o e n = number_is (lane_number (lane_value kind (at_place numbers p))) (at_place numbers p) (ap lane_outcome (sym e) ∙ n)
+        exact_at p false not_left true among is = let no : is_marked held0 p ≡ true = sym (ap (λ b. b || is_marked held0 p) not_left) ∙ is in absurd (cc (no, unknown p among))
+        exact_at p false not_left false outside_sel is =
+            let was : is_marked held0 p ≡ true = sym (ap (λ b. b || is_marked held0 p) not_left) ∙ is in
+            let same : at_place numbers p ≡ at_place numbers0 p = come.others p outside_sel in
+            ap (λ z. lane_number (lane_value kind z)) same ∙ lane.exact p was ∙ sym same
+
+    -- and the key was evaluated
+    pub evaluated_after : (stops more : List Stopped) → HasValues kind f sel left numbers0 numbers stops more → length numbers ≡ length numbers0 → count_by (λ b. b) tried ≡ count_by (λ b. b) tried0 + count_by (λ p. not (is_marked tried0 p)) sel
+        → IsEvaluated f sel left before after stops more
+    evaluated_after stops more come long newly = record {
+      same = record { kind = refl; room = long };
+      count = refl;
+      left_in = come.left_in;
+      tried = tried_at;
+      held = held_at;
+      values = come.values;
+      others = λ p h. ap (lane_value kind) (come.others p h);
+      newly = newly;
+      joined = come.joined;
+    }
+
+-- what came to a value was selected
+pub in_given : (f : ℕ → Outcome ℕ Value) (sel left seen : List ℕ) → seen ≡ left → left ≡ filter (λ p. is_given (f p)) sel → (p : ℕ) → is_in p seen ≡ true → is_in p sel ≡ true
+in_given f sel left seen same left_in p h = filtered_in (λ p. is_given (f p)) p sel (subst (λ (l : List ℕ). is_in p l ≡ true) (same ∙ left_in) h)
+
+-- what an evaluation wrote, seen as the lane's
+pub come_as : (kind own : ColType) (f : ℕ → Outcome ℕ Value) (sel left : List ℕ) (numbers0 seen numbers : List ℤ) (stops more : List Stopped) → kind ≡ own → numbers0 ≡ seen → HasValues kind f sel left numbers0 numbers stops more
+    → HasValues own f sel left seen numbers stops more
+come_as kind own f sel left numbers0 seen numbers stops more same_kind same_numbers come =
+    subst (λ (k : ColType). HasValues k f sel left seen numbers stops more) same_kind (subst (λ (l : List ℤ). HasValues kind f sel left l numbers stops more) same_numbers come)
+
+-- ---- a block that begins
+
+pub unknown_after : (kind : ColType) (last size : ℕ) (numbers : List ℤ) (tried0 tried held0 held : List Bool) → IsLane (record { kind = kind; count = last; numbers = numbers; tried = tried0; held = held0 }) → ((p : ℕ) → p < last → is_marked tried p ≡ false)
+    → ((p : ℕ) → last ≤ p → is_marked tried p ≡ is_marked tried0 p) → ((p : ℕ) → p < last → is_marked held p ≡ false) → ((p : ℕ) → last ≤ p → is_marked held p ≡ is_marked held0 p)
+    → IsUnknown size (record { kind = kind; count = size; numbers = numbers; tried = tried; held = held })
+unknown_after kind last size numbers tried0 tried held0 held lane tried_first tried_rest held_first held_rest = record { count = refl; tried = no_tried; held = no_held; none = count_none tried no_tried }
+  where
+    no_tried : (p : ℕ) → is_marked tried p ≡ false
+    no_tried p = elim (cases_lt p last) [ inl low ↦ tried_first p low | inr high ↦ tried_rest p high ∙ lane.behind p high ]
+
+    no_held : (p : ℕ) → is_marked held p ≡ false
+    no_held p = elim (cases_lt p last) [ inl low ↦ held_first p low | inr high ↦ held_rest p high ∙ lane.begun p (lane.behind p high) ]
+
+-- of which nothing is known, it is a lane
+pub unknown_lane : (l : LaneView) (size : ℕ) → room_of l ≤ MAX_PLACES → length l.tried ≡ room_of l → length l.held ≡ room_of l → l.count ≤ room_of l → IsUnknown size l → IsLane l
+unknown_lane l size small long_tried long_held within unknown = record {
+  small = small;
+  tried = long_tried;
+  held = long_held;
+  within = within;
+  behind = λ p far. unknown.tried p;
+  begun = λ p none. unknown.held p;
+  exact = λ p is. absurd (cc (is, unknown.held p));
+}

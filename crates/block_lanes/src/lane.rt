@@ -1,0 +1,168 @@
+// What is known of one key over a block.
+ghost use Rattle.std.specs.Prelude.{◌≡◌, ◌<◌, ◌≤◌, ◌+◌, ℕ, true, false, not, length, All, IfOk};
+ghost use Rattle.std.specs.List.{filter};
+ghost use Rattle.rdf_values.specs.Functions.{fn_names};
+ghost use Rattle.rdf_model.specs.Evaluation.{evaluate as evaluate_at, call_outcome};
+ghost use Rattle.rdf_model.specs.Laws.{FitsOutcome};
+ghost use Rattle.entry_fns.specs.Lists.{functions_in};
+ghost use Rattle.expr_check.specs.NumKinds.{is_plain, CallsFit};
+ghost use Rattle.expr_lanes.specs.Depths.{depth};
+ghost use Rattle.expr_lanes.specs.LaneInputs.{is_known, HasMarks};
+ghost use Rattle.expr_lanes.specs.Places.{EachPlace, IsSelected};
+ghost use Rattle.block_lanes.specs.Lanes.{is_held, room_of, IsEvaluated, IsExact, IsExtent, IsSameLane, IsUnknown, LaneView};
+
+use crate::marks::{clear_first, mark};
+use arrayvec::ArrayVec;
+use entry_fns::FnList;
+use expr_check::Checked;
+use expr_eval::Steps;
+use expr_lanes::{
+    Known, LaneColumn, LaneInputs, MAX_PLACES, Scratch, Selection, Stopped, eval_lane,
+};
+use rdf_values::{ColType, Memory};
+use std::alloc::Global;
+use std::marker::Model;
+use std::sync::ledger::Ledger;
+
+/// How much of a block holds a value: nothing, some places or any, or all of them.
+#[derive(Clone, Copy, Debug)]
+pub enum Extent {
+    Nothing,
+    Some,
+    All,
+}
+
+/// A key over a block: at each place its number, whether its evaluation was begun, and whether it came to a value. Places that are
+/// marked keep their numbers until the next block begins.
+#[derive(Drop)]
+pub struct Lane {
+    kind: ColType,
+    count: usize,
+    numbers: Vec<i64>,
+    tried: Vec<bool>,
+    held: Vec<bool>,
+    extent: Extent,
+}
+
+impl Model for Lane {
+    ghost use Rattle.block_lanes.specs.Lanes.{LaneView, IsLane, IsExtent};
+
+    ghost Value = { LaneView };
+
+    ghost view = { λ l. record { kind = l.kind; count = l.count; numbers = l.numbers.items; tried = l.tried.items; held = l.held.items } };
+
+    ghost invariant = { λ l. IsLane (record { kind = l.kind; count = l.count; numbers = l.numbers.items; tried = l.tried.items; held = l.held.items })
+        × IsExtent l.extent (record { kind = l.kind; count = l.count; numbers = l.numbers.items; tried = l.tried.items; held = l.held.items }) };
+}
+
+impl Lane {
+    /// The lane of a key, with all the memory that it takes for blocks of so many places. Of no block is anything known yet.
+    pub fn new(alloc: Global, kind: ColType, room: usize) -> Result<Lane, Memory>
+        requires { room ≤ MAX_PLACES }
+        ensures kind { IfOk result (λ l. l.kind ≡ kind) }
+        ensures room { IfOk result (λ l. room_of l ≡ room) }
+        ensures unknown { IfOk result (IsUnknown 0) }
+    {
+        let numbers = vec![in alloc; 0; room]?;
+        let tried = vec![in alloc; false; room]?;
+        let held = vec![in alloc; false; room]?;
+        Ok(Lane {
+            kind,
+            count: 0,
+            numbers,
+            tried,
+            held,
+            extent: Extent::Nothing,
+        })
+    }
+
+    /// Begins a block of so many places, of which nothing is known yet.
+    pub fn begin(&mut self, count: usize)
+        requires { count ≤ room_of self.old }
+        ensures same { IsSameLane self.old self.new }
+        ensures unknown { IsUnknown count self.new }
+    {
+        let last = self.count;
+        clear_first(&mut self.tried, last);
+        clear_first(&mut self.held, last);
+        self.count = count;
+        self.extent = Extent::Nothing;
+    }
+
+    /// Leaves the places selected at which no value is held.
+    pub fn keep_unknown(&self, selection: &mut Selection)
+        requires { EachPlace selection.old (λ p. p < self.now.count) }
+        ensures { selection.new ≡ filter (λ p. not (is_held self.now p)) selection.old }
+    {
+        match self.extent {
+            Extent::Nothing => {}
+            Extent::Some => selection.keep_unmarked(&self.held),
+            Extent::All => selection.select_first(0),
+        }
+    }
+
+    /// What is known of the key, as an evaluation reads it.
+    pub fn column(&self) -> LaneColumn<'_>
+        ensures numbers { result.numbers.now ≡ self.now.numbers }
+        ensures exact { IsExact self.now }
+        ensures long { self.now.count ≤ length result.numbers.now }
+        ensures marks { HasMarks self.now.count result.known }
+        ensures known { (p : ℕ) → p < self.now.count → is_known result.known p ≡ is_held self.now p }
+    {
+        let numbers = self.numbers.as_slice();
+        let known = match self.extent {
+            Extent::All => Known::Everywhere,
+            Extent::Nothing | Extent::Some => Known::Marked(self.held.as_slice()),
+        };
+        LaneColumn { numbers, known }
+    }
+
+    /// Evaluates the key's expression at the selected places, of which nothing is held, in a step each. Where it comes to a value the place stays selected, and
+    /// the lane holds the value; each other place becomes a stop.
+    pub fn evaluate<I: LaneInputs, L: Ledger>(
+        &mut self,
+        expr: &Checked,
+        inputs: &I,
+        functions: &FnList,
+        selection: &mut Selection,
+        stops: &mut ArrayVec<Stopped, MAX_PLACES>,
+        scratch: &mut [Scratch],
+        steps: &mut Steps<L>,
+    )
+        requires kind { expr.now.kind ≡ self.old.kind }
+        requires plain { is_plain expr.now.kinds expr.now.tree ≡ true }
+        requires can { All (λ c. I.can inputs.now c.0) expr.now.kinds }
+        requires fit { (p : ℕ) → p < I.size inputs.now → All (λ c. FitsOutcome c.1 (I.look inputs.now p c.0)) expr.now.kinds }
+        requires calls { CallsFit (fn_names (functions_in functions.now)) expr.now.tree }
+        requires deep { depth expr.now.tree ≤ length scratch.old }
+        requires block { I.size inputs.now ≡ self.old.count }
+        requires selected { IsSelected self.old.count selection.old stops.old.items }
+        requires unknown { EachPlace selection.old (λ p. is_held self.old p ≡ false) }
+        ensures evaluated { IsEvaluated (λ p. evaluate_at (I.look inputs.now p) (call_outcome (functions_in functions.now)) expr.now.tree) selection.old selection.new self.old self.new stops.old.items stops.new.items }
+        ensures steps { steps.new ≡ steps.old + length selection.old }
+    {
+        mark(selection, &mut self.tried);
+        eval_lane(
+            expr,
+            inputs,
+            functions,
+            selection,
+            &mut self.numbers,
+            stops,
+            scratch,
+            steps,
+        );
+        mark(selection, &mut self.held);
+        self.extent = extent_after(selection, self.count);
+    }
+}
+
+/// What is held where a selection is.
+fn extent_after(selection: &Selection, count: usize) -> Extent
+    ensures { (l : LaneView) → l.count ≡ count → EachPlace selection.now (λ p. is_held l p ≡ true) → IsExtent result l }
+{
+    match selection.first_count() {
+        Some(first) if first == count => Extent::All,
+        _ => Extent::Some,
+    }
+}

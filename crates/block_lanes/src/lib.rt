@@ -1,0 +1,13 @@
+//! What is known of a loop's keys over a block of entries: for each key, which is a site under nominal or a variation, a lane with a
+//! number for each place, and marks that say where its evaluation was begun and where it came to a value. It stands on `expr_lanes`,
+//! which evaluates into lanes and reads columns from them.
+#![tactic(auto)]
+
+pub mod lane;
+pub mod lanes;
+mod marks;
+pub mod sizes;
+
+pub use crate::lane::Lane;
+pub use crate::lanes::{begin_block, new_lanes};
+pub use crate::sizes::{MAX_LANE_PLACES, block_size};

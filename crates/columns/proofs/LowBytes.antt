@@ -1,0 +1,20 @@
+-- The lowest bytes of a number, one after another.
+use Rattle.std.proofs.Common.{◌≡◌, ◌≤◌, ◌⊎◌, ℕ, zero, suc, List, [], ◌∷◌, length, take, inl, inr, arith, refl}
+use Rattle.std.specs.Int.{to_le_bytes, w64}
+use Rattle.columns.specs.Packings.{low_bytes}
+use Rattle.columns.specs.Widths.{IsWidth}
+
+pub taken_size : (n : ℕ) (xs : List ℕ) → length (take n xs) ≤ n
+taken_size zero xs = omega arith
+taken_size (suc n) [] = omega arith
+taken_size (suc n) (x ∷ xs) = omega (arith, taken_size n xs)
+
+first_by : (w n : ℕ) → (w ≡ 0) ⊎ (w ≡ 1) ⊎ (w ≡ 2) ⊎ (w ≡ 4) ⊎ (w ≡ 8) → take w (to_le_bytes w64 n) ≡ low_bytes w n
+first_by w n (inl h) = rw h refl
+first_by w n (inr (inl h)) = rw h refl
+first_by w n (inr (inr (inl h))) = rw h refl
+first_by w n (inr (inr (inr (inl h)))) = rw h refl
+first_by w n (inr (inr (inr (inr h)))) = rw h refl
+
+pub first_bytes : (w n : ℕ) → IsWidth w → take w (to_le_bytes w64 n) ≡ low_bytes w n
+first_bytes w n h = first_by w n h.one_of

@@ -1,0 +1,40 @@
+use Rattle.std.proofs.Common.{◌≡◌, ◌∙◌, ◌++◌, ◌+◌, ◌*◌, ap, arith, get_or, pos, rules, take}
+use Rattle.std.specs.Int.RustNames.{FitsSigned}
+use mir.Syntax.{w64}
+use native.Mathlib.Nat.{add-mul}
+use Rattle.std.proofs.Math.Facts.{to_z-of_z}
+use Rattle.std.proofs.lemmas.List.{take_all}
+use Rattle.columns.specs.Packings.{low_bytes, packed_by}
+use Rattle.columns.proofs.BlockSteps.{pack_step, words_step}
+use Rattle.columns.proofs.LowBytes.{first_bytes, taken_size}
+use Rattle.columns.proofs.bytes.push_each.Goals as goal
+
+pub loop-value-preserved : goal.loop-value-preserved
+loop-value-preserved g c =
+    let w = g.row.WIDTH in
+    let i = c.loop-value.value-index in
+    let value : FitsSigned w64 (get_or c.args.values.now i (pos 0)) = search rules in
+    let least : FitsSigned w64 c.args.least = search rules in
+    let d = rw (to_z-of_z value, to_z-of_z least) at c.abs_diff.ensures in
+    let low = take w c.to_le_bytes-low.result in
+    let all : take c.loop-byte.byte-index low ≡ low = take_all c.loop-byte.byte-index low c.loop-byte-test.false in
+    let bytes : low ≡ low_bytes w c.abs_diff.result = ap (take w) c.to_le_bytes-low.ensures ∙ first_bytes w c.abs_diff.result c.requires.width in
+    let pushed = c.loop-byte.invariant.pushed ∙ ap (λ l. c.loop-value.bytes.items ++ l) (all ∙ bytes) in
+    let size = taken_size w c.to_le_bytes-low.result in
+    let next : (i + 1) * w ≡ i * w + 1 * w = add-mul i 1 w in
+    record {
+      pushed = rw (to_z-of_z least) (pack_step c.args.bytes.items c.loop-value.bytes.items c.loop-byte.bytes.items (record { least = c.args.least; width = w }) c.args.values.now i c.abs_diff.result c.loop-value-test.true (rw (to_z-of_z least) at c.loop-value.invariant.pushed) pushed d);
+      words = words_step c.args.values.now i c.loop-value-test.true c.loop-value.invariant.words value;
+      room = omega (arith, c.loop-value.invariant.room, c.loop-byte.invariant.len, c.loop-byte.invariant.capacity, c.loop-byte.auto.byte-index-end, size, next);
+    }
+
+pub returns-clause-grown : goal.returns-clause-grown
+returns-clause-grown g c =
+    let least : FitsSigned w64 c.args.least = search rules in
+    let all = take_all c.loop-value.value-index c.args.values.now c.loop-value-test.false in
+    (rw (to_z-of_z least) at c.loop-value.invariant.pushed) ∙ ap (λ zs. c.args.bytes.items ++ packed_by (record { least = c.args.least; width = g.row.WIDTH }) zs) all
+
+pub returns-clause-words : goal.returns-clause-words
+returns-clause-words g c =
+    let all = take_all c.loop-value.value-index c.args.values.now c.loop-value-test.false in
+    rw all at c.loop-value.invariant.words

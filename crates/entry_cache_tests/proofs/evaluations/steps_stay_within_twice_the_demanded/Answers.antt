@@ -1,7 +1,0 @@
-use Rattle.std.proofs.Common.{refl}
-use Rattle.entry_fns.proofs.Made.{boxed_answers}
-use Rattle.entry_cache_tests.proofs.evaluations.steps_stay_within_twice_the_demanded.OwnLists.{own-1, at-1-1}
-use Rattle.entry_cache_tests.proofs.evaluations.steps_stay_within_twice_the_demanded.Goals as goal
-
-pub new-requires-4-clause-can : goal.new-requires-4-clause-can
-new-requires-4-clause-can g c = λ args e. boxed_answers own-1 at-1-1 _ _ _ c.into_dyn_box.ensures.1 _ _ refl

@@ -1,0 +1,5 @@
+pub mod Flows
+pub mod LoopPasses
+pub mod Printing
+pub mod Rows
+pub mod SamePasses

@@ -1,0 +1,6 @@
+use Rattle.std.proofs.Common.{◌≡◌, ◌++◌, take}
+use Rattle.result_text.specs.FilledLines.{more_taken}
+use Rattle.merged_text.proofs.values.put_others.Given as goal
+
+abbrev pub invariant-loop-value : goal.invariant-loop-value
+invariant-loop-value l = l.text ≡ l.fn.text ++ more_taken (take l.value-index l.values)

@@ -1,0 +1,5 @@
+pub mod JobPasses
+pub mod Looping
+pub mod PassLines
+pub mod SpanRuns
+pub mod Taking

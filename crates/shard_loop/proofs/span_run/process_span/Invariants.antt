@@ -1,0 +1,7 @@
+use Rattle.std.proofs.Common.{◌≤◌}
+use Rattle.entry_cache.specs.Jobs.{job_of}
+use Rattle.shard_loop.proofs.SpanRuns.{IsUpTo}
+use Rattle.shard_loop.proofs.span_run.process_span.Given as goal
+
+abbrev pub invariant-loop-cluster : goal.invariant-loop-cluster
+invariant-loop-cluster g l = IsUpTo (job_of l.job) l.lo l.cluster l.state × (l.cluster ≤ l.hi)

@@ -1,0 +1,2 @@
+pub mod NamedResults
+pub mod WholeText

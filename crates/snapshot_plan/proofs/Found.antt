@@ -1,0 +1,35 @@
+-- The kind of a column at a node, by what look-ups answer.
+use Rattle.std.proofs.Common.{◌≡◌, ◌<◌, ℕ, Bool, true, false, List, length, Some, Ok, Err, refl, ap, ap₂, sym, ◌∙◌}
+use Rattle.std.specs.Prelude.{slice_get}
+use Rattle.rdf_values.specs.Kinds.{FunctionNames, column_kind, scope_of}
+use Rattle.rdf_values.specs.Path.{path, target_of}
+use Rattle.rdf_values.specs.Verdict.{is_visible, scope_at}
+use Rattle.rdf_values.specs.declared.column.Column.{Column}
+use Rattle.rdf_values.specs.declared.graph_cause.GraphCause.TheVariants.{UnknownColumn}
+use Rattle.rdf_values.specs.declared.statement.Statement.{Statement}
+use Rattle.rdf_values.specs.declared.value.ColType.{ColType}
+use Rattle.graph_numbers.specs.Graphs.{GraphView, booked_statements}
+use Rattle.graph_numbers.specs.Versions.{named_version, version_count}
+use Rattle.statement_checks.specs.Lookups.{AreKinds}
+use Rattle.statement_checks.proofs.Scoping.{found_as, found_none, found_within, kinds_counted}
+use Rattle.snapshot_plan.specs.Views.{scope_in}
+
+module _ (g : GraphView) (h : List Column) (b : List Statement) (node : List ℕ) (kinds : List ColType) (eh : h ≡ g.header) (eb : b ≡ booked_statements g) (k : AreKinds g.header g.names (booked_statements g) kinds) where
+  seen : (name : List ℕ) (t : Bool) → t ≡ is_visible (scope_at g.names (scope_of h) b node) name → t ≡ is_visible (scope_in g node) name
+  seen name t e = e ∙ ap₂ (λ x y. is_visible (scope_at g.names (scope_of x) y node) name) eh eb
+
+  pub kind_none : (name : List ℕ) (t : Bool) → t ≡ is_visible (scope_at g.names (scope_of h) b node) name → t ≡ false → column_kind (scope_in g node) name ≡ Err UnknownColumn
+  kind_none name t e f = found_none g.header g.names (booked_statements g) node kinds name t (seen name t e) f
+
+  pub kinds_many : length kinds ≡ version_count h b
+  kinds_many = kinds_counted g.header g.names (booked_statements g) node kinds k ∙ sym (ap₂ version_count eh eb)
+
+  pub kind_within : (name target : List ℕ) → target ≡ target_of (path b node) name → (t : Bool) → t ≡ is_visible (scope_at g.names (scope_of h) b node) name → t ≡ true → (v : ℕ) → v ≡ named_version h b node target → v < length kinds
+  kind_within name target is t e f v at =
+      found_within g.header g.names (booked_statements g) node kinds k name target (is ∙ ap (λ y. target_of (path y node) name) eb) t (seen name t e) f v (at ∙ ap₂ (λ x y. named_version x y node target) eh eb)
+
+  pub kind_found : (name target : List ℕ) → target ≡ target_of (path b node) name → (t : Bool) → t ≡ is_visible (scope_at g.names (scope_of h) b node) name → t ≡ true → (v : ℕ) → v ≡ named_version h b node target
+      → (kind : ColType) → slice_get kinds v ≡ Some kind → column_kind (scope_in g node) name ≡ Ok kind
+  kind_found name target is t e f v at kind own =
+      let found = found_as g.header g.names (booked_statements g) node kinds k name target (is ∙ ap (λ y. target_of (path y node) name) eb) t (seen name t e) f v (at ∙ ap₂ (λ x y. named_version x y node target) eh eb) kind v (own, refl) in
+      found.kind

@@ -1,0 +1,6 @@
+pub mod Asked
+pub mod Causes
+pub mod Counted
+pub mod Found
+pub mod Headed
+pub mod Varied

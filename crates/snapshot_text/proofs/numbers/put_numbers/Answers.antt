@@ -1,0 +1,15 @@
+use Rattle.std.proofs.Common.{rules, ◌≡◌, ◌∷◌, FitsSigned}
+use Rattle.std.specs.Fmt.{signed_decimal}
+use Rattle.std.specs.Int.{w64}
+use Rattle.std.proofs.lemmas.Int.{to_z-of_z}
+use Rattle.snapshot_text.proofs.Joined.{grown_by, on_ok}
+use Rattle.snapshot_text.proofs.numbers.put_numbers.Goals as goal
+
+pub returns-in_ok-put_number-in-Some : goal.returns-in_ok-put_number-in-Some
+returns-in_ok-put_number-in-Some c =
+    let whole : c.args.numbers.now ≡ c.in-Some.first.now ∷ c.in-Some.rest.now = search rules in
+    let fits : FitsSigned w64 c.in-Some.first.now = search rules in
+    on_ok c.put_more_numbers.result _ _
+    (λ e. grown_by 59 signed_decimal c.args.text.now c.put_number.new.text c.put_more_numbers.new.text c.in-Some.first.now c.in-Some.rest.now c.args.numbers.now whole
+    (rw (to_z-of_z w64 c.in-Some.first.now fits) at c.in_ok-put_number-in-Some.ensures) e)
+    c.put_more_numbers.ensures

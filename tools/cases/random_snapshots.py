@@ -1,0 +1,157 @@
+#!/usr/bin/env python3
+"""Snapshots of random scripts and tables: laws of the reference, and rdf_snapshot against it.
+
+    tools/cases/random_snapshots.py [PROGRAM] [COUNT] [SEED]
+
+PROGRAM is RDF_SNAPSHOT_PROGRAM or crates/rdf_snapshot/out/rdf_snapshot where it isn't named, COUNT 500, SEED 1. Of the
+reference these laws are tried: what it writes reads as a table; a column of it is what a Take of that column at that
+node gives under the same variation (an int column) or has as many elements and the same sum (a vector), and a
+snapshot of what was written is that again. `--reference` tries the laws alone. `--show SEED/i` prints that case and
+what is due to it.
+"""
+import argparse
+import collections
+import concurrent.futures
+import os
+import random
+import re
+import sys
+
+sys.path.insert(0, os.path.dirname(os.path.abspath(__file__)))
+
+from random_cases import Script, random_table, spoiled  # noqa: E402
+from reference import reference_run  # noqa: E402
+from run import program_run, usual_program  # noqa: E402
+from tables import read_table  # noqa: E402
+
+
+class Broken(Exception):
+    """A law of the reference that doesn't hold, as text."""
+
+
+class Trial:
+    """One script and table, of which several snapshots are taken."""
+
+    def __init__(self, seed):
+        self.chance = random.Random(seed)
+        columns, table = random_table(self.chance)
+        written = Script(self.chance, columns)
+        script = written.written()
+        if self.chance.random() < 0.05:
+            script = spoiled(self.chance, script, list('"(),.=[]{}#') + ["zz", "true"])
+        if self.chance.random() < 0.05:
+            table = spoiled(self.chance, table, list(',;"-0x\n') + [":int"])
+        self.nodes = written.nodes
+        self.files = {"s.txt": script.encode(), "a.csv": table.encode()}
+        self.variations = re.findall(r'Vary\((?:"(\w+)"|\[.*?\]), .*\[([^\[\]]*)\](?:, "(\w+)")?\)', script)
+        self.runs = []                  # (words, status, output)
+
+    def tried(self):
+        for _ in range(6):
+            self.taken(self.random_words())
+        return self.runs
+
+    def random_words(self):
+        node = self.chance.choice(list(self.nodes))
+        seen = [name for name, kind in self.nodes[node].items() if kind != "bool"] or ["x"]
+        columns = self.chance.sample(seen, self.chance.randrange(1, len(seen) + 1))
+        if self.chance.random() < 0.08:
+            columns.insert(self.chance.randrange(len(columns) + 1), self.chance.choice(["zz", *self.nodes[node], "x"]))
+        under = "nominal"
+        if self.variations and self.chance.random() < 0.7:
+            column, tags, name = self.chance.choice(self.variations)
+            under = "%s:%s" % (name or column, self.chance.choice(re.findall(r"\w+", tags) or ["up"]))
+        if self.chance.random() < 0.04:
+            node = self.chance.choice(["nowhere", "n0", "r1", "df", "1"])
+        if self.chance.random() < 0.04:
+            under = self.chance.choice(["x:no", "nominal", "x", ":"])
+        options = ["--slots", self.chance.choice(["1", "2", "3", "16"]),
+                   "--cluster", self.chance.choice(["0", "1", "1", "2", "2", "3", "3", "5", "5", "10000"])]
+        return ["s.txt", "a.csv", node, ",".join(columns), under] + options
+
+    def taken(self, words):
+        status, output = reference_run(words, self.files, "rdf_snapshot")
+        self.runs.append((words, status, output))
+        if status != 0:
+            return
+        table = read_table(output)
+        again = reference_run(["e.txt", "b.csv", "df", words[3], "nominal"], {"e.txt": b"", "b.csv": output},
+                              "rdf_snapshot")
+        self.law(again == (0, output), "a snapshot of a snapshot")
+        for place, (name, kind) in enumerate(table.columns):
+            cells = [row[place] for row in table.rows]
+            if kind == "vect":
+                self.compare(words, 'df.Sum("%s")' % name.decode(), [sum(map(sum, cells))])
+                column = 'df.Define("sizes", "Size(%s)")' % name.decode()
+                self.compare(words, 'sized.Take("sizes")', [len(cell) for cell in cells] or ["none"], "sized = " + column)
+            else:
+                self.compare(words, 'df.Take("%s")' % name.decode(), cells or ["none"])
+
+    def compare(self, words, call, wanted, line=None):
+        """The result of an action at the node, under the variation of the words, is these numbers."""
+        place = lambda text: text.replace("df.", words[2] + ".")  # noqa: E731
+        lines = [line and place(line), "taken = " + place(call), "VariationsFor(taken)", "Print(taken)"]
+        nodes = [each for each in self.files["s.txt"].decode().split("\n")
+                 if re.search(r"\.(Define|Redefine|Alias|Filter|Vary)\(", each)]
+        script = "\n".join(nodes + [each for each in lines if each]) + "\n"
+        status, output = reference_run(["t.txt", "a.csv"], dict(self.files, **{"t.txt": script.encode()}))
+        if status != 0:
+            return                      # another variation faults
+        results = dict(each.split(" = ") for each in output.decode().splitlines())
+        found = results.get("taken[%s]" % words[4], results["taken"])
+        self.law(found == " ".join(map(str, wanted)), "%s is %s" % (call, found))
+
+    def law(self, holds, text):
+        if not holds:
+            raise Broken("%s\n%s" % (text, self.shown(self.runs[-1])))
+
+    def shown(self, run):
+        words, status, output = run
+        parts = ["words: %s\n" % " ".join(words)]
+        parts += ["--- file %s\n%s" % (name, text.decode()) for name, text in self.files.items()]
+        return "".join(parts) + "--- status %d\n%s" % (status, output.decode())
+
+
+def main():
+    parser = argparse.ArgumentParser(usage=__doc__)
+    parser.add_argument("program", nargs="?")
+    parser.add_argument("count", nargs="?", type=int, default=500)
+    parser.add_argument("seed", nargs="?", default="1")
+    parser.add_argument("--show")
+    parser.add_argument("--reference", action="store_true")
+    asked = parser.parse_args()
+    if asked.show:
+        trial = Trial(asked.show)
+        for run in trial.tried():
+            print(trial.shown(run))
+        return 0
+    program = None if asked.reference else os.path.abspath(asked.program or usual_program("rdf_snapshot"))
+    statuses = collections.Counter()
+
+    def attempt(number):
+        seed = "%s/%d" % (asked.seed, number)
+        trial = Trial(seed)
+        try:
+            trial.tried()
+        except Broken as broken:
+            return ["BROKEN seed %s: %s" % (seed, broken)]
+        found = []
+        for run in trial.runs:
+            statuses[run[1]] += 1
+            got = run[1:] if program is None else program_run(program, run[0], trial.files)
+            if got != run[1:]:
+                found.append("DIFFERS seed %s: %s\n--- got status %d\n%s" % (
+                    seed, trial.shown(run), got[0], got[1].decode(errors="backslashreplace")))
+        return found
+
+    with concurrent.futures.ThreadPoolExecutor(1 if program is None else os.cpu_count() or 1) as workers:
+        failures = [text for texts in workers.map(attempt, range(asked.count)) for text in texts]
+    for text in failures[:20]:
+        print(text)
+    told = ", ".join("%d of status %d" % (n, status) for status, n in sorted(statuses.items()))
+    print("%d cases from seed %s (%s), %d differ" % (asked.count, asked.seed, told, len(failures)))
+    return 1 if failures else 0
+
+
+if __name__ == "__main__":
+    sys.exit(main())
