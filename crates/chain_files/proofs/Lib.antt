@@ -1,6 +1,7 @@
 mod PartLines
 mod Following
 mod Grouping
+mod Keeping
 mod OnePart
 mod Reductions
 mod Refused

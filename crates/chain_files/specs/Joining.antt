@@ -1,10 +1,19 @@
 -- Parts of one script, joined in the order of their files.
-use Rattle.std.specs.Prelude.{◌≡◌, ◌+◌, ℕ, Bool, true, false, List, [], ◌∷◌, ◌++◌, fold}
+use Rattle.std.specs.Prelude.{◌≡◌, ◌+◌, ℕ, Bool, true, false, ◌&&◌, List, [], ◌∷◌, ◌++◌, length, fold, nat_lt}
 use Rattle.shard_lines.specs.Joining.{joined_lines}
+use Rattle.shard_lines.specs.Shapes.{have_shapes}
 use Rattle.shard_lines.specs.declared.pass_shape.PassShape.{PassShape}
 use Rattle.chain_files.specs.Parts.{PartView}
 use Rattle.chain_files.specs.declared.part_loop.PartLoop.{PartLoop}
 use Rattle.chain_files.specs.declared.part_loop.PartLoop.TheVariants.{Whole, Faulted}
+
+-- the loops of a script in order, up to the last one or to the first one with a fault, which is of one of its passes
+abbrev pub are_loops : List (List PassShape) → List PartLoop → Bool
+are_loops [] [] = true
+are_loops [] (l ∷ ls) = false
+are_loops (shapes ∷ loops) [] = false
+are_loops (shapes ∷ loops) (Whole ps ∷ ls) = have_shapes shapes ps && are_loops loops ls
+are_loops (shapes ∷ loops) (Faulted f ∷ ls) = nat_lt f.pass (length shapes)
 
 -- what a loop comes to in earlier files and in later ones: the fault of the earlier files goes first
 abbrev pub joined_loop : List PassShape → PartLoop → PartLoop → PartLoop

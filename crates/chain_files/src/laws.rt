@@ -1,6 +1,7 @@
 // Laws of part files. Each function does nothing; its contract is the law, and its proof the law's.
 ghost use Rattle.chain_files.specs.Laws.{
   GroupsAreFree,
+  JoinedIsPart,
   JoiningIsAssociative,
   TextBreaksNowhere,
   TextIsOfOnePart,
@@ -24,4 +25,9 @@ pub fn joining_is_associative()
 /// Parts in two groups come to the same as one after the other.
 pub fn groups_are_free()
     ensures { GroupsAreFree }
+{}
+
+/// Two parts of the script's shape, of which the second begins where the first ends, come to a part.
+pub fn joined_is_part()
+    ensures { JoinedIsPart }
 {}

@@ -23,7 +23,8 @@ mod refusal;
 pub use crate::chain_fault::ChainFault;
 pub use crate::joining::joined_loops;
 pub use crate::laws::{
-    a_text_breaks_nowhere, a_text_is_of_one_part, groups_are_free, joining_is_associative,
+    a_text_breaks_nowhere, a_text_is_of_one_part, groups_are_free, joined_is_part,
+    joining_is_associative,
 };
 pub use crate::part::{Part, PartFields};
 pub use crate::part_line::PartLine;
