@@ -24,7 +24,8 @@ use Rattle.shard_lines.specs.declared.shard_line.ShardLine.{ShardLine}
 use Rattle.shard_lines.specs.declared.shard_line.ShardLine.TheVariants as pass
 use Rattle.chain_files.specs.Joining.{are_loops, joined_loops, joined_part}
 use Rattle.chain_files.specs.Laws.{JoinedIsPart}
-use Rattle.chain_files.specs.Parts.{FitLoops, IsPart, PartView, part_limits}
+use Rattle.chain_files.specs.Parts.{FitLoops, IsPart, PartView, part_limits, view_of}
+use Rattle.chain_files.specs.declared.part.PartFields.{PartFields}
 use Rattle.chain_files.specs.declared.part_loop.PartLoop.{PartLoop}
 use Rattle.chain_files.specs.declared.part_loop.PartLoop.TheVariants.{Whole, Faulted}
 
@@ -251,3 +252,12 @@ joined_is_part loops s t v w e f next =
       named = v.named;
       loops = loops_fit s.first_file s.end_file t.end_file s.entries t.entries files high loops s.loops t.loops e f v.loops later;
     }
+
+-- the same of two parts' fields
+pub fields_join : (loops : List (List PassShape)) (a b : PartFields) (s t : PartView) (all : List PartLoop) → view_of a ≡ s → view_of b ≡ t → IsPart (view_of a) → IsPart (view_of b) → s.end_file ≡ t.first_file
+    → are_loops loops s.loops ≡ true → are_loops loops t.loops ≡ true → all ≡ joined_loops loops a.loops b.loops
+    → IsPart (record { first_file = a.first_file; end_file = b.end_file; entries = a.entries + b.entries; script = a.script; columns = a.columns; loops = all })
+fields_join loops a b s t all p q v w next e f h =
+    subst (λ ls. IsPart (record { first_file = a.first_file; end_file = b.end_file; entries = a.entries + b.entries; script = a.script; columns = a.columns; loops = ls })) (sym h)
+        (joined_is_part loops (view_of a) (view_of b) v w (ap (λ (x : PartView). are_loops loops x.loops) p ∙ e) (ap (λ (x : PartView). are_loops loops x.loops) q ∙ f)
+            (ap (λ (x : PartView). x.end_file) p ∙ next ∙ sym (ap (λ (x : PartView). x.first_file) q)))

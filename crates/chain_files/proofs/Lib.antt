@@ -7,5 +7,6 @@ mod Reductions
 mod Refused
 mod Running
 mod Runs
+mod Shaped
 mod Splitting
 mod Within

@@ -1,11 +1,33 @@
 // Joining the loops of parts.
-ghost use Rattle.std.specs.Prelude.{◌≡◌, IfOk};
-ghost use Rattle.chain_files.specs.Joining.{is_faulty, joined_loop, joined_loops};
+ghost use Rattle.std.specs.Prelude.{◌≡◌, IfOk, true};
+ghost use Rattle.chain_files.specs.Joining.{are_loops, is_faulty, joined_loop, joined_loops, joined_part};
 
+use crate::part::{Part, PartFields};
 use crate::part_loop::PartLoop;
 use rdf_values::{ListOf, Memory};
-use shard_lines::{PassShape, joined_lines};
+use shard_lines::{PassShape, have_shapes, joined_lines};
 use std::alloc::Global;
+
+/// Whether these are the loops of the script whose passes have these shapes, up to the last one or to the first one with a
+/// fault.
+pub fn are_loops(loops: &[ListOf<PassShape>], found: &[PartLoop]) -> bool
+    ensures { result ≡ are_loops loops.now found.now }
+{
+    for (i, one) in found.iter().enumerate() {
+        if i >= loops.len() {
+            return false;
+        }
+        match one {
+            PartLoop::Whole(lines) => {
+                if !have_shapes(loops[i].as_slice(), lines.as_slice()) {
+                    return false;
+                }
+            }
+            PartLoop::Faulted(fault) => return (fault.pass as usize) < loops[i].len(),
+        }
+    }
+    found.len() >= loops.len()
+}
 
 // What a loop comes to in earlier files and in later ones.
 fn joined_loop(
@@ -57,4 +79,31 @@ pub fn joined_loops(
         }
     }
     Ok(all)
+}
+
+/// The part of the files of both parts, where the second begins with the file at which the first ends.
+pub fn join_parts(
+    alloc: Global,
+    loops: &[ListOf<PassShape>],
+    first: Part,
+    second: Part,
+) -> Result<Part, Memory>
+    requires next { first.end_file ≡ second.first_file }
+    requires script { first.script ≡ second.script }
+    requires columns { first.columns ≡ second.columns }
+    requires earlier { are_loops loops.now first.loops ≡ true }
+    requires later { are_loops loops.now second.loops ≡ true }
+    ensures { IfOk result (λ part. part ≡ joined_part loops.now first second) }
+{
+    let first = first.into_fields();
+    let second = second.into_fields();
+    let all = joined_loops(alloc, loops, first.loops.as_slice(), second.loops.as_slice())?;
+    Ok(Part::new(PartFields {
+        first_file: first.first_file,
+        end_file: second.end_file,
+        entries: first.entries + second.entries,
+        script: first.script,
+        columns: first.columns,
+        loops: all,
+    }))
 }

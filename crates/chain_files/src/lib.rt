@@ -7,6 +7,7 @@
 #![tactic(auto)]
 
 mod chain_fault;
+mod digest;
 mod joining;
 mod laws;
 mod limits;
@@ -21,7 +22,8 @@ mod reading;
 mod refusal;
 
 pub use crate::chain_fault::ChainFault;
-pub use crate::joining::joined_loops;
+pub use crate::digest::script_digest;
+pub use crate::joining::{are_loops, join_parts, joined_loops};
 pub use crate::laws::{
     a_text_breaks_nowhere, a_text_is_of_one_part, groups_are_free, joined_is_part,
     joining_is_associative,
