@@ -1,6 +1,6 @@
 -- What two parts come to is within the limits of their entries together.
 use Rattle.std.proofs.Common.{◌≡◌, ◌≤◌, ◌<◌, ◌+◌, ◌*◌, ◌-◌, ◌^◌, ◌+ℤ◌, ℕ, ℤ, pos, negsuc, Bool, true, false, ◌&&◌, cond, Option, None, Some, List, [], ◌∷◌, ◌++◌, length, refl, ap, ap₂, ◌∙◌, sym, subst, arith, length-append, w64}
-use Rattle.std.specs.Prelude.{◌||◌, nat_abs, nat_lt, int_lt}
+use Rattle.std.specs.Prelude.{◌||◌, nat_abs, nat_eq, nat_lt, int_lt}
 use Rattle.std.specs.Int.{cast_signed, int_max, int_min}
 use Rattle.std.specs.List.{list_all}
 use Rattle.std.proofs.lemmas.Bool.Decides.{nat_tests}
@@ -17,13 +17,13 @@ use Rattle.filters_report.specs.declared.flow.Counts.{Counts}
 use Rattle.histograms.specs.declared.cell_sum.CellSum.{CellSum}
 use Rattle.shard_lines.specs.Joining.{added_cells, added_counts, better_of, cells_of, count_of, counts_of, extreme_of, joined_line, joined_lines, number_of, sum_of, taken_of}
 use Rattle.shard_lines.specs.Lines.{EachFits, FitLines, FitsCell, FitsCount, FitsExtreme, FitsLine, FitsScalar, FitsTake, are_alike, is_number, is_truth}
-use Rattle.shard_lines.specs.Shapes.{has_shape, have_shapes, is_take_from, is_taken_from}
+use Rattle.shard_lines.specs.Shapes.{are_cells, has_shape, have_shapes, is_report, is_take_from, is_taken_from}
 use Rattle.shard_lines.specs.declared.pass_shape.PassShape.{PassShape}
 use Rattle.shard_lines.specs.declared.pass_shape.PassShape.TheVariants as shape
 use Rattle.shard_lines.specs.declared.shard_line.ShardLine.{ShardLine}
 use Rattle.shard_lines.specs.declared.shard_line.ShardLine.TheVariants as pass
 use Rattle.chain_files.specs.Joining.{are_loops, joined_loops, joined_part}
-use Rattle.chain_files.specs.Laws.{JoinedIsPart}
+use Rattle.chain_files.specs.Laws.{JoinedIsPart, JoinedKeepsShape}
 use Rattle.chain_files.specs.Parts.{FitLoops, IsPart, PartView, part_limits, view_of}
 use Rattle.chain_files.specs.declared.part.PartFields.{PartFields}
 use Rattle.chain_files.specs.declared.part_loop.PartLoop.{PartLoop}
@@ -261,3 +261,84 @@ fields_join loops a b s t all p q v w next e f h =
     subst (λ ls. IsPart (record { first_file = a.first_file; end_file = b.end_file; entries = a.entries + b.entries; script = a.script; columns = a.columns; loops = ls })) (sym h)
         (joined_is_part loops (view_of a) (view_of b) v w (ap (λ (x : PartView). are_loops loops x.loops) p ∙ e) (ap (λ (x : PartView). are_loops loops x.loops) q ∙ f)
             (ap (λ (x : PartView). x.end_file) p ∙ next ∙ sym (ap (λ (x : PartView). x.first_file) q)))
+
+-- ---- shapes
+
+cells_long : (cs ds : List CellSum) (n : ℕ) → nat_eq (length cs) n ≡ true → nat_eq (length ds) n ≡ true → nat_eq (length (added_cells cs ds)) n ≡ true
+cells_long cs ds n h g = ap (λ m. nat_eq m n) (as_long cs ds (same (length cs) (length ds) n h g)) ∙ h
+  where
+    same : (a b n : ℕ) → nat_eq a n ≡ true → nat_eq b n ≡ true → a ≡ b
+    same a b n h g = grind (arith, nat_tests)
+
+    as_long : (cs ds : List CellSum) → length cs ≡ length ds → length (added_cells cs ds) ≡ length cs
+    as_long [] ds e = refl
+    as_long (c ∷ cs) [] e = absurd (omega (arith, e))
+    as_long (c ∷ cs) (d ∷ ds) e = let rest = as_long cs ds (omega (arith, e)) in omega (arith, rest)
+
+counts_long : (cs ds : List Counts) (n : ℕ) → nat_eq (length cs) n ≡ true → nat_eq (length ds) n ≡ true → nat_eq (length (added_counts cs ds)) n ≡ true
+counts_long cs ds n h g = ap (λ m. nat_eq m n) (as_long cs ds (same (length cs) (length ds) n h g)) ∙ h
+  where
+    same : (a b n : ℕ) → nat_eq a n ≡ true → nat_eq b n ≡ true → a ≡ b
+    same a b n h g = grind (arith, nat_tests)
+
+    as_long : (cs ds : List Counts) → length cs ≡ length ds → length (added_counts cs ds) ≡ length cs
+    as_long [] ds e = refl
+    as_long (c ∷ cs) [] e = absurd (omega (arith, e))
+    as_long (c ∷ cs) (d ∷ ds) e = let rest = as_long cs ds (omega (arith, e)) in omega (arith, rest)
+
+taken_alone : (column : ColType) (p : ShardLine) → is_take_from column p ≡ true → list_all (is_taken_from column) (taken_of p) ≡ true
+taken_alone column (pass.Take xs) e = e
+taken_alone column (pass.Count c) e = refl
+taken_alone column (pass.Sum z) e = refl
+taken_alone column (pass.Number z) e = refl
+taken_alone column (pass.Extreme z) e = refl
+taken_alone column (pass.Cells cs) e = refl
+taken_alone column (pass.Report cs) e = refl
+
+so_many_cells : (n : ℕ) (p : ShardLine) → are_cells n p ≡ true → nat_eq (length (cells_of p)) n ≡ true
+so_many_cells n (pass.Cells cs) e = e
+so_many_cells n (pass.Count c) e = cc e
+so_many_cells n (pass.Sum z) e = cc e
+so_many_cells n (pass.Number z) e = cc e
+so_many_cells n (pass.Extreme z) e = cc e
+so_many_cells n (pass.Take xs) e = cc e
+so_many_cells n (pass.Report cs) e = cc e
+
+so_many_counts : (n : ℕ) (p : ShardLine) → is_report n p ≡ true → nat_eq (length (counts_of p)) n ≡ true
+so_many_counts n (pass.Report cs) e = e
+so_many_counts n (pass.Count c) e = cc e
+so_many_counts n (pass.Sum z) e = cc e
+so_many_counts n (pass.Number z) e = cc e
+so_many_counts n (pass.Extreme z) e = cc e
+so_many_counts n (pass.Take xs) e = cc e
+so_many_counts n (pass.Cells cs) e = cc e
+
+line_keeps : (s : PassShape) (p q : ShardLine) → has_shape s p ≡ true → has_shape s q ≡ true → has_shape s (joined_line s p q) ≡ true
+line_keeps shape.Count p q e f = refl
+line_keeps shape.Sum p q e f = refl
+line_keeps shape.Least p q e f = refl
+line_keeps shape.Greatest p q e f = refl
+line_keeps (shape.Take column) p q e f = all_joined (is_taken_from column) (taken_of p) (taken_of q) (taken_alone column p e) (taken_alone column q f)
+line_keeps (shape.Number o) p q e f = refl
+line_keeps (shape.Cells n) p q e f = cells_long (cells_of p) (cells_of q) n (so_many_cells n p e) (so_many_cells n q f)
+line_keeps (shape.Report n) p q e f = counts_long (counts_of p) (counts_of q) n (so_many_counts n p e) (so_many_counts n q f)
+
+lines_keep : (ss : List PassShape) (ps qs : List ShardLine) → have_shapes ss ps ≡ true → have_shapes ss qs ≡ true → have_shapes ss (joined_lines ss ps qs) ≡ true
+lines_keep [] ps qs e f = refl
+lines_keep (s ∷ ss) [] qs e f = cc e
+lines_keep (s ∷ ss) (p ∷ ps) [] e f = cc f
+lines_keep (s ∷ ss) (p ∷ ps) (q ∷ qs) e f =
+    let a = and_both (has_shape s p) (have_shapes ss ps) e in
+    let b = and_both (has_shape s q) (have_shapes ss qs) f in
+    ap₂ (λ x y. x && y) (line_keeps s p q a.0 b.0) (lines_keep ss ps qs a.1 b.1)
+
+pub joined_keeps_shape : JoinedKeepsShape
+joined_keeps_shape [] ks ls e f = refl
+joined_keeps_shape (ss ∷ loops) [] ls e f = cc e
+joined_keeps_shape (ss ∷ loops) (k ∷ ks) [] e f = cc f
+joined_keeps_shape (ss ∷ loops) (Faulted x ∷ ks) (l ∷ ls) e f = e
+joined_keeps_shape (ss ∷ loops) (Whole ps ∷ ks) (Faulted x ∷ ls) e f = f
+joined_keeps_shape (ss ∷ loops) (Whole ps ∷ ks) (Whole qs ∷ ls) e f =
+    let a = and_both (have_shapes ss ps) (are_loops loops ks) e in
+    let b = and_both (have_shapes ss qs) (are_loops loops ls) f in
+    ap₂ (λ x y. x && y) (lines_keep ss ps qs a.0 b.0) (joined_keeps_shape loops ks ls a.1 b.1)

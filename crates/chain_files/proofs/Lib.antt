@@ -1,8 +1,11 @@
+mod Covered
 mod PartLines
 mod Following
 mod Grouping
+pub mod HexDigits
 mod Keeping
 mod OnePart
+mod Ordering
 mod Reductions
 mod Refused
 mod Running

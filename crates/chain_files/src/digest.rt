@@ -1,6 +1,7 @@
 // The digest of a script.
-ghost use Rattle.std.specs.Prelude.{◌≡◌, ◌<◌, ◌++◌, IfOk, OnOk};
+ghost use Rattle.std.specs.Prelude.{◌≡◌, ◌<◌, ◌++◌, true, IfOk, OnOk};
 ghost use Rattle.chain_files.specs.Digests.{digest_of, hash_of, hex_digit, hex_digits};
+ghost use Rattle.chain_files.specs.Parts.{is_digest};
 
 use rdf_values::{Memory, Text};
 use std::alloc::Global;
@@ -40,7 +41,8 @@ fn put_digits(text: &mut Text, count: u32, number: u64) -> Result<(), Memory>
 
 /// The digest of a script by its bytes: a hash of 64 bits, as 16 digits from 0 to f.
 pub fn script_digest(alloc: Global, script: &[u8]) -> Result<Text, Memory>
-    ensures { IfOk result (λ text. text ≡ digest_of script.now) }
+    ensures digest { IfOk result (λ text. text ≡ digest_of script.now) }
+    ensures digits { IfOk result (λ text. is_digest text ≡ true) }
 {
     let mut text = Text::new(alloc);
     put_digits(&mut text, 16, hash_of(script))?;
