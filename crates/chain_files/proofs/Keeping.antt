@@ -22,7 +22,7 @@ use Rattle.shard_lines.specs.declared.pass_shape.PassShape.{PassShape}
 use Rattle.shard_lines.specs.declared.pass_shape.PassShape.TheVariants as shape
 use Rattle.shard_lines.specs.declared.shard_line.ShardLine.{ShardLine}
 use Rattle.shard_lines.specs.declared.shard_line.ShardLine.TheVariants as pass
-use Rattle.chain_files.specs.Joining.{are_loops, joined_loops, joined_part}
+use Rattle.chain_files.specs.Joining.{CanJoin, CanJoinAll, are_loops, joined_loops, joined_part, joined_parts}
 use Rattle.chain_files.specs.Laws.{JoinedIsPart, JoinedKeepsShape}
 use Rattle.chain_files.specs.Parts.{FitLoops, IsPart, PartView, part_limits, view_of}
 use Rattle.chain_files.specs.declared.part.PartFields.{PartFields}
@@ -342,3 +342,26 @@ joined_keeps_shape (ss ∷ loops) (Whole ps ∷ ks) (Whole qs ∷ ls) e f =
     let a = and_both (have_shapes ss ps) (are_loops loops ks) e in
     let b = and_both (have_shapes ss qs) (are_loops loops ls) f in
     ap₂ (λ x y. x && y) (lines_keep ss ps qs a.0 b.0) (joined_keeps_shape loops ks ls a.1 b.1)
+
+-- the part of two is followed by what follows the second
+pub can_go_on : (loops : List (List PassShape)) (a b : PartView) (bs : List PartView) → CanJoin loops a b → CanJoinAll loops b bs → CanJoinAll loops (joined_part loops a b) bs
+can_go_on loops a b [] h g = tt
+can_go_on loops a b (c ∷ cs) h g =
+    let next = g.0 in
+    (
+      record {
+        next = next.next;
+        script = h.script ∙ next.script;
+        columns = h.columns ∙ next.columns;
+        earlier = joined_keeps_shape loops a.loops b.loops h.earlier h.later;
+        later = next.later;
+      },
+      g.1,
+    )
+
+-- one part more
+pub one_more_joined : (loops : List (List PassShape)) (a b all wanted : PartView) (rest bs : List PartView) → rest ≡ b ∷ bs → all ≡ joined_part loops a b → joined_parts loops a rest ≡ wanted → CanJoinAll loops a rest
+    → (joined_parts loops all bs ≡ wanted) × CanJoinAll loops all bs
+one_more_joined loops a b all wanted rest bs e q h g =
+    let can : CanJoinAll loops a (b ∷ bs) = subst (CanJoinAll loops a) e g in
+    (ap (λ x. joined_parts loops x bs) q ∙ sym (ap (joined_parts loops a) e) ∙ h, subst (λ x. CanJoinAll loops x bs) (sym q) (can_go_on loops a b bs can.0 can.1))

@@ -1,6 +1,15 @@
 // Joining the loops of parts.
-ghost use Rattle.std.specs.Prelude.{◌≡◌, IfOk, true};
-ghost use Rattle.chain_files.specs.Joining.{are_loops, is_faulty, joined_loop, joined_loops, joined_part};
+ghost use Rattle.std.specs.Prelude.{◌≡◌, IfOk};
+ghost use Rattle.chain_files.specs.Joining.{
+  CanJoin,
+  CanJoinAll,
+  are_loops,
+  is_faulty,
+  joined_loop,
+  joined_loops,
+  joined_part,
+  joined_parts,
+};
 
 use crate::part::{Part, PartFields};
 use crate::part_loop::PartLoop;
@@ -88,11 +97,7 @@ pub fn join_parts(
     first: Part,
     second: Part,
 ) -> Result<Part, Memory>
-    requires next { first.end_file ≡ second.first_file }
-    requires script { first.script ≡ second.script }
-    requires columns { first.columns ≡ second.columns }
-    requires earlier { are_loops loops.now first.loops ≡ true }
-    requires later { are_loops loops.now second.loops ≡ true }
+    requires { CanJoin loops.now first second }
     ensures { IfOk result (λ part. part ≡ joined_part loops.now first second) }
 {
     let first = first.into_fields();
@@ -106,4 +111,21 @@ pub fn join_parts(
         columns: first.columns,
         loops: all,
     }))
+}
+
+/// The part of the files of all parts, each of which begins with the file at which the one before it ends.
+pub fn join_all(
+    alloc: Global,
+    loops: &[ListOf<PassShape>],
+    first: Part,
+    others: ListOf<Part>,
+) -> Result<Part, Memory>
+    requires { CanJoinAll loops.now first others }
+    ensures { IfOk result (λ part. part ≡ joined_parts loops.now first others) }
+{
+    let mut all = first;
+    for part in others.into_vec() {
+        all = join_parts(alloc, loops, all, part)?;
+    }
+    Ok(all)
 }

@@ -25,7 +25,7 @@ mod refusal;
 pub use crate::chain_fault::ChainFault;
 pub use crate::covering::{first_other, first_uncovered, in_order};
 pub use crate::digest::script_digest;
-pub use crate::joining::{are_loops, join_parts, joined_loops};
+pub use crate::joining::{are_loops, join_all, join_parts, joined_loops};
 pub use crate::laws::{
     a_text_breaks_nowhere, a_text_is_of_one_part, covered_are_next, groups_are_free,
     joined_is_part, joined_keeps_shape, joining_is_associative, least_is_uncovered, order_is_kept,
