@@ -3,7 +3,8 @@
 //!
 //! `specs/Parts.antt` says which values are a part and what its lines are; each part has one text, and its limits grow with
 //! its entries. Bytes are refused at the first line that no part has after the lines before it. `specs/Joining.antt` says
-//! what two parts come to together; parts may be joined in any groups.
+//! what two parts come to together; parts may be joined in any groups. `specs/Covering.antt` says which files parts hold, and
+//! `specs/Digests.antt` what a script's digest is.
 #![tactic(auto)]
 
 mod chain_fault;
