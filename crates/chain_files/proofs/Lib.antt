@@ -1,10 +1,15 @@
+mod Covered
 mod PartLines
 mod Following
 mod Grouping
+pub mod HexDigits
+mod Keeping
 mod OnePart
+mod Ordering
 mod Reductions
 mod Refused
 mod Running
 mod Runs
+mod Shaped
 mod Splitting
 mod Within

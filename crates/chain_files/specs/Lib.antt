@@ -1,4 +1,6 @@
 pub mod Parts
 pub mod Joining
+pub mod Digests
+pub mod Covering
 pub mod Laws
 pub mod Reading

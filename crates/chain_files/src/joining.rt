@@ -1,11 +1,42 @@
 // Joining the loops of parts.
 ghost use Rattle.std.specs.Prelude.{◌≡◌, IfOk};
-ghost use Rattle.chain_files.specs.Joining.{is_faulty, joined_loop, joined_loops};
+ghost use Rattle.chain_files.specs.Joining.{
+  CanJoin,
+  CanJoinAll,
+  are_loops,
+  is_faulty,
+  joined_loop,
+  joined_loops,
+  joined_part,
+  joined_parts,
+};
 
+use crate::part::{Part, PartFields};
 use crate::part_loop::PartLoop;
 use rdf_values::{ListOf, Memory};
-use shard_lines::{PassShape, joined_lines};
+use shard_lines::{PassShape, have_shapes, joined_lines};
 use std::alloc::Global;
+
+/// Whether these are the loops of the script whose passes have these shapes, up to the last one or to the first one with a
+/// fault.
+pub fn are_loops(loops: &[ListOf<PassShape>], found: &[PartLoop]) -> bool
+    ensures { result ≡ are_loops loops.now found.now }
+{
+    for (i, one) in found.iter().enumerate() {
+        if i >= loops.len() {
+            return false;
+        }
+        match one {
+            PartLoop::Whole(lines) => {
+                if !have_shapes(loops[i].as_slice(), lines.as_slice()) {
+                    return false;
+                }
+            }
+            PartLoop::Faulted(fault) => return (fault.pass as usize) < loops[i].len(),
+        }
+    }
+    found.len() >= loops.len()
+}
 
 // What a loop comes to in earlier files and in later ones.
 fn joined_loop(
@@ -55,6 +86,46 @@ pub fn joined_loops(
         if over {
             return Ok(all);
         }
+    }
+    Ok(all)
+}
+
+/// The part of the files of both parts, where the second begins with the file at which the first ends.
+pub fn join_parts(
+    alloc: Global,
+    loops: &[ListOf<PassShape>],
+    first: Part,
+    second: Part,
+) -> Result<Part, Memory>
+    requires { CanJoin loops.now first second }
+    ensures { IfOk result (λ part. part ≡ joined_part loops.now first second) }
+{
+    let first = first.into_fields();
+    let second = second.into_fields();
+    let all = joined_loops(alloc, loops, first.loops.as_slice(), second.loops.as_slice())?;
+    Ok(Part::new(PartFields {
+        first_file: first.first_file,
+        end_file: second.end_file,
+        entries: first.entries + second.entries,
+        script: first.script,
+        columns: first.columns,
+        loops: all,
+    }))
+}
+
+/// The part of the files of all parts, each of which begins with the file at which the one before it ends.
+pub fn join_all(
+    alloc: Global,
+    loops: &[ListOf<PassShape>],
+    first: Part,
+    others: ListOf<Part>,
+) -> Result<Part, Memory>
+    requires { CanJoinAll loops.now first others }
+    ensures { IfOk result (λ part. part ≡ joined_parts loops.now first others) }
+{
+    let mut all = first;
+    for part in others.into_vec() {
+        all = join_parts(alloc, loops, all, part)?;
     }
     Ok(all)
 }

@@ -1,7 +1,13 @@
 // Laws of part files. Each function does nothing; its contract is the law, and its proof the law's.
 ghost use Rattle.chain_files.specs.Laws.{
+  CoveredAreNext,
   GroupsAreFree,
+  JoinedIsPart,
+  JoinedKeepsShape,
   JoiningIsAssociative,
+  LeastIsUncovered,
+  OrderIsKept,
+  OrderKeepsFiles,
   TextBreaksNowhere,
   TextIsOfOnePart,
 };
@@ -24,4 +30,34 @@ pub fn joining_is_associative()
 /// Parts in two groups come to the same as one after the other.
 pub fn groups_are_free()
     ensures { GroupsAreFree }
+{}
+
+/// Two parts of the script's shape, of which the second begins where the first ends, come to a part.
+pub fn joined_is_part()
+    ensures { JoinedIsPart }
+{}
+
+/// Loops of the script's shape come to loops of that shape.
+pub fn joined_keeps_shape()
+    ensures { JoinedKeepsShape }
+{}
+
+/// Parts that were put in order are in order.
+pub fn order_is_kept()
+    ensures { OrderIsKept }
+{}
+
+/// A file is in as many parts in order as before.
+pub fn order_keeps_files()
+    ensures { OrderKeepsFiles }
+{}
+
+/// `first_uncovered` is the least file that isn't in just one of the parts.
+pub fn least_is_uncovered()
+    ensures { LeastIsUncovered }
+{}
+
+/// Where there is no such file, each part begins where the one before it ends.
+pub fn covered_are_next()
+    ensures { CoveredAreNext }
 {}

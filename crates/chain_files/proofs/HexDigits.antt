@@ -1,0 +1,42 @@
+-- A digest's digits, and digests computed.
+use Rattle.std.proofs.Common.{◌≡◌, ◌<◌, ◌+◌, ◌/◌, ◌%◌, ◌++◌, ℕ, zero, suc, Bool, true, false, ◌&&◌, cond, List, [], ◌∷◌, length, length-append, refl, ap, ap₂, ◌∙◌, sym, arith, codes}
+use Rattle.std.specs.Prelude.{◌||◌, nat_eq, nat_le, nat_lt}
+use Rattle.std.specs.List.{list_all}
+use Rattle.std.proofs.lemmas.Bool.Decides.{nat_tests}
+use Rattle.chain_files.specs.Digests.{digest_of, hash_of, hex_digit, hex_digits}
+use Rattle.chain_files.specs.Parts.{is_digest, is_hex}
+
+all_joined : (xs ys : List ℕ) → list_all is_hex xs ≡ true → list_all is_hex ys ≡ true → list_all is_hex (xs ++ ys) ≡ true
+all_joined [] ys h g = g
+all_joined (x ∷ xs) ys h g = by (is_hex x) h (λ e. all_joined xs ys e g)
+  where
+    by : (b : Bool) → (b && list_all is_hex xs) ≡ true → (list_all is_hex xs ≡ true → list_all is_hex (xs ++ ys) ≡ true) → (b && list_all is_hex (xs ++ ys)) ≡ true
+    by true e f = f e
+    by false e f = cc e
+
+one_digit : (d : ℕ) → d < 16 → is_hex (hex_digit d) ≡ true
+one_digit d h = by (nat_lt d 10) refl
+  where
+    by : (b : Bool) → nat_lt d 10 ≡ b → is_hex (cond b (48 + d) (87 + d)) ≡ true
+    by true e = grind (arith, nat_tests)
+    by false e = grind (arith, nat_tests)
+
+all_hex : (k n : ℕ) → list_all is_hex (hex_digits k n) ≡ true
+all_hex zero n = refl
+all_hex (suc k) n = all_joined (hex_digits k (n / 16)) (hex_digit (n % 16) ∷ []) (all_hex k (n / 16)) (ap (λ b. b && true) (one_digit (n % 16) (omega arith)))
+
+so_many : (k n : ℕ) → length (hex_digits k n) ≡ k
+so_many zero n = refl
+so_many (suc k) n = omega (arith, length-append (hex_digits k (n / 16)) (hex_digit (n % 16) ∷ []), so_many k (n / 16))
+
+pub are_digits : (bytes : List ℕ) → is_digest (digest_of bytes) ≡ true
+are_digits bytes = ap₂ (λ n b. nat_eq n 16 && b) (so_many 16 (hash_of bytes)) (all_hex 16 (hash_of bytes))
+
+pub of_nothing : digest_of [] ≡ codes "cbf29ce484222325"
+of_nothing = refl
+
+pub of_a_letter : digest_of (codes "a") ≡ codes "af63dc4c8601ec8c"
+of_a_letter = refl
+
+pub of_a_word : digest_of (codes "foobar") ≡ codes "85944171f73967e8"
+of_a_word = refl

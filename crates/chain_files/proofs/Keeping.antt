@@ -1,0 +1,367 @@
+-- What two parts come to is within the limits of their entries together.
+use Rattle.std.proofs.Common.{◌≡◌, ◌≤◌, ◌<◌, ◌+◌, ◌*◌, ◌-◌, ◌^◌, ◌+ℤ◌, ℕ, ℤ, pos, negsuc, Bool, true, false, ◌&&◌, cond, Option, None, Some, List, [], ◌∷◌, ◌++◌, length, refl, ap, ap₂, ◌∙◌, sym, subst, arith, length-append, w64}
+use Rattle.std.specs.Prelude.{◌||◌, nat_abs, nat_eq, nat_lt, int_lt}
+use Rattle.std.specs.Int.{cast_signed, int_max, int_min}
+use Rattle.std.specs.List.{list_all}
+use Rattle.std.proofs.lemmas.Bool.Decides.{nat_tests}
+use Rattle.std.proofs.lemmas.Int.{ints}
+use borrow.Author.Differences.{read_fits, up, down}
+use Rattle.rdf_values.specs.Fold.{reduce_step}
+use Rattle.rdf_values.specs.Words.{Has64Bits}
+use Rattle.rdf_values.specs.declared.action.ReduceOp.{ReduceOp}
+use Rattle.rdf_values.specs.declared.action.ReduceOp.TheVariants as op
+use Rattle.rdf_values.specs.declared.value.ColType.{ColType}
+use Rattle.rdf_values.specs.declared.value.ColType.TheVariants as k
+use Rattle.rdf_values.specs.declared.value.Scalar.{Scalar}
+use Rattle.filters_report.specs.declared.flow.Counts.{Counts}
+use Rattle.histograms.specs.declared.cell_sum.CellSum.{CellSum}
+use Rattle.shard_lines.specs.Joining.{added_cells, added_counts, better_of, cells_of, count_of, counts_of, extreme_of, joined_line, joined_lines, number_of, sum_of, taken_of}
+use Rattle.shard_lines.specs.Lines.{EachFits, FitLines, FitsCell, FitsCount, FitsExtreme, FitsLine, FitsScalar, FitsTake, are_alike, is_number, is_truth}
+use Rattle.shard_lines.specs.Shapes.{are_cells, has_shape, have_shapes, is_report, is_take_from, is_taken_from}
+use Rattle.shard_lines.specs.declared.pass_shape.PassShape.{PassShape}
+use Rattle.shard_lines.specs.declared.pass_shape.PassShape.TheVariants as shape
+use Rattle.shard_lines.specs.declared.shard_line.ShardLine.{ShardLine}
+use Rattle.shard_lines.specs.declared.shard_line.ShardLine.TheVariants as pass
+use Rattle.chain_files.specs.Joining.{CanJoin, CanJoinAll, are_loops, joined_loops, joined_part, joined_parts}
+use Rattle.chain_files.specs.Laws.{JoinedIsPart, JoinedKeepsShape}
+use Rattle.chain_files.specs.Parts.{FitLoops, IsPart, PartView, part_limits, view_of}
+use Rattle.chain_files.specs.declared.part.PartFields.{PartFields}
+use Rattle.chain_files.specs.declared.part_loop.PartLoop.{PartLoop}
+use Rattle.chain_files.specs.declared.part_loop.PartLoop.TheVariants.{Whole, Faulted}
+
+-- ---- numbers of 64 bits
+
+word_fits : (n : ℕ) → Has64Bits (cast_signed w64 n)
+word_fits n = of_parts (cast_signed w64 n) (read_fits w64 n)
+  where
+    of_parts : (y : ℤ) → (up y < down y + 2 ^ 63) × (down y ≤ up y + 2 ^ 63) → Has64Bits y
+    of_parts (pos n) f = let a = f.0 in omega (arith, a)
+    of_parts (negsuc n) f = let a = f.1 in omega (arith, a)
+
+either : (b : Bool) (x y : ℤ) → Has64Bits x → Has64Bits y → Has64Bits (cond b x y)
+either true x y h g = h
+either false x y h g = g
+
+least_fits : (x y : ℤ) → Has64Bits x → Has64Bits y → Has64Bits (int_min x y)
+least_fits x y h g = either (int_lt y x) y x g h
+
+greatest_fits : (x y : ℤ) → Has64Bits x → Has64Bits y → Has64Bits (int_max x y)
+greatest_fits x y h g = either (int_lt y x) x y h g
+
+step_fits : (o : ReduceOp) (x y : ℤ) → Has64Bits x → Has64Bits y → Has64Bits (reduce_step o x y)
+step_fits op.Min x y h g = least_fits x y h g
+step_fits op.Max x y h g = greatest_fits x y h g
+step_fits op.And x y h g = word_fits _
+step_fits op.Or x y h g = word_fits _
+step_fits op.Xor x y h g = word_fits _
+step_fits op.WrapAdd x y h g = word_fits _
+
+better_fits : (better : ℤ → ℤ → ℤ) → ((x y : ℤ) → Has64Bits x → Has64Bits y → Has64Bits (better x y)) → (o p : Option ℤ) → FitsExtreme o → FitsExtreme p → FitsExtreme (better_of better o p)
+better_fits better f None p h g = g
+better_fits better f (Some x) None h g = h
+better_fits better f (Some x) (Some y) h g = f x y h g
+
+-- ---- what a line holds
+
+module _ (n : ℕ) where
+  count_held : (p : ShardLine) → FitsLine (part_limits n) p → count_of p ≤ n
+  count_held (pass.Count c) h = h
+  count_held (pass.Sum z) h = omega arith
+  count_held (pass.Number z) h = omega arith
+  count_held (pass.Extreme z) h = omega arith
+  count_held (pass.Take xs) h = omega arith
+  count_held (pass.Cells cs) h = omega arith
+  count_held (pass.Report cs) h = omega arith
+
+  sum_held : (p : ShardLine) → FitsLine (part_limits n) p → nat_abs (sum_of p) ≤ n * 2 ^ 75
+  sum_held (pass.Count c) h = omega arith
+  sum_held (pass.Sum z) h = h
+  sum_held (pass.Number z) h = omega arith
+  sum_held (pass.Extreme z) h = omega arith
+  sum_held (pass.Take xs) h = omega arith
+  sum_held (pass.Cells cs) h = omega arith
+  sum_held (pass.Report cs) h = omega arith
+
+  number_held : (p : ShardLine) → FitsLine (part_limits n) p → Has64Bits (number_of p)
+  number_held (pass.Count c) h = omega arith
+  number_held (pass.Sum z) h = omega arith
+  number_held (pass.Number z) h = h
+  number_held (pass.Extreme z) h = omega arith
+  number_held (pass.Take xs) h = omega arith
+  number_held (pass.Cells cs) h = omega arith
+  number_held (pass.Report cs) h = omega arith
+
+  extreme_held : (p : ShardLine) → FitsLine (part_limits n) p → FitsExtreme (extreme_of p)
+  extreme_held (pass.Count c) h = tt
+  extreme_held (pass.Sum z) h = tt
+  extreme_held (pass.Number z) h = tt
+  extreme_held (pass.Extreme z) h = h
+  extreme_held (pass.Take xs) h = tt
+  extreme_held (pass.Cells cs) h = tt
+  extreme_held (pass.Report cs) h = tt
+
+  cells_held : (p : ShardLine) → FitsLine (part_limits n) p → EachFits (FitsCell (part_limits n)) (cells_of p)
+  cells_held (pass.Count c) h = tt
+  cells_held (pass.Sum z) h = tt
+  cells_held (pass.Number z) h = tt
+  cells_held (pass.Extreme z) h = tt
+  cells_held (pass.Take xs) h = tt
+  cells_held (pass.Cells cs) h = h
+  cells_held (pass.Report cs) h = tt
+
+  counts_held : (p : ShardLine) → FitsLine (part_limits n) p → EachFits (FitsCount (part_limits n)) (counts_of p)
+  counts_held (pass.Count c) h = tt
+  counts_held (pass.Sum z) h = tt
+  counts_held (pass.Number z) h = tt
+  counts_held (pass.Extreme z) h = tt
+  counts_held (pass.Take xs) h = tt
+  counts_held (pass.Cells cs) h = tt
+  counts_held (pass.Report cs) h = h
+
+  taken_held : (column : ColType) (p : ShardLine) → is_take_from column p ≡ true → FitsLine (part_limits n) p → (list_all (is_taken_from column) (taken_of p) ≡ true) × EachFits FitsScalar (taken_of p) × (length (taken_of p) ≤ n)
+  taken_held column (pass.Count c) e h = cc e
+  taken_held column (pass.Sum z) e h = cc e
+  taken_held column (pass.Number z) e h = cc e
+  taken_held column (pass.Extreme z) e h = cc e
+  taken_held column (pass.Take xs) e h = (e, h.fit, h.short)
+  taken_held column (pass.Cells cs) e h = cc e
+  taken_held column (pass.Report cs) e h = cc e
+
+-- ---- lists
+
+same_tests : (f g : Scalar → Bool) → ((x : Scalar) → f x ≡ g x) → (xs : List Scalar) → list_all f xs ≡ list_all g xs
+same_tests f g h [] = refl
+same_tests f g h (x ∷ xs) = ap₂ (λ a b. a && b) (h x) (same_tests f g h xs)
+
+or_true : (b : Bool) → (b || true) ≡ true
+or_true true = refl
+or_true false = refl
+
+alike : (column : ColType) (xs : List Scalar) → list_all (is_taken_from column) xs ≡ true → are_alike xs ≡ true
+alike k.Int xs h = ap (λ b. b || list_all is_truth xs) (sym (same_tests (is_taken_from k.Int) is_number (λ x. refl) xs) ∙ h)
+alike k.Bool xs h = ap (λ b. list_all is_number xs || b) (sym (same_tests (is_taken_from k.Bool) is_truth (λ x. refl) xs) ∙ h) ∙ or_true (list_all is_number xs)
+alike k.Vect xs h = ap (λ b. b || list_all is_truth xs) (sym (same_tests (is_taken_from k.Vect) is_number (λ x. refl) xs) ∙ h)
+
+and_both : (a b : Bool) → (a && b) ≡ true → (a ≡ true) × (b ≡ true)
+and_both true b h = (refl, h)
+and_both false b h = cc h
+
+all_joined : (f : Scalar → Bool) (xs ys : List Scalar) → list_all f xs ≡ true → list_all f ys ≡ true → list_all f (xs ++ ys) ≡ true
+all_joined f [] ys h g = g
+all_joined f (x ∷ xs) ys h g = let both = and_both (f x) (list_all f xs) h in ap₂ (λ a b. a && b) both.0 (all_joined f xs ys both.1 g)
+
+fits_joined : (xs ys : List Scalar) → EachFits FitsScalar xs → EachFits FitsScalar ys → EachFits FitsScalar (xs ++ ys)
+fits_joined [] ys h g = g
+fits_joined (x ∷ xs) ys h g = (h.0, fits_joined xs ys h.1 g)
+
+abs_add : (a b : ℤ) → nat_abs (a +ℤ b) ≤ nat_abs a + nat_abs b
+abs_add a b = grind (arith, ints)
+
+module _ (n m : ℕ) where
+  cells_fit : (cs ds : List CellSum) → EachFits (FitsCell (part_limits n)) cs → EachFits (FitsCell (part_limits m)) ds → EachFits (FitsCell (part_limits (n + m))) (added_cells cs ds)
+  cells_fit [] ds h g = tt
+  cells_fit (c ∷ cs) [] h g = tt
+  cells_fit (c ∷ cs) (d ∷ ds) h g =
+      let one = h.0 in
+      let other = g.0 in
+      let a = one.0 in
+      let b = one.1 in
+      let e = other.0 in
+      let f = other.1 in
+      let s = abs_add c.sum d.sum in
+      let q = abs_add c.squares d.squares in
+      ((omega arith, omega arith), cells_fit cs ds h.1 g.1)
+
+  counts_fit : (cs ds : List Counts) → EachFits (FitsCount (part_limits n)) cs → EachFits (FitsCount (part_limits m)) ds → EachFits (FitsCount (part_limits (n + m))) (added_counts cs ds)
+  counts_fit [] ds h g = tt
+  counts_fit (c ∷ cs) [] h g = tt
+  counts_fit (c ∷ cs) (d ∷ ds) h g =
+      let one = h.0 in
+      let other = g.0 in
+      let a = one.0 in
+      let b = one.1 in
+      let e = other.0 in
+      let f = other.1 in
+      ((omega arith, omega arith), counts_fit cs ds h.1 g.1)
+
+  line_fits : (s : PassShape) (p q : ShardLine) → has_shape s p ≡ true → has_shape s q ≡ true → FitsLine (part_limits n) p → FitsLine (part_limits m) q → FitsLine (part_limits (n + m)) (joined_line s p q)
+  line_fits shape.Count p q e f h g = let a = count_held n p h in let b = count_held m q g in omega arith
+  line_fits shape.Sum p q e f h g = let a = sum_held n p h in let b = sum_held m q g in let s = abs_add (sum_of p) (sum_of q) in omega arith
+  line_fits shape.Least p q e f h g = better_fits int_min least_fits (extreme_of p) (extreme_of q) (extreme_held n p h) (extreme_held m q g)
+  line_fits shape.Greatest p q e f h g = better_fits int_max greatest_fits (extreme_of p) (extreme_of q) (extreme_held n p h) (extreme_held m q g)
+  line_fits (shape.Take column) p q e f h g =
+      let a = taken_held n column p e h in
+      let b = taken_held m column q f g in
+      let few = a.2 in
+      let more = b.2 in
+      record {
+        alike = alike column (taken_of p ++ taken_of q) (all_joined (is_taken_from column) (taken_of p) (taken_of q) a.0 b.0);
+        fit = fits_joined (taken_of p) (taken_of q) a.1 b.1;
+        short = omega (arith, length-append (taken_of p) (taken_of q), few, more);
+      }
+  line_fits (shape.Number o) p q e f h g = step_fits o (number_of p) (number_of q) (number_held n p h) (number_held m q g)
+  line_fits (shape.Cells c) p q e f h g = cells_fit (cells_of p) (cells_of q) (cells_held n p h) (cells_held m q g)
+  line_fits (shape.Report c) p q e f h g = counts_fit (counts_of p) (counts_of q) (counts_held n p h) (counts_held m q g)
+
+  lines_fit : (ss : List PassShape) (ps qs : List ShardLine) → have_shapes ss ps ≡ true → have_shapes ss qs ≡ true → FitLines (part_limits n) ps → FitLines (part_limits m) qs → FitLines (part_limits (n + m)) (joined_lines ss ps qs)
+  lines_fit [] ps qs e f h g = tt
+  lines_fit (s ∷ ss) [] qs e f h g = tt
+  lines_fit (s ∷ ss) (p ∷ ps) [] e f h g = tt
+  lines_fit (s ∷ ss) (p ∷ ps) (q ∷ qs) e f h g =
+      let a = and_both (has_shape s p) (have_shapes ss ps) e in
+      let b = and_both (has_shape s q) (have_shapes ss qs) f in
+      (line_fits s p q a.0 b.0 h.0 g.0, lines_fit ss ps qs a.1 b.1 h.1 g.1)
+
+some_lines : (ss : List PassShape) (ps qs : List ShardLine) → have_shapes ss ps ≡ true → 0 < length ps → 0 < length qs → 0 < length (joined_lines ss ps qs)
+some_lines [] [] qs e h g = absurd (omega arith)
+some_lines [] (p ∷ ps) qs e h g = cc e
+some_lines (s ∷ ss) [] qs e h g = absurd (omega arith)
+some_lines (s ∷ ss) (p ∷ ps) [] e h g = absurd (omega arith)
+some_lines (s ∷ ss) (p ∷ ps) (q ∷ qs) e h g = omega arith
+
+-- ---- loops and parts
+
+module _ (a b c n m : ℕ) (low : a < b) (high : b < c) where
+  loops_fit : (shapes : List (List PassShape)) (ks ls : List PartLoop) → are_loops shapes ks ≡ true → are_loops shapes ls ≡ true → FitLoops a b n ks → FitLoops b c m ls → FitLoops a c (n + m) (joined_loops shapes ks ls)
+  loops_fit [] ks ls e f h g = tt
+  loops_fit (ss ∷ shapes) [] ls e f h g = tt
+  loops_fit (ss ∷ shapes) (k ∷ ks) [] e f h g = tt
+  loops_fit (ss ∷ shapes) (Faulted x ∷ []) (l ∷ ls) e f h g = let under = h.1 in (h.0, omega arith, h.2, h.3)
+  loops_fit (ss ∷ shapes) (Faulted x ∷ k ∷ ks) (l ∷ ls) e f h g = absurd h
+  loops_fit (ss ∷ shapes) (Whole ps ∷ ks) (Faulted x ∷ []) e f h g = let over = g.0 in (omega arith, g.1, g.2, g.3)
+  loops_fit (ss ∷ shapes) (Whole ps ∷ ks) (Faulted x ∷ l ∷ ls) e f h g = absurd g
+  loops_fit (ss ∷ shapes) (Whole ps ∷ ks) (Whole qs ∷ ls) e f h g =
+      let one = and_both (have_shapes ss ps) (are_loops shapes ks) e in
+      let other = and_both (have_shapes ss qs) (are_loops shapes ls) f in
+      (some_lines ss ps qs one.0 h.0 g.0, lines_fit n m ss ps qs one.0 other.0 h.1 g.1, loops_fit shapes ks ls one.1 other.1 h.2 g.2)
+
+pub joined_is_part : JoinedIsPart
+joined_is_part loops s t v w e f next =
+    let files = v.files in
+    let others = w.files in
+    let few = v.entries in
+    let more = w.entries in
+    let high : s.end_file < t.end_file = omega arith in
+    let later : FitLoops s.end_file t.end_file t.entries t.loops = subst (λ i. FitLoops i t.end_file t.entries t.loops) (sym next) w.loops in
+    record {
+      files = omega arith;
+      within = w.within;
+      entries = omega arith;
+      digest = v.digest;
+      header = v.header;
+      named = v.named;
+      loops = loops_fit s.first_file s.end_file t.end_file s.entries t.entries files high loops s.loops t.loops e f v.loops later;
+    }
+
+-- the same of two parts' fields
+pub fields_join : (loops : List (List PassShape)) (a b : PartFields) (s t : PartView) (all : List PartLoop) → view_of a ≡ s → view_of b ≡ t → IsPart (view_of a) → IsPart (view_of b) → s.end_file ≡ t.first_file
+    → are_loops loops s.loops ≡ true → are_loops loops t.loops ≡ true → all ≡ joined_loops loops a.loops b.loops
+    → IsPart (record { first_file = a.first_file; end_file = b.end_file; entries = a.entries + b.entries; script = a.script; columns = a.columns; loops = all })
+fields_join loops a b s t all p q v w next e f h =
+    subst (λ ls. IsPart (record { first_file = a.first_file; end_file = b.end_file; entries = a.entries + b.entries; script = a.script; columns = a.columns; loops = ls })) (sym h)
+        (joined_is_part loops (view_of a) (view_of b) v w (ap (λ (x : PartView). are_loops loops x.loops) p ∙ e) (ap (λ (x : PartView). are_loops loops x.loops) q ∙ f)
+            (ap (λ (x : PartView). x.end_file) p ∙ next ∙ sym (ap (λ (x : PartView). x.first_file) q)))
+
+-- ---- shapes
+
+cells_long : (cs ds : List CellSum) (n : ℕ) → nat_eq (length cs) n ≡ true → nat_eq (length ds) n ≡ true → nat_eq (length (added_cells cs ds)) n ≡ true
+cells_long cs ds n h g = ap (λ m. nat_eq m n) (as_long cs ds (same (length cs) (length ds) n h g)) ∙ h
+  where
+    same : (a b n : ℕ) → nat_eq a n ≡ true → nat_eq b n ≡ true → a ≡ b
+    same a b n h g = grind (arith, nat_tests)
+
+    as_long : (cs ds : List CellSum) → length cs ≡ length ds → length (added_cells cs ds) ≡ length cs
+    as_long [] ds e = refl
+    as_long (c ∷ cs) [] e = absurd (omega (arith, e))
+    as_long (c ∷ cs) (d ∷ ds) e = let rest = as_long cs ds (omega (arith, e)) in omega (arith, rest)
+
+counts_long : (cs ds : List Counts) (n : ℕ) → nat_eq (length cs) n ≡ true → nat_eq (length ds) n ≡ true → nat_eq (length (added_counts cs ds)) n ≡ true
+counts_long cs ds n h g = ap (λ m. nat_eq m n) (as_long cs ds (same (length cs) (length ds) n h g)) ∙ h
+  where
+    same : (a b n : ℕ) → nat_eq a n ≡ true → nat_eq b n ≡ true → a ≡ b
+    same a b n h g = grind (arith, nat_tests)
+
+    as_long : (cs ds : List Counts) → length cs ≡ length ds → length (added_counts cs ds) ≡ length cs
+    as_long [] ds e = refl
+    as_long (c ∷ cs) [] e = absurd (omega (arith, e))
+    as_long (c ∷ cs) (d ∷ ds) e = let rest = as_long cs ds (omega (arith, e)) in omega (arith, rest)
+
+taken_alone : (column : ColType) (p : ShardLine) → is_take_from column p ≡ true → list_all (is_taken_from column) (taken_of p) ≡ true
+taken_alone column (pass.Take xs) e = e
+taken_alone column (pass.Count c) e = refl
+taken_alone column (pass.Sum z) e = refl
+taken_alone column (pass.Number z) e = refl
+taken_alone column (pass.Extreme z) e = refl
+taken_alone column (pass.Cells cs) e = refl
+taken_alone column (pass.Report cs) e = refl
+
+so_many_cells : (n : ℕ) (p : ShardLine) → are_cells n p ≡ true → nat_eq (length (cells_of p)) n ≡ true
+so_many_cells n (pass.Cells cs) e = e
+so_many_cells n (pass.Count c) e = cc e
+so_many_cells n (pass.Sum z) e = cc e
+so_many_cells n (pass.Number z) e = cc e
+so_many_cells n (pass.Extreme z) e = cc e
+so_many_cells n (pass.Take xs) e = cc e
+so_many_cells n (pass.Report cs) e = cc e
+
+so_many_counts : (n : ℕ) (p : ShardLine) → is_report n p ≡ true → nat_eq (length (counts_of p)) n ≡ true
+so_many_counts n (pass.Report cs) e = e
+so_many_counts n (pass.Count c) e = cc e
+so_many_counts n (pass.Sum z) e = cc e
+so_many_counts n (pass.Number z) e = cc e
+so_many_counts n (pass.Extreme z) e = cc e
+so_many_counts n (pass.Take xs) e = cc e
+so_many_counts n (pass.Cells cs) e = cc e
+
+line_keeps : (s : PassShape) (p q : ShardLine) → has_shape s p ≡ true → has_shape s q ≡ true → has_shape s (joined_line s p q) ≡ true
+line_keeps shape.Count p q e f = refl
+line_keeps shape.Sum p q e f = refl
+line_keeps shape.Least p q e f = refl
+line_keeps shape.Greatest p q e f = refl
+line_keeps (shape.Take column) p q e f = all_joined (is_taken_from column) (taken_of p) (taken_of q) (taken_alone column p e) (taken_alone column q f)
+line_keeps (shape.Number o) p q e f = refl
+line_keeps (shape.Cells n) p q e f = cells_long (cells_of p) (cells_of q) n (so_many_cells n p e) (so_many_cells n q f)
+line_keeps (shape.Report n) p q e f = counts_long (counts_of p) (counts_of q) n (so_many_counts n p e) (so_many_counts n q f)
+
+lines_keep : (ss : List PassShape) (ps qs : List ShardLine) → have_shapes ss ps ≡ true → have_shapes ss qs ≡ true → have_shapes ss (joined_lines ss ps qs) ≡ true
+lines_keep [] ps qs e f = refl
+lines_keep (s ∷ ss) [] qs e f = cc e
+lines_keep (s ∷ ss) (p ∷ ps) [] e f = cc f
+lines_keep (s ∷ ss) (p ∷ ps) (q ∷ qs) e f =
+    let a = and_both (has_shape s p) (have_shapes ss ps) e in
+    let b = and_both (has_shape s q) (have_shapes ss qs) f in
+    ap₂ (λ x y. x && y) (line_keeps s p q a.0 b.0) (lines_keep ss ps qs a.1 b.1)
+
+pub joined_keeps_shape : JoinedKeepsShape
+joined_keeps_shape [] ks ls e f = refl
+joined_keeps_shape (ss ∷ loops) [] ls e f = cc e
+joined_keeps_shape (ss ∷ loops) (k ∷ ks) [] e f = cc f
+joined_keeps_shape (ss ∷ loops) (Faulted x ∷ ks) (l ∷ ls) e f = e
+joined_keeps_shape (ss ∷ loops) (Whole ps ∷ ks) (Faulted x ∷ ls) e f = f
+joined_keeps_shape (ss ∷ loops) (Whole ps ∷ ks) (Whole qs ∷ ls) e f =
+    let a = and_both (have_shapes ss ps) (are_loops loops ks) e in
+    let b = and_both (have_shapes ss qs) (are_loops loops ls) f in
+    ap₂ (λ x y. x && y) (lines_keep ss ps qs a.0 b.0) (joined_keeps_shape loops ks ls a.1 b.1)
+
+-- the part of two is followed by what follows the second
+pub can_go_on : (loops : List (List PassShape)) (a b : PartView) (bs : List PartView) → CanJoin loops a b → CanJoinAll loops b bs → CanJoinAll loops (joined_part loops a b) bs
+can_go_on loops a b [] h g = tt
+can_go_on loops a b (c ∷ cs) h g =
+    let next = g.0 in
+    (
+      record {
+        next = next.next;
+        script = h.script ∙ next.script;
+        columns = h.columns ∙ next.columns;
+        earlier = joined_keeps_shape loops a.loops b.loops h.earlier h.later;
+        later = next.later;
+      },
+      g.1,
+    )
+
+-- one part more
+pub one_more_joined : (loops : List (List PassShape)) (a b all wanted : PartView) (rest bs : List PartView) → rest ≡ b ∷ bs → all ≡ joined_part loops a b → joined_parts loops a rest ≡ wanted → CanJoinAll loops a rest
+    → (joined_parts loops all bs ≡ wanted) × CanJoinAll loops all bs
+one_more_joined loops a b all wanted rest bs e q h g =
+    let can : CanJoinAll loops a (b ∷ bs) = subst (CanJoinAll loops a) e g in
+    (ap (λ x. joined_parts loops x bs) q ∙ sym (ap (joined_parts loops a) e) ∙ h, subst (λ x. CanJoinAll loops x bs) (sym q) (can_go_on loops a b bs can.0 can.1))
