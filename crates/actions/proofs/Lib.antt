@@ -1,3 +1,4 @@
+pub mod Batching
 pub mod Faults
 pub mod Folds
 pub mod Merges

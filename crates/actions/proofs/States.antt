@@ -1,6 +1,6 @@
 -- What an accumulator holds after one more entry.
 use Rattle.std.proofs.Common.{ℕ, ◌≡◌, ◌≤◌, ◌+◌, map, length, All, List, [], ◌∷◌, ◌++◌, ℤ, pos, ◌+ℤ◌, refl, ap, sym, ◌∙◌, length-append, lit≤}
-use Rattle.std.specs.Prelude.{flat_map, Option, None, Result, Ok, Err, OnOk, fold}
+use Rattle.std.specs.Prelude.{flat_map, Option, None, Result, Ok, Err, OnErr, OnOk, fold}
 use Rattle.std.proofs.lemmas.List.{map-append}
 use Rattle.std.specs.Int.{int_max, int_min}
 use Rattle.rdf_values.specs.declared.action.ActionKind.TheVariants as kind
@@ -23,7 +23,7 @@ use Rattle.actions.specs.declared.items.Items.TheVariants.{Entry, One, Weighted,
 use Rattle.actions.specs.Extremes.{better_of}
 use Rattle.actions.specs.Feeding.{Fed, by_cluster, from_cluster, in_file_order}
 use Rattle.actions.specs.Holding.{Holds}
-use Rattle.actions.specs.Values.{fed_value}
+use Rattle.actions.specs.Values.{fed_value, values_from}
 use Rattle.actions.specs.Parts.{Suits, first_numbers, first_scalar, part_values, second_part, values_of, weight_part}
 use Rattle.actions.proofs.Folds.{extreme_numbers, fold_numbers, taken_singles}
 use Rattle.actions.proofs.Order.{by_cluster-feed, in_file_order-feed}
@@ -55,29 +55,25 @@ the_square (Square cells) = cells
 the_square f = []
 
 -- the items of one column
-spread_sum : (c : List ℕ) (vs : List Value) → spread (kind.Sum c) vs ≡ map Number (first_numbers vs)
+pub spread_sum : (c : List ℕ) (vs : List Value) → spread (kind.Sum c) vs ≡ map Number (first_numbers vs)
 spread_sum c [] = refl
 spread_sum c (v ∷ vs) = refl
 
-spread_min : (c : List ℕ) (vs : List Value) → spread (kind.Min c) vs ≡ map Number (first_numbers vs)
+pub spread_min : (c : List ℕ) (vs : List Value) → spread (kind.Min c) vs ≡ map Number (first_numbers vs)
 spread_min c [] = refl
 spread_min c (v ∷ vs) = refl
 
-spread_max : (c : List ℕ) (vs : List Value) → spread (kind.Max c) vs ≡ map Number (first_numbers vs)
+pub spread_max : (c : List ℕ) (vs : List Value) → spread (kind.Max c) vs ≡ map Number (first_numbers vs)
 spread_max c [] = refl
 spread_max c (v ∷ vs) = refl
 
-spread_reduce : (o : ReduceOp) (c : List ℕ) (vs : List Value) → spread (kind.Reduce o c) vs ≡ map Number (first_numbers vs)
+pub spread_reduce : (o : ReduceOp) (c : List ℕ) (vs : List Value) → spread (kind.Reduce o c) vs ≡ map Number (first_numbers vs)
 spread_reduce o c [] = refl
 spread_reduce o c (v ∷ vs) = refl
 
 spread_take : (c : List ℕ) (vs : List Value) → spread (kind.Take c) vs ≡ map Single (first_scalar vs)
 spread_take c [] = refl
 spread_take c (v ∷ vs) = refl
-
--- values of one cluster
-abbrev pub values_from : ℕ → List Scalar → List TakenValue
-values_from cluster xs = map (λ x. record { cluster = cluster; value = x }) xs
 
 values_fed : (xs : List Scalar) (cluster : ℕ) → map fed_value (values_from cluster xs) ≡ from_cluster cluster (map Single xs)
 values_fed [] cluster = refl
@@ -91,50 +87,67 @@ module _ (fed : List Fed) (cluster : ℕ) (below : All (λ f. f.cluster ≤ clus
   after : (is js : List Item) → is ≡ js → in_file_order (fed ++ from_cluster cluster is) ≡ in_file_order fed ++ js
   after is js e = ap (λ l. in_file_order (fed ++ from_cluster cluster l)) e ∙ in_file_order-feed fed cluster js below
 
+  pub holds_counted : (n n' : ℕ) (items : List Item) → n' ≡ n + length items → Holds (state.Count n) fed → Holds (state.Count n') (fed ++ from_cluster cluster items)
+  holds_counted n n' items e h = record {
+    made = ap Count (e ∙ ap (λ k. k + length items) (ap the_count h.made) ∙ sym (ap length (in_file_order-feed fed cluster items below) ∙ length-append (in_file_order fed) items));
+    kept = refl;
+  }
+
   pub holds_count : (n : ℕ) → Holds (state.Count n) fed → Holds (state.Count (n + 1)) (fed ++ from_cluster cluster (spread kind.Count []))
-  holds_count n h = record {
-    made = ap Count (ap (λ k. k + 1) (ap the_count h.made) ∙ sym (ap length (in_file_order-feed fed cluster (Unit ∷ []) below) ∙ length-append (in_file_order fed) (Unit ∷ [])));
+  holds_count n h = holds_counted n (n + 1) (Unit ∷ []) refl h
+
+  pub holds_summed : (c : List ℕ) (z z' : ℤ) (zs : List ℤ) (items : List Item) → z' ≡ fold ◌+ℤ◌ z zs → items ≡ map Number zs → Holds (state.Sum c z) fed → Holds (state.Sum c z') (fed ++ from_cluster cluster items)
+  holds_summed c z z' zs items e is h = record {
+    made = ap Sum (e ∙ ap (λ a. fold ◌+ℤ◌ a zs) (ap (λ f. the_sum f z) h.made)
+        ∙ sym (ap (λ l. fold ◌+ℤ◌ (pos 0) (numbers_of l)) (after items (map Number zs) is) ∙ fold_numbers ◌+ℤ◌ (pos 0) (in_file_order fed) zs));
     kept = refl;
   }
 
   pub holds_sum : (c : List ℕ) (z z' : ℤ) (vs : List Value) → z' ≡ fold ◌+ℤ◌ z (first_numbers vs) → Holds (state.Sum c z) fed → Holds (state.Sum c z') (fed ++ from_cluster cluster (spread (kind.Sum c) vs))
-  holds_sum c z z' vs e h = record {
-    made = ap Sum (e ∙ ap (λ a. fold ◌+ℤ◌ a (first_numbers vs)) (ap (λ f. the_sum f z) h.made)
-        ∙ sym (ap (λ l. fold ◌+ℤ◌ (pos 0) (numbers_of l)) (after (spread (kind.Sum c) vs) (map Number (first_numbers vs)) (spread_sum c vs)) ∙ fold_numbers ◌+ℤ◌ (pos 0) (in_file_order fed) (first_numbers vs)));
+  holds_sum c z z' vs e h = holds_summed c z z' (first_numbers vs) (spread (kind.Sum c) vs) e (spread_sum c vs) h
+
+  pub holds_least : (c : List ℕ) (o o' : Option ℤ) (zs : List ℤ) (items : List Item) → o' ≡ fold (better_of int_min) o zs → items ≡ map Number zs → Holds (state.Min c o) fed → Holds (state.Min c o') (fed ++ from_cluster cluster items)
+  holds_least c o o' zs items e is h = record {
+    made = ap Extreme (e ∙ ap (λ a. fold (better_of int_min) a zs) (ap the_extreme h.made)
+        ∙ sym (ap (λ l. extreme int_min (numbers_of l)) (after items (map Number zs) is) ∙ extreme_numbers int_min (in_file_order fed) zs));
     kept = refl;
   }
 
   pub holds_min : (c : List ℕ) (o o' : Option ℤ) (vs : List Value) → o' ≡ fold (better_of int_min) o (first_numbers vs) → Holds (state.Min c o) fed → Holds (state.Min c o') (fed ++ from_cluster cluster (spread (kind.Min c) vs))
-  holds_min c o o' vs e h = record {
-    made = ap Extreme (e ∙ ap (λ a. fold (better_of int_min) a (first_numbers vs)) (ap the_extreme h.made)
-        ∙ sym (ap (λ l. extreme int_min (numbers_of l)) (after (spread (kind.Min c) vs) (map Number (first_numbers vs)) (spread_min c vs)) ∙ extreme_numbers int_min (in_file_order fed) (first_numbers vs)));
+  holds_min c o o' vs e h = holds_least c o o' (first_numbers vs) (spread (kind.Min c) vs) e (spread_min c vs) h
+
+  pub holds_greatest : (c : List ℕ) (o o' : Option ℤ) (zs : List ℤ) (items : List Item) → o' ≡ fold (better_of int_max) o zs → items ≡ map Number zs → Holds (state.Max c o) fed → Holds (state.Max c o') (fed ++ from_cluster cluster items)
+  holds_greatest c o o' zs items e is h = record {
+    made = ap Extreme (e ∙ ap (λ a. fold (better_of int_max) a zs) (ap the_extreme h.made)
+        ∙ sym (ap (λ l. extreme int_max (numbers_of l)) (after items (map Number zs) is) ∙ extreme_numbers int_max (in_file_order fed) zs));
     kept = refl;
   }
 
   pub holds_max : (c : List ℕ) (o o' : Option ℤ) (vs : List Value) → o' ≡ fold (better_of int_max) o (first_numbers vs) → Holds (state.Max c o) fed → Holds (state.Max c o') (fed ++ from_cluster cluster (spread (kind.Max c) vs))
-  holds_max c o o' vs e h = record {
-    made = ap Extreme (e ∙ ap (λ a. fold (better_of int_max) a (first_numbers vs)) (ap the_extreme h.made)
-        ∙ sym (ap (λ l. extreme int_max (numbers_of l)) (after (spread (kind.Max c) vs) (map Number (first_numbers vs)) (spread_max c vs)) ∙ extreme_numbers int_max (in_file_order fed) (first_numbers vs)));
+  holds_max c o o' vs e h = holds_greatest c o o' (first_numbers vs) (spread (kind.Max c) vs) e (spread_max c vs) h
+
+  pub holds_reduced : (c : List ℕ) (o : ReduceOp) (z z' : ℤ) (zs : List ℤ) (items : List Item) → z' ≡ fold (reduce_step o) z zs → items ≡ map Number zs → Holds (state.Reduce c (record { op = o; value = z })) fed
+      → Holds (state.Reduce c (record { op = o; value = z' })) (fed ++ from_cluster cluster items)
+  holds_reduced c o z z' zs items e is h = record {
+    made = ap Reduced (e ∙ ap (λ a. fold (reduce_step o) a zs) (ap (λ f. the_sum f z) h.made)
+        ∙ sym (ap (λ l. fold (reduce_step o) (reduce_start o) (numbers_of l)) (after items (map Number zs) is) ∙ fold_numbers (reduce_step o) (reduce_start o) (in_file_order fed) zs));
     kept = refl;
   }
 
   pub holds_reduce : (c : List ℕ) (o : ReduceOp) (z z' : ℤ) (vs : List Value) → z' ≡ fold (reduce_step o) z (first_numbers vs) → Holds (state.Reduce c (record { op = o; value = z })) fed
       → Holds (state.Reduce c (record { op = o; value = z' })) (fed ++ from_cluster cluster (spread (kind.Reduce o c) vs))
-  holds_reduce c o z z' vs e h = record {
-    made = ap Reduced (e ∙ ap (λ a. fold (reduce_step o) a (first_numbers vs)) (ap (λ f. the_sum f z) h.made)
-        ∙ sym (ap (λ l. fold (reduce_step o) (reduce_start o) (numbers_of l)) (after (spread (kind.Reduce o c) vs) (map Number (first_numbers vs)) (spread_reduce o c vs)) ∙ fold_numbers (reduce_step o) (reduce_start o) (in_file_order fed) (first_numbers vs)));
-    kept = refl;
+  holds_reduce c o z z' vs e h = holds_reduced c o z z' (first_numbers vs) (spread (kind.Reduce o c) vs) e (spread_reduce o c vs) h
+
+  pub holds_taken : (c : List ℕ) (ts ts' : List TakenValue) (xs : List Scalar) (items : List Item) → ts' ≡ ts ++ values_from cluster xs → items ≡ map Single xs → Holds (state.Take c ts) fed → Holds (state.Take c ts') (fed ++ from_cluster cluster items)
+  holds_taken c ts ts' xs items e is h = record {
+    made = ap Taken (ap (map (λ (v : TakenValue). v.value)) e ∙ map-append (λ (v : TakenValue). v.value) ts (values_from cluster xs) ∙ ap (λ l. map (λ (v : TakenValue). v.value) ts ++ l) (values_plain xs cluster) ∙ ap (λ l. l ++ xs) (ap the_taken h.made)
+        ∙ sym (ap (flat_map scalar_of) (after items (map Single xs) is) ∙ taken_singles (in_file_order fed) xs));
+    kept = ap (map fed_value) e ∙ map-append fed_value ts (values_from cluster xs) ∙ ap (λ l. map fed_value ts ++ l) (values_fed xs cluster) ∙ ap (λ l. l ++ from_cluster cluster (map Single xs)) h.kept
+        ∙ sym (ap (λ l. by_cluster (fed ++ from_cluster cluster l)) is ∙ by_cluster-feed fed cluster (map Single xs) below);
   }
 
   pub holds_take : (c : List ℕ) (ts ts' : List TakenValue) (xs : List Scalar) (vs : List Value) → ts' ≡ ts ++ values_from cluster xs → xs ≡ first_scalar vs → Holds (state.Take c ts) fed → Holds (state.Take c ts') (fed ++ from_cluster cluster (spread (kind.Take c) vs))
-  holds_take c ts ts' xs vs e f h =
-      let is : spread (kind.Take c) vs ≡ map Single xs = spread_take c vs ∙ ap (map Single) (sym f) in
-      record {
-        made = ap Taken (ap (map (λ (v : TakenValue). v.value)) e ∙ map-append (λ (v : TakenValue). v.value) ts (values_from cluster xs) ∙ ap (λ l. map (λ (v : TakenValue). v.value) ts ++ l) (values_plain xs cluster) ∙ ap (λ l. l ++ xs) (ap the_taken h.made)
-            ∙ sym (ap (flat_map scalar_of) (after (spread (kind.Take c) vs) (map Single xs) is) ∙ taken_singles (in_file_order fed) xs));
-        kept = ap (map fed_value) e ∙ map-append fed_value ts (values_from cluster xs) ∙ ap (λ l. map fed_value ts ++ l) (values_fed xs cluster) ∙ ap (λ l. l ++ from_cluster cluster (map Single xs)) h.kept
-            ∙ sym (ap (λ l. by_cluster (fed ++ from_cluster cluster l)) is ∙ by_cluster-feed fed cluster (map Single xs) below);
-      }
+  holds_take c ts ts' xs vs e f h = holds_taken c ts ts' xs (spread (kind.Take c) vs) e (spread_take c vs ∙ ap (map Single) (sym f)) h
 
   pub holds_flat : (g g' : one.Flat) (x : List ℕ) (o : Option (List ℕ)) (is js : List Item) → is ≡ js → ((before : List Item) → HasFilled g before → HasFilled g' (before ++ js))
       → Holds (state.Histo1D g x o) fed → Holds (state.Histo1D g' x o) (fed ++ from_cluster cluster is)
@@ -176,6 +189,11 @@ spread_square xs ys x y o (One p) h = absurd h
 spread_square xs ys x y o (Weighted p w) h = absurd h
 spread_square xs ys x y o (Pair p q) h = refl
 spread_square xs ys x y o (WeightedPair p q w) h = refl
+
+-- what follows however a call ends
+pub either_way : {T E : Type 0} (r : Result T E) (P Q R : Type 0) → OnOk r P → OnErr r Q → (P → R) → (Q → R) → R
+either_way (Ok x) P Q R h k f g = f h
+either_way (Err e) P Q R h k f g = g k
 
 -- what follows where a call succeeds
 pub on_ok : {T E : Type 0} (r : Result T E) (P Q : Type 0) → OnOk r P → (P → Q) → OnOk r Q

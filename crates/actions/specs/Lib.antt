@@ -1,4 +1,5 @@
 pub mod Accumulators
+pub mod Batches
 pub mod Extremes
 pub mod Feeding
 pub mod Fillings

@@ -1,6 +1,7 @@
 // Accumulators.
 ghost use Rattle.std.specs.Prelude.{◌≡◌};
 
+use crate::batch::Batch;
 use crate::filled::Filled;
 use crate::items::Items;
 use crate::state::State;
@@ -36,11 +37,12 @@ impl Model for Acc {
 }
 
 impl Acc {
-    ghost use Rattle.std.specs.Prelude.{◌≡◌, ◌↔◌, ◌≤◌, ◌<◌, ◌+◌, ◌++◌, [], List, None, Some, Err, IfOk, IsTrue, OnErr, OnOk, max};
+    ghost use Rattle.std.specs.Prelude.{◌≡◌, ◌↔◌, ◌≤◌, ◌<◌, ◌+◌, ◌++◌, [], List, None, Some, Err, IfOk, IsTrue, OnErr, OnOk, length, max};
     ghost use Rattle.rdf_values.specs.declared.fault.EntryFault.{EntryFault};
     ghost use Rattle.rdf_values.specs.Spread.{feed_fault, spread};
     ghost use Rattle.rdf_values.specs.Fold.{fold_items};
     ghost use Rattle.actions.specs.Accumulators.{HasFed};
+    ghost use Rattle.actions.specs.Batches.{EachPlace, HasValues, SuitsAt, batch_items, places_of, values_at};
     ghost use Rattle.actions.specs.Feeding.{Fed, from_cluster, in_file_order};
     ghost use Rattle.actions.specs.Fillings.{filled_seen};
     ghost use Rattle.actions.specs.Holding.{HasEdges, IsTake, kept_of};
@@ -84,6 +86,31 @@ impl Acc {
                 Ok(())
             }
             Err(Memory) => Err(FeedStop::Memory),
+        }
+    }
+
+    /// Takes in the items of the places of a block, of one cluster; clusters don't fall. Values that can't be fed are
+    /// `Batch::first_fault`'s to find before. After `Memory` nothing has changed.
+    pub fn feed_batch(&mut self, cluster: u32, batch: &Batch<'_>) -> Result<(), Memory>
+        requires there { EachPlace batch.now.places (HasValues batch.now.sources) }
+        requires suits { EachPlace batch.now.places (SuitsAt self.old.kind batch.now.sources) }
+        requires no_fault { EachPlace batch.now.places (λ p. feed_fault self.old.kind (values_at batch.now.sources p) ≡ None) }
+        requires rising { self.old.last ≤ cluster }
+        requires room { self.old.entries + length (places_of batch.now.places) ≤ 1000000 }
+        ensures memory { OnErr result (IsTake self.old.kind) }
+        ensures err { OnErr result (self.new ≡ self.old) }
+        ensures kind { self.new.kind ≡ self.old.kind }
+        ensures entries { OnOk result (self.new.entries ≡ self.old.entries + length (places_of batch.now.places)) }
+        ensures last { OnOk result (self.new.last ≡ cluster) }
+        ensures fed { (fed : List Fed) → HasFed self.old fed → OnOk result (HasFed self.new (fed ++ from_cluster cluster (batch_items self.old.kind batch.now))) }
+    {
+        match self.state.feed_batch(self.alloc, cluster, batch) {
+            Ok(()) => {
+                self.entries += batch.places.len();
+                self.last = cluster;
+                Ok(())
+            }
+            Err(Memory) => Err(Memory),
         }
     }
 

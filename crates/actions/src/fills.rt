@@ -1,13 +1,16 @@
 // Filling histograms with the points of an entry.
-ghost use Rattle.std.specs.Prelude.{◌≡◌, ◌<◌, ◌≤◌, ◌+◌, ◌^◌, ◌++◌, ℕ, List, length, All, pos, slice_index_or};
+ghost use Rattle.std.specs.Prelude.{◌≡◌, ◌<◌, ◌≤◌, ◌+◌, ◌^◌, ◌++◌, ℕ, List, length, map, All, pos, slice_index_or};
 ghost use Rattle.rdf_values.specs.declared.item.Item.{Item};
+ghost use Rattle.rdf_values.specs.declared.item.Item.TheVariants.{Point};
 ghost use Rattle.rdf_values.specs.Spread.{points, points2, weights};
 ghost use Rattle.histograms.specs.Cells.{IsWeight};
 ghost use Rattle.histograms.specs.OneAxis.{HasFilled};
 ghost use Rattle.histograms.specs.TwoAxes.{HasFilled2};
+ghost use Rattle.actions.specs.Batches.{EachPlace, places_of};
 ghost use Rattle.actions.specs.Parts.{HasWeight, part_values};
 
 use crate::items::Part;
+use crate::places::Places;
 use histograms::{Hist1, Hist2, MOST_FILLS};
 
 /// The weight of an entry's point by its place: 1 where none is given, or the number for each, or the vector's.
@@ -51,5 +54,36 @@ pub fn fill_pairs(hist: &mut Hist2, xs: &[i64], ys: &[i64], weight: &Option<Part
 {
     for (i, x) in xs.iter().enumerate() {
         hist.fill(*x, ys[i], weight_at(weight, i));
+    }
+}
+
+/// Fills the numbers of some places.
+pub fn fill_numbers(hist: &mut Hist1, numbers: &[i64], places: &Places<'_>)
+    requires few { length (places_of places.now) ≤ 1000000 }
+    requires there { EachPlace places.now (λ p. p < length numbers.now) }
+    requires room { hist.old.fills + length (places_of places.now) ≤ MOST_FILLS }
+    ensures edges { hist.new.edges ≡ hist.old.edges }
+    ensures fills { hist.new.fills ≡ hist.old.fills + length (places_of places.now) }
+    ensures filled { (before : List Item) → HasFilled hist.old before → HasFilled hist.new (before ++ map (λ p. Point (slice_index_or numbers.now p (pos 0)) (pos 1)) (places_of places.now)) }
+{
+    for i in 0..places.len() {
+        hist.fill(numbers[places.at(i) as usize], 1);
+    }
+}
+
+/// Fills the numbers of some places, each with its weight.
+pub fn fill_weighted(hist: &mut Hist1, numbers: &[i64], weights: &[i64], places: &Places<'_>)
+    requires few { length (places_of places.now) ≤ 1000000 }
+    requires there { EachPlace places.now (λ p. p < length numbers.now) }
+    requires weighed { EachPlace places.now (λ p. p < length weights.now) }
+    requires light { EachPlace places.now (λ p. IsWeight (slice_index_or weights.now p (pos 0))) }
+    requires room { hist.old.fills + length (places_of places.now) ≤ MOST_FILLS }
+    ensures edges { hist.new.edges ≡ hist.old.edges }
+    ensures fills { hist.new.fills ≡ hist.old.fills + length (places_of places.now) }
+    ensures filled { (before : List Item) → HasFilled hist.old before → HasFilled hist.new (before ++ map (λ p. Point (slice_index_or numbers.now p (pos 0)) (slice_index_or weights.now p (pos 0))) (places_of places.now)) }
+{
+    for i in 0..places.len() {
+        let place = places.at(i) as usize;
+        hist.fill(numbers[place], weights[place]);
     }
 }

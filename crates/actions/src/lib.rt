@@ -3,14 +3,21 @@
 #![tactic(auto)]
 
 pub mod acc;
+pub mod batch;
 pub mod filled;
 pub mod fills;
+pub mod folding;
 pub mod items;
+pub mod lane;
 pub mod numbers;
+pub mod places;
 pub mod state;
 pub mod taken;
 
 pub use crate::acc::{Acc, FeedStop};
+pub use crate::batch::{Batch, PlaceFault, Sources};
 pub use crate::filled::Filled;
 pub use crate::items::{Items, Part};
+pub use crate::lane::Lane;
+pub use crate::places::Places;
 pub use crate::taken::Taken;

@@ -2,14 +2,17 @@
 ghost use Rattle.std.specs.Prelude.{◌≡◌, ◌↔◌, IfOk, IsTrue};
 ghost use Rattle.histograms.specs.Axis.{IsAxis};
 
+use crate::batch::{Batch, Sources};
 use crate::filled::Filled;
-use crate::fills::{fill_pairs, fill_points};
+use crate::fills::{fill_numbers, fill_pairs, fill_points, fill_weighted};
+use crate::folding::{greatest_batch, least_batch, reduce_batch, sum_batch};
 use crate::items::Items;
+use crate::lane::Lane;
 use crate::numbers::{
     Reduction, greatest_of, greatest_with, least_of, least_with, reduce, reduce_with, start,
     sum_with,
 };
-use crate::taken::{Taken, TakenValue, merged};
+use crate::taken::{Taken, TakenValue, gathered, merged};
 use histograms::{EdgeRefusal, Edges, Hist1, Hist2};
 use rdf_values::{ActionKind, IntList, ListOf, Memory, Name};
 use std::alloc::Global;
@@ -97,8 +100,9 @@ fn same_edges(edges: &[i64], other: &[i64]) -> bool
 }
 
 impl State {
-    ghost use Rattle.std.specs.Prelude.{◌≡◌, ◌↔◌, ◌≤◌, ◌+◌, ◌++◌, [], ℕ, List, All, None, IfOk, IsTrue, OnErr, OnOk};
+    ghost use Rattle.std.specs.Prelude.{◌≡◌, ◌↔◌, ◌≤◌, ◌+◌, ◌-◌, ◌++◌, [], ℕ, List, All, None, IfOk, IsTrue, OnErr, OnOk, false, length, true};
     ghost use Rattle.rdf_values.specs.Spread.{feed_fault, spread};
+    ghost use Rattle.actions.specs.Batches.{EachPlace, HasValues, SuitsAt, batch_items, places_of, values_at};
     ghost use Rattle.actions.specs.Feeding.{Fed, from_cluster};
     ghost use Rattle.actions.specs.Holding.{HasEdges, Holds, IsTake, IsWithin, kind_of, made};
     ghost use Rattle.actions.specs.Fillings.{filled_seen};
@@ -196,6 +200,112 @@ impl State {
             }
             State::Histo2D { hist, .. } => {
                 fill_pairs(hist, items.first(), items.second(), &items.weight());
+                Ok(())
+            }
+        }
+    }
+
+    /// Takes in what each of the places of a block feeds, one after another; not for a Take.
+    fn feed_each(&mut self, cluster: u32, batch: &Batch<'_>)
+        requires kept { IsTake (kind_of self.old) → ⊥ }
+        requires few { length (places_of batch.now.places) ≤ 1000000 }
+        requires there { EachPlace batch.now.places (HasValues batch.now.sources) }
+        requires suits { EachPlace batch.now.places (SuitsAt (kind_of self.old) batch.now.sources) }
+        requires no_fault { EachPlace batch.now.places (λ p. feed_fault (kind_of self.old) (values_at batch.now.sources p) ≡ None) }
+        requires room { IsWithin (1000000 - length (places_of batch.now.places)) self.old }
+        ensures kind { kind_of self.new ≡ kind_of self.old }
+        ensures within { (n : ℕ) → IsWithin n self.old → IsWithin (n + length (places_of batch.now.places)) self.new }
+        ensures fed { (fed : List Fed) → All (λ f. f.cluster ≤ cluster) fed → Holds self.old fed → Holds self.new (fed ++ from_cluster cluster (batch_items (kind_of self.old) batch.now)) }
+    {
+        for i in 0..batch.places.len() {
+            let items = batch.sources.items(batch.places.at(i));
+            match self.feed(cluster, &items) {
+                Ok(()) => {}
+                Err(Memory) => unreachable!(),
+            }
+        }
+    }
+
+    // Fills a histogram of one axis with numbers, one at each place, and tells whether that was what the batch is for.
+    fn fill_at_once(&mut self, batch: &Batch<'_>) -> bool
+        requires few { length (places_of batch.now.places) ≤ 1000000 }
+        requires there { EachPlace batch.now.places (HasValues batch.now.sources) }
+        requires no_fault { EachPlace batch.now.places (λ p. feed_fault (kind_of self.old) (values_at batch.now.sources p) ≡ None) }
+        requires room { IsWithin (1000000 - length (places_of batch.now.places)) self.old }
+        ensures other { result ≡ false → self.new ≡ self.old }
+        ensures kind { kind_of self.new ≡ kind_of self.old }
+        ensures within { result ≡ true → (n : ℕ) → IsWithin n self.old → IsWithin (n + length (places_of batch.now.places)) self.new }
+        ensures fed { result ≡ true → (cluster : ℕ) (fed : List Fed) → All (λ f. f.cluster ≤ cluster) fed → Holds self.old fed
+            → Holds self.new (fed ++ from_cluster cluster (batch_items (kind_of self.old) batch.now)) }
+    {
+        if let State::Histo1D { hist, .. } = self {
+            match &batch.sources {
+                Sources::One {
+                    x: Lane::Int(numbers),
+                } => {
+                    fill_numbers(hist, numbers, &batch.places);
+                    return true;
+                }
+                Sources::Weighted {
+                    x: Lane::Int(numbers),
+                    w: Lane::Int(weights),
+                } => {
+                    fill_weighted(hist, numbers, weights, &batch.places);
+                    return true;
+                }
+                _ => {}
+            }
+        }
+        false
+    }
+
+    /// Takes in what the places of a block feed; after `Memory` nothing has changed.
+    pub fn feed_batch(
+        &mut self,
+        alloc: Global,
+        cluster: u32,
+        batch: &Batch<'_>,
+    ) -> Result<(), Memory>
+        requires few { length (places_of batch.now.places) ≤ 1000000 }
+        requires there { EachPlace batch.now.places (HasValues batch.now.sources) }
+        requires suits { EachPlace batch.now.places (SuitsAt (kind_of self.old) batch.now.sources) }
+        requires no_fault { EachPlace batch.now.places (λ p. feed_fault (kind_of self.old) (values_at batch.now.sources p) ≡ None) }
+        requires room { IsWithin (1000000 - length (places_of batch.now.places)) self.old }
+        ensures kind { kind_of self.new ≡ kind_of self.old }
+        ensures memory { OnErr result (IsTake (kind_of self.old)) }
+        ensures err { OnErr result (self.new ≡ self.old) }
+        ensures within { (n : ℕ) → IsWithin n self.old → IsWithin (n + length (places_of batch.now.places)) self.new }
+        ensures fed { (fed : List Fed) → All (λ f. f.cluster ≤ cluster) fed → Holds self.old fed → OnOk result (Holds self.new (fed ++ from_cluster cluster (batch_items (kind_of self.old) batch.now))) }
+    {
+        match self {
+            State::Count(entries) => {
+                *entries += batch.places.len() as u64;
+                Ok(())
+            }
+            State::Sum { sum, .. } => {
+                *sum = sum_batch(*sum, batch);
+                Ok(())
+            }
+            State::Min { least, .. } => {
+                *least = least_batch(*least, batch);
+                Ok(())
+            }
+            State::Max { greatest, .. } => {
+                *greatest = greatest_batch(*greatest, batch);
+                Ok(())
+            }
+            State::Take { values, .. } => {
+                let mut more = gathered(alloc, cluster, batch)?;
+                values.append(&mut more)
+            }
+            State::Reduce { reduction, .. } => {
+                reduction.value = reduce_batch(reduction.op, reduction.value, batch);
+                Ok(())
+            }
+            State::Histo1D { .. } | State::Histo2D { .. } => {
+                if !self.fill_at_once(batch) {
+                    self.feed_each(cluster, batch);
+                }
                 Ok(())
             }
         }

@@ -1,3 +1,6 @@
+pub mod BlockFeeds
+pub mod BlockNotes
+pub mod BlockSteps
 pub mod Closing
 pub mod Feeds
 pub mod ListPlaces

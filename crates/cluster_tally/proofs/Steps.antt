@@ -78,7 +78,7 @@ pub counted_both : (rs more : List Reach) → counted (rs ++ more) ≡ both (cou
 counted_both rs more =
     ap₂ (λ a p. record { all = a; pass = p }) (sum_by-append (λ r. cond (is_reached r) 1 0) rs more) (sum_by-append (λ r. cond (is_passed r) 1 0) rs more)
 
-both_assoc : (a b c : Counts) → both a (both b c) ≡ both (both a b) c
+pub both_assoc : (a b c : Counts) → both a (both b c) ≡ both (both a b) c
 both_assoc a b c = ap₂ (λ x y. record { all = x; pass = y }) (sym (add_assoc a.all b.all c.all)) (sym (add_assoc a.pass b.pass c.pass))
 
 pub reaches_next : (f : LoopFacts) (c i n : ℕ) (row : List Reach) → slice_get (span_rows f.reaches (slice_get f.ranges c)) n ≡ Some row
@@ -121,14 +121,14 @@ one_row : (o : Option Reach) → count_by is_reached (if_there o) ≤ 1
 one_row None = omega arith
 one_row (Some r) = elim (is_reached r) as (λ b. 0 + cond b 1 0 ≤ 1) [ true ↦ omega arith | false ↦ omega arith ]
 
-few_reached : (rows : List (List Reach)) (i : ℕ) → count_by is_reached (flat_map (λ (row : List Reach). if_there (slice_get row i)) rows) ≤ length rows
+pub few_reached : (rows : List (List Reach)) (i : ℕ) → count_by is_reached (flat_map (λ (row : List Reach). if_there (slice_get row i)) rows) ≤ length rows
 few_reached [] i = omega arith
 few_reached (row ∷ rows) i =
     let one = one_row (slice_get row i) in
     let rest = few_reached rows i in
     omega (arith, sum_by-append (λ r. cond (is_reached r) 1 0) (if_there (slice_get row i)) (flat_map (λ (r : List Reach). if_there (slice_get r i)) rows))
 
-span_few : {A : Type 0} (rows : List A) (o : Option Span) → length (span_rows rows o) ≤ length rows
+pub span_few : {A : Type 0} (rows : List A) (o : Option Span) → length (span_rows rows o) ≤ length rows
 span_few rows None = omega arith
 span_few rows (Some s) = omega (arith, length-take (s.hi - s.lo) (drop s.lo rows), length-drop s.lo rows)
 

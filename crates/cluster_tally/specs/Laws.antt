@@ -6,6 +6,7 @@ use Rattle.rdf_model.specs.declared.loop_facts.LoopFacts.{LoopFacts}
 use Rattle.rdf_model.specs.declared.loop_facts.Reach.{Reach}
 use Rattle.rdf_model.specs.declared.loop_facts.Reach.TheVariants.{Stopped}
 use Rattle.filters_report.specs.Flows.{nothing}
+use Rattle.cluster_tally.specs.Blocks.{BlockStage, HoldsIn, block_begin, block_end}
 use Rattle.cluster_tally.specs.Feedings.{IsFresh, after_filter, after_pass}
 use Rattle.cluster_tally.specs.Stages.{IsNextEntry, Stage, after_entry, at_begin}
 use Rattle.cluster_tally.specs.Tallies.{Holds, TallyView}
@@ -33,3 +34,15 @@ abbrev pub EndsEntry : Type 0
 EndsEntry =
     (f : LoopFacts) (watched : List ℕ) (s : Stage) (t : TallyView)
     → s.passes ≡ length f.kinds → s.filters ≡ f.filters → Holds f watched s t → Holds f watched (after_entry s) t
+
+-- before a block a tally holds what it holds between two entries
+abbrev pub BeginsBlock : Type 0
+BeginsBlock =
+    (f : LoopFacts) (watched : List ℕ) (s : Stage) (t : TallyView) (block : ℕ)
+    → s.passes ≡ 0 → s.filters ≡ 0 → Holds f watched s t → HoldsIn f watched (block_begin s block) t
+
+-- once all passes and filters took the block in, its entries are taken in
+abbrev pub EndsBlock : Type 0
+EndsBlock =
+    (f : LoopFacts) (watched : List ℕ) (s : BlockStage) (t : TallyView)
+    → s.passes ≡ length f.kinds → s.filters ≡ f.filters → HoldsIn f watched s t → Holds f watched (block_end s) t

@@ -1,3 +1,4 @@
+pub mod Blocks
 pub mod Closings
 pub mod Feedings
 pub mod Laws

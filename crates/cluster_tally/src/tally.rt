@@ -8,14 +8,16 @@ ghost use Rattle.actions.specs.Holding.{HasEdges, IsTake};
 ghost use Rattle.filters_report.specs.Flows.{nothing};
 ghost use Rattle.loop_pieces.specs.LoopPieces.{StandsFor};
 ghost use Rattle.loop_pieces.specs.Trails.{HaveTrails};
+ghost use Rattle.actions.specs.Batches.{EachPlace, HasValues};
+ghost use Rattle.cluster_tally.specs.Blocks.{BlockStage, CanFeedBatch, CanNoteCounts, CanTakeIn, HoldsIn, TookIn, TookInIfThere, filter_done, pass_done};
 ghost use Rattle.cluster_tally.specs.Closings.{noted_all, noted_at, renewed, times_there};
 ghost use Rattle.cluster_tally.specs.Feedings.{AreFed, AreFedIfThere, CanFeed, CanNote, CanTake, IsAtEnd, IsFresh, acc_if, after_filter, after_pass, place_if, with_trail};
 ghost use Rattle.cluster_tally.specs.Stages.{Stage, at_begin};
 ghost use Rattle.cluster_tally.specs.Tallies.{CanWatch, Holds, places_there};
 
 use crate::watcher::Watcher;
-use actions::{Acc, FeedStop, Items};
-use filters_report::Flow;
+use actions::{Acc, Batch, FeedStop, Items};
+use filters_report::{Counts, Flow};
 use loop_pieces::{LoopPiece, WatchPiece};
 use merge_core::{Noted, Trail};
 use rdf_values::{ActionKind, ListOf, Memory};
@@ -83,6 +85,35 @@ fn feed_watched(watched: &mut [Option<Watcher>], pass: u32, cluster: u32, items:
 {
     if let Some(watcher) = &mut watched[pass as usize] {
         watcher.feed(cluster, items);
+    }
+}
+
+// Feeds a batch to the accumulator of a pass.
+fn feed_acc_batch(
+    accs: &mut [Acc],
+    pass: u32,
+    cluster: u32,
+    batch: &Batch<'_>,
+) -> Result<(), Memory>
+    requires within { pass < length accs.old }
+    requires there { EachPlace batch.now.places (HasValues batch.now.sources) }
+    requires can { (acc : Accumulator) → slice_get accs.old pass ≡ Some acc → CanTakeIn cluster batch.now acc }
+    ensures fed { OnOk result (TookIn pass cluster batch.now accs.old accs.new) }
+    ensures memory { (acc : Accumulator) → slice_get accs.old pass ≡ Some acc → OnErr result (IsTake acc.kind) }
+{
+    let fed = &mut accs[pass as usize];
+    fed.feed_batch(cluster, batch)
+}
+
+// Feeds a batch to the accumulator of a pass that is watched, if it is.
+fn feed_watched_batch(watched: &mut [Option<Watcher>], pass: u32, cluster: u32, batch: &Batch<'_>)
+    requires within { pass < length watched.old }
+    requires there { EachPlace batch.now.places (HasValues batch.now.sources) }
+    requires can { (acc : Accumulator) → slice_get watched.old pass ≡ Some (Some acc) → CanTakeIn cluster batch.now acc }
+    ensures { TookInIfThere pass cluster batch.now watched.old watched.new }
+{
+    if let Some(watcher) = &mut watched[pass as usize] {
+        watcher.feed_batch(cluster, batch);
     }
 }
 
@@ -177,6 +208,26 @@ impl Tally {
         ensures { (f : LoopFacts) (watched : List ℕ) (s : Stage) → CanNote f watched s self.old filter passed → Holds f watched (after_filter s) self.new }
     {
         self.flow.note(filter, passed);
+    }
+
+    /// Takes in what a block feeds to the next action pass.
+    pub fn feed_batch(&mut self, pass: u32, cluster: u32, batch: &Batch<'_>) -> Result<(), Memory>
+        requires { (f : LoopFacts) × (watched : List ℕ) × (s : BlockStage) × CanFeedBatch f watched s self.old pass cluster batch.now }
+        ensures holds { (f : LoopFacts) (watched : List ℕ) (s : BlockStage) → CanFeedBatch f watched s self.old pass cluster batch.now
+            → OnOk result (HoldsIn f watched (pass_done s) self.new) }
+        ensures memory { (f : LoopFacts) (watched : List ℕ) (s : BlockStage) → (can : CanFeedBatch f watched s self.old pass cluster batch.now)
+            → OnErr result (IsTake can.kind) }
+    {
+        feed_watched_batch(self.watched.as_mut_slice(), pass, cluster, batch);
+        feed_acc_batch(self.accs.as_mut_slice(), pass, cluster, batch)
+    }
+
+    /// Takes in how many entries of a block reach the next named filter, and how many pass it.
+    pub fn note_counts(&mut self, filter: u32, counts: Counts)
+        requires { (f : LoopFacts) × (watched : List ℕ) × (s : BlockStage) × CanNoteCounts f watched s self.old filter counts }
+        ensures { (f : LoopFacts) (watched : List ℕ) (s : BlockStage) → CanNoteCounts f watched s self.old filter counts → HoldsIn f watched (filter_done s) self.new }
+    {
+        self.flow.note_counts(filter, counts);
     }
 
     /// Notes what the cluster that ends gives to each watched result, and begins those anew.

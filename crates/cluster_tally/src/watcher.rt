@@ -1,15 +1,17 @@
 // The accumulator of a watched result over one cluster.
-ghost use Rattle.std.specs.Prelude.{◌≡◌, ◌<◌, ◌≤◌, ◌+◌, ◌++◌, [], List, None, IfOk, OnErr, OnOk};
+ghost use Rattle.std.specs.Prelude.{◌≡◌, ◌<◌, ◌≤◌, ◌+◌, ◌++◌, [], List, None, IfOk, OnErr, OnOk, length};
 ghost use Rattle.rdf_values.specs.Fold.{fold_items};
 ghost use Rattle.rdf_values.specs.Spread.{feed_fault, spread};
 ghost use Rattle.actions.specs.Accumulators.{HasFed};
+ghost use Rattle.actions.specs.Batches.{EachPlace, HasValues, SuitsAt, places_of, values_at};
 ghost use Rattle.actions.specs.Feeding.{Fed, from_cluster};
 ghost use Rattle.actions.specs.Parts.{Suits, values_of};
 ghost use Rattle.loop_pieces.specs.Watching.{IsOfKind, watch_filled};
+ghost use Rattle.cluster_tally.specs.Blocks.{TakesIn};
 ghost use Rattle.cluster_tally.specs.Feedings.{fresh_acc};
 ghost use Rattle.cluster_tally.specs.Tallies.{CanWatch};
 
-use actions::{Acc, Filled, Items};
+use actions::{Acc, Batch, Filled, Items};
 use loop_pieces::WatchPiece;
 use rdf_values::{ActionKind, Memory};
 use std::alloc::Global;
@@ -91,6 +93,21 @@ impl Watcher {
         match self.acc.feed(cluster, items) {
             Ok(()) => {}
             Err(_) => unreachable!(),
+        }
+    }
+
+    /// Takes in what the places of a block feed, of one cluster; clusters don't fall.
+    pub fn feed_batch(&mut self, cluster: u32, batch: &Batch<'_>)
+        requires there { EachPlace batch.now.places (HasValues batch.now.sources) }
+        requires suits { EachPlace batch.now.places (SuitsAt self.old.kind batch.now.sources) }
+        requires no_fault { EachPlace batch.now.places (λ p. feed_fault self.old.kind (values_at batch.now.sources p) ≡ None) }
+        requires rising { self.old.last ≤ cluster }
+        requires room { self.old.entries + length (places_of batch.now.places) ≤ 1000000 }
+        ensures { TakesIn cluster batch.now self.old self.new }
+    {
+        match self.acc.feed_batch(cluster, batch) {
+            Ok(()) => {}
+            Err(Memory) => unreachable!(),
         }
     }
 

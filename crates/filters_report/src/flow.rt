@@ -1,7 +1,7 @@
 // Counts of named filters.
 ghost use Rattle.std.specs.Prelude.{◌≡◌, ◌<◌, ◌≤◌, ◌+◌, ◌^◌, ℕ, All, IfOk, Some, length, replicate, slice_get, slice_set, slice_index_or};
 ghost use Rattle.filters_report.specs.declared.flow.Counts.{Counts};
-ghost use Rattle.filters_report.specs.Flows.{AreCounts, HasRoom, HaveRoom, added, noted, nothing};
+ghost use Rattle.filters_report.specs.Flows.{AreCounts, HasRoom, HaveRoom, added, both, noted, nothing};
 
 use rdf_values::Memory;
 use std::alloc::Global;
@@ -81,6 +81,18 @@ impl Flow {
         if passed {
             counts.pass += 1;
         }
+    }
+
+    /// So many entries more reached the filter, and so many of them passed it.
+    pub fn note_counts(&mut self, filter: u32, more: Counts)
+        requires filter { filter < length self.old }
+        requires counts { AreCounts more }
+        requires room { (slice_index_or self.old filter nothing).all + more.all ≤ 2 ^ 32 }
+        ensures { self.new ≡ slice_set self.old filter (both (slice_index_or self.old filter nothing) more) }
+    {
+        let counts = &mut self.counts[filter as usize];
+        counts.all += more.all;
+        counts.pass += more.pass;
     }
 
     /// Takes in all that was noted of the same filters elsewhere.

@@ -1,0 +1,244 @@
+-- What a batch feeds, place by place.
+use Rattle.std.proofs.Common.{ℕ, zero, suc, ◌≡◌, ◌≤◌, ◌<◌, ◌+◌, All, List, [], ◌∷◌, ◌++◌, length, map, take, drop, get_or, refl, ap, sym, subst, ◌∙◌, append-nil, append_assoc, arith, length-append, lit≤, ◌*◌, ℤ, pos}
+use Rattle.std.specs.Prelude.{flat_map, Option, Some, None, Bool, true, false, ◌||◌, nat_abs, ◌^◌}
+use Rattle.std.specs.List.{range_with_len}
+use Rattle.std.proofs.lemmas.List.{drop_more, length-map, map-append, take_all, take_more}
+use Rattle.std.proofs.lemmas.List.FromFn.{get_or-range_with_len, length-range_with_len}
+use Rattle.std.proofs.lemmas.Grind.{flat_map-append}
+use Rattle.std.proofs.lemmas.List.Elements.{All-append, All-cons, All-head, All-tail}
+use Rattle.rdf_values.specs.declared.action.ActionKind.{ActionKind}
+use Rattle.rdf_values.specs.declared.action.ActionKind.TheVariants as kind
+use Rattle.rdf_values.specs.declared.item.Item.{Item}
+use Rattle.rdf_values.specs.declared.item.Item.TheVariants.{Number, Point, Single, Unit}
+use Rattle.rdf_values.specs.declared.value.Scalar.{Scalar}
+use Rattle.rdf_values.specs.declared.value.Value.{Value}
+use Rattle.rdf_values.specs.declared.value.Value.TheVariants as val
+use Rattle.rdf_values.specs.Spread.{feed_fault, numbers, spread}
+use Rattle.actions.specs.declared.batch.Sources.{Sources}
+use Rattle.actions.specs.declared.batch.Sources.TheVariants.{Entry, One, Weighted, Pair, WeightedPair}
+use Rattle.actions.specs.declared.lane.Lane.{Lane}
+use Rattle.actions.specs.declared.state.State.{State}
+use Rattle.actions.specs.declared.state.State.TheVariants as state
+use Rattle.actions.specs.Batches.{fault_or_later, first_fault_in, first_lane, lane_value, numbers_in, values_at}
+use Rattle.actions.specs.Feeding.{Fed, from_cluster}
+use Rattle.actions.specs.Holding.{IsWithin}
+use Rattle.actions.specs.Parts.{first_numbers, first_scalar}
+use Rattle.actions.specs.Values.{values_from}
+
+-- ---- places
+
+pub first_at : (n i : ℕ) → i < length (range_with_len 0 n) → get_or (range_with_len 0 n) i 0 ≡ i
+first_at n i h = let l = length-range_with_len 0 n in let e = get_or-range_with_len 0 n i 0 (omega (arith, h, l)) in omega (arith, e)
+
+-- one place more
+pub one_place_more : {A : Type 0} (f : ℕ → List A) (ps : List ℕ) (i : ℕ) → i < length ps → flat_map f (take (i + 1) ps) ≡ flat_map f (take i ps) ++ f (get_or ps i 0)
+one_place_more f ps i h =
+    ap (flat_map f) (take_more ps i 0 h) ∙ flat_map-append f (take i ps) (get_or ps i 0 ∷ []) ∙ ap (λ l. flat_map f (take i ps) ++ l) (append-nil (f (get_or ps i 0)))
+
+-- ---- what is held
+
+-- with the items of one place more
+pub one_more_fed : (fed : List Fed) (cluster : ℕ) (is js all : List Item) → all ≡ is ++ js → (fed ++ from_cluster cluster is) ++ from_cluster cluster js ≡ fed ++ from_cluster cluster all
+one_more_fed fed cluster is js all e =
+    append_assoc fed (from_cluster cluster is) (from_cluster cluster js)
+    ∙ ap (λ l. fed ++ l) (sym (map-append (λ (i : Item). record { cluster = cluster; item = i }) is js) ∙ ap (from_cluster cluster) (sym e))
+
+pub within_more : (s : State) (m n : ℕ) → m ≤ n → IsWithin m s → IsWithin n s
+within_more (state.Count k) m n h w = omega (arith, h, w)
+within_more (state.Sum c z) m n h w = omega (arith, h, w)
+within_more (state.Min c o) m n h w = tt
+within_more (state.Max c o) m n h w = tt
+within_more (state.Take c vs) m n h w = omega (arith, h, w)
+within_more (state.Reduce c r) m n h w = tt
+within_more (state.Histo1D g x w') m n h w = omega (arith, h, w)
+within_more (state.Histo2D g x y w') m n h w = omega (arith, h, w)
+
+-- ---- a Take
+
+spread_taken : (c : List ℕ) (vs : List Value) → spread (kind.Take c) vs ≡ map Single (first_scalar vs)
+spread_taken c [] = refl
+spread_taken c (v ∷ vs) = refl
+
+pub taken_items : (c : List ℕ) (s : Sources) (ps : List ℕ) → flat_map (λ p. spread (kind.Take c) (values_at s p)) ps ≡ map Single (flat_map (λ p. first_scalar (values_at s p)) ps)
+taken_items c s [] = refl
+taken_items c s (p ∷ ps) =
+    ap (λ l. l ++ flat_map (λ q. spread (kind.Take c) (values_at s q)) ps) (spread_taken c (values_at s p))
+    ∙ ap (λ l. map Single (first_scalar (values_at s p)) ++ l) (taken_items c s ps)
+    ∙ sym (map-append Single (first_scalar (values_at s p)) (flat_map (λ q. first_scalar (values_at s q)) ps))
+
+-- one value more, or none
+few_scalars : (vs : List Value) → length (first_scalar vs) ≤ 1
+few_scalars [] = lit≤ tt
+few_scalars (val.Int z ∷ vs) = lit≤ tt
+few_scalars (val.Bool b ∷ vs) = lit≤ tt
+few_scalars (val.Vect zs ∷ vs) = lit≤ tt
+
+-- each place gives one value at most
+pub few_values : (cluster : ℕ) (s : Sources) (ps : List ℕ) → length (values_from cluster (flat_map (λ p. first_scalar (values_at s p)) ps)) ≤ length ps
+few_values cluster s ps =
+    let same : length (values_from cluster (flat_map (λ p. first_scalar (values_at s p)) ps)) ≡ length (flat_map (λ p. first_scalar (values_at s p)) ps)
+    = length-map (flat_map (λ p. first_scalar (values_at s p)) ps) (λ (x : Scalar). record { cluster = cluster; value = x }) in
+    let few = go ps in omega (arith, same, few)
+  where
+    go : (qs : List ℕ) → length (flat_map (λ p. first_scalar (values_at s p)) qs) ≤ length qs
+    go [] = omega arith
+    go (q ∷ qs) =
+        let both = length-append (first_scalar (values_at s q)) (flat_map (λ p. first_scalar (values_at s p)) qs) in
+        let one = few_scalars (values_at s q) in
+        let rest = go qs in omega (arith, both, one, rest)
+
+-- ---- numbers
+
+-- what some places give, and then one more, is no more than what all give
+pub taken_within : {A : Type 0} (f : ℕ → List A) (ps : List ℕ) (i : ℕ) → i < length ps → length (flat_map f (take i ps)) + length (f (get_or ps i 0)) ≤ length (flat_map f ps)
+taken_within f [] i h = absurd (omega (arith, h))
+taken_within f (p ∷ ps) zero h = let both = length-append (f p) (flat_map f ps) in omega (arith, both)
+taken_within f (p ∷ ps) (suc i) h =
+    let all = length-append (f p) (flat_map f ps) in
+    let some = length-append (f p) (flat_map f (take i ps)) in
+    let rest = taken_within f ps i (omega (arith, h)) in omega (arith, all, some, rest)
+
+-- where each place gives few, all together give no more than as many times so many
+pub few_each : {A : Type 0} (f : ℕ → List A) (ps : List ℕ) → All (λ p. length (f p) ≤ 4096) ps → length (flat_map f ps) ≤ length ps * 4096
+few_each f [] h = omega arith
+few_each f (p ∷ ps) h =
+    let all = length-append (f p) (flat_map f ps) in
+    let one = All-head (λ q. length (f q) ≤ 4096) p ps h in
+    let rest = few_each f ps (All-tail (λ q. length (f q) ≤ 4096) p ps h) in omega (arith, all, one, rest)
+
+-- the numbers of the first places, where each has one
+pub numbers_of_first : (zs : List ℤ) (n : ℕ) → n ≤ length zs → flat_map (λ p. get_or zs p (pos 0) ∷ []) (range_with_len 0 n) ≡ take n zs
+numbers_of_first zs n h = go 0 n (omega (arith, h))
+  where
+    go : (a m : ℕ) → a + m ≤ length zs → flat_map (λ p. get_or zs p (pos 0) ∷ []) (range_with_len a m) ≡ take m (drop a zs)
+    go a zero l = refl
+    go a (suc m) l =
+        ap (λ r. get_or zs a (pos 0) ∷ r) (go (a + 1) m (omega (arith, l)))
+        ∙ ap (take (suc m)) (sym (drop_more zs a (pos 0) (omega (arith, l))))
+
+-- there are so many places before the end of the lane
+pub first_are_there : (n m : ℕ) → All (λ p. p < m) (range_with_len 0 n) → n ≤ m
+first_are_there zero m h = omega arith
+first_are_there (suc n) m h =
+    let last = h n 0 (let l = length-range_with_len 0 (suc n) in omega (arith, l)) in
+    let e = get_or-range_with_len 0 (suc n) n 0 (omega arith) in omega (arith, last, e)
+
+-- the numbers that an action of one column is fed
+pub number_items : (k : ActionKind) (s : Sources) (ps : List ℕ) → ((vs : List Value) → spread k vs ≡ map Number (first_numbers vs))
+    → flat_map (λ p. spread k (values_at s p)) ps ≡ map Number (flat_map (λ p. first_numbers (values_at s p)) ps)
+number_items k s [] h = refl
+number_items k s (p ∷ ps) h =
+    ap (λ l. l ++ flat_map (λ q. spread k (values_at s q)) ps) (h (values_at s p))
+    ∙ ap (λ l. map Number (first_numbers (values_at s p)) ++ l) (number_items k s ps h)
+    ∙ sym (map-append Number (first_numbers (values_at s p)) (flat_map (λ q. first_numbers (values_at s q)) ps))
+
+pub take_full : {A : Type 0} (n : ℕ) (xs : List A) → n ≤ length xs → n ≡ length (take n xs)
+take_full zero xs h = refl
+take_full (suc n) [] h = absurd (omega (arith, h))
+take_full (suc n) (x ∷ xs) h = ap (λ m. suc m) (take_full n xs (omega (arith, h)))
+
+-- ---- the first lane
+
+pub first_lane_numbers : (s : Sources) (x : Lane) (p : ℕ) → first_lane s ≡ Some x → first_numbers (values_at s p) ≡ numbers (lane_value x p)
+first_lane_numbers Entry x p h = cc h
+first_lane_numbers (One y) x p h = let e : y ≡ x = cc h in ap (λ z. numbers (lane_value z p)) e
+first_lane_numbers (Weighted y v) x p h = let e : y ≡ x = cc h in ap (λ z. numbers (lane_value z p)) e
+first_lane_numbers (Pair y v) x p h = let e : y ≡ x = cc h in ap (λ z. numbers (lane_value z p)) e
+first_lane_numbers (WeightedPair y u v) x p h = let e : y ≡ x = cc h in ap (λ z. numbers (lane_value z p)) e
+
+pub no_lane_numbers : (s : Sources) (p : ℕ) → first_lane s ≡ None → first_numbers (values_at s p) ≡ []
+no_lane_numbers Entry p h = refl
+no_lane_numbers (One y) p h = cc h
+no_lane_numbers (Weighted y v) p h = cc h
+no_lane_numbers (Pair y v) p h = cc h
+no_lane_numbers (WeightedPair y u v) p h = cc h
+
+same_each : {A : Type 0} (f g : ℕ → List A) (ps : List ℕ) → ((p : ℕ) → f p ≡ g p) → flat_map f ps ≡ flat_map g ps
+same_each f g [] h = refl
+same_each f g (p ∷ ps) h = ap (λ l. l ++ flat_map f ps) (h p) ∙ ap (λ l. g p ++ l) (same_each f g ps h)
+
+nothing_each : {A : Type 0} (f : ℕ → List A) (ps : List ℕ) → ((p : ℕ) → f p ≡ []) → flat_map f ps ≡ []
+nothing_each f [] h = refl
+nothing_each f (p ∷ ps) h = ap (λ l. l ++ flat_map f ps) (h p) ∙ nothing_each f ps h
+
+pub lane_numbers_in : (s : Sources) (x : Lane) (ps : List ℕ) → first_lane s ≡ Some x → flat_map (λ p. first_numbers (values_at s p)) ps ≡ numbers_in x ps
+lane_numbers_in s x ps h = same_each (λ p. first_numbers (values_at s p)) (λ p. numbers (lane_value x p)) ps (λ p. first_lane_numbers s x p h)
+
+pub no_numbers_in : (s : Sources) (ps : List ℕ) → first_lane s ≡ None → flat_map (λ p. first_numbers (values_at s p)) ps ≡ []
+no_numbers_in s ps h = nothing_each (λ p. first_numbers (values_at s p)) ps (λ p. no_lane_numbers s p h)
+
+pub few_numbers : (s : Sources) (x : Lane) (ps : List ℕ) → first_lane s ≡ Some x → All (λ p. length (first_numbers (values_at s p)) ≤ 4096) ps → length (numbers_in x ps) ≤ length ps * 4096
+few_numbers s x ps h all =
+    let few = few_each (λ p. first_numbers (values_at s p)) ps all in
+    let same = ap length (lane_numbers_in s x ps h) in omega (arith, few, same)
+
+-- a Count is fed one item at each place
+pub one_each : (ps : List ℕ) → length (flat_map (λ (p : ℕ). Unit ∷ []) ps) ≡ length ps
+one_each [] = refl
+one_each (p ∷ ps) = ap (λ n. suc n) (one_each ps)
+
+-- a lane of numbers has one at each place
+pub numbers_listed : (zs : List ℤ) (ps : List ℕ) → flat_map (λ p. get_or zs p (pos 0) ∷ []) ps ≡ map (λ p. get_or zs p (pos 0)) ps
+numbers_listed zs [] = refl
+numbers_listed zs (p ∷ ps) = ap (λ l. get_or zs p (pos 0) ∷ l) (numbers_listed zs ps)
+
+pub count_listed : (zs : List ℤ) (ps : List ℕ) → length (flat_map (λ p. get_or zs p (pos 0) ∷ []) ps) ≡ length ps
+count_listed zs [] = refl
+count_listed zs (p ∷ ps) = ap (λ n. suc n) (count_listed zs ps)
+
+pub one_place_mapped : {A : Type 0} (f : ℕ → A) (ps : List ℕ) (i : ℕ) → i < length ps → map f (take (i + 1) ps) ≡ map f (take i ps) ++ f (get_or ps i 0) ∷ []
+one_place_mapped f ps i h = ap (map f) (take_more ps i 0 h) ∙ map-append f (take i ps) (get_or ps i 0 ∷ [])
+
+-- ---- faults, and weights in range
+
+pub none_found : (k : ActionKind) (s : Sources) (ps : List ℕ) → All (λ p. feed_fault k (values_at s p) ≡ None) ps → first_fault_in k s ps ≡ None
+none_found k s [] h = refl
+none_found k s (p ∷ ps) h =
+    ap (λ o. fault_or_later p o (first_fault_in k s ps)) (All-head (λ q. feed_fault k (values_at s q) ≡ None) p ps h)
+    ∙ none_found k s ps (All-tail (λ q. feed_fault k (values_at s q) ≡ None) p ps h)
+
+pub either_false : (a b : Bool) → (a || b) ≡ false → (a ≡ false) × (b ≡ false)
+either_false true b h = cc h
+either_false false b h = (refl, h)
+
+pub one_more_light : (zs : List ℤ) (ps : List ℕ) (i : ℕ) → i < length ps → All (λ p. nat_abs (get_or zs p (pos 0)) < 2 ^ 31) (take i ps) → nat_abs (get_or zs (get_or ps i 0) (pos 0)) < 2 ^ 31
+    → All (λ p. nat_abs (get_or zs p (pos 0)) < 2 ^ 31) (take (i + 1) ps)
+one_more_light zs ps i h all one =
+    subst (All (λ p. nat_abs (get_or zs p (pos 0)) < 2 ^ 31)) (sym (take_more ps i 0 h))
+    (All-append (λ p. nat_abs (get_or zs p (pos 0)) < 2 ^ 31) (take i ps) (get_or ps i 0 ∷ []) all (All-cons (λ p. nat_abs (get_or zs p (pos 0)) < 2 ^ 31) (get_or ps i 0) [] one (λ k d l. absurd (omega (arith, l)))))
+
+pub light_all : (zs : List ℤ) (ps : List ℕ) (i : ℕ) → length ps ≤ i → All (λ p. nat_abs (get_or zs p (pos 0)) < 2 ^ 31) (take i ps) → All (λ p. nat_abs (get_or zs p (pos 0)) < 2 ^ 31) ps
+light_all zs ps i h all = subst (All (λ p. nat_abs (get_or zs p (pos 0)) < 2 ^ 31)) (take_all i ps h) all
+
+-- a lane holds numbers
+abbrev pub HoldsNumbers : Lane → (ℕ → ℤ) → Type 0
+HoldsNumbers x f = (p : ℕ) → lane_value x p ≡ val.Int (f p)
+
+-- ---- points
+
+pub singles_mapped : {A : Type 0} (f : ℕ → A) (ps : List ℕ) → flat_map (λ p. f p ∷ []) ps ≡ map f ps
+singles_mapped f [] = refl
+singles_mapped f (p ∷ ps) = ap (λ l. f p ∷ l) (singles_mapped f ps)
+
+-- with one more point
+pub one_point_more : (before : List Item) (f : ℕ → Item) (ps : List ℕ) (i : ℕ) (item : Item) → i < length ps → item ≡ f (get_or ps i 0)
+    → (before ++ map f (take i ps)) ++ item ∷ [] ≡ before ++ map f (take (i + 1) ps)
+one_point_more before f ps i item h e =
+    append_assoc before (map f (take i ps)) (item ∷ []) ∙ ap (λ x. before ++ (map f (take i ps) ++ x ∷ [])) e ∙ ap (λ l. before ++ l) (sym (one_place_mapped f ps i h))
+
+-- a weight of an entry without a fault
+-- a histogram of numbers is filled with a point for each place
+pub number_points : (edges : List ℤ) (c : List ℕ) (o : Option (List ℕ)) (s : Sources) (x : Lane) (ps : List ℕ) (f : ℕ → ℤ) → s ≡ One x → HoldsNumbers x f
+    → flat_map (λ p. spread (kind.Histo1D edges c o) (values_at s p)) ps ≡ map (λ p. Point (f p) (pos 1)) ps
+number_points edges c o s x ps f e h =
+    same_each (λ p. spread (kind.Histo1D edges c o) (values_at s p)) (λ p. Point (f p) (pos 1) ∷ []) ps
+    (λ p. ap (λ t. spread (kind.Histo1D edges c o) (values_at t p)) e ∙ ap (λ v. spread (kind.Histo1D edges c o) (v ∷ [])) (h p))
+    ∙ singles_mapped (λ p. Point (f p) (pos 1)) ps
+
+pub weighted_points : (edges : List ℤ) (c : List ℕ) (o : Option (List ℕ)) (s : Sources) (x w : Lane) (ps : List ℕ) (f g : ℕ → ℤ) → s ≡ Weighted x w → HoldsNumbers x f → HoldsNumbers w g
+    → flat_map (λ p. spread (kind.Histo1D edges c o) (values_at s p)) ps ≡ map (λ p. Point (f p) (g p)) ps
+weighted_points edges c o s x w ps f g e h k =
+    same_each (λ p. spread (kind.Histo1D edges c o) (values_at s p)) (λ p. Point (f p) (g p) ∷ []) ps
+    (λ p. ap (λ t. spread (kind.Histo1D edges c o) (values_at t p)) e ∙ ap (λ v. spread (kind.Histo1D edges c o) (v ∷ lane_value w p ∷ [])) (h p)
+    ∙ ap (λ v. spread (kind.Histo1D edges c o) (val.Int (f p) ∷ v ∷ [])) (k p))
+    ∙ singles_mapped (λ p. Point (f p) (g p)) ps

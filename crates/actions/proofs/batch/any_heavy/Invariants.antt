@@ -1,0 +1,7 @@
+use Rattle.std.proofs.Common.{◌≡◌, ◌<◌, ◌^◌, All, false, get_or, pos, take}
+use Rattle.std.specs.Prelude.{nat_abs}
+use Rattle.actions.specs.Batches.{places_of}
+use Rattle.actions.proofs.batch.any_heavy.Given as goal
+
+abbrev pub invariant-loop-i : goal.invariant-loop-i
+invariant-loop-i l = l.heavy ≡ false → All (λ p. nat_abs (get_or l.weights p (pos 0)) < 2 ^ 31) (take l.i (places_of l.places))

@@ -1,0 +1,58 @@
+use Rattle.std.proofs.Common.{rules, arith, ℕ, ℤ, ◌≡◌, ◌<◌, ◌++◌, List, length, get_or, ap, sym, subst, ◌∙◌}
+use Rattle.rdf_values.specs.Spread.{numbers}
+use Rattle.actions.specs.Batches.{lane_value, places_of}
+use Rattle.actions.proofs.Batching.{count_listed, first_are_there, numbers_listed, numbers_of_first, take_full, taken_within}
+use Rattle.actions.proofs.folding.fold_lane.Goals as goal
+
+pub slice_bounds-take_in-end : goal.slice_bounds-take_in-end
+slice_bounds-take_in-end g c =
+    let there = rw (c.in-Int-First.is-0, c.in-Int-First.is-1) at c.requires.there in
+    take_full c.in-Int-First.count c.in-Int-First.numbers.now (first_are_there c.in-Int-First.count (length c.in-Int-First.numbers.now) there)
+
+pub take_in-requires : goal.take_in-requires
+take_in-requires g c =
+    let there = rw (c.in-Int-First.is-0, c.in-Int-First.is-1) at c.requires.there in
+    let room = rw (c.in-Int-First.is-0, c.in-Int-First.is-1) at c.requires.room in
+    let same = ap length (numbers_of_first c.in-Int-First.numbers.now c.in-Int-First.count (first_are_there c.in-Int-First.count (length c.in-Int-First.numbers.now) there)) in
+    record { room = omega (arith, room, same) }
+
+pub returns-in-Int-First-clause-folded : goal.returns-in-Int-First-clause-folded
+returns-in-Int-First-clause-folded g c = λ start before h.
+    let there = rw (c.in-Int-First.is-0, c.in-Int-First.is-1) at c.requires.there in
+    let same = numbers_of_first c.in-Int-First.numbers.now c.in-Int-First.count (first_are_there c.in-Int-First.count (length c.in-Int-First.numbers.now) there) in
+    rw (c.in-Int-First.is-0, c.in-Int-First.is-1) (subst (λ (l : List ℤ). g.F.Folds.folded start c.take_in.new.self (before ++ l)) (sym same) (c.take_in.ensures.folded start before h))
+
+pub returns-in-Int-First-clause-bounded : goal.returns-in-Int-First-clause-bounded
+returns-in-Int-First-clause-bounded g c =
+    let there = rw (c.in-Int-First.is-0, c.in-Int-First.is-1) at c.requires.there in
+    let same = ap length (numbers_of_first c.in-Int-First.numbers.now c.in-Int-First.count (first_are_there c.in-Int-First.count (length c.in-Int-First.numbers.now) there)) in
+    let bounded = c.take_in.ensures.bounded in
+    rw (c.in-Int-First.is-0, c.in-Int-First.is-1) (omega (arith, bounded, same))
+
+pub take_in-requires-in-loop-i : goal.take_in-requires-in-loop-i
+take_in-requires-in-loop-i g c =
+    let ps = places_of c.args.places.now in
+    let i = c.loop-i.i in
+    let f : ℕ → List ℤ = λ p. numbers (lane_value c.args.lane.now p) in
+    let below : i < length ps = search rules in
+    let within = taken_within f ps i below in
+    let bounded = c.loop-i.invariant.bounded in
+    let room = c.requires.room in
+    let here : length c.numbers.result.now ≡ length (f (get_or ps i 0)) = ap length (c.numbers.ensures ∙ ap f (sym c.at.ensures)) in
+    record { room = omega (arith, within, bounded, room, here) }
+
+pub fold_listed-requires-clause-room : goal.fold_listed-requires-clause-room
+fold_listed-requires-clause-room g c =
+    let room = rw (c.in-Int-Listed.is-0, c.in-Int-Listed.is-1) at c.requires.room in
+    let same = count_listed c.in-Int-Listed.numbers.now c.in-Int-Listed.listed.now in
+    omega (arith, room, same)
+
+pub returns-in-Int-Listed-clause-folded : goal.returns-in-Int-Listed-clause-folded
+returns-in-Int-Listed-clause-folded g c = λ start before h.
+    rw (c.in-Int-Listed.is-0, c.in-Int-Listed.is-1) (subst (λ (l : List ℤ). g.F.Folds.folded start c.fold_listed.new.folder (before ++ l)) (sym (numbers_listed c.in-Int-Listed.numbers.now c.in-Int-Listed.listed.now)) (c.fold_listed.ensures.folded start before h))
+
+pub returns-in-Int-Listed-clause-bounded : goal.returns-in-Int-Listed-clause-bounded
+returns-in-Int-Listed-clause-bounded g c =
+    let same = count_listed c.in-Int-Listed.numbers.now c.in-Int-Listed.listed.now in
+    let bounded = c.fold_listed.ensures.bounded in
+    rw (c.in-Int-Listed.is-0, c.in-Int-Listed.is-1) (omega (arith, bounded, same))

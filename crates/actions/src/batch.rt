@@ -1,0 +1,146 @@
+// What the entries of a block feed to an action, all at once.
+ghost use Rattle.std.specs.Prelude.{◌≡◌, ◌≤◌, ◌<◌, ◌^◌, None, false, length, nat_abs, pos, slice_index_or};
+ghost use Rattle.rdf_values.specs.Spread.{feed_fault};
+ghost use Rattle.rdf_values.specs.declared.action.ActionKind.{ActionKind};
+ghost use Rattle.actions.specs.Batches.{EachPlace, HasValues, SuitsAt, first_fault_in, first_lane, places_of, values_at};
+ghost use Rattle.actions.specs.Parts.{Suits, values_of};
+
+use crate::items::Items;
+use crate::lane::Lane;
+use crate::places::Places;
+use rdf_values::EntryFault;
+
+/// The lanes of an action's columns: none for a Count, then the coordinates, then the weight.
+#[derive(Clone, Copy, Debug)]
+pub enum Sources<'a> {
+    Entry,
+    One {
+        x: Lane<'a>,
+    },
+    Weighted {
+        x: Lane<'a>,
+        w: Lane<'a>,
+    },
+    Pair {
+        x: Lane<'a>,
+        y: Lane<'a>,
+    },
+    WeightedPair {
+        x: Lane<'a>,
+        y: Lane<'a>,
+        w: Lane<'a>,
+    },
+}
+
+/// The values of an action's columns at some places of a block.
+#[derive(Clone, Copy, Debug)]
+pub struct Batch<'a> {
+    pub places: Places<'a>,
+    pub sources: Sources<'a>,
+}
+
+/// A place whose values can't be fed, and why.
+#[derive(Clone, Copy, Debug, PartialEq, Eq)]
+pub struct PlaceFault {
+    pub place: u32,
+    pub kind: EntryFault,
+}
+
+impl<'a> Sources<'a> {
+    /// The lane of the first column; a Count has none.
+    pub fn first(&self) -> Option<Lane<'a>>
+        ensures { result ≡ first_lane self.now }
+    {
+        match self {
+            Sources::Entry => None,
+            Sources::One { x }
+            | Sources::Weighted { x, .. }
+            | Sources::Pair { x, .. }
+            | Sources::WeightedPair { x, .. } => Some(*x),
+        }
+    }
+
+    /// The values of a place.
+    pub fn items(&self, place: u32) -> Items<'a>
+        requires { HasValues self.now place }
+        ensures values { values_of result ≡ values_at self.now place }
+        ensures suits { (kind : ActionKind) → SuitsAt kind self.now place → Suits kind result }
+    {
+        match self {
+            Sources::Entry => Items::Entry,
+            Sources::One { x } => Items::One { x: x.part(place) },
+            Sources::Weighted { x, w } => Items::Weighted {
+                x: x.part(place),
+                w: w.part(place),
+            },
+            Sources::Pair { x, y } => Items::Pair {
+                x: x.part(place),
+                y: y.part(place),
+            },
+            Sources::WeightedPair { x, y, w } => Items::WeightedPair {
+                x: x.part(place),
+                y: y.part(place),
+                w: w.part(place),
+            },
+        }
+    }
+}
+
+// Whether one of the weights at some places is out of range.
+fn any_heavy(weights: &[i64], places: &Places<'_>) -> bool
+    requires few { length (places_of places.now) ≤ 1000000 }
+    requires there { EachPlace places.now (λ p. p < length weights.now) }
+    ensures { result ≡ false → EachPlace places.now (λ p. nat_abs (slice_index_or weights.now p (pos 0)) < 2 ^ 31) }
+{
+    let mut heavy = false;
+    for i in 0..places.len() {
+        heavy |= weights[places.at(i) as usize].unsigned_abs() >= 1 << 31;
+    }
+    heavy
+}
+
+impl Batch<'_> {
+    // Whether a place may have values that can't be fed: nearly always none has.
+    fn may_fault(&self) -> bool
+        requires few { length (places_of self.now.places) ≤ 1000000 }
+        requires there { EachPlace self.now.places (HasValues self.now.sources) }
+        ensures { result ≡ false → (kind : ActionKind) → EachPlace self.now.places (SuitsAt kind self.now.sources) → EachPlace self.now.places (λ p. feed_fault kind (values_at self.now.sources p) ≡ None) }
+    {
+        match &self.sources {
+            Sources::Entry | Sources::One { .. } => false,
+            Sources::Weighted {
+                x: Lane::Int(_),
+                w: Lane::Int(weights),
+            } => any_heavy(weights, &self.places),
+            Sources::Pair {
+                x: Lane::Int(_),
+                y: Lane::Int(_),
+            } => false,
+            Sources::WeightedPair {
+                x: Lane::Int(_),
+                y: Lane::Int(_),
+                w: Lane::Int(weights),
+            } => any_heavy(weights, &self.places),
+            _ => true,
+        }
+    }
+
+    /// The first of the places whose values an action can't be fed with, and why: vectors of different lengths, and then a weight
+    /// out of range.
+    pub fn first_fault(&self) -> Option<PlaceFault>
+        requires few { length (places_of self.now.places) ≤ 1000000 }
+        requires there { EachPlace self.now.places (HasValues self.now.sources) }
+        ensures { (kind : ActionKind) → EachPlace self.now.places (SuitsAt kind self.now.sources) → result ≡ first_fault_in kind self.now.sources (places_of self.now.places) }
+    {
+        if !self.may_fault() {
+            return None;
+        }
+        for i in 0..self.places.len() {
+            let place = self.places.at(i);
+            if let Some(kind) = self.sources.items(place).fault() {
+                return Some(PlaceFault { place, kind });
+            }
+        }
+        None
+    }
+}

@@ -1,0 +1,56 @@
+// What an action reads of one column over a block.
+ghost use Rattle.std.specs.Prelude.{◌≡◌};
+ghost use Rattle.rdf_values.specs.Spread.{numbers};
+ghost use Rattle.actions.specs.Batches.{HasPlace, lane_value};
+ghost use Rattle.actions.specs.Parts.{part_value};
+
+use crate::items::Part;
+use rdf_values::Span;
+use std::slice;
+
+/// The values of a column at the places of a block, each at its own place.
+#[derive(Clone, Copy, Debug)]
+pub enum Lane<'a> {
+    Int(&'a [i64]),
+    /// 0 for false, and 1 for true.
+    Bool(&'a [i64]),
+    /// The elements of all vectors, and where those of each place stand among them.
+    Vects {
+        elements: &'a [i64],
+        spans: &'a [Span],
+    },
+}
+
+impl<'a> Lane<'a> {
+    /// The value of a place.
+    pub fn part(&self, place: u32) -> Part<'a>
+        requires { HasPlace self.now place }
+        ensures { part_value result ≡ lane_value self.now place }
+    {
+        let at = place as usize;
+        match self {
+            Lane::Int(numbers) => Part::Int(numbers[at]),
+            Lane::Bool(marks) => Part::Bool(marks[at] != 0),
+            Lane::Vects { elements, spans } => {
+                let span = spans[at];
+                Part::Vect(&elements[span.lo as usize..span.hi as usize])
+            }
+        }
+    }
+
+    /// The numbers of the value of a place: one, or the elements of the vector, or none for a truth value.
+    pub fn numbers(&self, place: u32) -> &'a [i64]
+        requires { HasPlace self.now place }
+        ensures { result.now ≡ numbers (lane_value self.now place) }
+    {
+        let at = place as usize;
+        match self {
+            Lane::Int(numbers) => slice::from_ref(&numbers[at]),
+            Lane::Bool(_) => &[],
+            Lane::Vects { elements, spans } => {
+                let span = spans[at];
+                &elements[span.lo as usize..span.hi as usize]
+            }
+        }
+    }
+}

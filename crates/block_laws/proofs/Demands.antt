@@ -1,0 +1,72 @@
+-- What passes demand of a row, each demand once.
+use Rattle.std.proofs.Common.{◌≡◌, ◌⊎◌, inl, inr, ℕ, Bool, true, false, ◌&&◌, List, [], ◌∷◌, Some, None, refl, sym, ◌∙◌, ap, subst, nat_eq, slice_get, if◌then◌else◌}
+use Rattle.std.specs.Prelude.{flat_map, All, Contains}
+use Rattle.std.specs.List.{list_any}
+use Rattle.std.proofs.lemmas.Bool.Decides.{Decides-eqb}
+use Rattle.std.proofs.lemmas.List.Elements.{All-from_recursion}
+use Rattle.rdf_values.specs.Bookings.{Pass}
+use Rattle.rdf_values.specs.Names.{same}
+use Rattle.rdf_values.specs.Path.{Under, Variation, same_variation}
+use Rattle.rdf_values.specs.declared.value.Value.{Value}
+use Rattle.rdf_model.specs.Demanded.{Demand, Site, demanded, distinct, pass_demands, same_demand, same_site, same_under}
+use Rattle.rdf_model.specs.Results.{Dataset}
+use Rattle.rdf_model.proofs.Accepted.{names_equal}
+use Rattle.block_laws.proofs.Members.{In, any_in, in_flat, contained, each_in}
+
+-- ---- equal demands
+
+both_true : (a b : Bool) → (a && b) ≡ true → (a ≡ true) × (b ≡ true)
+both_true true b h = (refl, h)
+both_true false b h = cc h
+
+site_is : (s t : Site) → same_site s t ≡ true → s ≡ t
+site_is s t h =
+    let p = both_true (same s.node t.node && nat_eq s.column t.column) (nat_eq s.tag t.tag) h in
+    let q = both_true (same s.node t.node) (nat_eq s.column t.column) p.0 in
+    let a : s.node ≡ t.node = names_equal s.node t.node q.0 in
+    let b : s.column ≡ t.column = (Decides-eqb s.column t.column).0 q.1 in
+    let c : s.tag ≡ t.tag = (Decides-eqb s.tag t.tag).0 p.1 in
+    λ i. record { node = a i; column = b i; tag = c i }
+
+variation_is : (v w : Variation) → same_variation v w ≡ true → v ≡ w
+variation_is v w h =
+    let p = both_true (same v.name w.name) (same v.tag w.tag) h in
+    let a : v.name ≡ w.name = names_equal v.name w.name p.0 in
+    let b : v.tag ≡ w.tag = names_equal v.tag w.tag p.1 in
+    λ i. record { name = a i; tag = b i }
+
+under_is : (u v : Under) → same_under u v ≡ true → u ≡ v
+under_is None None h = refl
+under_is (Some v) (Some w) h = ap Some (variation_is v w h)
+under_is None (Some w) h = cc h
+under_is (Some v) None h = cc h
+
+demand_is : (p q : Demand) → same_demand p q ≡ true → p ≡ q
+demand_is p q h =
+    let b = both_true (same_site p.site q.site) (same_under p.under q.under) h in
+    let a = site_is p.site q.site b.0 in let c = under_is p.under q.under b.1 in
+    λ i. record { site = a i; under = c i }
+
+-- ---- each demand once
+
+-- each demand is among those that are kept once
+pub kept_once : (d : Demand) (ds : List Demand) → In d ds → In d (distinct ds)
+kept_once d [] h = absurd h
+kept_once d (p ∷ ps) h = go (list_any (same_demand p) (distinct ps)) refl h (kept_once d ps)
+  where
+    go : (b : Bool) → list_any (same_demand p) (distinct ps) ≡ b → (d ≡ p) ⊎ In d ps → (In d ps → In d (distinct ps)) → In d (if b then distinct ps else p ∷ distinct ps)
+    go true q (inl e) next =
+        let w = any_in (same_demand p) (distinct ps) q in
+        subst (λ (x : Demand). In x (distinct ps)) (sym (e ∙ demand_is p w.0 w.2)) w.1
+    go true q (inr k) next = next k
+    go false q (inl e) next = inl e
+    go false q (inr k) next = inr (next k)
+
+-- ---- passes
+
+module _ (d : Dataset) (row : List Value) where
+  pub pass_is_demanded : (ps : List Pass) (n : ℕ) (p : Pass) → slice_get ps n ≡ Some p → All (Contains (demanded d.fns d.columns row ps)) (pass_demands d.fns d.columns row p)
+  pass_is_demanded ps n p h =
+      All-from_recursion (Contains (demanded d.fns d.columns row ps)) (pass_demands d.fns d.columns row p)
+      (each_in (Contains (demanded d.fns d.columns row ps)) (pass_demands d.fns d.columns row p) (λ q k.
+      contained q (demanded d.fns d.columns row ps) (kept_once q (flat_map (pass_demands d.fns d.columns row) ps) (in_flat (pass_demands d.fns d.columns row) ps n p q h k))))

@@ -1,0 +1,22 @@
+// Laws of what a block feeds. Each function does nothing; its contract is the law, and its proof the law's.
+ghost use Rattle.block_laws.specs.Feeds.{BatchIsOfThePass, SelectedAloneFeed, SelectionNarrows, SelectionsAreCounted};
+
+/// A batch is what the pass by itself gives over the rows of the block.
+pub fn batch_is_of_the_pass()
+    ensures { BatchIsOfThePass }
+{}
+
+/// Only the rows that pass its filters feed a pass, in their order.
+pub fn selected_alone_feed()
+    ensures { SelectedAloneFeed }
+{}
+
+/// The rows that pass the filters with one more are among those that pass the filters above it.
+pub fn selection_narrows()
+    ensures { SelectionNarrows }
+{}
+
+/// A filter's counts over a block without a fault are the sizes of both selections under nominal.
+pub fn selections_are_counted()
+    ensures { SelectionsAreCounted }
+{}

@@ -1,0 +1,96 @@
+-- A tally after a block's counts were noted of a filter.
+use Rattle.std.proofs.Common.{◌≡◌, ℕ, ◌+◌, ◌<◌, ◌≤◌, ◌^◌, cond, List, [], ◌∷◌, length, map, set, get_or, sym, ap, ◌∙◌, subst, ⊎_elim, arith, get_or-set_same, get_or-set_other}
+use Rattle.std.specs.Prelude.{count_by}
+use Rattle.std.proofs.lemmas.Bool.{cases_eq}
+use Rattle.std.proofs.lemmas.List.{get_or-map, length-map, length-set, same_lists}
+use Rattle.std.proofs.lemmas.List.Sums.{sum_by-cons}
+use Rattle.std.proofs.lemmas.Option.{get_or_from_slice_get}
+use Rattle.rdf_values.proofs.Below.{length-below, slice_get-below}
+use Rattle.rdf_values.specs.Cuts.{below}
+use Rattle.rdf_model.specs.LoopFacts.{is_passed, is_reached}
+use Rattle.rdf_model.specs.declared.loop_facts.LoopFacts.{LoopFacts}
+use Rattle.rdf_model.specs.declared.loop_facts.Reach.{Reach}
+use Rattle.rdf_model.specs.declared.loop_facts.Reach.TheVariants.{Failed, Passed, Stopped}
+use Rattle.filters_report.specs.Flows.{AreCounts, both, nothing}
+use Rattle.filters_report.specs.declared.flow.Counts.{Counts}
+use Rattle.cluster_tally.specs.Blocks.{BlockStage, CanNoteCounts, HoldsIn, block_reaches, counts_in, filter_done}
+use Rattle.cluster_tally.specs.Stages.{counted}
+use Rattle.cluster_tally.specs.Tallies.{TallyView}
+use Rattle.cluster_tally.proofs.BlockSteps.{counts_next, counts_room, counts_same}
+
+passed_one : (r : Reach) → cond (is_passed r) 1 0 ≤ cond (is_reached r) 1 0
+passed_one Stopped = omega arith
+passed_one Failed = omega arith
+passed_one Passed = omega arith
+
+passed_few : (rs : List Reach) → count_by is_passed rs ≤ count_by is_reached rs
+passed_few [] = omega arith
+passed_few (r ∷ rs) =
+    omega (arith, passed_one r, passed_few rs, sum_by-cons (λ x. cond (is_passed x) 1 0) r rs, sum_by-cons (λ x. cond (is_reached x) 1 0) r rs)
+
+module _ (f : LoopFacts) (watched : List ℕ) (s : BlockStage) (t : TallyView) (filter : ℕ) (counts : Counts) (can : CanNoteCounts f watched s t filter counts) where
+  many : length t.flow ≡ f.filters
+  many = ap length can.holds.flow ∙ length-map (below f.filters) (counts_in f s) ∙ length-below f.filters
+
+  pub within : filter < length t.flow
+  within = omega (arith, can.inside, many)
+
+  at_place : (i : ℕ) (d : Counts) → i < f.filters → get_or t.flow i d ≡ counts_in f s i
+  at_place i d lt =
+      ap (λ l. get_or l i d) can.holds.flow
+      ∙ get_or-map (counts_in f s) (below f.filters) i i d (omega (arith, length-below f.filters))
+      ∙ ap (counts_in f s) (get_or_from_slice_get (below f.filters) i i i (slice_get-below f.filters i lt))
+
+  pub are_counts : AreCounts counts
+  are_counts =
+      let all = ap (λ (c : Counts). c.all) can.come_to in
+      let pass = ap (λ (c : Counts). c.pass) can.come_to in
+      record {
+        few = omega (arith, all, counts_room f watched s t can.holds filter);
+        pass = omega (arith, all, pass, passed_few (block_reaches f s filter));
+      }
+
+  pub has_room : (get_or t.flow filter nothing).all + counts.all ≤ 2 ^ 32
+  has_room = omega (arith, ap (λ (c : Counts). c.all) (at_place filter nothing can.inside), ap (λ (c : Counts). c.all) can.come_to, counts_room f watched s t can.holds filter)
+
+  now_there : counts_in f (filter_done s) filter ≡ both (counts_in f s filter) counts
+  now_there = subst (λ k. counts ≡ counted (block_reaches f s k) → counts_in f (filter_done s) k ≡ both (counts_in f s k) counts) can.at_filter
+      (λ is. counts_next f s ∙ ap (both (counts_in f s s.filters)) (sym is))
+      can.come_to
+
+  flow_now : (flow : List Counts) → flow ≡ set t.flow filter (both (get_or t.flow filter nothing) counts) → flow ≡ map (counts_in f (filter_done s)) (below f.filters)
+  flow_now flow is = is ∙ same_lists (set t.flow filter one) all (length-set t.flow filter one ∙ many ∙ sym (length-map (below f.filters) (counts_in f (filter_done s)) ∙ length-below f.filters)) (λ i d lt. each i d (omega (arith, length-set t.flow filter one, many)))
+    where
+      one : Counts
+      one = both (get_or t.flow filter nothing) counts
+
+      all : List Counts
+      all = map (counts_in f (filter_done s)) (below f.filters)
+
+      wanted : (i : ℕ) (d : Counts) → i < f.filters → get_or all i d ≡ counts_in f (filter_done s) i
+      wanted i d lt =
+          get_or-map (counts_in f (filter_done s)) (below f.filters) i i d (omega (arith, length-below f.filters))
+          ∙ ap (counts_in f (filter_done s)) (get_or_from_slice_get (below f.filters) i i i (slice_get-below f.filters i lt))
+
+      each : (i : ℕ) (d : Counts) → i < f.filters → get_or (set t.flow filter one) i d ≡ get_or all i d
+      each i d lt = ⊎_elim
+          (λ (here : i ≡ filter). subst (λ k. k < f.filters → get_or (set t.flow filter one) k d ≡ get_or all k d) (sym here)
+          (λ lf. get_or-set_same t.flow filter one d within ∙ ap (λ c. both c counts) (at_place filter nothing lf) ∙ sym now_there ∙ sym (wanted filter d lf)) lt)
+          (λ (ne : i ≡ filter → ⊥). get_or-set_other t.flow filter i one d ne ∙ at_place i d lt ∙ sym (counts_same f s i (λ e. ne (e ∙ can.at_filter))) ∙ sym (wanted i d lt))
+          (cases_eq i filter)
+
+  pub holds_noted : (flow : List Counts) → flow ≡ set t.flow filter (both (get_or t.flow filter nothing) counts) → HoldsIn f watched (filter_done s) (record { accs = t.accs; watched = t.watched; flow = flow; trails = t.trails })
+  holds_noted flow is =
+      let h = can.holds in
+      record {
+        facts = h.facts;
+        rises = h.rises;
+        above = h.above;
+        kinds = h.kinds;
+        accs = λ i acc at. (let one = h.accs i acc at in record { fed = one.fed; few = one.few; last = one.last });
+        flow = flow_now flow is;
+        many = h.many;
+        places = h.places;
+        alone = λ i acc at. (let one = h.alone i acc at in record { kind = one.kind; watch = one.watch; fed = one.fed; few = one.few; last = one.last });
+        trails = h.trails;
+      }
