@@ -1,0 +1,6 @@
+mod Lines
+mod Loops
+mod Rows
+mod Runs
+mod Sums
+mod Takes
