@@ -2,5 +2,6 @@ mod Lines
 mod Loops
 mod Rows
 mod Runs
+mod Shapes
 mod Sums
 mod Takes

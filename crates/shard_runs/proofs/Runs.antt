@@ -58,7 +58,7 @@ pub record AreFed (t : ColType) (k : ActionKind) (rows : ℕ) (items : List Item
   pub takes : TakesAre t k items
 
 module _ (d : Dataset) where
-  fed : (k : ActionKind) (at : Path) (u : Under) → FeedsWell d (ActionAt k at) → (rows : List (List Value)) → FitRows d.columns rows → AreFed (booking_kind d (ActionAt k at)) k (length rows) (flat_map (items_of d k at u) rows)
+  pub fed : (k : ActionKind) (at : Path) (u : Under) → FeedsWell d (ActionAt k at) → (rows : List (List Value)) → FitRows d.columns rows → AreFed (booking_kind d (ActionAt k at)) k (length rows) (flat_map (items_of d k at u) rows)
   fed k at u well [] h = record { few = omega arith; fit = tt; takes = takes_none (booking_kind d (ActionAt k at)) k }
   fed k at u well (row ∷ rows) h =
       let one = well row u h.0 in

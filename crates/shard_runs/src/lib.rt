@@ -4,4 +4,4 @@
 
 mod laws;
 
-pub use crate::laws::runs_are_shards;
+pub use crate::laws::{runs_are_shards, runs_have_shapes};
