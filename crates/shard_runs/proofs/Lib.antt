@@ -1,5 +1,6 @@
 mod Lines
 mod Loops
+mod Merged
 mod Rows
 mod Runs
 mod Shapes
