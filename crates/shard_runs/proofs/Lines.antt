@@ -1,9 +1,8 @@
 -- The line of an action's items is within the limits of shards.
-use Rattle.std.proofs.Common.{◌≡◌, ℕ, suc, ◌+◌, ◌*◌, ◌≤◌, ◌<◌, ◌^◌, ℤ, Bool, true, false, ◌&&◌, List, [], ◌∷◌, ◌++◌, length, map, Option, Some, None, refl, sym, ap, ◌∙◌, subst, arith, if◌then◌else◌, length-append}
-use Rattle.std.specs.Prelude.{⊤, nat_eq, flat_map, ◌||◌, nat_abs}
+use Rattle.std.proofs.Common.{◌≡◌, ℕ, suc, ◌≤◌, ℤ, Bool, true, false, ◌&&◌, List, [], ◌∷◌, ◌++◌, length, map, Option, refl, ap, ◌∙◌, arith, if◌then◌else◌}
+use Rattle.std.specs.Prelude.{⊤, nat_eq, flat_map, ◌||◌}
 use Rattle.std.specs.List.{AllByRecursion, list_all}
-use Rattle.std.proofs.lemmas.List.Elements.{recursion_from_All}
-use Rattle.rdf_values.specs.Fold.{Cell, bin, cell_of, cells_on, flat_cell, fold_items, number_of, numbers_of, scalar_of, square_cell, weight_in, weight_in2}
+use Rattle.rdf_values.specs.Fold.{Cell, bin, cells_on, flat_cell, fold_items, numbers_of, scalar_of, square_cell, weight_in, weight_in2}
 use Rattle.rdf_values.specs.Words.{Has64Bits}
 use Rattle.rdf_values.specs.declared.action.ActionKind.{ActionKind}
 use Rattle.rdf_values.specs.declared.action.ActionKind.TheVariants as kind
@@ -13,14 +12,14 @@ use Rattle.rdf_values.specs.declared.value.ColType.{ColType}
 use Rattle.rdf_values.specs.declared.value.ColType.TheVariants as k
 use Rattle.rdf_values.specs.declared.value.Scalar.{Scalar}
 use Rattle.rdf_values.specs.declared.value.Scalar.TheVariants as scalar
-use Rattle.rdf_model.specs.LoopFacts.{FitsAction, FitsSpread}
+use Rattle.rdf_model.specs.LoopFacts.{FitsAction}
 use Rattle.histograms.specs.declared.cell_sum.CellSum.{CellSum}
 use Rattle.shard_lines.specs.Lines as lines
 use Rattle.shard_lines.specs.Lines.{EachFits, FitsCell, FitsLine, FitsTake, are_alike, is_number, is_truth}
 use Rattle.shard_lines.specs.Shapes.{is_taken_from}
 use Rattle.shard_files.specs.Shards.{shard_limits}
 use Rattle.shard_spans.specs.Spans.{cell_sum, filled_line}
-use Rattle.shard_runs.proofs.Sums.{IsLight, all_both, cell_fits, greatest_fits, least_fits, reduced_fits, sum_fits}
+use Rattle.shard_runs.proofs.Sums.{IsLight, cell_fits, greatest_fits, least_fits, reduced_fits, sum_fits}
 
 -- ---- numbers
 

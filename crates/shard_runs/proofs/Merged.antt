@@ -1,11 +1,10 @@
 -- Shards of runs are merged to one run: their heads agree, and their loops have the script's shapes.
-use Rattle.std.proofs.Common.{◌≡◌, ℕ, suc, ◌+◌, ◌<◌, ◌≤◌, Bool, true, false, not, ◌&&◌, List, [], ◌∷◌, length, map, Option, None, Some, Result, Ok, Err, refl, sym, ap, ap₂, ◌∙◌, subst, arith, cond}
-use Rattle.std.specs.Prelude.{⊤, All, nat_eq, position}
+use Rattle.std.proofs.Common.{◌≡◌, ℕ, suc, ◌+◌, ◌<◌, ◌≤◌, Bool, true, false, not, ◌&&◌, List, [], ◌∷◌, length, map, Option, None, Some, Result, Ok, refl, sym, ap, ap₂, ◌∙◌, arith, cond}
+use Rattle.std.specs.Prelude.{All, nat_eq, position}
 use Rattle.std.specs.List.{AllByRecursion, position_from}
 use Rattle.std.proofs.lemmas.Bool.Decides.{nat_tests}
 use Rattle.std.proofs.lemmas.Iterator.Adapters.{position_from-zero}
 use Rattle.rdf_values.specs.Cuts.{Lead}
-use Rattle.rdf_values.specs.Names.{same}
 use Rattle.rdf_values.specs.declared.column.Column.{Column}
 use Rattle.rdf_values.specs.declared.script.Script.{Script}
 use Rattle.rdf_values.specs.declared.span.Span.{Span}
@@ -13,9 +12,8 @@ use Rattle.rdf_values.specs.declared.value.ColType.{ColType}
 use Rattle.rdf_values.specs.declared.value.ColType.TheVariants as k
 use Rattle.rdf_model.specs.Results.{Dataset}
 use Rattle.rdf_model.proofs.Accepted.{itself}
-use Rattle.shard_lines.specs.declared.pass_shape.PassShape.{PassShape}
-use Rattle.shard_files.specs.Merging.{are_loops, first_misshapen, first_other, first_uncovered, merge_of, same_column, same_columns, same_head, same_kind, shards_joined, unless_at}
-use Rattle.shard_files.specs.Shards.{BreaksAt, IsShard, IsShardText, ShardView, shard_text}
+use Rattle.shard_files.specs.Merging.{are_loops, first_misshapen, first_other, first_uncovered, merge_of, same_columns, same_head, same_kind, shards_joined, unless_at}
+use Rattle.shard_files.specs.Shards.{ShardView}
 use Rattle.shard_files.specs.declared.merge_cause.MergeCause.{MergeCause}
 use Rattle.shard_files.specs.declared.merge_cause.MergeCause.TheVariants as cause
 use Rattle.shard_files.specs.declared.shard_loop.ShardLoop.{ShardLoop}

@@ -1,6 +1,6 @@
 -- What a run over a span finds is a shard.
-use Rattle.std.proofs.Common.{◌≡◌, ℕ, suc, ◌+◌, ◌*◌, ◌<◌, ◌≤◌, List, [], ◌∷◌, ◌++◌, length, map, Option, None, Some, refl, sym, ap, ◌∙◌, subst, arith, length-append}
-use Rattle.std.specs.Prelude.{⊤, flat_map, slice_get}
+use Rattle.std.proofs.Common.{◌≡◌, ℕ, ◌*◌, ◌<◌, ◌≤◌, List, [], ◌∷◌, ◌++◌, length, map, Option, None, Some, refl, arith, length-append}
+use Rattle.std.specs.Prelude.{flat_map, slice_get}
 use Rattle.std.specs.List.{AllByRecursion}
 use Rattle.std.proofs.lemmas.List.{length-map}
 use Rattle.std.proofs.lemmas.List.Elements.{recursion_from_All}
@@ -9,7 +9,7 @@ use Rattle.rdf_values.specs.Bookings.{ActionAt, Booked, Booking, Pass, ReportOn}
 use Rattle.rdf_values.specs.Cuts.{Lead}
 use Rattle.rdf_values.specs.Functions.{fn_names}
 use Rattle.rdf_values.specs.Kinds.{scope_of}
-use Rattle.rdf_values.specs.Path.{Path, Under, history, variations}
+use Rattle.rdf_values.specs.Path.{Path, Under, history}
 use Rattle.rdf_values.specs.Tables.{FitRows}
 use Rattle.rdf_values.specs.Verdict.{AreAccepted}
 use Rattle.rdf_values.specs.declared.action.ActionKind.{ActionKind}
@@ -18,7 +18,6 @@ use Rattle.rdf_values.specs.declared.fault.Fault.{Fault}
 use Rattle.rdf_values.specs.declared.item.Item.{Item}
 use Rattle.rdf_values.specs.declared.script.Script.{Script}
 use Rattle.rdf_values.specs.declared.span.Span.{Span}
-use Rattle.rdf_values.specs.declared.statement.Statement.{Statement}
 use Rattle.rdf_values.specs.declared.value.ColType.{ColType}
 use Rattle.rdf_values.specs.declared.value.Value.{Value}
 use Rattle.rdf_model.specs.Loops.{loop_passes, loop_results}
@@ -28,11 +27,9 @@ use Rattle.rdf_model.specs.Results.{Dataset, cutflow, items_of, passes_filters}
 use Rattle.rdf_model.proofs.Verdicts.{verdict_is_the_first_refusal}
 use Rattle.loop_pieces.specs.Whole.{begin_of, counts_of}
 use Rattle.shard_lines.specs.Lines.{EachFits, FitLines, FitsCount, FitsLine}
-use Rattle.shard_lines.specs.declared.shard_line.ShardLine.{ShardLine}
 use Rattle.shard_files.specs.Merging.{fault_or_lines, up_to_fault}
-use Rattle.shard_files.specs.Shards.{FitLoops, IsShard, shard_limits}
-use Rattle.shard_files.specs.declared.shard_loop.ShardLoop.{ShardLoop}
-use Rattle.shard_spans.specs.Spans.{booking_line, clusters_in, filled_line, loops_of, over_span, pass_line, span_fault, span_loops, span_shard}
+use Rattle.shard_files.specs.Shards.{FitLoops, shard_limits}
+use Rattle.shard_spans.specs.Spans.{booking_line, clusters_in, loops_of, over_span, pass_line, span_fault, span_loops}
 use Rattle.shard_runs.specs.Kinds.{booking_kind}
 use Rattle.shard_runs.specs.Laws.{IsChecked, RunsAreShards}
 use Rattle.shard_runs.proofs.Lines.{IsOfKind, TakesAre, items_line}
@@ -137,12 +134,14 @@ module _ (script : Script) (d : Dataset) (checked : IsChecked script d) where
 
   passes_of_loops : (loops : List (List Booked)) → AllByRecursion (IsLoop (fn_names d.fns) (scope_of d.columns) IsWell (feeds_well d checked.answers)) loops → AllByRecursion (ArePasses d) (map (loop_passes (history script)) loops)
   passes_of_loops [] h = tt
-  passes_of_loops (bs ∷ loops) h =
-      (record {
-        some = some_passes (history script) bs h.0.0;
-        few = few_passes (history script) (few_variations (fn_names d.fns) (scope_of d.columns) (history script) good) bs h.0.1;
-        well = passes_are IsWell (history script) bs h.0.2;
-      }, passes_of_loops loops h.1)
+  passes_of_loops (bs ∷ loops) h = (
+    record {
+      some = some_passes (history script) bs h.0.0;
+      few = few_passes (history script) (few_variations (fn_names d.fns) (scope_of d.columns) (history script) good) bs h.0.1;
+      well = passes_are IsWell (history script) bs h.0.2;
+    },
+    passes_of_loops loops h.1,
+  )
 
   pub all_passes : AllByRecursion (ArePasses d) (loops_of script)
   all_passes = passes_of_loops (loop_results (history script)) (loops_are (fn_names d.fns) (scope_of d.columns) IsWell (feeds_well d checked.answers) (history script) good checked.words)

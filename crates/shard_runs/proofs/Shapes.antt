@@ -1,12 +1,11 @@
 -- The lines of a run have the shapes of the script's passes.
-use Rattle.std.proofs.Common.{◌≡◌, ℕ, zero, suc, ◌+◌, ◌*◌, ◌<◌, Bool, true, false, ◌&&◌, List, [], ◌∷◌, ◌++◌, length, map, Option, None, Some, refl, sym, ap, ap₂, ◌∙◌, arith, length-append}
-use Rattle.std.specs.Prelude.{⊤, flat_map, nat_eq, nat_lt, slice_get}
-use Rattle.std.specs.List.{AllByRecursion, list_all}
+use Rattle.std.proofs.Common.{◌≡◌, ℕ, suc, ◌+◌, ◌*◌, ◌<◌, true, ◌&&◌, List, [], ◌∷◌, length, map, Option, None, Some, refl, ap, ap₂, ◌∙◌, arith, length-append}
+use Rattle.std.specs.Prelude.{flat_map, nat_eq, nat_lt, slice_get}
+use Rattle.std.specs.List.{AllByRecursion}
 use Rattle.std.proofs.lemmas.Bool.Decides.{nat_tests}
 use Rattle.std.proofs.lemmas.List.{length-map}
-use Rattle.rdf_values.specs.Bookings.{ActionAt, Booked, Booking, Pass, ReportOn}
-use Rattle.rdf_values.specs.Cuts.{below}
-use Rattle.rdf_values.specs.Fold.{Cell, cells_on, flat_cell, scalar_of, square_cell}
+use Rattle.rdf_values.specs.Bookings.{ActionAt, Booking, Pass, ReportOn}
+use Rattle.rdf_values.specs.Fold.{Cell, cells_on, flat_cell, square_cell}
 use Rattle.rdf_values.specs.Path.{Path}
 use Rattle.rdf_values.specs.Tables.{FitRows}
 use Rattle.rdf_values.specs.declared.action.ActionKind.{ActionKind}
@@ -14,7 +13,6 @@ use Rattle.rdf_values.specs.declared.action.ActionKind.TheVariants as kind
 use Rattle.rdf_values.specs.declared.fault.Fault.{Fault}
 use Rattle.rdf_values.specs.declared.item.Item.{Item}
 use Rattle.rdf_values.specs.declared.span.Span.{Span}
-use Rattle.rdf_values.specs.declared.value.ColType.{ColType}
 use Rattle.rdf_values.specs.declared.value.Value.{Value}
 use Rattle.rdf_values.proofs.Below.{length-below}
 use Rattle.rdf_model.specs.PartialResults.{rows_in}
@@ -24,7 +22,6 @@ use Rattle.loop_pieces.specs.Whole.{begin_of, counts_of}
 use Rattle.shard_lines.specs.Shapes.{booking_shape, has_shape, have_shapes}
 use Rattle.shard_lines.specs.declared.pass_shape.PassShape.{PassShape}
 use Rattle.shard_files.specs.Merging.{are_loops, fault_or_lines, up_to_fault}
-use Rattle.shard_files.specs.declared.shard_loop.ShardLoop.{ShardLoop}
 use Rattle.shard_spans.specs.Laws.{pass_shapes}
 use Rattle.shard_spans.specs.Spans.{booking_line, cell_sum, clusters_in, loops_of, over_span, pass_line, span_fault, span_loops}
 use Rattle.shard_runs.specs.Kinds.{booking_kind, pass_kind}

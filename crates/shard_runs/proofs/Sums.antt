@@ -1,10 +1,10 @@
 -- How large sums, extremes and reductions of some numbers are.
-use Rattle.std.proofs.Common.{◌≡◌, ℕ, suc, ◌+◌, ◌*◌, ◌^◌, ◌%◌, ◌<◌, ◌≤◌, ℤ, pos, negsuc, ◌+ℤ◌, ◌*ℤ◌, List, [], ◌∷◌, ◌++◌, length, map, Option, Some, None, Bool, true, false, cond, refl, sym, ap, ◌∙◌, subst, arith, w64, FitsSigned}
-use Rattle.std.specs.Prelude.{⊤, nat_abs, int_lt, flat_map, fold, bit_and, bit_or, bit_xor}
-use Rattle.std.specs.Int.{cast_signed, cast_unsigned, int_max, int_min, int_wrapping_add}
+use Rattle.std.proofs.Common.{◌≡◌, ℕ, suc, ◌+◌, ◌*◌, ◌^◌, ◌%◌, ◌<◌, ◌≤◌, ℤ, pos, negsuc, ◌+ℤ◌, ◌*ℤ◌, List, [], ◌∷◌, ◌++◌, length, map, Bool, true, false, cond, refl, sym, ap, ◌∙◌, subst, arith, w64, FitsSigned}
+use Rattle.std.specs.Prelude.{nat_abs, int_lt, fold, bit_and, bit_or, bit_xor}
+use Rattle.std.specs.Int.{cast_signed, cast_unsigned, int_max, int_min}
 use Rattle.std.specs.List.{AllByRecursion}
 use Rattle.std.proofs.Math.Nat.{mod-eq_of_lt, mod-lt}
-use Rattle.std.proofs.lemmas.Int.{ints, SFits-int_wrap, unsigned_abs-mul, wrapping_add-bits}
+use Rattle.std.proofs.lemmas.Int.{SFits-int_wrap, unsigned_abs-mul, wrapping_add-bits}
 use Rattle.std.proofs.lemmas.Nat.{and_le_l, mul-le, or_lt, xor_lt}
 use Rattle.rdf_values.specs.Fold.{cell_of, extreme, integer_sum, reduce_start, reduce_step}
 use Rattle.rdf_values.specs.Words.{Has64Bits}

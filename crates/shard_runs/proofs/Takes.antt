@@ -1,5 +1,5 @@
 -- What the rows of an accepted script feed to its actions: few items of 64 bits, and to a Take values of its column's kind.
-use Rattle.std.proofs.Common.{◌≡◌, ℕ, ◌≤◌, Bool, true, false, List, [], ◌∷◌, ◌++◌, length, map, Option, Some, None, Ok, Err, Result, refl, sym, ◌∙◌, ap, subst, arith, if◌then◌else◌}
+use Rattle.std.proofs.Common.{◌≡◌, ℕ, Bool, true, false, List, [], ◌∷◌, ◌++◌, map, Option, Some, None, Ok, Err, Result, refl, arith, if◌then◌else◌}
 use Rattle.std.specs.Prelude.{⊤}
 use Rattle.std.specs.List.{AllByRecursion}
 use Rattle.rdf_values.specs.Bookings.{ActionAt, Booked, Booking, Pass, ReportOn, booked_by, bookings, columns_of}
@@ -8,14 +8,13 @@ use Rattle.rdf_values.specs.Kinds.{FunctionNames, Scope, column_kind, scope_of}
 use Rattle.rdf_values.specs.Path.{Path, Under, makes, parent_of, path}
 use Rattle.rdf_values.specs.Spread.{feed_fault, scalar_value, spread}
 use Rattle.rdf_values.specs.Tables.{FitsKind, FitsRow}
-use Rattle.rdf_values.specs.Verdict.{AreAccepted, check_columns, check_edges, check_node, check_passes, check_results, kind_or_int, may_begin, permitted_kinds, scope_at, visible_columns}
+use Rattle.rdf_values.specs.Verdict.{AreAccepted, check_columns, check_edges, check_node, check_passes, check_results, kind_or_int, may_begin, permitted_kinds, scope_at}
 use Rattle.rdf_values.specs.Words.{AnswerIn64Bits, StatementsHaveWords}
 use Rattle.rdf_values.specs.declared.action.ActionKind.{ActionKind}
 use Rattle.rdf_values.specs.declared.action.ActionKind.TheVariants as kind
 use Rattle.rdf_values.specs.declared.fault.EntryFault.{EntryFault}
 use Rattle.rdf_values.specs.declared.graph_cause.GraphCause.{GraphCause}
 use Rattle.rdf_values.specs.declared.graph_cause.GraphCause.TheVariants as cause
-use Rattle.rdf_values.specs.declared.item.Item.{Item}
 use Rattle.rdf_values.specs.declared.item.Item.TheVariants as item
 use Rattle.rdf_values.specs.declared.statement.Statement.{Statement}
 use Rattle.rdf_values.specs.declared.statement.Statement.TheVariants.{Action, Report}
