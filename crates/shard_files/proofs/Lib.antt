@@ -3,7 +3,7 @@ pub mod FileLines
 mod Following
 mod LineEnds
 mod Looping
-mod OneShard
+pub mod OneShard
 mod Ordering
 mod Refused
 mod Refusing

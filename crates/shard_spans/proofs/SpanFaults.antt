@@ -86,14 +86,14 @@ rows_next spans rows lo hi le =
     ∙ ap (λ l. rows_in spans rows (clusters_in lo hi) ++ l) (append-nil (span_rows rows (slice_get spans hi)))
 
 -- clusters that lead to an entry: where one begins and how many rows it has
-record IsRange (spans : List Span) (n c : ℕ) : Type 0 where
-  span : Span
-  there : slice_get spans c ≡ Some span
-  up : span.lo ≤ span.hi
-  within : span.hi ≤ n
-  next : suc c < length spans → begin_of (slice_get spans (suc c)) ≡ span.hi
+pub record IsRange (spans : List Span) (n c : ℕ) : Type 0 where
+  pub span : Span
+  pub there : slice_get spans c ≡ Some span
+  pub up : span.lo ≤ span.hi
+  pub within : span.hi ≤ n
+  pub next : suc c < length spans → begin_of (slice_get spans (suc c)) ≡ span.hi
 
-range_of : (spans : List Span) (a n c : ℕ) → Lead a n spans → c < length spans → IsRange spans n c
+pub range_of : (spans : List Span) (a n c : ℕ) → Lead a n spans → c < length spans → IsRange spans n c
 range_of [] a n c leads lt = absurd (omega arith)
 range_of (s ∷ []) a n zero leads lt =
     let at = leads.0 in let up = leads.1 in let end = leads.2 in
@@ -115,7 +115,7 @@ module _ (d : Dataset) (ps : List Pass) where
 
   module _ (spans : List Span) (leads : Lead 0 (length d.rows) spans) (lo : ℕ) where
     -- the clusters from lo on are the rows from where the first of them begins
-    long : (n : ℕ) → lo + n < length spans → begin_of (slice_get spans lo) + length (rows_in spans d.rows (clusters_in lo (lo + n))) ≡ begin_of (slice_get spans (lo + n))
+    pub long : (n : ℕ) → lo + n < length spans → begin_of (slice_get spans lo) + length (rows_in spans d.rows (clusters_in lo (lo + n))) ≡ begin_of (slice_get spans (lo + n))
     long zero lt =
         let same : lo + 0 ≡ lo = omega arith in
         let none : rows_in spans d.rows (clusters_in lo (lo + 0)) ≡ [] = ap (λ k. rows_in spans d.rows (clusters_in lo k)) same ∙ ap (rows_in spans d.rows) (clusters_none lo) in

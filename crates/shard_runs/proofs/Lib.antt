@@ -1,0 +1,8 @@
+mod Lines
+mod Loops
+mod Merged
+mod Rows
+mod Runs
+mod Shapes
+mod Sums
+mod Takes

@@ -1,0 +1,111 @@
+-- The lines of a run have the shapes of the script's passes.
+use Rattle.std.proofs.Common.{◌≡◌, ℕ, suc, ◌+◌, ◌*◌, ◌<◌, true, ◌&&◌, List, [], ◌∷◌, length, map, Option, None, Some, refl, ap, ap₂, ◌∙◌, arith, length-append}
+use Rattle.std.specs.Prelude.{flat_map, nat_eq, nat_lt, slice_get}
+use Rattle.std.specs.List.{AllByRecursion}
+use Rattle.std.proofs.lemmas.Bool.Decides.{nat_tests}
+use Rattle.std.proofs.lemmas.List.{length-map}
+use Rattle.rdf_values.specs.Bookings.{ActionAt, Booking, Pass, ReportOn}
+use Rattle.rdf_values.specs.Fold.{Cell, cells_on, flat_cell, square_cell}
+use Rattle.rdf_values.specs.Path.{Path}
+use Rattle.rdf_values.specs.Tables.{FitRows}
+use Rattle.rdf_values.specs.declared.action.ActionKind.{ActionKind}
+use Rattle.rdf_values.specs.declared.action.ActionKind.TheVariants as kind
+use Rattle.rdf_values.specs.declared.fault.Fault.{Fault}
+use Rattle.rdf_values.specs.declared.item.Item.{Item}
+use Rattle.rdf_values.specs.declared.span.Span.{Span}
+use Rattle.rdf_values.specs.declared.value.Value.{Value}
+use Rattle.rdf_values.proofs.Below.{length-below}
+use Rattle.rdf_model.specs.PartialResults.{rows_in}
+use Rattle.rdf_model.specs.Results.{Dataset, cutflow, items_of}
+use Rattle.histograms.specs.declared.cell_sum.CellSum.{CellSum}
+use Rattle.loop_pieces.specs.Whole.{begin_of, counts_of}
+use Rattle.shard_lines.specs.Shapes.{booking_shape, has_shape, have_shapes}
+use Rattle.shard_lines.specs.declared.pass_shape.PassShape.{PassShape}
+use Rattle.shard_files.specs.Merging.{are_loops, fault_or_lines, up_to_fault}
+use Rattle.shard_spans.specs.Laws.{pass_shapes}
+use Rattle.shard_spans.specs.Spans.{booking_line, cell_sum, clusters_in, loops_of, over_span, pass_line, span_fault, span_loops}
+use Rattle.shard_runs.specs.Kinds.{booking_kind, pass_kind}
+use Rattle.shard_runs.specs.Laws.{RunsHaveShapes}
+use Rattle.shard_runs.proofs.Lines.{all_of_kind}
+use Rattle.shard_runs.proofs.Rows.{fault_within, rows_fit}
+use Rattle.shard_runs.proofs.Runs.{ArePasses, all_passes, fed}
+use Rattle.shard_runs.proofs.Takes.{FeedsWell}
+
+-- ---- lengths
+
+equal : (a b : ℕ) → a ≡ b → nat_eq a b ≡ true
+equal a b h = grind (arith, nat_tests, h)
+
+lower : (a b : ℕ) → a < b → nat_lt a b ≡ true
+lower a b h = grind (arith, nat_tests, h)
+
+cells_long : (f : ℕ → Cell) (js : List ℕ) → length (map cell_sum (map f js)) ≡ length js
+cells_long f [] = refl
+cells_long f (j ∷ js) = ap suc (cells_long f js)
+
+plane_long : (f : ℕ → ℕ → Cell) (is js : List ℕ) → length (flat_map (λ cells. map cell_sum cells) (map (λ i. map (f i) js) is)) ≡ length is * length js
+plane_long f [] js = grind arith
+plane_long f (i ∷ is) js =
+    let row : List CellSum = map cell_sum (map (f i) js) in
+    let rest : List CellSum = flat_map (λ cells. map cell_sum cells) (map (λ k. map (f k) js) is) in
+    let l = length-append row rest in
+    let one : length row ≡ length js = cells_long (f i) js in
+    let others : length rest ≡ length is * length js = plane_long f is js in
+    let many : suc (length is) * length js ≡ length js + length is * length js = grind arith in
+    omega arith
+
+flows_long : (d : Dataset) (filters : List Path) → length (map (λ filter. counts_of (cutflow d filter)) filters) ≡ length filters
+flows_long d [] = refl
+flows_long d (f ∷ fs) = ap suc (flows_long d fs)
+
+-- ---- lines
+
+module _ (d : Dataset) (rows : List (List Value)) (fit : FitRows d.columns rows) where
+  abbrev some_rows : Dataset
+  some_rows = record d { rows = rows }
+
+  action_shaped : (p : Pass) (k : ActionKind) (at : Path) → FeedsWell d (ActionAt k at) → has_shape (booking_shape (booking_kind d (ActionAt k at)) (ActionAt k at)) (booking_line some_rows (ActionAt k at) p) ≡ true
+  action_shaped p kind.Count at well = refl
+  action_shaped p (kind.Sum c) at well = refl
+  action_shaped p (kind.Min c) at well = refl
+  action_shaped p (kind.Max c) at well = refl
+  action_shaped p (kind.Take c) at well = all_of_kind (booking_kind d (ActionAt (kind.Take c) at)) (flat_map (items_of d (kind.Take c) at p.under) rows) (fed d (kind.Take c) at p.under well rows fit).takes
+  action_shaped p (kind.Reduce o c) at well = refl
+  action_shaped p (kind.Histo1D edges x w) at well =
+      let items : List Item = flat_map (items_of d (kind.Histo1D edges x w) at p.under) rows in
+      equal (length (map cell_sum (map (flat_cell edges items) (cells_on edges)))) (suc (length edges)) (cells_long (flat_cell edges items) (cells_on edges) ∙ length-below (suc (length edges)))
+  action_shaped p (kind.Histo2D xs ys x y w) at well =
+      let items : List Item = flat_map (items_of d (kind.Histo2D xs ys x y w) at p.under) rows in
+      equal (length (flat_map (λ cells. map cell_sum cells) (map (λ i. map (square_cell xs ys items i) (cells_on ys)) (cells_on xs)))) (suc (length xs) * suc (length ys))
+      (plane_long (square_cell xs ys items) (cells_on xs) (cells_on ys) ∙ ap₂ (λ a b. a * b) (length-below (suc (length xs))) (length-below (suc (length ys))))
+
+  line_shaped : (p : Pass) (b : Booking) → FeedsWell d b → has_shape (booking_shape (booking_kind d b) b) (booking_line some_rows b p) ≡ true
+  line_shaped p (ActionAt k at) well = action_shaped p k at well
+  line_shaped p (ReportOn filters) well = equal (length (map (λ filter. counts_of (cutflow some_rows filter)) filters)) (length filters) (flows_long some_rows filters)
+
+  lines_shaped : (ps : List Pass) → AllByRecursion (λ (p : Pass). FeedsWell d p.result.booking) ps → have_shapes (pass_shapes (pass_kind d) ps) (map (pass_line some_rows) ps) ≡ true
+  lines_shaped [] h = refl
+  lines_shaped (p ∷ ps) h = ap₂ (λ a b. a && b) (line_shaped p p.result.booking h.0) (lines_shaped ps h.1)
+
+-- ---- loops
+
+module _ (d : Dataset) (spans : List Span) (fit : FitRows d.columns d.rows) (lo hi : ℕ) where
+  abbrev its_rows : List (List Value)
+  its_rows = rows_in spans d.rows (clusters_in lo hi)
+
+  loops_shaped : (loops : List (List Pass)) → AllByRecursion (ArePasses d) loops → are_loops (map (pass_shapes (pass_kind d)) loops) (span_loops spans d lo hi loops) ≡ true
+  loops_shaped [] h = refl
+  loops_shaped (ps ∷ loops) h = go (span_fault spans d ps lo hi) refl (loops_shaped loops h.1)
+    where
+      go : (o : Option Fault) → span_fault spans d ps lo hi ≡ o → are_loops (map (pass_shapes (pass_kind d)) loops) (span_loops spans d lo hi loops) ≡ true
+          → are_loops (pass_shapes (pass_kind d) ps ∷ map (pass_shapes (pass_kind d)) loops) (up_to_fault (fault_or_lines o (map (pass_line (over_span spans d lo hi)) ps)) (span_loops spans d lo hi loops)) ≡ true
+      go None q next = ap₂ (λ a b. a && b) (lines_shaped d its_rows (rows_fit d.columns spans d.rows (clusters_in lo hi) fit) ps h.0.well) next
+      go (Some f) q next =
+          let at = fault_within d ps (begin_of (slice_get spans lo)) its_rows f q in
+          let shape_of : Pass → PassShape = λ p. booking_shape (pass_kind d p) p.result.booking in
+          let same_number : length (map shape_of ps) ≡ length ps = length-map ps shape_of in
+          let pass = at.2 in
+          lower f.pass (length (map shape_of ps)) (omega arith)
+
+pub runs_have_shapes : RunsHaveShapes
+runs_have_shapes script d spans lo hi checked = loops_shaped d spans checked.fit lo hi (loops_of script) (all_passes script d checked)
