@@ -1,0 +1,4 @@
+pub mod Entries
+mod Examples
+pub mod Faulted
+pub mod Tabled
