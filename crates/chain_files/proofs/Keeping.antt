@@ -259,8 +259,8 @@ pub fields_join : (loops : List (List PassShape)) (a b : PartFields) (s t : Part
     → IsPart (record { first_file = a.first_file; end_file = b.end_file; entries = a.entries + b.entries; script = a.script; columns = a.columns; loops = all })
 fields_join loops a b s t all p q v w next e f h =
     subst (λ ls. IsPart (record { first_file = a.first_file; end_file = b.end_file; entries = a.entries + b.entries; script = a.script; columns = a.columns; loops = ls })) (sym h)
-        (joined_is_part loops (view_of a) (view_of b) v w (ap (λ (x : PartView). are_loops loops x.loops) p ∙ e) (ap (λ (x : PartView). are_loops loops x.loops) q ∙ f)
-            (ap (λ (x : PartView). x.end_file) p ∙ next ∙ sym (ap (λ (x : PartView). x.first_file) q)))
+    (joined_is_part loops (view_of a) (view_of b) v w (ap (λ (x : PartView). are_loops loops x.loops) p ∙ e) (ap (λ (x : PartView). are_loops loops x.loops) q ∙ f)
+    (ap (λ (x : PartView). x.end_file) p ∙ next ∙ sym (ap (λ (x : PartView). x.first_file) q)))
 
 -- ---- shapes
 
@@ -347,8 +347,7 @@ joined_keeps_shape (ss ∷ loops) (Whole ps ∷ ks) (Whole qs ∷ ls) e f =
 pub can_go_on : (loops : List (List PassShape)) (a b : PartView) (bs : List PartView) → CanJoin loops a b → CanJoinAll loops b bs → CanJoinAll loops (joined_part loops a b) bs
 can_go_on loops a b [] h g = tt
 can_go_on loops a b (c ∷ cs) h g =
-    let next = g.0 in
-    (
+    let next = g.0 in (
       record {
         next = next.next;
         script = h.script ∙ next.script;

@@ -4,6 +4,7 @@ mod Following
 mod Grouping
 pub mod HexDigits
 mod Keeping
+mod Joinable
 mod OnePart
 mod Ordering
 mod Reductions

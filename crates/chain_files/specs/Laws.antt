@@ -2,8 +2,9 @@
 use Rattle.std.specs.Prelude.{◌≡◌, ℕ, true, Option, None, List, ◌∷◌, ◌++◌}
 use Rattle.shard_lines.specs.declared.pass_shape.PassShape.{PassShape}
 use Rattle.chain_files.specs.Covering.{AreInOrder, AreNext, IsFirstUncovered, first_uncovered, have_files, in_order, parts_with}
-use Rattle.chain_files.specs.Joining.{are_loops, joined_loops, joined_part, joined_parts}
+use Rattle.chain_files.specs.Joining.{CanJoinAll, are_loops, joined_loops, joined_part, joined_parts}
 use Rattle.chain_files.specs.Parts.{BreaksAt, IsPart, PartView, part_text}
+use Rattle.chain_files.specs.Refusing.{first_differing, first_misshapen}
 use Rattle.chain_files.specs.declared.part_loop.PartLoop.{PartLoop}
 
 -- a text is of one part at most: what was printed reads as what it was printed from
@@ -48,3 +49,9 @@ LeastIsUncovered = (parts : List PartView) → AreInOrder parts → have_files p
 -- where none is found, each part begins where the one before it ends
 abbrev pub CoveredAreNext : Type 0
 CoveredAreNext = (parts : List PartView) → first_uncovered parts ≡ None → AreNext parts
+
+-- parts that are refused for no script, columns, shape or files can be joined in the order of their files
+abbrev pub AcceptedCanJoin : Type 0
+AcceptedCanJoin =
+    (loops : List (List PassShape)) (script : List ℕ) (s : PartView) (ss : List PartView) (first : PartView) (others : List PartView)
+    → first_differing script (s ∷ ss) ≡ None → first_misshapen loops (s ∷ ss) ≡ None → in_order (s ∷ ss) ≡ first ∷ others → first_uncovered (first ∷ others) ≡ None → CanJoinAll loops first others

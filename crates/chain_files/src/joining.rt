@@ -102,7 +102,12 @@ pub fn join_parts(
 {
     let first = first.into_fields();
     let second = second.into_fields();
-    let all = joined_loops(alloc, loops, first.loops.as_slice(), second.loops.as_slice())?;
+    let all = joined_loops(
+        alloc,
+        loops,
+        first.loops.as_slice(),
+        second.loops.as_slice(),
+    )?;
     Ok(Part::new(PartFields {
         first_file: first.first_file,
         end_file: second.end_file,

@@ -1,5 +1,6 @@
 // Laws of part files. Each function does nothing; its contract is the law, and its proof the law's.
 ghost use Rattle.chain_files.specs.Laws.{
+  AcceptedCanJoin,
   CoveredAreNext,
   GroupsAreFree,
   JoinedIsPart,
@@ -60,4 +61,9 @@ pub fn least_is_uncovered()
 /// Where there is no such file, each part begins where the one before it ends.
 pub fn covered_are_next()
     ensures { CoveredAreNext }
+{}
+
+/// Parts that nothing refuses can be joined in the order of their files.
+pub fn accepted_can_join()
+    ensures { AcceptedCanJoin }
 {}

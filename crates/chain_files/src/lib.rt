@@ -28,9 +28,9 @@ pub use crate::covering::{first_other, first_uncovered, in_order};
 pub use crate::digest::script_digest;
 pub use crate::joining::{are_loops, join_all, join_parts, joined_loops};
 pub use crate::laws::{
-    a_text_breaks_nowhere, a_text_is_of_one_part, covered_are_next, groups_are_free,
-    joined_is_part, joined_keeps_shape, joining_is_associative, least_is_uncovered, order_is_kept,
-    order_keeps_files,
+    a_text_breaks_nowhere, a_text_is_of_one_part, accepted_can_join, covered_are_next,
+    groups_are_free, joined_is_part, joined_keeps_shape, joining_is_associative,
+    least_is_uncovered, order_is_kept, order_keeps_files,
 };
 pub use crate::part::{Part, PartFields};
 pub use crate::part_line::PartLine;
