@@ -1,5 +1,5 @@
 -- The definitions computed: two runs over one table, the file of each, and what they merge to.
-use Rattle.std.proofs.Common.{◌≡◌, ℕ, ℤ, ◌≤◌, true, false, pos, negsuc, List, [], ◌∷◌, None, Ok, Err, refl, arith, codes}
+use Rattle.std.proofs.Common.{◌≡◌, ℤ, true, false, pos, List, [], ◌∷◌, Ok, Err, refl, arith, codes}
 use Rattle.std.specs.Prelude.{All, flat_map}
 use Rattle.std.specs.Fmt.{digits}
 use Rattle.std.specs.List.{AllByRecursion}
