@@ -1,3 +1,4 @@
+pub mod Examples
 mod Lines
 mod Loops
 mod Merged
