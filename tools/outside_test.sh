@@ -545,6 +545,199 @@ else
     echo "outside_test: no program at $snapshot"
     failed=$((failed + 1))
 fi
+# ---- chains: rdf_chain is RDF_CHAIN_PROGRAM, or crates/rdf_chain/out/rdf_chain
+
+chain=${RDF_CHAIN_PROGRAM:-$top/crates/rdf_chain/out/rdf_chain}
+case $chain in /*) ;; *) chain=$old_folder/$chain ;; esac
+
+chains() {
+    program=$chain
+    usage="usage: rdf_chain run SCRIPT TABLE.. [--slots N] [--cluster N] | map SCRIPT NUMBER TABLE [--slots N] [--cluster N] | join SCRIPT PART.. | print SCRIPT COUNT PART"
+    run
+    judge "rdf_chain: no words" 2 "$usage"
+    run run s.txt "$(printf 'a\377.csv')"
+    judge "rdf_chain: a word that isn't UTF-8" 2 "$usage"
+    run run s.txt a.csv "tablé.csv" "$folder/a.csv" --slots 2 --cluster 1
+    judge "rdf_chain: paths and letters of other alphabets in names" 0 "n = 9"
+    for name in 0 1 2; do "$chain" map s.txt $name a.csv >p$name; done
+    run map s.txt 0 a.csv
+    # the hash of the script's 24 bytes
+    judge "rdf_chain: a part" 0 "rdfpart 1
+files 0 1
+entries 3
+script 10a7206c975eb50a
+column x int
+loop
+count 3
+end"
+    cp p1 "a part"
+    run join s.txt p2 "a part" "$folder/p0"
+    mv out whole
+    run print s.txt 3 whole
+    judge "rdf_chain: blanks and paths in names" 0 "n = 9"
+    for words in "run dir a.csv" "run s.txt dir" "run s.txt a.csv dir" "map dir 0 a.csv" "map s.txt 0 dir" "join dir p0" "join s.txt dir" \
+        "join s.txt p0 dir" "print dir 1 p0" "print s.txt 1 dir"; do
+        run $words
+        judge "rdf_chain: a folder, $words" 3 "read failed: dir"
+    done
+    run run bad.txt dir
+    judge "rdf_chain: a script that is refused before a folder" 6 "script refused at line 1 place 13: S1 Syntax"
+    run run s.txt bad.csv dir
+    judge "rdf_chain: a table that is refused before a folder" 7 "table bad.csv refused at entry 1 field 0: B3 BadInt"
+    run join s.txt a.csv dir
+    judge "rdf_chain: a part that is refused before a folder" 21 "file a.csv refused at line 1"
+    cat a.csv | "$chain" run s.txt a.csv /dev/stdin a.csv >out 2>err; echo $? >status
+    judge "rdf_chain: a pipe as table" 0 "n = 9"
+    cat p2 | "$chain" join s.txt p0 /dev/stdin p1 >out 2>err; echo $? >status
+    cmp -s out whole && : >out
+    judge "rdf_chain: a pipe as part" 0 ""
+    if [ -c /dev/full ]; then
+        "$chain" run s.txt a.csv >/dev/full 2>err </dev/null; echo $? >status; : >out
+        judge "rdf_chain: a full output" 4 ""
+    fi
+    pieces_as_chain
+    changed_tables
+    rm -f p? whole "a part"
+}
+
+# The table with marks and vectors, cut into files of 3,000 entries, some of which lose their marks.
+pieces_as_chain() {
+    header=$(head -n 1 pieces.csv)
+    tail -n +2 pieces.csv | split -l 3000 - piece_
+    number=0 files= parts=
+    for piece in piece_*; do
+        { echo "$header"; cat $piece; } >$piece.csv
+        [ $((number % 2)) = 0 ] || { sed 's/,[^,]*$//' $piece.csv >cut && mv cut $piece.csv; }
+        "$chain" map pieces.txt $number $piece.csv --slots 3 --cluster 777 >part_$number || echo "FAILED map $number: status $?"
+        files="$files $piece.csv" parts="part_$number $parts"
+        number=$((number + 1))
+    done
+    run run pieces.txt $files --slots 2
+    judge "rdf_chain: a chain of tables with marks and vectors" 0 "$due"
+    run join pieces.txt $parts
+    mv out whole
+    run print pieces.txt $number whole
+    judge "rdf_chain: its parts" 0 "$due"
+    rm -f piece_* part_*
+}
+
+# Runs the program while a command writes into the named pipe that is one of its tables.
+run_fed() { # COMMAND WORDS..
+    timeout 30 sh -c "$1" &
+    shift
+    timeout 30 "$program" "$@" >out 2>err </dev/null; echo $? >status
+    wait $!
+}
+
+# Each loop reads a table again. Here other bytes go into it for the second one, once the first reader is gone.
+changed_tables() {
+    printf 'n = df.Count()\nPrint(n)\ns = df.Sum("x")\nPrint(s)\n' >two.txt
+    mkfifo pipe
+    printf 'x:int\n4\n5\n6\n' >other.csv
+    run_fed "cat a.csv >pipe; sleep 1; cat other.csv >pipe" run two.txt a.csv pipe
+    judge "rdf_chain: other numbers in the second loop" 0 "n = 6
+s = 21"
+    for text in 'x:int\n4\n5\n' 'x:int\n1\n2\n3\n4\n' 'x:int\n1\n2\n03\n' 'y:int\n1\n2\n3\n' 'x:vec\n1\n2\n3\n' 'x:int,k:cut\n1,0\n2,1\n3,0\n'; do
+        printf "$text" >other.csv
+        run_fed "cat a.csv >pipe; sleep 1; cat other.csv >pipe" run two.txt a.csv pipe
+        judge "rdf_chain: $text in the second loop" 25 "file pipe changed"
+    done
+    # The name is taken away before the first reader meets the end.
+    run_fed "{ cat a.csv && rm pipe; } >pipe" run two.txt a.csv pipe
+    judge "rdf_chain: no file in the second loop" 25 "file pipe changed"
+    cat a.csv | "$chain" run two.txt /dev/stdin >out 2>err; echo $? >status
+    judge "rdf_chain: a pipe whose end the first loop met" 25 "file /dev/stdin changed"
+}
+
+# A part with one Take: so many numbers of 20 characters, and one of so many digits.
+part_of_numbers() { # FILES ENTRIES HASH COUNT DIGITS
+    awk -v files="$1" -v entries="$2" -v hash="$3" -v count="$4" -v digits="$5" 'BEGIN {
+        printf "rdfpart 1\nfiles %s\nentries %d\nscript %s\ncolumn x int\nloop\ntake %d", files, entries, hash, count + 1
+        for (i = 0; i < count; i++) printf " -9223372036854775808"
+        print " " substr("123456789012345678", 1, digits) "\nend"
+    }'
+}
+
+large_chains() {
+    program=$chain
+    awk 'BEGIN { print "x:int"; for (i = 0; i < 1000000; i++) printf "-922337203685%07d\n", i }' >long.csv
+    for takes in 6 7; do
+        awk -v takes=$takes 'BEGIN { for (i = 0; i < takes; i++) print "t" i " = df.Take(\"x\")"; print "Print(t0)" }' >takes.txt
+        "$chain" map takes.txt 0 long.csv >text 2>err; echo $? >status
+        { head -n 3 text; wc -c <text; } >out
+        if [ $takes = 6 ]; then
+            # 82 bytes of first lines, `loop` and `end`, and 6 lines of 13 bytes and 21 for each value
+            judge "rdf_chain: a part of 126 MB" 0 "rdfpart 1
+files 0 1
+entries 1000000
+126000160"
+        else
+            judge "rdf_chain: a part of 147 MB" 24 "part longer than 134217728 bytes
+33"
+        fi
+    done
+    run run takes.txt long.csv long.csv
+    wc -c <out >text && mv text out
+    # 5 bytes, and 21 for each value
+    judge "rdf_chain: a line of 42 MB" 0 42000005
+    rm -f long.csv
+
+    # The joined part has 95 bytes beside its values, and each printed line 4.
+    printf 't = df.Take("x")\nPrint(t)\n' >take.txt
+    printf 't = df.Take("x")\n' >takes.txt
+    for i in 1 2 3 4 5 6 7 8; do echo "Print(t)" >>takes.txt; done
+    { part_of_numbers "7 8" 0 a07fd2b052605404 0 1 | sed 's/^take.*/take 0/'; } >p1
+    for digits in 17 18; do
+        part_of_numbers "0 7" 7000000 a07fd2b052605404 6391315 $digits >p0
+        "$chain" join take.txt p1 p0 >text 2>err; echo $? >status
+        { head -n 2 text; wc -c <text; } >out
+        [ $digits = 17 ] && judge "rdf_chain: a joined part of 134,217,728 bytes" 0 "rdfpart 1
+files 0 8
+134217728"
+        [ $digits = 18 ] && judge "rdf_chain: a joined part of 134,217,729 bytes" 24 "part longer than 134217728 bytes
+33"
+        part_of_numbers "0 1" 1000000 390a3995fde6fc00 798914 $digits >p0
+        "$chain" print takes.txt 1 p0 >text 2>err; echo $? >status
+        { head -c 5 text; echo; wc -c <text; } >out
+        [ $digits = 17 ] && judge "rdf_chain: 134,217,728 bytes to print" 0 "t = -
+134217728"
+        [ $digits = 18 ] && judge "rdf_chain: 134,217,736 bytes to print" 24 "part 
+33"
+    done
+    rm -f text p0 p1
+
+    head -c 67108864 /dev/zero >huge
+    run run s.txt a.csv huge
+    judge "rdf_chain: a table of 67,108,864 bytes" 7 "table huge refused at header field 0: B1 Header"
+    printf x >>huge
+    run run s.txt a.csv huge
+    judge "rdf_chain: a table of 67,108,865 bytes" 7 "table huge refused: longer than 67108864 bytes"
+    head -c 1073741824 /dev/zero >huge
+    run join s.txt huge
+    judge "rdf_chain: a part of 1 GiB" 21 "file huge refused at line 1"
+    printf x >>huge
+    run join s.txt huge
+    judge "rdf_chain: a part of 1 GiB and a byte" 24 "files longer than 1073741824 bytes"
+    run print s.txt 1 huge
+    judge "rdf_chain: a part of 1 GiB and a byte to print" 24 "files longer than 1073741824 bytes"
+    "$chain" map s.txt 0 a.csv >p0
+    head -c $((1073741825 - $(wc -c <p0))) /dev/zero >huge
+    run join s.txt p0 huge
+    judge "rdf_chain: parts of 1 GiB and a byte together" 24 "files longer than 1073741824 bytes"
+    run join s.txt huge p0
+    judge "rdf_chain: a part that is refused before they are too long" 21 "file huge refused at line 1"
+    rm -f huge p0
+}
+
+if [ -x "$chain" ]; then
+    chains
+    if [ "${OUTSIDE_SMALL:-0}" = 1 ]; then skip "long parts of chains"; else large_chains; fi
+elif [ -z "${RDF_CHAIN_PROGRAM:-}" ] && [ ! -d "$top/crates/rdf_chain" ]; then
+    skip "chains: there is no rdf_chain yet"
+else
+    echo "outside_test: no program at $chain"
+    failed=$((failed + 1))
+fi
 program=$rdf
 
 echo "outside_test: $tests tests, $skipped skipped, $failed failed"

@@ -53,6 +53,10 @@ def unescaped(text):
                   {b"n": b"\n", b"r": b"\r", b"t": b"\t", b"\\": b"\\"}[m[1]], text)
 
 
+def words_of(text):
+    return shlex.split(expanded([text])[0])
+
+
 def body(form, lines):
     if form == "bytes":
         return unescaped("".join(expanded(lines)).encode())
@@ -118,10 +122,10 @@ def read_case_file(path):
             name, *words = shlex.split(rest)
             cases[-1].makes.append((name, words, body("", text) if text else None))
         elif mark == "---" and key == "words":
-            cases[-1].words = shlex.split(rest)
+            cases[-1].words = words_of(rest)
             cases[-1].options, fresh = [[]], False
         elif mark == "---" and key == "or":
-            cases[-1].others.append(shlex.split(rest))
+            cases[-1].others.append(words_of(rest))
         elif mark == "---" and key == "with":
             cases[-1].options = ([] if fresh else cases[-1].options) + option_sets(rest)
             fresh = False

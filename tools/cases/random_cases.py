@@ -237,8 +237,22 @@ class Script:
 
 
 def random_table(chance):
+    """The columns of a table, with their kinds as in expressions, and its text."""
+    columns = random_columns(chance)
+    return shown_columns(columns), random_text(chance, columns)
+
+
+def random_columns(chance):
     kinds = [("x", "int"), ("y", "int"), ("j", "vec"), ("vec2", "vec"), ("w", "int")]
-    columns = [c for c in kinds if chance.random() < 0.75] or kinds[:1]
+    return [c for c in kinds if chance.random() < 0.75] or kinds[:1]
+
+
+def shown_columns(columns):
+    return [(name, "vect" if kind == "vec" else kind) for name, kind in columns]
+
+
+def random_text(chance, columns):
+    """A table with these columns, at times with marks."""
     marks = [("k", "cut")] if chance.random() < 0.15 else []
     number = lambda: chance.choice([0, 1, -1, chance.randrange(-50, 100), chance.randrange(-50, 100)])  # noqa: E731
     lines = [",".join(":".join(c) for c in columns + marks)]
@@ -253,8 +267,7 @@ def random_table(chance):
                 cells.append(";".join(str(number()) for _ in range(length)))
         cells += [str(int(chance.random() < 0.3)) for _ in marks]
         lines.append(",".join(cells) if cells != [""] else '""')
-    shown = [(name, "vect" if kind == "vec" else kind) for name, kind in columns]
-    return shown, "\n".join(lines) + "\n"
+    return "\n".join(lines) + "\n"
 
 
 def random_friend(chance, columns):
@@ -280,8 +293,7 @@ def random_friend(chance, columns):
     words = ["--friend", "f.csv", "--key", key]
     if chance.random() < 0.3:
         words.append("--missing=%s" % chance.choice([-1, 7, 2 ** 63 - 1]))
-    shown = [(name, "vect" if kind == "vec" else kind) for name, kind in others]
-    return words, "\n".join(lines) + "\n", shown
+    return words, "\n".join(lines) + "\n", shown_columns(others)
 
 
 def spoiled(chance, text, pieces):

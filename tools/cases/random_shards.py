@@ -11,11 +11,7 @@ cluster once, the merging is the single run without Watch; where a cluster is le
 cut short, it is refused; a file that reads is the one text of what it holds.
 `--reference` tries the laws alone. `--show SEED/i` prints that case and what is due to it.
 """
-import argparse
-import collections
-import concurrent.futures
 import os
-import random
 import re
 import sys
 
@@ -23,47 +19,25 @@ sys.path.insert(0, os.path.dirname(os.path.abspath(__file__)))
 
 from random_cases import Script, random_table, spoiled  # noqa: E402
 from reference import reference_run  # noqa: E402
-from run import program_run, usual_program  # noqa: E402
 from shard_texts import BadLine, read_shard, shard_text  # noqa: E402
+from trials import SCRIPT_PIECES, TABLE_PIECES, Trial, main, with_fault, with_other_number  # noqa: E402
 
 FILE_PIECES = list("0123456789- \nlcsaeft") + ["none", "true", " 0", "end\n", "loop\n", "fault 0 0 1\n", "count 1\n"]
 
 
-class Broken(Exception):
-    """A law of the reference that doesn't hold, as text."""
-
-
-class Trial:
-    """One case: each run is kept with what the reference says of it."""
+class ShardTrial(Trial):
+    program = "rdf_shard"
 
     def __init__(self, seed):
-        self.chance = random.Random(seed)
+        super().__init__(seed)
         columns, table = random_table(self.chance)
-        script = self.with_fault(Script(self.chance, columns).written(), columns, table)
+        script = with_fault(self.chance, Script(self.chance, columns).written(), columns, table)
         if self.chance.random() < 0.05:
-            script = spoiled(self.chance, script, list('"(),.=[]{}#') + ["zz", "true"])
+            script = spoiled(self.chance, script, SCRIPT_PIECES)
         if self.chance.random() < 0.05:
-            table = spoiled(self.chance, table, list(',;"-0x\n') + [":int"])
+            table = spoiled(self.chance, table, TABLE_PIECES)
         self.files = {"s.txt": script.encode(), "a.csv": table.encode()}
         self.size = self.chance.choice([1, 1, 2, 3, 5, 1000000])
-        self.runs = []                  # (words, files, status, output)
-        self.made = 0
-
-    def with_fault(self, script, columns, table):
-        """At times a result that faults where an int column has the number of some entry, in the first loop or the last."""
-        place = next((place for place, (_, kind) in enumerate(columns) if kind == "int"), None)
-        entries = table.split("\n")[1:-1]
-        if place is None or not entries or self.chance.random() < 0.7:
-            return script
-        number = self.chance.choice(entries).split(",")[place]
-        lines = 'faulty = df.Define("faulty", "100 / (%s + (%s))")\nfs = faulty.Sum("faulty")\n' % (
-            columns[place][0], "- " + number if number[0] != "-" else number[1:])
-        return lines + script if self.chance.random() < 0.5 else script + lines + "Print(fs)\n"
-
-    def run(self, *words):
-        status, output = reference_run(words, self.files, "rdf_shard")
-        self.runs.append((list(words), dict(self.files), status, output))
-        return status, output
 
     # ---- files
 
@@ -106,21 +80,11 @@ class Trial:
         ends = [0] + cuts + [self.clusters]
         return list(zip(ends, ends[1:]))
 
-    def kept(self, content):
-        self.made += 1
-        name = "p%d" % self.made
-        self.files[name] = content
-        return name
-
     def written(self, low, high, size=None):
         status, output = self.run("run", "s.txt", "a.csv", str(size or self.size), str(low), str(high))
         self.law(status == 0, "a span that is refused")
         self.law(shard_text(read_shard(output)) == output, "a file that reads as another")
         return self.kept(output)
-
-    def law(self, holds, text):
-        if not holds:
-            raise Broken("%s\n%s" % (text, shown(self.runs[-1])))
 
     # ---- mergings
 
@@ -133,9 +97,6 @@ class Trial:
         single = reference_run(["s.txt", "a.csv"], dict(self.files, **{"s.txt": script}))
         self.law((status, output) == single, "a merging that isn't the single run, of status %d:\n%s"
                  % (single[0], single[1].decode()))
-
-    def shuffled(self, names):
-        return self.chance.sample(names, len(names))
 
     def is_empty(self, name):
         shard = read_shard(self.files[name])
@@ -169,12 +130,7 @@ class Trial:
         self.checked(names, spoiled(self.chance, text, FILE_PIECES).encode())
 
     def number_changed(self, names):
-        """One number is another, often of the same form."""
-        text = self.files[self.chance.choice(names)]
-        found = self.chance.choice(list(re.finditer(rb"-?\d+|none|true|false", text)))
-        other = self.chance.choice(["0", "1", "2", "3", "-1", "7", "none", "true", "false", str(2 ** 63 - 1),
-                                    str(-2 ** 63), str(2 ** 32 - 1), str(2 ** 32), str(2 ** 96 - 1), str(-2 ** 96)])
-        self.checked(names, text[:found.start()] + other.encode() + text[found.end():])
+        self.checked(names, with_other_number(self.chance, self.files[self.chance.choice(names)]))
 
     def checked(self, names, text):
         try:
@@ -205,55 +161,5 @@ class Trial:
         self.run("merge", "o.txt", *self.shuffled(names))
 
 
-def shown(run):
-    words, files, status, output = run
-    parts = ["words: %s\n" % " ".join(words)]
-    parts += ["--- file %s\n%s" % (name, text.decode(errors="backslashreplace"))
-              for name, text in files.items() if name in words]
-    return "".join(parts) + "--- status %d\n%s" % (status, output.decode(errors="backslashreplace"))
-
-
-def main():
-    parser = argparse.ArgumentParser(usage=__doc__)
-    parser.add_argument("program", nargs="?")
-    parser.add_argument("count", nargs="?", type=int, default=500)
-    parser.add_argument("seed", nargs="?", default="1")
-    parser.add_argument("--show")
-    parser.add_argument("--reference", action="store_true")
-    asked = parser.parse_args()
-    if asked.show:
-        for run in Trial(asked.show).tried():
-            print(shown(run))
-        return 0
-    program = None if asked.reference else os.path.abspath(asked.program or usual_program("rdf_shard"))
-    statuses = collections.Counter()
-
-    def attempt(number):
-        seed = "%s/%d" % (asked.seed, number)
-        try:
-            runs = Trial(seed).tried()
-        except Broken as broken:
-            return ["BROKEN seed %s: %s" % (seed, broken)]
-        found = []
-        for run in runs:
-            words, files, status, output = run
-            statuses[words[0], status] += 1
-            if program is None:
-                continue
-            got = program_run(program, words, {name: text for name, text in files.items() if name in words})
-            if got != (status, output):
-                found.append("DIFFERS seed %s: %s\n--- got status %d\n%s" % (
-                    seed, shown(run), got[0], got[1].decode(errors="backslashreplace")))
-        return found
-
-    with concurrent.futures.ThreadPoolExecutor(1 if program is None else os.cpu_count() or 1) as workers:
-        failures = [text for texts in workers.map(attempt, range(asked.count)) for text in texts]
-    for text in failures[:20]:
-        print(text)
-    told = ", ".join("%d of %s with status %d" % (n, *key) for key, n in sorted(statuses.items(), key=str))
-    print("%d cases from seed %s (%s), %d differ" % (asked.count, asked.seed, told, len(failures)))
-    return 1 if failures else 0
-
-
 if __name__ == "__main__":
-    sys.exit(main())
+    sys.exit(main(__doc__, ShardTrial))

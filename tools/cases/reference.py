@@ -8,11 +8,13 @@ from casefile import TOP
 sys.path.insert(0, os.path.join(TOP, "tools", "reference"))
 sys.setrecursionlimit(1000000)
 
+import chain_commands  # noqa: E402
 import commands  # noqa: E402
 import shard_commands  # noqa: E402
 import snapshot_commands  # noqa: E402
 
-PROGRAMS = {"rdf": commands.run, "rdf_shard": shard_commands.run, "rdf_snapshot": snapshot_commands.run}
+PROGRAMS = {"rdf": commands.run, "rdf_shard": shard_commands.run, "rdf_snapshot": snapshot_commands.run,
+            "rdf_chain": chain_commands.run}
 
 
 def reference_run(words, files, program="rdf"):

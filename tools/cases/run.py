@@ -4,10 +4,10 @@
     tools/cases/run.py [PROGRAM]        the built program (RDF_PROGRAM, or crates/rdf/out/rdf)
     tools/cases/run.py --reference      the reference in Python instead of a program
 
-    --shard PROGRAM, --snapshot PROGRAM
-                  the built rdf_shard and rdf_snapshot (RDF_SHARD_PROGRAM, or crates/rdf_shard/out/rdf_shard); the cases
-                  of one are left out, with a line that says so, where there is no program, and either no crate of this
-                  name or another PROGRAM was named
+    --shard PROGRAM, --snapshot PROGRAM, --chain PROGRAM
+                  the built rdf_shard, rdf_snapshot and rdf_chain (RDF_SHARD_PROGRAM, or crates/rdf_shard/out/rdf_shard);
+                  the cases of one are left out, with a line that says so, where there is no program, and either no
+                  crate of this name or another PROGRAM was named
     --only TEXT   only the cases whose file or name holds TEXT
     --jobs N      so many runs side by side (as many as there are processors)
     --heavy       with --reference, the cases too that take it minutes
@@ -26,6 +26,7 @@ from casefile import TOP, all_cases  # noqa: E402
 from reference import difference, reference_run  # noqa: E402
 
 SECONDS = 120
+OTHERS = ("shard", "snapshot", "chain")
 
 
 def usual_program(name="rdf"):
@@ -72,21 +73,19 @@ def main():
     parser = argparse.ArgumentParser(usage=__doc__)
     parser.add_argument("program", nargs="?")
     parser.add_argument("--reference", action="store_true")
-    parser.add_argument("--shard")
-    parser.add_argument("--snapshot")
+    for other in OTHERS:
+        parser.add_argument("--" + other)
     parser.add_argument("--only", default="")
     parser.add_argument("--jobs", type=int, default=os.cpu_count() or 1)
     parser.add_argument("--heavy", action="store_true")
     asked = parser.parse_args()
-    paths = {"rdf": os.path.abspath(asked.program or usual_program()),
-             "rdf_shard": os.path.abspath(asked.shard or usual_program("rdf_shard")),
-             "rdf_snapshot": os.path.abspath(asked.snapshot or usual_program("rdf_snapshot"))}
-    named = {"rdf", asked.shard and "rdf_shard", asked.snapshot and "rdf_snapshot"}
+    given = {"rdf": asked.program, **{"rdf_" + other: getattr(asked, other) for other in OTHERS}}
+    paths = {name: os.path.abspath(path or usual_program(name)) for name, path in given.items()}
     if not asked.reference:
         for name in [name for name, path in paths.items() if not os.access(path, os.X_OK)]:
             print("cases: no program at %s" % paths[name])
             expected = not asked.program and os.path.isdir(os.path.join(TOP, "crates", name))
-            if name in named or expected:
+            if name == "rdf" or given[name] or expected:
                 return 1
             del paths[name]
 

@@ -33,15 +33,22 @@ def shard_of(booking, table, size, low, high):
     shard = Shard()
     shard.entries, shard.clusters, shard.columns = len(table.rows), len(clusters), table.columns
     shard.low, shard.high = low, high
-    analysis = Analysis(booking, Table(table.columns, [table.rows[entry] for entry in span], []))
+    rows = [table.rows[entry] for entry in span]
+    shard.loops = loops_over(booking, table.columns, rows, lambda place: (span[place],))
+    return shard
+
+
+def loops_over(booking, columns, rows, place_of):
+    """What the loops come to over some rows, up to one with a fault; `place_of` gives the numbers of a row's place."""
+    analysis = Analysis(booking, Table(columns, rows, []))
+    found = []
     for passes in loops_of(booking):
         fault = analysis.first_fault(passes)
         if fault is not None:
-            place, at, kind = fault
-            shard.loops.append([("fault", span[place], at, FAULT_WORDS.index(kind) + 1)])
-            break
-        shard.loops.append([line_of(analysis, *each) for each in passes])
-    return shard
+            row, at, kind = fault
+            return found + [[("fault", *place_of(row), at, FAULT_WORDS.index(kind) + 1)]]
+        found.append([line_of(analysis, *each) for each in passes])
+    return found
 
 
 def line_of(analysis, result, variation):
@@ -64,9 +71,9 @@ def unlike_head(shards):
     return first(shard.head() != shards[0].head() for shard in shards)
 
 
-def unlike_shape(booking, shards):
+def unlike_shape(booking, files):
     """The first file whose loops aren't those of the script, or None."""
-    return first(not has_shape(booking, shard) for shard in shards)
+    return first(not has_shape(booking, file.loops) for file in files)
 
 
 def uncovered(shards):
@@ -79,18 +86,19 @@ def first(faulty):
     return next((place for place, is_faulty in enumerate(faulty) if is_faulty), None)
 
 
-def has_shape(booking, shard):
+def has_shape(booking, found):
     loops = loops_of(booking)
-    for place, lines in enumerate(shard.loops):
+    for place, lines in enumerate(found):
         if place == len(loops):
             return False
         if lines[0][0] == "fault":
-            return lines[0][2] < len(loops[place])
+            _, *_, at, _ = lines[0]
+            return at < len(loops[place])
         if len(lines) != len(loops[place]):
             return False
         if not all(suits(booking, result, line) for (result, _), line in zip(loops[place], lines)):
             return False
-    return len(shard.loops) == len(loops)
+    return len(found) == len(loops)
 
 
 def suits(booking, result, line):
@@ -107,12 +115,14 @@ def suits(booking, result, line):
     return all(isinstance(value, bool) == truths for value in content)
 
 
-def joined(booking, shards):
-    """The loops of all files, up to the first one with a fault."""
-    in_order = sorted(shards, key=lambda shard: (shard.low, shard.high))
+def joined(booking, files):
+    """The loops of all files, which are given in their order, up to the first one with a fault.
+
+    The fault is the one with the least first number, which is a shard's entry.
+    """
     found = []
     for place, passes in enumerate(loops_of(booking)):
-        loops = [shard.loops[place] for shard in in_order]
+        loops = [file.loops[place] for file in files]
         faults = [lines[0] for lines in loops if lines[0][0] == "fault"]
         if faults:
             return found + [[min(faults, key=lambda fault: fault[1])]]
@@ -147,17 +157,22 @@ JOINS = {
 
 
 def merged_lines(booking, shards):
-    """The status and the lines of the Prints in order."""
-    loops = iter(joined(booking, shards))
+    in_order = sorted(shards, key=lambda shard: (shard.low, shard.high))
+    return printed_lines(booking, joined(booking, in_order), b"at entry %d")
+
+
+def printed_lines(booking, found, place):
+    """The status and the lines of the Prints in order, with a fault's place as told."""
+    loops = iter(found)
     lines, contents = [], {}
     for printed, waiting in booking.prints:
         passes = [(result, variation) for result in waiting for variation in booking.passes(result)]
         loop = next(loops) if waiting else []
         if loop and loop[0][0] == "fault":
-            _, entry, at, kind = loop[0]
+            _, *numbers, at, kind = loop[0]
             word = FAULT_WORDS[kind - 1]
-            text = (word + " " + FAULT_NAMES[word]).encode()
-            return 8, lines + [b"fault at entry %d in %s: %s" % (entry, label(*passes[at]), text)]
+            told = (place % tuple(numbers), label(*passes[at]), (word + " " + FAULT_NAMES[word]).encode())
+            return 8, lines + [b"fault %s in %s: %s" % told]
         contents.update({each: content for each, (_, content) in zip(passes, loop)})
         for variation in booking.passes(printed):
             lines += lines_of(printed, variation, contents[printed, variation])

@@ -100,6 +100,9 @@ class Run:
             lines += result_lines(label(result, variation), result, value)
         return lines
 
+    def place_of(self, entry):
+        return b"at entry %d" % entry
+
     def transcript(self):
         """The status and the lines of the Prints in order."""
         lines = []
@@ -109,6 +112,6 @@ class Run:
             if fault is not None:
                 entry, place, kind = fault
                 text = (kind + " " + FAULT_NAMES[kind]).encode()
-                return 8, lines + [b"fault at entry %d in %s: %s" % (entry, label(*passes[place]), text)]
+                return 8, lines + [b"fault %s in %s: %s" % (self.place_of(entry), label(*passes[place]), text)]
             lines += self.lines_of(printed)
         return 0, lines
