@@ -14,7 +14,7 @@ pub run_loop-one-requires-clause-job : goal.run_loop-one-requires-clause-job
 run_loop-one-requires-clause-job g c =
     let graph = c.args.graph.now in
     let same : ◌≡◌ {A = GraphView} graph (record { script = graph.script; header = c.args.columns.now.table.columns; names = fn_names (functions_in c.args.functions.now) })
-        = λ i. record { script = graph.script; header = c.requires.graph.0 i; names = c.requires.graph.1 i } in
+    = λ i. record { script = graph.script; header = c.requires.graph.0 i; names = c.requires.graph.1 i } in
     record {
       graph = same;
       job = record {

@@ -20,9 +20,11 @@ returns-then-over g c =
 pub loop-number-preserved : goal.loop-number-preserved
 loop-number-preserved g c =
     let lt = c.loop-number-test.true in
-    let end = c.loop-number.invariant.1 in
-    (next_loop (cuts_of c.args.columns.now) (table_of c.args.columns.now (functions_in c.args.functions.now)) c.args.clusters.lo c.args.clusters.hi c.args.graph.now.script c.loop-number.number c.in_ok-one.one c.loop-number.loops c.push.new.self
-      (omega arith) c.in_ok-one.ensures (sym c.is_faulty-over.ensures ∙ c.if-over.false) c.in_ok-push.ensures.ok c.loop-number.invariant.0, end)
+    let end = c.loop-number.invariant.1 in (
+      next_loop (cuts_of c.args.columns.now) (table_of c.args.columns.now (functions_in c.args.functions.now)) c.args.clusters.lo c.args.clusters.hi c.args.graph.now.script c.loop-number.number c.in_ok-one.one c.loop-number.loops c.push.new.self
+          (omega arith) c.in_ok-one.ensures (sym c.is_faulty-over.ensures ∙ c.if-over.false) c.in_ok-push.ensures.ok c.loop-number.invariant.0,
+      end,
+    )
 
 pub returns : goal.returns
 returns g c =
