@@ -4,6 +4,9 @@
     tools/errors_test.py [PROGRAM]      RDF_PROGRAM, or crates/rdf/out/rdf, where none is named
     tools/errors_test.py --fill         writes what is shown into the page, to be read before it is kept
 
+The commands of ./rdf are run by RDF_SHARD_PROGRAM, or crates/rdf_shard/out/rdf_shard, and so on; an example of one
+whose crate isn't there is left out.
+
 Each run must write the output and end with the status of the program alone, and, where the reference in
 Python can tell, with those that it works out; and what it says must be what the page or the table wants.
 With RDF_HINTS=0 and without Python it must say nothing. Without /dev/full the runs on it are left out.
@@ -18,26 +21,38 @@ import tempfile
 
 TOP = os.path.dirname(os.path.dirname(os.path.abspath(__file__)))
 PAGE = os.path.join(TOP, "docs", "ERRORS.md")
-REFERENCE = os.path.join(TOP, "tools", "reference", "rdf_reference.py")
+REFERENCE = os.path.join(TOP, "tools", "reference", "%s_reference.py")
+COMMAND = re.compile(r"\./rdf(?: (shard|snapshot|chain)\b)?")
 BLOCK = re.compile(r"```(script|table|sh|text)\n(.*?)```\n", re.S)
 
 
-class Place:
-    """A folder with a copy of the launcher that runs a program, and files to run it on."""
+def programs_there(program):
+    """The programs by their names."""
+    found = {"rdf": program}
+    for name in ("rdf_shard", "rdf_snapshot", "rdf_chain"):
+        path = os.environ.get(name.upper() + "_PROGRAM") or os.path.join(TOP, "crates", name, "out", name)
+        if os.access(path, os.X_OK) or os.path.isdir(os.path.join(TOP, "crates", name)):
+            found[name] = os.path.abspath(path)
+    return found
 
-    def __init__(self, folder, program):
-        self.folder, self.program = folder, program
+
+class Place:
+    """A folder with a copy of the launcher that runs the programs, and files to run them on."""
+
+    def __init__(self, folder, programs):
+        self.folder, self.programs = folder, programs
         self.home = os.path.join(folder, "home")
         self.work = os.path.join(folder, "work")
-        for path in (os.path.join(self.home, "crates", "rdf", "out"), self.work):
-            os.makedirs(path)
+        os.makedirs(self.work)
+        for name, program in programs.items():
+            out = os.path.join(self.home, "crates", name, "out")
+            os.makedirs(out)
+            shutil.copy(program, os.path.join(out, name))
         shutil.copy(os.path.join(TOP, "rdf"), self.home)
         os.symlink(os.path.join(TOP, "tools"), os.path.join(self.home, "tools"))
-        built = os.path.join(self.home, "crates", "rdf", "out", "rdf")
         with open(os.path.join(self.home, "crates.txt"), "w", encoding="utf-8") as file:
-            file.write("rdf:\n")
+            file.writelines(name + ":\n" for name in programs)
         os.utime(os.path.join(self.home, "crates.txt"), (0, 0))
-        shutil.copy(program, built)
         os.symlink(os.path.join(self.home, "rdf"), os.path.join(self.work, "rdf"))
         self.write("table", "x:int\n1\n")
 
@@ -55,13 +70,18 @@ class Place:
     def judge(self, command):
         """What ./rdf says for a command, and what is wrong with its output and status."""
         said = self.run(command)
-        others = [("the program alone", self.run(command.replace("./rdf", "'%s'" % self.program))),
-                  ("the reference", self.run(command.replace("./rdf", "python3 -B '%s'" % REFERENCE)))]
+        others = [("the program alone", self.run(COMMAND.sub(lambda found: "'%s'" % self.programs[program_of(found)], command))),
+                  ("the reference", self.run(COMMAND.sub(lambda found: "python3 -B '%s'" % REFERENCE % program_of(found), command)))]
         wrong = [name for name, (status, output, _) in others if (status, output) != said[:2]]
         silent = self.run(command, RDF_HINTS="0")
         if silent[:2] != said[:2] or silent[2]:
             wrong.append("the launcher without hints")
         return said[1].decode(), said[2].decode(), wrong
+
+
+def program_of(found):
+    """The name of the program that a command runs."""
+    return "rdf_" + found[1] if found[1] else "rdf"
 
 
 # ---- the page
@@ -80,13 +100,14 @@ def examples(page):
         given = {}
 
 
-def can_run(command):
-    return "/dev/full" not in command or os.path.exists("/dev/full")
+def can_run(command, programs):
+    named = all(program_of(found) in programs for found in COMMAND.finditer(command))
+    return named and ("/dev/full" not in command or os.path.exists("/dev/full"))
 
 
 def run_page(place, page):
     """Each example as (its line, what is shown, what is wanted, what is wrong, its block)."""
-    for files, block in filter(lambda example: can_run(example[0]["sh"]), examples(page)):
+    for files, block in filter(lambda example: can_run(example[0]["sh"], place.programs), examples(page)):
         for kind in ("script", "table"):
             place.write(kind, files[kind])
         output, hints, wrong = place.judge(files["sh"].rstrip("\n"))
@@ -170,7 +191,7 @@ def under_carets(hints):
 
 def run_mistakes(place):
     for name, script, table, command, culprit, over in MISTAKES:
-        if not can_run(command):
+        if not can_run(command, place.programs):
             continue
         place.write("script", script)
         place.write("table", table)
@@ -187,18 +208,21 @@ def run_cases(folder):
     sys.path[:0] = [os.path.join(TOP, "tools", name) for name in ("explaining", "reference", "cases")]
     from answers import for_line
     from casefile import all_cases
-    from files import Words
+    from named import WORDS
     from said import said_in
 
     os.chdir(folder)
-    for case in all_cases():
-        if case.status not in (6, 7, 8, 9) or case.heavy:
+    for case in all_cases(programs=tuple(WORDS)):
+        if case.status < 6 or case.heavy:
             continue
         for name, text in case.contents().items():
             with open(name, "wb") as file:
                 file.write(text)
+        for name, making, _ in case.makes:
+            with open(name, "wb") as file:
+                subprocess.run(["python3", "-B", REFERENCE % case.program, *making], stdout=file, check=True)
         try:
-            hints = "\n".join(for_line(Words(case.words), said_in(case.output)))
+            hints = "\n".join(for_line(WORDS[case.program](case.words), said_in(case.output)))
         except Exception as found:  # the test tells of each
             hints = repr(found)
         good = hints.startswith("rdf: ") and hints.isascii() and ("\n" not in hints or under_carets(hints + "\n") is not None)
@@ -221,14 +245,16 @@ def main():
     words = [word for word in sys.argv[1:] if word != "--fill"]
     program = os.path.abspath(words[0] if words else os.environ.get("RDF_PROGRAM")
                               or os.path.join(TOP, "crates", "rdf", "out", "rdf"))
-    if not os.access(program, os.X_OK):
-        print("errors: no program at %s" % program)
-        return 1
+    programs = programs_there(program)
+    for path in programs.values():
+        if not os.access(path, os.X_OK):
+            print("errors: no program at %s" % path)
+            return 1
     with open(PAGE, encoding="utf-8") as file:
         page = file.read()
     count = failed = 0
     with tempfile.TemporaryDirectory() as folder:
-        place = Place(folder, program)
+        place = Place(folder, programs)
         if "--fill" in sys.argv:
             fill(place, page)
             return 0

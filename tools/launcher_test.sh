@@ -1,6 +1,6 @@
 #!/bin/sh
 # The launcher ./rdf and tools/release.sh on a copy of them, with an rt that proves nothing and notes its
-# words, and small programs in place of rdf. Ends with 1 where a test fails.
+# words, and small programs in place of rdf and the others. Ends with 1 where a test fails.
 set -u
 
 top=$(cd "$(dirname "$0")/.." && pwd -P) || exit 1
@@ -40,9 +40,10 @@ case $1 in
         printf '== summary\n4 of 4 crates ok\n' ;;
     run)
         mkdir -p out
-        printf '#!/bin/sh\necho "in $(basename "$PWD"): $*"\nexit 7\n' >out/rdf
-        chmod +x out/rdf
-        echo "rt: running out/rdf; to give it other input, run that file yourself" ;;
+        crate=$(basename "$PWD")
+        printf '#!/bin/sh\necho "in $(basename "$PWD"): $*"\nexit 7\n' >"out/$crate"
+        chmod +x "out/$crate"
+        echo "rt: running out/$crate; to give it other input, run that file yourself" ;;
 esac
 END
 chmod +x "$folder/bin/rt"
@@ -168,16 +169,17 @@ says "why it would build" "none is released"
 # ---- released
 
 # A stand-in is released, with the sum and the sources that are there.
-release() { # STATUS-WITHOUT-WORDS
-    printf '#!/bin/sh\n[ $# -gt 0 ] || exit %s\necho "released: $*"\nexit 9\n' "$1" >"$repo/release/rdf"
-    chmod +x "$repo/release/rdf"
+release() { # STATUS-WITHOUT-WORDS [PROGRAM]
+    released=${2:-rdf}
+    printf '#!/bin/sh\n[ $# -gt 0 ] || exit %s\necho "released: $*"\nexit 9\n' "$1" >"$repo/release/$released"
+    chmod +x "$repo/release/$released"
     (
         top=$repo
         . "$top/tools/launcher/program.sh"
         echo "kit kit-1 logic 2"
-        echo "sources $(sources_hash rdf)"
-        echo "program $(sum_of "$top/release/rdf")"
-    ) >"$repo/release/rdf.txt"
+        echo "sources $(sources_hash "$released")"
+        echo "program $(sum_of "$top/release/$released")"
+    ) >"$repo/release/$released.txt"
 }
 release 2
 run_without_kit a "b c"
@@ -246,11 +248,12 @@ rm "$repo/release"/*
 
 # ---- how the program is run
 
-stand_in() { # LINES
-    mkdir -p "$repo/crates/rdf/out"
-    printf '#!/bin/sh\n%s\n' "$1" >"$repo/crates/rdf/out/rdf"
-    chmod +x "$repo/crates/rdf/out/rdf"
-    touch -d '+2 hours' "$repo/crates/rdf/out/rdf"
+stand_in() { # LINES [PROGRAM]
+    at=$repo/crates/${2:-rdf}/out
+    mkdir -p "$at"
+    printf '#!/bin/sh\n%s\n' "$1" >"$at/${2:-rdf}"
+    chmod +x "$at/${2:-rdf}"
+    touch -d '+2 hours' "$at/${2:-rdf}"
 }
 stand_in 'cat; cat "$1"'
 : >"$NOTES"
@@ -326,10 +329,11 @@ stand_in 'echo "usage: some"; exit 2'
 words_hint() { # TEXT WORDS
     text=$1
     shift
-    run "$@"
+    run $command "$@"
     judge "words: $*" 2 "usage: some" ""
-    says "words: $*" "^rdf: $text; ./rdf --help tells more$"
+    says "words: $*" "^rdf: $text; ./rdf $command${command:+ }--help tells more$"
 }
+command=
 words_hint "two names are wanted, SCRIPT and TABLE, and there is none"
 words_hint "two names are wanted, SCRIPT and TABLE, and there is only 's.txt'" s.txt
 words_hint "'c': a third name, and two are wanted" a b c
@@ -362,6 +366,102 @@ silent "no hints"
 unset RDF_HINTS
 rm -r "$repo/crates/rdf/out"
 
+# ---- the other programs
+
+for command in shard snapshot chain; do
+    name=rdf_$command
+    stand_in 'echo "rdf: $*"'
+    run $command x
+    judge "$command: without its crate it is a name" 0 "rdf: $command x" ""
+    run --help
+    tests=$((tests + 1))
+    ! grep -q "rdf $command" out || wrong "$command: help has it without its crate"
+
+    mkdir -p "$repo/crates/$name/src"
+    echo "main of $name" >"$repo/crates/$name/src/main.rt"
+    echo "$name: low" >>"$repo/crates.txt"
+    run $command "a b"
+    judge "$command: it is built and then run" 7 "in elsewhere: a b" "$name: all check --jobs 3
+$name: run"
+    says "$command: what is built" "the 2 crates of $name are proved first"
+    says "$command: how long it may take" "from nothing this takes an hour or more"
+    rm -r "$repo/crates/$name/out"
+    release 2 "$name"
+    run_without_kit $command "a b"
+    judge "$command: the released program" 9 "released: a b" ""
+    run $command --program
+    judge "$command: the released program's path" 0 "$repo/release/$name" ""
+    echo more >>"$repo/crates/$name/src/main.rt"
+    run_without_kit $command a
+    judge "$command: another source" 70 "" ""
+    says "$command: another source" "$name isn't built, .*the released one is of other sources"
+    run $command --version
+    prints "$command: the version" "^$name [0-9]"
+    prints "$command: how it is built" "./rdf $command --build builds it"
+    run $command --build
+    judge "$command: a build that is asked for" 0 "" "$name: all check --jobs 3
+$name: run"
+    run --program
+    judge "$command: rdf is another program" 0 "$repo/crates/rdf/out/rdf" ""
+    run --help
+    prints "$command: in the help" "rdf $command \.\."
+    for word in --help -h; do
+        run $command x $word
+        judge "$command $word" 0 "$(cat out)" ""
+        prints "$command $word" "^usage: rdf $command "
+        silent "$command $word"
+    done
+    stand_in 'echo "ran: $*"; exit 23' "$name"
+    run $command -- --help
+    judge "$command: behind -- it is a name" 23 "ran: -- --help" ""
+    run ./$command x
+    judge "$command: a name with a folder is no command" 0 "rdf: ./$command x" ""
+    stand_in 'echo "usage: some"; exit 2' "$name"
+done
+
+command=shard
+words_hint "run or merge is wanted"
+words_hint "'marge': run or merge is wanted" marge s p0
+words_hint "run takes five words, SCRIPT TABLE SIZE LO HI, and here are 4" run s a 2 0
+words_hint "SIZE: 0 is not from 1 to 1000000" run s a 0 0 1
+words_hint "LO: -1 is not from 0 to 1000000" run s a 1 -1 1
+words_hint "HI: 01 begins with 0" run s a 1 0 01
+words_hint "merge takes SCRIPT and one file or more, and here are 1 words" merge s
+words_hint "merge takes at most 64 files, and here are 65" merge s $(seq 65)
+words_hint "a word isn't UTF-8 text" merge s "$(printf 'b\377')"
+command=snapshot
+five="five words are wanted, SCRIPT TABLE NODE COLUMNS UNDER"
+words_hint "$five, and here are 0"
+words_hint "$five, and here are 3" s a df
+words_hint "'x': a word more, and $five" s a df pt nominal x
+words_hint "NODE: 1 is no node's name" s a 1 pt nominal
+words_hint "COLUMNS: a column's name is missing" s a df pt, nominal
+words_hint "COLUMNS: p t is no column's name" s a df "p t" nominal
+words_hint "COLUMNS: there are more than 64" s a df "$(seq -s , -f 'c%g' 65)" nominal
+words_hint "UNDER: 'up' is neither nominal nor a variation, as scale:up" s a df pt up
+words_hint "UNDER: a:b:c has two colons" s a df pt a:b:c
+words_hint "UNDER: a tag's name is missing" s a df pt a:
+words_hint "--slots: 17 is not from 1 to 16" s a df pt nominal --slots 17
+words_hint "--slots stands twice" s a df pt nominal --slots 2 --slots=2
+words_hint "--watch: it is an option of ./rdf SCRIPT TABLE alone" s a df pt nominal --watch 1
+words_hint "-x: there is no such option, a name that begins with - stands behind --" s -x df pt nominal
+words_hint "--threads: there is no such option, --slots may be meant" s a df pt nominal --threads 2
+command=chain
+words_hint "run, map, join or print is wanted"
+words_hint "'s.txt': run, map, join or print is wanted" s.txt a.csv
+words_hint "run takes SCRIPT and 1 to 16384 tables, and here are 1" run s
+words_hint "map takes SCRIPT NUMBER TABLE, and here are 2" map s 0
+words_hint "NUMBER: 16777216 is not from 0 to 16777215" map s 16777216 a
+words_hint "NUMBER: a.csv is no whole number in plain digits" map s a.csv 0
+words_hint "'b': a word more, and map takes SCRIPT NUMBER TABLE" map s 0 a b
+words_hint "join takes SCRIPT and 1 to 4096 parts, and here are 1" join s
+words_hint "COUNT: 0 is not from 1 to 16777216" print s 0 p
+words_hint "--cluster: a number from 1 to 1000000 is missing" run s a --cluster
+words_hint "--friend: it is an option of ./rdf SCRIPT TABLE alone" run s a --friend f
+words_hint "--slots: there is no such option, a name that begins with - stands behind --" join s p --slots 2
+rm -rf "$repo"/crates/rdf*/out "$repo"/crates/rdf_* "$repo"/release/*
+sed -i '/^rdf_/d' "$repo/crates.txt"
+
 # ---- tools/release.sh
 
 released() { : >"$NOTES"; "$repo/tools/release.sh" "$@" >out 2>&1; status=$?; }
@@ -390,7 +490,7 @@ KIT="kit-2 logic 3"
 export KIT
 released --check
 judge "another kit" 0 "release: rdf was built by kit-1 logic 2, and here is kit-2 logic 3; its cases decide" "$version
-cases: $repo/release/rdf"
+cases: --of rdf $repo/release/rdf"
 CASES_FAIL=1
 export CASES_FAIL
 released --check
@@ -411,6 +511,37 @@ build_grep
 echo more >>"$repo/crates/low/src/lib.rt"
 released --check
 prints "a release of other sources" "the released one is of other sources; after a green rt ci tools/release.sh renews it"
+
+for command in shard snapshot chain; do
+    mkdir -p "$repo/crates/rdf_$command/src" "$repo/crates/rdf_$command/out"
+    echo "rdf_$command: low" >>"$repo/crates.txt"
+done
+build_grep
+released
+prints "a release of four, one of which isn't built" "rdf_shard isn't built"
+for command in shard snapshot chain; do
+    cp "$(command -v grep)" "$repo/crates/rdf_$command/out/rdf_$command"
+    touch -d '+2 hours' "$repo/crates/rdf_$command/out/rdf_$command"
+done
+released
+tests=$((tests + 1))
+[ "$(cd "$repo/release" && echo rdf*)" = "rdf rdf.txt rdf_chain rdf_chain.txt rdf_shard rdf_shard.txt rdf_snapshot rdf_snapshot.txt" ] ||
+    wrong "a release of four"
+released --check
+judge "the check of four" 0 "$(for name in rdf rdf_shard rdf_snapshot rdf_chain; do
+    echo "release: $name is the program that is built here, byte for byte"; done)" "$version
+$version
+$version
+$version"
+KIT="kit-2 logic 3"
+export KIT
+released --check
+tests=$((tests + 1))
+grep -q "^cases: --of rdf_chain $repo/release/rdf_chain$" "$NOTES" || wrong "another kit, and the cases of a chain"
+unset KIT
+echo x >>"$repo/release/rdf_snapshot"
+released --check
+prints "one of four that is damaged" "rdf_snapshot: release/rdf_snapshot isn't the file of which release/rdf_snapshot.txt tells"
 
 echo "launcher_test: $tests tests, $failed failed"
 [ $failed -eq 0 ]

@@ -1,5 +1,5 @@
 #!/bin/sh
-# Keeps in release/ each program that ./rdf calls, so that a fresh clone runs without the Rattle kit.
+# Keeps in release/ each program that ./rdf runs, rdf and those of tools/launcher/commands.txt, so that a fresh clone runs without the Rattle kit.
 #
 #     tools/release.sh           after a green rt ci: releases the programs that it built
 #     tools/release.sh --check   whether the released programs are those of these sources
@@ -10,10 +10,15 @@
 # kit, whose code may differ, that the released program gives what every case wants.
 set -u
 
-programs=rdf
-
 top=$(cd "$(dirname "$0")/.." && pwd -P) || exit 1
 . "$top/tools/launcher/program.sh"
+
+# rdf, and the programs that are commands of ./rdf and have a crate here.
+programs() {
+    sed -n 's/^[a-z]* program //p' "$top/tools/launcher/commands.txt" | while read -r program; do
+        [ ! -d "$top/crates/$program" ] || echo "$program"
+    done | awk 'BEGIN { print "rdf"; seen["rdf"] = 1 } !seen[$0]++'
+}
 
 fail() { echo "release: $*"; exit 1; }
 
@@ -37,12 +42,7 @@ renew() { # PROGRAM
 }
 
 # The cases that show what a program does.
-run_cases() { # PROGRAM
-    case $1 in
-        rdf) "$top/tools/cases/run.py" "$top/release/rdf" ;;
-        *) fail "no cases are known for $1" ;;
-    esac
-}
+run_cases() { "$top/tools/cases/run.py" --of "$1" "$top/release/$1"; } # PROGRAM
 
 check() { # PROGRAM
     is_released "$1" || fail "$1: $why; after a green rt ci tools/release.sh renews it"
@@ -59,7 +59,7 @@ check() { # PROGRAM
     fi
 }
 
-for program in $programs; do
+for program in $(programs); do
     case ${1-} in
         --check) check "$program" ;;
         '') renew "$program" ;;

@@ -3,6 +3,7 @@
 
     tools/tutorial_test.py [PROGRAM]        the program behind the launcher: RDF_PROGRAM, or crates/rdf/out/rdf
 
+The commands of ./rdf are run by RDF_SHARD_PROGRAM, or crates/rdf_shard/out/rdf_shard, and so on.
 README's commands run in the top folder of what looks like a clone, the tutorial's in the folder that its first block makes
 there. A block of `sh` is run; the block of `text` that follows it, if any, is what it prints to standard output, to the byte,
 and a block of `hints` behind that what it prints to standard error. A block of `sh matplotlib` is run where python3 has
@@ -71,28 +72,40 @@ def run(command, folder, program):
     return [part.decode(errors="backslashreplace") for part in (done.stdout, done.stderr)]
 
 
-def make_clone(folder, program):
-    """What looks like a clone in which the program is built."""
-    os.makedirs(os.path.join(folder, "crates", "rdf", "out"))
+def programs_there(program):
+    """The programs by their names: rdf, and those of the commands that have a crate or are named."""
+    found = {"rdf": program}
+    for name in ("rdf_shard", "rdf_snapshot", "rdf_chain"):
+        path = os.environ.get(name.upper() + "_PROGRAM") or os.path.join(TOP, "crates", name, "out", name)
+        if os.access(path, os.X_OK) or os.path.isdir(os.path.join(TOP, "crates", name)):
+            found[name] = os.path.abspath(path)
+    return found
+
+
+def make_clone(folder, programs):
+    """What looks like a clone in which the programs are built."""
     for name in ["rdf", "crates.txt"]:
         shutil.copy2(os.path.join(TOP, name), folder)
     os.symlink(os.path.join(TOP, "tools"), os.path.join(folder, "tools"))
     shutil.copytree(os.path.join(TOP, "examples"), os.path.join(folder, "examples"))
-    os.symlink(program, os.path.join(folder, "crates", "rdf", "out", "rdf"))
+    for name, program in programs.items():
+        out = os.path.join(folder, "crates", name, "out")
+        os.makedirs(out)
+        os.symlink(program, os.path.join(out, name))
 
 
-def check(name, own_folder, program):
+def check(name, own_folder, programs):
     """How many commands a page has, and how many print something else."""
     with open(os.path.join(TOP, name), encoding="utf-8") as file:
         page = file.read()
     count = failed = 0
     with tempfile.TemporaryDirectory() as clone:
-        make_clone(clone, program)
+        make_clone(clone, programs)
         if own_folder:
             subprocess.run(["sh", "-e", "-c", blocks(page)[0][2]], cwd=clone, check=True)
         for line, command, wanted in commands(page):
             count += 1
-            got = run(command, os.path.join(clone, own_folder), program)
+            got = run(command, os.path.join(clone, own_folder), programs["rdf"])
             wrong = [(said, part) for said, part in zip(wanted, got) if said not in (None, part)]
             failed += bool(wrong)
             for said, part in wrong:
@@ -104,10 +117,12 @@ def check(name, own_folder, program):
 def main():
     usual = os.environ.get("RDF_PROGRAM") or os.path.join(TOP, "crates", "rdf", "out", "rdf")
     program = os.path.abspath(sys.argv[1] if len(sys.argv) > 1 else usual)
-    if not os.access(program, os.X_OK):
-        print("tutorial: no program at %s" % program)
-        return 1
-    results = [check(os.path.join("docs", "TUTORIAL.md"), "first-hour", program), check("README.md", "", program)]
+    programs = programs_there(program)
+    for path in programs.values():
+        if not os.access(path, os.X_OK):
+            print("tutorial: no program at %s" % path)
+            return 1
+    results = [check(os.path.join("docs", "TUTORIAL.md"), "first-hour", programs), check("README.md", "", programs)]
     count, failed = (sum(numbers) for numbers in zip(*results))
     print("tutorial: %d commands, %d failed" % (count, failed))
     return 1 if failed else 0

@@ -91,15 +91,35 @@ class Trial:
         """The result of an action at the node, under the variation of the words, is these numbers."""
         place = lambda text: text.replace("df.", words[2] + ".")  # noqa: E731
         lines = [line and place(line), "taken = " + place(call), "VariationsFor(taken)", "Print(taken)"]
-        nodes = [each for each in self.files["s.txt"].decode().split("\n")
-                 if re.search(r"\.(Define|Redefine|Alias|Filter|Vary)\(", each)]
-        script = "\n".join(nodes + [each for each in lines if each]) + "\n"
+        script = self.with_nodes([each for each in lines if each])
         status, output = reference_run(["t.txt", "a.csv"], dict(self.files, **{"t.txt": script.encode()}))
         if status != 0:
             return                      # another variation faults
         results = dict(each.split(" = ") for each in output.decode().splitlines())
         found = results.get("taken[%s]" % words[4], results["taken"])
         self.law(found == " ".join(map(str, wanted)), "%s is %s" % (call, found))
+
+    def with_nodes(self, lines):
+        """A script with the nodes of this one, and lines behind them."""
+        nodes = [each for each in self.files["s.txt"].decode().split("\n")
+                 if re.search(r"\.(Define|Redefine|Alias|Filter|Vary)\(", each)]
+        return "\n".join(nodes + lines) + "\n"
+
+    def read_again(self, words, output, run):
+        """Whether a table that was written has the Count and the Sums that its columns have at the node, by `run` of rdf."""
+        actions = ["Count()"] + ['Sum("%s")' % name for name in words[3].split(",")]
+        booked = lambda node: ["made%d = %s.%s" % (at, node, call) for at, call in enumerate(actions)]  # noqa: E731
+        prints = ["Print(made%d)" % at for at in range(len(actions))]
+        again = run(["e.txt", "b.csv"], {"e.txt": "\n".join(booked("df") + prints).encode(), "b.csv": output})
+        asked = ["VariationsFor(made%d)" % at for at in range(len(actions))]
+        script = self.with_nodes(booked(words[2]) + asked + prints)
+        status, text = run(["t.txt", "a.csv"], dict(self.files, **{"t.txt": script.encode()}))
+        if status != 0:
+            return again[0] == 0        # another variation faults, or there are too many results
+        results = dict(each.split(" = ") for each in text.decode().splitlines())
+        names = ["made%d" % at for at in range(len(actions))]
+        due = "".join("%s = %s\n" % (name, results.get("%s[%s]" % (name, words[4]), results[name])) for name in names)
+        return again == (0, due.encode())
 
     def law(self, holds, text):
         if not holds:
@@ -126,6 +146,14 @@ def main():
             print(trial.shown(run))
         return 0
     program = None if asked.reference else os.path.abspath(asked.program or usual_program("rdf_snapshot"))
+    rdf = usual_program("rdf")
+    run_of_rdf = None
+    if program is None:
+        run_of_rdf = reference_run
+    elif os.access(rdf, os.X_OK):
+        run_of_rdf = lambda words, files: program_run(rdf, words, files)  # noqa: E731
+    else:
+        print("no rdf at %s: no table is read again" % rdf)
     statuses = collections.Counter()
 
     def attempt(number):
@@ -142,6 +170,8 @@ def main():
             if got != run[1:]:
                 found.append("DIFFERS seed %s: %s\n--- got status %d\n%s" % (
                     seed, trial.shown(run), got[0], got[1].decode(errors="backslashreplace")))
+            elif got[0] == 0 and run_of_rdf and not trial.read_again(run[0], got[1], run_of_rdf):
+                found.append("READ AGAIN AS ANOTHER seed %s: %s" % (seed, trial.shown(run)))
         return found
 
     with concurrent.futures.ThreadPoolExecutor(1 if program is None else os.cpu_count() or 1) as workers:

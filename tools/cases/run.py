@@ -2,6 +2,7 @@
 """Runs every case of cases/ and compares the exit status and the output, byte by byte.
 
     tools/cases/run.py [PROGRAM]        the built program (RDF_PROGRAM, or crates/rdf/out/rdf)
+    tools/cases/run.py --of NAME [PROGRAM]      only the cases of this program, as rdf_shard
     tools/cases/run.py --reference      the reference in Python instead of a program
 
     --shard PROGRAM, --snapshot PROGRAM, --chain PROGRAM
@@ -72,6 +73,7 @@ def failure(case, words, run):
 def main():
     parser = argparse.ArgumentParser(usage=__doc__)
     parser.add_argument("program", nargs="?")
+    parser.add_argument("--of", choices=["rdf"] + ["rdf_" + other for other in OTHERS])
     parser.add_argument("--reference", action="store_true")
     for other in OTHERS:
         parser.add_argument("--" + other)
@@ -80,12 +82,14 @@ def main():
     parser.add_argument("--heavy", action="store_true")
     asked = parser.parse_args()
     given = {"rdf": asked.program, **{"rdf_" + other: getattr(asked, other) for other in OTHERS}}
+    if asked.of:
+        given = {asked.of: asked.program or given[asked.of]}
     paths = {name: os.path.abspath(path or usual_program(name)) for name, path in given.items()}
     if not asked.reference:
         for name in [name for name, path in paths.items() if not os.access(path, os.X_OK)]:
             print("cases: no program at %s" % paths[name])
             expected = not asked.program and os.path.isdir(os.path.join(TOP, "crates", name))
-            if name == "rdf" or given[name] or expected:
+            if len(given) == 1 or name == "rdf" or given[name] or expected:
                 return 1
             del paths[name]
 

@@ -15,7 +15,27 @@ from values import Fault, integer
 
 
 def explained(script, table, said, friend=None):
-    """The hint for a fault at an entry, and the numbers of the script's line and the table's line."""
+    """The hint for a fault at an entry of a loop, and the number of the script's line."""
+    name, variation = label_of(said.label)
+
+    def feed(analysis, row):
+        analysis.fed(row, analysis.booking.results[name], variation)
+
+    return at_entry(script, table, said, feed, variation, friend)
+
+
+def explained_of_node(script, table, said, words):
+    """The same of a snapshot, whose entries go through the filters of its node and then have its columns."""
+    def feed(analysis, row):
+        node = analysis.booking.nodes[words.node]
+        if analysis.through(row, node, words.under):
+            for column in words.columns:
+                analysis.column(row, node, column, words.under)
+
+    return at_entry(script, table, said, feed, words.under)
+
+
+def at_entry(script, table, said, feed, variation, friend=None):
     statements = read_script(script)
     place, record = table.entry(said.entry)
     header = read_header([name for name, _, _ in table.header])
@@ -27,17 +47,16 @@ def explained(script, table, said, friend=None):
         columns += friend.added()
     booking = Booked(columns).book(statements)
     analysis = OneEntry(booking, Table(columns, [row], []))
-    name, variation = label_of(said.label)
-    result = booking.results[name]
     try:
-        analysis.fed(row, result, variation)
+        feed(analysis, row)
     except Fault:
         pass
-    where = " at entry %d (line %d of the table)" % (said.entry, table.line_number(place))
+    where = " at entry %d (line %d of %s)" % (said.entry, table.line_number(place), table.name)
     lines = lines_of(script)
     if said.cause == "F6":
         return at_vary(lines, analysis, row, variation, where)
     if analysis.site is None:
+        result = booking.results[label_of(said.label)[0]]
         number = result.statement["line"]
         return at_action(lines[number - 1], analysis, row, (result, variation), said.cause, where), number
     statement = next(s for s in statements if any(analysis.site[1] is each for each in trees_of(s)))

@@ -7,25 +7,33 @@ from hint import Hint, nearest, word
 from scripts import METHODS, tokens_of
 
 
+def parted(words):
+    """The names of a command line that a program takes, and its options."""
+    names, options = [], {}
+    given = list(words)
+    while given:
+        each = given.pop(0)
+        if each == "--":
+            names += given
+            break
+        if each == "--make":
+            options["make"] = ""
+        elif each.startswith("--"):
+            key, equals, value = each[2:].partition("=")
+            options[key] = value if equals else given.pop(0)
+        else:
+            names.append(each)
+    return names, options
+
+
 class Words:
-    """The names and options of a command line that the program takes."""
+    """The words of rdf: a script, a table, and maybe a friend."""
+
+    program = "rdf"
+    what = "TABLE"
 
     def __init__(self, words):
-        self.names, self.options = [], {}
-        given = list(words)
-        while given:
-            each = given.pop(0)
-            if each == "--":
-                self.names += given
-                break
-            if each == "--make":
-                self.options["make"] = ""
-            elif each.startswith("--"):
-                key, equals, value = each[2:].partition("=")
-                self.options[key] = value if equals else given.pop(0)
-            else:
-                self.names.append(each)
-        self.script, self.table = self.names
+        (self.script, self.table), self.options = parted(words)
         self.friend = self.options.get("friend")
 
     def files(self):
@@ -35,6 +43,10 @@ class Words:
     def which(self, name):
         return "SCRIPT" if name == self.script else "TABLE" if name == self.table else "--friend"
 
+    def of_script_alone(self, script):
+        """Words of which the text of a script alone may be refused."""
+        return ["--", script, os.devnull]
+
 
 def shown(name):
     return word(os.fsencode(name))
@@ -42,7 +54,7 @@ def shown(name):
 
 def missing(words):
     """A file that isn't there."""
-    name = next((each for each in words.files() if not os.path.exists(each)), words.table)
+    name = next((each for each in words.files() if not os.path.exists(each)), words.files()[-1])
     folder = os.path.dirname(name) or "."
     if not os.path.isdir(folder):
         return Hint("%s: there is no folder %s" % (words.which(name), shown(folder)))
@@ -101,6 +113,11 @@ def lines_of(text):
 def statements_in(text):
     """How many lines of a script that is read say something."""
     return sum(not re.match(rb"[ \t]*(#|$)", line) for line in lines_of(text))
+
+
+def contents(name):
+    with open(name, "rb") as file:
+        return file.read()
 
 
 def swapped(text):

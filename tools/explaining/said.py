@@ -1,4 +1,4 @@
-"""The line with which rdf refuses its inputs or tells a fault."""
+"""The line with which a program refuses its inputs or tells a fault."""
 import re
 
 
@@ -10,8 +10,9 @@ class Said:
         parts = found.groupdict()
         self.cause = parts.get("cause") and parts["cause"].decode()
         self.label = parts.get("label")
-        self.line, self.place, self.entry, self.field = (
-            int(parts[key]) if parts.get(key) else None for key in ("line", "place", "entry", "field"))
+        self.name = parts.get("name")
+        self.line, self.place, self.entry, self.field, self.number = (
+            int(parts[key]) if parts.get(key) else None for key in ("line", "place", "entry", "field", "number"))
 
 
 FORMS = [
@@ -21,7 +22,18 @@ FORMS = [
               rb"|: longer than 67108864 bytes)"),
     ("friend", rb"friend refused(?:(?: at (?:header|entry (?P<entry>\d+)))?(?: field (?P<field>\d+))?: (?P<cause>\w+) \w+"
                rb"|: longer than 67108864 bytes)"),
-    ("fault", rb"fault at entry (?P<entry>\d+) in (?P<label>\S+): (?P<cause>\w+) \w+"),
+    ("table", rb"table (?P<name>.+) refused(?: at (?:header|entry (?P<entry>\d+))(?: field (?P<field>\d+))?: (?P<cause>\w+) \w+"
+              rb"|: longer than 67108864 bytes)"),
+    ("fault", rb"fault(?: in file (?P<number>\d+))? at entry (?P<entry>\d+) in (?P<label>\S+): (?P<cause>\w+) \w+"),
+    ("node", rb"no node \w+"),
+    ("column", rb"no column (?P<name>\w+)"),
+    ("variation", rb"no variation \w+:\w+"),
+    ("columns", rb"too many columns"),
+    ("long", rb"(?P<name>snapshot|part|files) longer than \d+ bytes"),
+    ("span", rb"span refused"),
+    ("file", rb"file (?P<name>.+) refused at line (?P<line>\d+)"),
+    ("differs", rb"file (?P<name>.+) differs"),
+    ("covered", rb"(?:cluster|file) (?P<number>\d+) isn't covered once"),
 ]
 
 

@@ -19,10 +19,11 @@ BINARY = [
 
 
 class TableFile:
-    """The bytes of a table and its records, each as (place in the file, bytes)."""
+    """The bytes of a table and its records, each as (place in the file, bytes); `name` is what it is called."""
 
-    def __init__(self, data):
+    def __init__(self, data, name="the table"):
         self.data = data
+        self.name = name
         self.header = split(next(self.records(), (0, b""))[1])
 
     def records(self):

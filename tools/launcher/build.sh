@@ -1,8 +1,8 @@
 # Proves the crates that a program stands on, side by side, and builds it: RDF_JOBS of them at a time, or
 # as many as there are processors and memory. ./rdf reads this; it sets `top`, `why` and `say`.
 
-# Minutes that all proofs take from nothing, one at a time, and the longest chain of crates that stand
-# on each other; none where that isn't measured.
+# Minutes that all proofs of rdf take from nothing, one at a time, and the longest chain of crates that
+# stand on each other; none where that isn't measured, as for the other programs.
 all_minutes=80
 chain_minutes=50
 
@@ -13,8 +13,8 @@ usual_jobs() {
         END { print most }' /proc/meminfo 2>/dev/null || echo "$processors"
 }
 
-minutes() {
-    if [ -n "$all_minutes" ] && [ -n "$chain_minutes" ]; then
+minutes() { # PROGRAM
+    if [ "$1" = rdf ] && [ -n "$all_minutes" ] && [ -n "$chain_minutes" ]; then
         awk -v all="$all_minutes" -v chain="$chain_minutes" -v jobs="$jobs" \
             'BEGIN { m = all / jobs; if (m < chain) m = chain; print "about " int(m + 0.5) " minutes" }'
     else
@@ -66,7 +66,7 @@ build() { # PROGRAM
     crates=$((crates))
     begun=$(date +%s) told=0 silent=0
     say "$why: the $crates crates of $1 are proved first, $jobs at a time"
-    say "from nothing this takes $(minutes) here; it can be stopped at any time, and the next call goes on from there"
+    say "from nothing this takes $(minutes "$1") here; it can be stopped at any time, and the next call goes on from there"
     start all check --jobs "$jobs"
     trap 'stopped 130' INT
     trap 'stopped 143' TERM

@@ -1,5 +1,5 @@
 # Runs the program and says on standard error what a refusal or a fault may mean. The program writes its
-# output itself, and its status stays. ./rdf reads this; it sets `top`, `program` and `say`.
+# output itself, and its status stays. ./rdf reads this; it sets `top`, `called`, `program` and `say`.
 
 running=
 
@@ -42,9 +42,13 @@ run_with_hints() { # WORDS
 
 give_hint() { # WORDS
     case $status in
-        0) no_print "$@" && explain "$@" ;;
-        2) . "$top/tools/launcher/words.sh"; say "$(fault_of_words "$@"); ./rdf --help tells more" ;;
-        [1-9]) explain "$@" ;;
+        0) shows_nothing "$@" && explain "$@" ;;
+        2)
+            . "$top/tools/launcher/words.sh"
+            command=${called#rdf}
+            say "$(fault_of_words "$@"); ./rdf${command:+ ${command#_}} --help tells more"
+            ;;
+        [1-9] | 1[0-4] | 2[0-5]) explain "$@" ;;
         137) say "the program was killed from outside, perhaps for want of memory" ;;
     esac
 }
@@ -54,6 +58,15 @@ explain() { # WORDS
     if [ -f "$top/tools/explain" ] && command -v python3 >/dev/null; then
         python3 -B "$top/tools/explain" "$program" "$status" "$@"
     fi
+}
+
+# Whether a program that prints what a script asks for had no Print.
+shows_nothing() { # WORDS
+    case $called,${1-} in
+        rdf,*) no_print "$@" ;;
+        rdf_chain,run) shift; no_print "$@" ;;
+        *) return 1 ;;
+    esac
 }
 
 # Whether the script, the first name of words that were taken, is a file that prints nothing.

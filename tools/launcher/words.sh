@@ -1,5 +1,8 @@
-# Says which word of a command line that the program doesn't take is at fault, and why.
-# The program takes two names or, with --make, two numbers, and its options in any place.
+# Says which word of a command line that a program doesn't take is at fault, and why. What the programs
+# share stands here, and what rdf takes; the others have a file each. ./rdf reads this; it sets `top` and `called`.
+
+# The options that the program takes.
+takes=" --slots --cluster --watch --friend --key --missing --make "
 
 # Why a word isn't a number from LEAST to MOST; nothing where it is one.
 fault_of_number() { # WORD LEAST MOST
@@ -36,11 +39,11 @@ fault_of_missing() { # WORD
     esac
 }
 
-# Why a word isn't a column's name; nothing where it is one.
-fault_of_key() { # WORD
+# Why a word isn't the name of a column, a node or a variation; nothing where it is one.
+fault_of_name() { # WORD WHAT
     case $1 in
-        '') echo "a column's name is missing" ;;
-        [0-9]* | *[!A-Za-z0-9_]* | true | false) echo "$1 is no column's name" ;;
+        '') echo "$2's name is missing" ;;
+        [0-9]* | *[!A-Za-z0-9_]* | true | false) echo "$1 is no $(echo "$2" | sed 's/^an* //')'s name" ;;
         *) [ ${#1} -le 64 ] || echo "a name has at most 64 letters" ;;
     esac
 }
@@ -49,11 +52,16 @@ fault_of_option() { # NAME WORD
     case $1 in
         --slots) found=$(fault_of_number "$2" 1 16) ;;
         --friend) found= ;;
-        --key) found=$(fault_of_key "$2") ;;
+        --key) found=$(fault_of_name "$2" "a column") ;;
         --missing) found=$(fault_of_missing "$2") ;;
         *) found=$(fault_of_number "$2" 1 1000000) ;;
     esac
     [ -z "$found" ] || fault="$1: $found"
+}
+
+takes_option() { # NAME
+    case $takes in *" $1 "*) return 0 ;; esac
+    return 1
 }
 
 has_option() { # NAME
@@ -69,6 +77,7 @@ note_option() { # NAME
     fi
 }
 
+# A word that is a name; a program that takes other names than rdf has a function of its own.
 note_name() { # WORD
     names=$((names + 1))
     case $names in
@@ -80,17 +89,41 @@ note_name() { # WORD
 
 unknown_option() { # WORD
     case $1 in
-        --[sjt]* | -[sjt]*) like=", --slots may be meant" ;;
-        --c* | -c*) like=", --cluster may be meant" ;;
-        --w* | -w*) like=", --watch may be meant" ;;
-        --mi*) like=", --missing may be meant" ;;
-        --m* | -m*) like=", --make may be meant" ;;
-        --f* | -f*) like=", --friend may be meant" ;;
-        --k* | -k*) like=", --key may be meant" ;;
-        -[0-9]*) like=", and a number that isn't negative is wanted" ;;
-        *) like=", a name that begins with - stands behind --" ;;
+        --[sjt]* | -[sjt]*) like=--slots ;;
+        --c* | -c*) like=--cluster ;;
+        --w* | -w*) like=--watch ;;
+        --mi*) like=--missing ;;
+        --m* | -m*) like=--make ;;
+        --f* | -f*) like=--friend ;;
+        --k* | -k*) like=--key ;;
+        *) like=none ;;
     esac
-    fault="$1: there is no such option$like"
+    case $1 in
+        --watch | --missing | --make | --friend | --key | --watch=* | --missing=* | --friend=* | --key=*)
+            fault="${1%%=*}: it is an option of ./rdf SCRIPT TABLE alone"
+            ;;
+        -[0-9]*) fault="$1: there is no such option, and a number that isn't negative is wanted" ;;
+        *)
+            if takes_option $like; then
+                fault="$1: there is no such option, $like may be meant"
+            else
+                fault="$1: there is no such option, a name that begins with - stands behind --"
+            fi
+            ;;
+    esac
+}
+
+# An option with the word behind it, if there is one.
+look_at_option() { # NAME NUMBER-OF-WORDS WORD
+    note_option "$1"
+    case $1,$3 in
+        --missing,-[0-9]*) fault="--missing: a number below 0 is written --missing=$3" ;;
+        --friend,-?*) fault="--friend: a file's name is missing before $3" ;;
+        --key,-?*) fault="--key: a column's name is missing before $3" ;;
+        --[scwm]*,-[!0-9]*) fault="$1: a number is missing before $3" ;;
+        --friend,) [ "$2" -gt 0 ] || fault="--friend: a file's name is missing" ;;
+        *) [ -n "$fault" ] || fault_of_option "$1" "$3" ;;
+    esac
 }
 
 # Looks at the words from left to right, up to the first that is at fault.
@@ -103,25 +136,24 @@ look_at_words() { # WORDS
                 while [ $# -gt 0 ]; do note_name "$1"; shift; done
                 case $fault in "'-"*) fault="$fault; behind -- each word is one" ;; esac
                 ;;
-            --make) note_option --make ;;
-            --slots | --cluster | --watch | --friend | --key | --missing)
-                note_option "$word"
-                case $word,${1-} in
-                    --missing,-[0-9]*) fault="--missing: a number below 0 is written --missing=$1" ;;
-                    --friend,-?*) fault="--friend: a file's name is missing before $1" ;;
-                    --key,-?*) fault="--key: a column's name is missing before $1" ;;
-                    --[scwm]*,-[!0-9]*) fault="$word: a number is missing before $1" ;;
-                    --friend,) [ $# -gt 0 ] || fault="--friend: a file's name is missing" ;;
-                    *) [ -n "$fault" ] || fault_of_option "$word" "${1-}" ;;
-                esac
-                [ $# -eq 0 ] || shift
-                ;;
-            --slots=* | --cluster=* | --watch=* | --friend=* | --key=* | --missing=*)
-                note_option "${word%%=*}"
-                [ -n "$fault" ] || fault_of_option "${word%%=*}" "${word#*=}"
-                ;;
             -) note_name - ;;
-            -*) unknown_option "$word" ;;
+            --make) if takes_option --make; then note_option --make; else unknown_option --make; fi ;;
+            --*=*)
+                if takes_option "${word%%=*}" && [ "${word%%=*}" != --make ]; then
+                    note_option "${word%%=*}"
+                    [ -n "$fault" ] || fault_of_option "${word%%=*}" "${word#*=}"
+                else
+                    unknown_option "$word"
+                fi
+                ;;
+            -*)
+                if takes_option "$word"; then
+                    look_at_option "$word" $# "${1-}"
+                    [ $# -eq 0 ] || shift
+                else
+                    unknown_option "$word"
+                fi
+                ;;
             *) note_name "$word" ;;
         esac
     done
@@ -140,15 +172,14 @@ fault_of_friend() {
     fi
 }
 
-fault_of_made() {
-    found=$(fault_of_number "$first" 1 1000000)
-    [ -z "$found" ] || fault="ENTRIES: $found"
-    [ -n "$fault" ] || found=$(fault_of_number "$second" 0 4294967295)
-    [ -n "$fault" ] || [ -z "$found" ] || fault="SEED: $found"
+# Notes why a word that has a name isn't its number.
+look_at_number() { # NAME WORD LEAST MOST
+    [ -z "$fault" ] || return 0
+    found=$(fault_of_number "$2" "$3" "$4")
+    [ -z "$found" ] || fault="$1: $found"
 }
 
-fault_of_words() { # WORDS
-    names=0 first= second= options= fault=
+look_at_rdf() { # WORDS
     look_at_words "$@"
     case $options in
         *--make*) two="--make takes two numbers, ENTRIES and SEED" ;;
@@ -162,9 +193,20 @@ fault_of_words() { # WORDS
         fault="$two, and there is only '$first'"
     else
         fault_of_friend
-        if [ -z "$fault" ] && [ "${two#--make}" != "$two" ]; then
-            fault_of_made
+        if has_option --make; then
+            look_at_number ENTRIES "$first" 1 1000000
+            look_at_number SEED "$second" 0 4294967295
         fi
+    fi
+}
+
+fault_of_words() { # WORDS
+    names=0 first= second= options= fault=
+    if [ "$called" = rdf ]; then
+        look_at_rdf "$@"
+    else
+        . "$top/tools/launcher/words_${called#rdf_}.sh"
+        look_at_command "$@"
     fi
     [ -n "$fault" ] || fault="a word isn't UTF-8 text"
     echo "$fault"

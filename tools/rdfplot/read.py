@@ -17,7 +17,7 @@ class Malformed(Exception):
 
 
 class Refused(Exception):
-    """A refusal or fault line of rdf."""
+    """A refusal or fault line of rdf, rdf_shard or rdf_chain."""
 
 
 class Cell(NamedTuple):
@@ -119,7 +119,9 @@ _no_steps_line = re.compile(rf"({_NAME}): no named filters")
 _partial_line = re.compile(rf"partial ({_NAME}) over ([0-9,-]+) = (none|{_NUMBER})")
 _run = re.compile(rf"({_COUNT})(?:-({_COUNT}))?")
 _refusal = re.compile(
-    r"usage: rdf |read failed: |no file |script refused(?:: | at )|table refused(?:: | at )|friend refused(?:: | at )|fault at entry "
+    r"usage: rdf[ _]|read failed: |no file |script refused(?:: | at )|table (?:.+ )?refused(?:: | at )|friend refused(?:: | at )"
+    r"|fault (?:in file \d+ )?at entry |span refused$|file .+ (?:refused at line \d+|differs|changed)$"
+    r"|(?:cluster|file) \d+ isn't covered once$|(?:files|part) longer than \d+ bytes$"
 )
 
 _LEAST, _GREATEST = -(2**127), 2**127 - 1
