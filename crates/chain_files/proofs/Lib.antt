@@ -1,11 +1,11 @@
-mod Covered
+pub mod Covered
 mod PartLines
 mod Following
 mod Grouping
 pub mod HexDigits
 mod Keeping
 mod Joinable
-mod OnePart
+pub mod OnePart
 mod Ordering
 mod Reductions
 mod Refused

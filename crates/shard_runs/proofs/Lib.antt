@@ -1,9 +1,9 @@
 pub mod Examples
-mod Lines
-mod Loops
-mod Merged
-mod Rows
-mod Runs
-mod Shapes
-mod Sums
-mod Takes
+pub mod Lines
+pub mod Loops
+pub mod Merged
+pub mod Rows
+pub mod Runs
+pub mod Shapes
+pub mod Sums
+pub mod Takes

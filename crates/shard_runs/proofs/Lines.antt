@@ -1,8 +1,8 @@
--- The line of an action's items is within the limits of shards.
-use Rattle.std.proofs.Common.{◌≡◌, ℕ, suc, ◌≤◌, ℤ, Bool, true, false, ◌&&◌, List, [], ◌∷◌, ◌++◌, length, map, Option, refl, ap, ◌∙◌, arith, if◌then◌else◌}
+-- The line of an action's items is within limits that are wide enough.
+use Rattle.std.proofs.Common.{◌≡◌, ℕ, suc, ◌*◌, ◌^◌, ◌≤◌, ℤ, Bool, true, false, ◌&&◌, List, [], ◌∷◌, ◌++◌, length, map, Option, refl, ap, ◌∙◌, arith, if◌then◌else◌}
 use Rattle.std.specs.Prelude.{⊤, nat_eq, flat_map, ◌||◌}
 use Rattle.std.specs.List.{AllByRecursion, list_all}
-use Rattle.rdf_values.specs.Fold.{Cell, bin, cells_on, flat_cell, fold_items, numbers_of, scalar_of, square_cell, weight_in, weight_in2}
+use Rattle.rdf_values.specs.Fold.{Cell, bin, cell_of, cells_on, flat_cell, fold_items, numbers_of, scalar_of, square_cell, weight_in, weight_in2}
 use Rattle.rdf_values.specs.Words.{Has64Bits}
 use Rattle.rdf_values.specs.declared.action.ActionKind.{ActionKind}
 use Rattle.rdf_values.specs.declared.action.ActionKind.TheVariants as kind
@@ -15,9 +15,9 @@ use Rattle.rdf_values.specs.declared.value.Scalar.TheVariants as scalar
 use Rattle.rdf_model.specs.LoopFacts.{FitsAction}
 use Rattle.histograms.specs.declared.cell_sum.CellSum.{CellSum}
 use Rattle.shard_lines.specs.Lines as lines
-use Rattle.shard_lines.specs.Lines.{EachFits, FitsCell, FitsLine, FitsTake, are_alike, is_number, is_truth}
+use Rattle.shard_lines.specs.Lines.{EachFits, FitsCell, FitsLine, IsShort, are_alike, is_number, is_truth}
 use Rattle.shard_lines.specs.Shapes.{is_taken_from}
-use Rattle.shard_files.specs.Shards.{shard_limits}
+use Rattle.shard_lines.specs.declared.limits.LineLimits.{LineLimits}
 use Rattle.shard_spans.specs.Spans.{cell_sum, filled_line}
 use Rattle.shard_runs.proofs.Sums.{IsLight, cell_fits, greatest_fits, least_fits, reduced_fits, sum_fits}
 
@@ -108,35 +108,64 @@ module _ (xs ys : List ℤ) (x y : List ℕ) (w : Option (List ℕ)) (i j : ℕ)
   square_weights (item.Single z ∷ items) h = absurd h.0
   square_weights (item.Point z v ∷ items) h = absurd h.0
 
--- ---- cells
+-- ---- limits
 
-each_cell : (f : ℕ → Cell) (js : List ℕ) → ((j : ℕ) → FitsCell shard_limits (cell_sum (f j))) → EachFits (FitsCell shard_limits) (map cell_sum (map f js))
-each_cell f [] h = tt
-each_cell f (j ∷ js) h = (h j, each_cell f js h)
+-- the limits hold what so many items come to: numbers of 64 bits, and weights below 2 to the 31st power
+pub record AreWide (m : LineLimits) (most : ℕ) : Type 0 where
+  pub sum : most * 2 ^ 63 ≤ m.sum
+  pub cell_sum : most * 2147483647 ≤ m.cell_sum
+  pub cell_squares : most * 4611686014132420609 ≤ m.cell_squares
 
-each_both : (xs ys : List CellSum) → EachFits (FitsCell shard_limits) xs → EachFits (FitsCell shard_limits) ys → EachFits (FitsCell shard_limits) (xs ++ ys)
-each_both [] ys h k = k
-each_both (x ∷ xs) ys h k = (h.0, each_both xs ys h.1 k)
-
-each_row : (f : ℕ → ℕ → Cell) (is js : List ℕ) → ((i j : ℕ) → FitsCell shard_limits (cell_sum (f i j))) → EachFits (FitsCell shard_limits) (flat_map (λ cells. map cell_sum cells) (map (λ i. map (f i) js) is))
-each_row f [] js h = tt
-each_row f (i ∷ is) js h = each_both (map cell_sum (map (f i) js)) _ (each_cell (f i) js (h i)) (each_row f is js h)
-
--- ---- all actions
+-- a count and the values of a Take are within the limits
+abbrev pub AreFew : LineLimits → ActionKind → List Item → Type 0
+AreFew m kind.Count items = length items ≤ m.count
+AreFew m (kind.Take c) items = IsShort m.values (length (flat_map scalar_of items))
+AreFew m k items = ⊤
 
 -- the values of a Take are of that kind
 abbrev pub TakesAre : ColType → ActionKind → List Item → Type 0
 TakesAre t (kind.Take c) items = AllByRecursion (IsOfKind t) items
 TakesAre t k items = ⊤
 
-pub items_line : (t : ColType) (k : ActionKind) (items : List Item) → length items ≤ 4096000000 → AllByRecursion (FitsAction k) items → TakesAre t k items → FitsLine shard_limits (filled_line (fold_items k items))
-items_line t kind.Count items few h of = omega arith
-items_line t (kind.Sum c) items few h of = let less = few_numbers items in sum_fits (numbers_of items) (omega arith) (number_words (kind.Sum c) (λ z k. k) items h)
-items_line t (kind.Min c) items few h of = least_fits (numbers_of items) (number_words (kind.Min c) (λ z k. k) items h)
-items_line t (kind.Max c) items few h of = greatest_fits (numbers_of items) (number_words (kind.Max c) (λ z k. k) items h)
-items_line t (kind.Take c) items few h of = record { alike = alike t (flat_map scalar_of items) (all_of_kind t items of); fit = scalar_words c items h; short = tt }
-items_line t (kind.Reduce o c) items few h of = reduced_fits o (numbers_of items) (number_words (kind.Reduce o c) (λ z k. k) items h)
-items_line t (kind.Histo1D edges x w) items few h of =
-    each_cell (flat_cell edges items) (cells_on edges) (λ i. let l = flat_weights edges edges x w i items h in let less = l.1 in cell_fits (flat_map (weight_in edges i) items) (omega arith) l.0)
-items_line t (kind.Histo2D xs ys x y w) items few h of =
-    each_row (square_cell xs ys items) (cells_on xs) (cells_on ys) (λ i j. let l = square_weights xs ys x y w i j items h in let less = l.1 in cell_fits (flat_map (weight_in2 xs ys i j) items) (omega arith) l.0)
+module _ (m : LineLimits) (most : ℕ) (wide : AreWide m most) where
+  -- ---- cells
+
+  one_cell : (ws : List ℤ) → length ws ≤ most → AllByRecursion IsLight ws → FitsCell m (cell_sum (cell_of ws))
+  one_cell ws few h =
+      let both = cell_fits most ws few h in
+      let sum = both.0 in
+      let squares = both.1 in
+      let wide_sum = wide.cell_sum in
+      let wide_squares = wide.cell_squares in
+      (omega arith, omega arith)
+
+  each_cell : (f : ℕ → Cell) (js : List ℕ) → ((j : ℕ) → FitsCell m (cell_sum (f j))) → EachFits (FitsCell m) (map cell_sum (map f js))
+  each_cell f [] h = tt
+  each_cell f (j ∷ js) h = (h j, each_cell f js h)
+
+  each_both : (xs ys : List CellSum) → EachFits (FitsCell m) xs → EachFits (FitsCell m) ys → EachFits (FitsCell m) (xs ++ ys)
+  each_both [] ys h k = k
+  each_both (x ∷ xs) ys h k = (h.0, each_both xs ys h.1 k)
+
+  each_row : (f : ℕ → ℕ → Cell) (is js : List ℕ) → ((i j : ℕ) → FitsCell m (cell_sum (f i j))) → EachFits (FitsCell m) (flat_map (λ cells. map cell_sum cells) (map (λ i. map (f i) js) is))
+  each_row f [] js h = tt
+  each_row f (i ∷ is) js h = each_both (map cell_sum (map (f i) js)) _ (each_cell (f i) js (h i)) (each_row f is js h)
+
+  -- ---- all actions
+
+  pub items_line : (t : ColType) (k : ActionKind) (items : List Item) → length items ≤ most → AllByRecursion (FitsAction k) items → TakesAre t k items → AreFew m k items → FitsLine m (filled_line (fold_items k items))
+  items_line t kind.Count items few h of short = short
+  items_line t (kind.Sum c) items few h of short =
+      let less = few_numbers items in
+      let small = sum_fits most (numbers_of items) (omega arith) (number_words (kind.Sum c) (λ z k. k) items h) in
+      let wide_sum = wide.sum in
+      omega arith
+  items_line t (kind.Min c) items few h of short = least_fits (numbers_of items) (number_words (kind.Min c) (λ z k. k) items h)
+  items_line t (kind.Max c) items few h of short = greatest_fits (numbers_of items) (number_words (kind.Max c) (λ z k. k) items h)
+  items_line t (kind.Take c) items few h of short = record { alike = alike t (flat_map scalar_of items) (all_of_kind t items of); fit = scalar_words c items h; short = short }
+  items_line t (kind.Reduce o c) items few h of short = reduced_fits o (numbers_of items) (number_words (kind.Reduce o c) (λ z k. k) items h)
+  items_line t (kind.Histo1D edges x w) items few h of short =
+      each_cell (flat_cell edges items) (cells_on edges) (λ i. let l = flat_weights edges edges x w i items h in let less = l.1 in one_cell (flat_map (weight_in edges i) items) (omega arith) l.0)
+  items_line t (kind.Histo2D xs ys x y w) items few h of short =
+      each_row (square_cell xs ys items) (cells_on xs) (cells_on ys)
+      (λ i j. let l = square_weights xs ys x y w i j items h in let less = l.1 in one_cell (flat_map (weight_in2 xs ys i j) items) (omega arith) l.0)

@@ -31,7 +31,7 @@ from_none : {A : Type 0} (t : A → Bool) (i : ℕ) (xs : List A) → AllByRecur
 from_none t i [] h = refl
 from_none t i (x ∷ xs) h = ap (λ (b : Bool). cond b (Some i) (position_from t (i + 1) xs)) h.0 ∙ from_none t (i + 1) xs h.1
 
-none_at : {A : Type 0} (t : A → Bool) (xs : List A) → AllByRecursion (λ x. t x ≡ false) xs → position t xs ≡ None
+pub none_at : {A : Type 0} (t : A → Bool) (xs : List A) → AllByRecursion (λ x. t x ≡ false) xs → position t xs ≡ None
 none_at t xs h = position_from-zero t xs ∙ from_none t 0 xs h
 
 -- ---- heads
@@ -41,7 +41,7 @@ kind_itself k.Int = refl
 kind_itself k.Bool = refl
 kind_itself k.Vect = refl
 
-columns_itself : (cs : List Column) → same_columns cs cs ≡ true
+pub columns_itself : (cs : List Column) → same_columns cs cs ≡ true
 columns_itself [] = refl
 columns_itself (c ∷ cs) = ap₂ (λ a b. a && b) (ap₂ (λ a b. a && b) (itself c.name) (kind_itself c.kind)) (columns_itself cs)
 

@@ -19,7 +19,7 @@ use Rattle.shard_spans.proofs.SpanFaults.{clusters_none, long, range_of, rows_ne
 -- ---- rows that fit
 
 module _ (columns : List Column) where
-  rows_both : (xs ys : List (List Value)) → FitRows columns xs → FitRows columns ys → FitRows columns (xs ++ ys)
+  pub rows_both : (xs ys : List (List Value)) → FitRows columns xs → FitRows columns ys → FitRows columns (xs ++ ys)
   rows_both [] ys h k = k
   rows_both (x ∷ xs) ys h k = (h.0, rows_both xs ys h.1 k)
 

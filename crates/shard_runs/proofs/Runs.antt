@@ -32,7 +32,7 @@ use Rattle.shard_files.specs.Shards.{FitLoops, shard_limits}
 use Rattle.shard_spans.specs.Spans.{booking_line, clusters_in, loops_of, over_span, pass_line, span_fault, span_loops}
 use Rattle.shard_runs.specs.Kinds.{booking_kind}
 use Rattle.shard_runs.specs.Laws.{IsChecked, RunsAreShards}
-use Rattle.shard_runs.proofs.Lines.{IsOfKind, TakesAre, items_line}
+use Rattle.shard_runs.proofs.Lines.{AreFew, AreWide, IsOfKind, TakesAre, items_line}
 use Rattle.shard_runs.proofs.Loops.{IsLoop, few_passes, few_variations, loops_are, passes_are, some_passes}
 use Rattle.shard_runs.proofs.Rows.{end_within, fault_within, few_clusters, few_rows, rows_fit}
 use Rattle.shard_runs.proofs.Sums.{all_both}
@@ -47,6 +47,15 @@ takes_none t k = tt
 takes_both : (t : ColType) (k : ActionKind) (xs ys : List Item) → TakesAre t k xs → TakesAre t k ys → TakesAre t k (xs ++ ys)
 takes_both t (kind.Take c) xs ys h k = all_both (IsOfKind t) xs ys h k
 takes_both t action xs ys h k = tt
+
+-- what a million entries come to is within the limits of shards
+wide : AreWide shard_limits 4096000000
+wide = record { sum = omega arith; cell_sum = omega arith; cell_squares = omega arith }
+
+are_few : (k : ActionKind) (items : List Item) → length items ≤ 4096000000 → AreFew shard_limits k items
+are_few kind.Count items h = omega arith
+are_few (kind.Take c) items h = tt
+are_few k items h = tt
 
 -- what rows feed to an action, all together
 pub record AreFed (t : ColType) (k : ActionKind) (rows : ℕ) (items : List Item) : Type 0 where
@@ -88,7 +97,9 @@ module _ (d : Dataset) where
     line_fits p (ActionAt k at) well =
         let all = fed k at p.under well rows fit in
         let most = all.few in
-        items_line (booking_kind d (ActionAt k at)) k (flat_map (items_of d k at p.under) rows) (omega arith) all.fit all.takes
+        let items : List Item = flat_map (items_of d k at p.under) rows in
+        let few_items : length items ≤ 4096000000 = omega arith in
+        items_line shard_limits 4096000000 wide (booking_kind d (ActionAt k at)) k items few_items all.fit all.takes (are_few k items few_items)
     line_fits p (ReportOn filters) well = counts_fit filters
 
     lines_fit : (ps : List Pass) → AllByRecursion (λ (p : Pass). FeedsWell d p.result.booking) ps → FitLines shard_limits (map (pass_line some_rows) ps)

@@ -33,10 +33,10 @@ use Rattle.shard_runs.proofs.Takes.{FeedsWell}
 
 -- ---- lengths
 
-equal : (a b : ℕ) → a ≡ b → nat_eq a b ≡ true
+pub equal : (a b : ℕ) → a ≡ b → nat_eq a b ≡ true
 equal a b h = grind (arith, nat_tests, h)
 
-lower : (a b : ℕ) → a < b → nat_lt a b ≡ true
+pub lower : (a b : ℕ) → a < b → nat_lt a b ≡ true
 lower a b h = grind (arith, nat_tests, h)
 
 cells_long : (f : ℕ → Cell) (js : List ℕ) → length (map cell_sum (map f js)) ≡ length js
@@ -83,7 +83,7 @@ module _ (d : Dataset) (rows : List (List Value)) (fit : FitRows d.columns rows)
   line_shaped p (ActionAt k at) well = action_shaped p k at well
   line_shaped p (ReportOn filters) well = equal (length (map (λ filter. counts_of (cutflow some_rows filter)) filters)) (length filters) (flows_long some_rows filters)
 
-  lines_shaped : (ps : List Pass) → AllByRecursion (λ (p : Pass). FeedsWell d p.result.booking) ps → have_shapes (pass_shapes (pass_kind d) ps) (map (pass_line some_rows) ps) ≡ true
+  pub lines_shaped : (ps : List Pass) → AllByRecursion (λ (p : Pass). FeedsWell d p.result.booking) ps → have_shapes (pass_shapes (pass_kind d) ps) (map (pass_line some_rows) ps) ≡ true
   lines_shaped [] h = refl
   lines_shaped (p ∷ ps) h = ap₂ (λ a b. a && b) (line_shaped p p.result.booking h.0) (lines_shaped ps h.1)
 

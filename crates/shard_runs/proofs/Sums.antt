@@ -11,9 +11,7 @@ use Rattle.rdf_values.specs.Words.{Has64Bits}
 use Rattle.rdf_values.specs.declared.action.ReduceOp.{ReduceOp}
 use Rattle.rdf_values.specs.declared.action.ReduceOp.TheVariants as op
 use Rattle.actions.proofs.Sums.{abs_add}
-use Rattle.shard_lines.specs.Lines.{FitsCell, FitsExtreme, IsSmall}
-use Rattle.shard_files.specs.Shards.{shard_limits}
-use Rattle.shard_spans.specs.Spans.{cell_sum}
+use Rattle.shard_lines.specs.Lines.{FitsExtreme}
 
 -- ---- lists
 
@@ -46,9 +44,9 @@ word_small : (z : ℤ) → Has64Bits z → nat_abs z ≤ 2 ^ 63
 word_small (pos n) h = omega arith
 word_small (negsuc n) h = omega arith
 
--- a sum of at most 4,096,000,000 numbers of 64 bits
-pub sum_fits : (zs : List ℤ) → length zs ≤ 4096000000 → AllByRecursion Has64Bits zs → IsSmall shard_limits.sum (integer_sum zs)
-sum_fits zs few h = let small = sum_small (2 ^ 63) zs (all_weaker Has64Bits (λ z. nat_abs z ≤ 2 ^ 63) word_small zs h) in omega arith
+-- a sum of at most so many numbers of 64 bits
+pub sum_fits : (most : ℕ) (zs : List ℤ) → length zs ≤ most → AllByRecursion Has64Bits zs → nat_abs (integer_sum zs) ≤ most * 2 ^ 63
+sum_fits most zs few h = let small = sum_small (2 ^ 63) zs (all_weaker Has64Bits (λ z. nat_abs z ≤ 2 ^ 63) word_small zs h) in omega arith
 
 -- ---- cells
 
@@ -70,8 +68,9 @@ light_small : (w : ℤ) → IsLight w → nat_abs w ≤ 2147483647
 light_small w h = omega arith
 
 -- a cell of at most so many weights
-pub cell_fits : (ws : List ℤ) → length ws ≤ 4096000000 → AllByRecursion IsLight ws → FitsCell shard_limits (cell_sum (cell_of ws))
-cell_fits ws few h =
+pub cell_fits : (most : ℕ) (ws : List ℤ) → length ws ≤ most → AllByRecursion IsLight ws
+    → (nat_abs (cell_of ws).sum ≤ most * 2147483647) × (nat_abs (cell_of ws).squares ≤ most * 4611686014132420609)
+cell_fits most ws few h =
     let many = as_many ws in
     let sum = sum_small 2147483647 ws (all_weaker IsLight (λ w. nat_abs w ≤ 2147483647) light_small ws h) in
     let squares = sum_small 4611686014132420609 (map (λ w. w *ℤ w) ws) (squares_small ws h) in
