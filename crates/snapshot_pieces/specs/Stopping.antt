@@ -1,0 +1,59 @@
+-- How a slot stops.
+use Rattle.std.specs.Prelude.{◌≡◌, ◌<◌, ◌≤◌, ◌⊎◌, ⊤, ℕ, List, [], ◌∷◌, ◌++◌, Some, None, IsSomeAnd, All, map, slice_get}
+use Rattle.rdf_values.specs.declared.fault.Fault.{Fault}
+use Rattle.cluster_claims.specs.Seats.{ClaimsSeen, SeatSeen}
+use Rattle.cluster_claims.specs.Seats as claims
+use Rattle.snapshot_pieces.specs.Facts.{AreSound, IsPieceOf, SnapFacts}
+use Rattle.snapshot_pieces.specs.declared.finished.End.{End}
+use Rattle.snapshot_pieces.specs.declared.finished.End.TheVariants.{Over, Faulted, NoMemory}
+use Rattle.snapshot_pieces.specs.declared.finished.Finished.{Finished}
+use Rattle.snapshot_pieces.specs.declared.piece.Piece.{Piece}
+
+-- a seat of these claims that did nothing
+pub record IsReady (c : ClaimsSeen) (s : SeatSeen) : Type 0 where
+  pub of : claims.IsOf c s
+  pub undrawn : s.drawn ≡ []
+  pub unkept : s.kept ≡ None
+  pub unpassed : s.passed ≡ None
+  pub unlowered : s.lowered ≡ None
+
+-- the clusters of pieces
+abbrev pub clusters_of : List Piece → List ℕ
+clusters_of ps = map (λ (p : Piece). p.cluster) ps
+
+-- each piece has the records of its cluster, which has no fault
+pub record AreMade (facts : SnapFacts) (ps : List Piece) : Type 0 where
+  pub each : All (IsPieceOf facts) ps
+  pub sound : AreSound facts.faults (clusters_of ps)
+
+-- no number is left that is a cluster, and the slot made a piece of each that it drew
+pub record RanOut (c : ClaimsSeen) (seat : SeatSeen) (done : List ℕ) : Type 0 where
+  pub all : seat.drawn ≡ done
+  pub past : IsSomeAnd seat.kept (λ k. c.clusters ≤ k)
+
+-- the slot passed the last cluster over that it drew, and made a piece of each other
+pub record MetBar (c : ClaimsSeen) (seat : SeatSeen) (done : List ℕ) : Type 0 where
+  pub last : ℕ
+  pub cluster : last < c.clusters
+  pub others : seat.drawn ≡ done ++ last ∷ []
+  pub passed : seat.passed ≡ Some last
+
+-- the slot stopped at the last cluster that it drew, which has that fault; all others are sound; and the bar was lowered to the last
+pub record MetFault (facts : SnapFacts) (seat : SeatSeen) (fault : Fault) : Type 0 where
+  pub done : List ℕ
+  pub last : ℕ
+  pub others : seat.drawn ≡ done ++ last ∷ []
+  pub sound : AreSound facts.faults done
+  pub its_fault : slice_get facts.faults last ≡ Some (Some fault)
+  pub lowered : seat.lowered ≡ Some last
+
+-- how the slot stopped
+abbrev pub Stopped : ClaimsSeen → SnapFacts → End → SeatSeen → Type 0
+Stopped c facts (Over pieces) seat = AreMade facts pieces × (RanOut c seat (clusters_of pieces) ⊎ MetBar c seat (clusters_of pieces)) × (seat.lowered ≡ None)
+Stopped c facts (Faulted f) seat = MetFault facts seat f
+Stopped c facts NoMemory seat = ⊤
+
+-- the slot stopped in that way
+pub record HasStopped (c : ClaimsSeen) (facts : SnapFacts) (f : Finished) : Type 0 where
+  pub seat_of : claims.IsOf c f.seat
+  pub stopped : Stopped c facts f.end f.seat

@@ -1,0 +1,13 @@
+//! The records of clusters that slots made side by side: how slots stop, what they tell together, and their records in file order.
+//! Stands on `cluster_claims`; the laws of what slots tell are those of `merge_core`.
+#![tactic(auto)]
+
+pub mod finished;
+pub mod gather;
+pub mod piece;
+pub mod place;
+
+pub use crate::finished::{End, Finished};
+pub use crate::gather::{Outcome, gathered};
+pub use crate::piece::Piece;
+pub use crate::place::placed;
