@@ -1,14 +1,14 @@
 #!/usr/bin/env python3
-"""Runs a script over a chain of tables under Dask's distributed scheduler (Debian package python3-distributed), and prints
-what `rdf chain run` prints, with its status:
+"""Runs a script over a chain of tables under Dask's distributed scheduler (Debian package python3-distributed), and
+prints what `rdf chain run` prints, with its status:
 
     tools/farm/dask_chain.py [OPTIONS] SCRIPT TABLE..
 
-The scheduler is one that runs already (--scheduler tcp://HOST:PORT), whose workers see the same folders, or is started here
-with so many workers on this machine. Each table is a step of its own; parts are joined in groups, and groups of groups,
+The scheduler is one that runs already (--scheduler tcp://HOST:PORT), whose workers see the same folders, or is started
+here with workers on this machine. Each table is a step of its own; parts are joined in groups, and groups of groups,
 until one is left. docs/FARM.md tells more. A step that ends otherwise than with 0 is tried again, and so is one whose
-worker is lost; after the last try no other step begins. Then this ends with the step's status, and standard error names
-the step and has the program's line. Progress stands on standard error.
+worker is lost; after the last try no other step begins. Then this ends with the step's status, and standard error
+names the step and has the program's line. Progress stands on standard error.
 """
 import argparse
 import contextlib
@@ -80,6 +80,7 @@ def words_of():
     parser.add_argument("--slots", metavar="N", type=number(1, 16), default=1, help="slots of each step (1)")
     parser.add_argument("--group", metavar="N", type=number(2, 4096), default=64, help="parts that one step joins (64)")
     parser.add_argument("--tries", metavar="N", type=number(1, 1000), default=3, help="how often a step is tried (3)")
+    parser.add_argument("--quiet", action="store_true", help="no progress")
     asked = parser.parse_args()
     if asked.scheduler and asked.workers:
         parser.error("--workers doesn't come with --scheduler, which has its own")
@@ -138,7 +139,8 @@ def client_of(asked):
 class Progress:
     """How many steps are done, as a line that is written anew on a terminal, else each time a tenth more is done."""
 
-    def __init__(self, steps):
+    def __init__(self, steps, quiet):
+        self.quiet = quiet
         self.all = {kind: sum(step.name.startswith(kind) for step in steps) for kind in ("map", "join")}
         self.done = dict.fromkeys(self.all, 0)
         self.told = 0
@@ -146,10 +148,10 @@ class Progress:
     def note(self, kind):
         self.done[kind] += 1
         tenth = sum(self.done.values()) * 10 // sum(self.all.values())
-        if sys.stderr.isatty() or tenth > self.told:
+        if not self.quiet and (sys.stderr.isatty() or tenth > self.told):
             self.told = tenth
-            line = "farm: " + ", ".join("%d of %d %ss" % (self.done[kind], all, kind) for kind, all in self.all.items() if all)
-            print(line, end="\r" if sys.stderr.isatty() else "\n", file=sys.stderr, flush=True)
+            line = ", ".join("%d of %d %ss" % (self.done[kind], all, kind) for kind, all in self.all.items() if all)
+            print("farm: " + line, end="\r" if sys.stderr.isatty() else "\n", file=sys.stderr, flush=True)
 
     def end(self):
         if sys.stderr.isatty() and self.told:
@@ -169,7 +171,7 @@ def do_all(client, asked, steps):
             do_step, step.name, words, environment, halt, [futures[part] for part in step.parts],
             key="%s-%s" % (step.name, token), retries=asked.tries - 1, pure=False)
     kinds = {future.key: step.name.split("-")[0] for step, future in zip(steps, futures.values())}
-    progress, failed = Progress(steps), {}
+    progress, failed = Progress(steps, asked.quiet), {}
     try:
         for future in as_completed(futures.values()):
             if future.status == "finished":

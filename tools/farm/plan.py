@@ -1,4 +1,4 @@
-"""The steps of a chain, for the Snakefile and dask_chain.py: a map for each table, and joins of groups until one part is left."""
+"""The steps of a chain, for the Snakefile and dask_chain.py: a map for each table, and joins until one part is left."""
 import hashlib
 import os
 from dataclasses import dataclass

@@ -13,8 +13,8 @@ command -v snakemake >/dev/null || { say "there is no snakemake (Debian package 
 
 RDF_FARM_FAILED=$run/failed
 export RDF_FARM_FAILED
-# Parts are named after what they are of, and are there as wholes: so they need no lock, and no other look than at their names.
-snakemake --snakefile "$farm/Snakefile" --directory "$work" --cores "$jobs" --retries $((tries - 1)) --quiet rules \
+# Parts are named after what they are of, and are there as wholes: they need no lock, and no look at their age.
+snakemake --snakefile "$farm/Snakefile" --directory "$work" --cores "$jobs" --retries $((tries - 1)) \
     --nolock --rerun-incomplete --rerun-triggers mtime --forcerun printed \
     --config "script=$script" "tables=$run/tables" "group=$group" "slots=$slots" >&2 </dev/null || {
     [ -f "$run/failed" ] || echo 70 >"$run/failed"

@@ -13,7 +13,7 @@ shift
 [ ! -f "$out" ] || exit 0
 
 case $1 in
-    map) label="map $3 of $4" ;;
+    map) label="map ${3:-} of ${4:-}" ;;
     *) label="$1 to $out" ;;
 esac
 
@@ -47,7 +47,8 @@ status=$?
 if [ $status -eq 0 ] && mv -f "$new" "$out"; then
     exit 0
 fi
-echo "farm: $label: status $status: $(head -n 1 "$new" | cut -c 1-1000)" >&2
+line=$(head -n 1 "$new" | cut -c 1-1000)
+echo "farm: $label: status $status${line:+: $line}" >&2
 rm -f "$new"
 [ $status -ne 0 ] || status=4
 [ -z "${RDF_FARM_FAILED:-}" ] || echo $status >"$RDF_FARM_FAILED"

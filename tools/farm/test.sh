@@ -97,7 +97,8 @@ mkdir "my tables"
 set --
 for i in 0 1 2 3 4 5 6 7 8; do
     set -- "$@" "my tables/t$i.csv"
-    awk -v i=$i 'BEGIN { print "pt:int,v:vec"; for (e = 0; e < 20 + i; e++) printf "%d,%d;%d\n", (e * 7 + i * 13) % 40, e, i }' >"my tables/t$i.csv"
+    awk -v i=$i 'BEGIN { print "pt:int,v:vec"; for (e = 0; e < 20 + i; e++) print (e * 7 + i * 13) % 40 "," e ";" i }' \
+        >"my tables/t$i.csv"
 done
 cat >s.txt <<'TEXT'
 hard = df.Filter("pt > 10", "hard")
@@ -142,7 +143,8 @@ try_step() { # TABLES..
     mv one out
     judge "a part that is there is left as it is" 0 wanted
     step two map s.txt 1 bad.csv
-    judge "a step that is refused" 7 nothing "farm: map 1 of bad.csv: status 7: table bad.csv refused at entry 1 field 0: B3 BadInt"
+    judge "a step that is refused" 7 nothing \
+        "farm: map 1 of bad.csv: status 7: table bad.csv refused at entry 1 field 0: B3 BadInt"
     ls -A | grep two >out
     judge "a step that is refused leaves nothing" 7 nothing
     step two map bad.txt 1 "$5"

@@ -39,8 +39,8 @@ note_table() { # NAME
     echo "$table"
 }
 
-# Sets work, jobs, slots, group, tries, script and count, and writes the tables' names to `$run/tables`. `run` is a folder
-# in the work folder which is there while the recipe runs.
+# Sets work, jobs, slots, group, tries, script and count, and writes the tables' names to `$run/tables`. `run` is a
+# folder in the work folder which is there while the recipe runs.
 read_words() { # WORDS
     work=farm-work jobs=$(nproc) slots=1 group=64 tries=3 more=
     tab=$(printf '\t')
