@@ -90,8 +90,8 @@ def race(runners, turns=TURNS):
                 raise Stopped("%s ended with status %d" % (runner.name, runner.status))
 
 
-def print_times(runners):
-    print("%-24s %10s %12s %10s" % ("best of %d" % TURNS, "seconds", "processor", "peak MB"))
+def print_times(runners, turns=TURNS):
+    print("%-24s %10s %12s %10s" % ("best of %d" % turns, "seconds", "processor", "peak MB"))
     for runner in runners:
         print("%-24s %10.4f %12.4f %10.1f" % (runner.name, runner.seconds, runner.busy, runner.peak / 1e6))
 
