@@ -10,3 +10,4 @@ mod values;
 
 pub use crate::laws::lines_print_their_passes;
 pub use crate::prints::{Merging, merged_text};
+pub use crate::told::put_result;

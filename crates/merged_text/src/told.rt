@@ -99,7 +99,7 @@ fn put_named(
 }
 
 /// Appends the lines of the result of that name, by the lines of a loop's passes.
-pub(crate) fn put_result(
+pub fn put_result(
     alloc: Global,
     text: &mut Text,
     graph: &Graph,

@@ -51,13 +51,13 @@ loops_many g =
     sym (length-map (graph_loops g) (map (pass_at h))) ∙ ap length (loops_are h h itself) ∙ length-map (loop_results h) (λ results. map (λ (p : Pass). Some p) (loop_passes h results))
     ∙ sym (length-map (loop_results h) (loop_passes h))
 
-loop_there : (script : Script) (n : ℕ) → n < length (loops_of script) → slice_get (loops_of script) n ≡ Some (loop_in script n)
+pub loop_there : (script : Script) (n : ℕ) → n < length (loops_of script) → slice_get (loops_of script) n ≡ Some (loop_in script n)
 loop_there script n lt =
     let h = history script in
     let here = there (loop_results h) n (omega (arith, length-map (loop_results h) (loop_passes h))) in
     slice_get-map (loop_passes h) (loop_results h) n ∙ ap (option_map (loop_passes h)) here.1 ∙ ap (λ (o : Option (List Booked)). Some (loop_passes h (unwrap_or o []))) (sym here.1)
 
-one_left : {A : Type 0} (xs : List A) (n : ℕ) (x : A) → slice_get xs n ≡ Some x → drop n xs ≡ x ∷ drop (n + 1) xs
+pub one_left : {A : Type 0} (xs : List A) (n : ℕ) (x : A) → slice_get xs n ≡ Some x → drop n xs ≡ x ∷ drop (n + 1) xs
 one_left [] n x at = absurd (cc)
 one_left {A} (y ∷ ys) zero x at = ap (λ z. z ∷ ys) (same_some at)
   where
@@ -65,7 +65,7 @@ one_left {A} (y ∷ ys) zero x at = ap (λ z. z ∷ ys) (same_some at)
     same_some q = cc
 one_left (y ∷ ys) (suc n) x at = one_left ys n x at ∙ (let e : suc n + 1 ≡ suc (n + 1) = omega arith in ap (λ k. x ∷ drop k (y ∷ ys)) (sym e))
 
-all_dropped : {A : Type 0} (xs : List A) (n : ℕ) → length xs ≤ n → drop n xs ≡ []
+pub all_dropped : {A : Type 0} (xs : List A) (n : ℕ) → length xs ≤ n → drop n xs ≡ []
 all_dropped [] zero le = refl
 all_dropped [] (suc n) le = refl
 all_dropped (x ∷ xs) zero le = absurd (omega arith)

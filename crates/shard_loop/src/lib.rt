@@ -10,4 +10,5 @@ mod passes;
 mod span_run;
 
 pub use crate::loops::span_loops;
+pub use crate::passes::span_lines;
 pub use crate::span_run::{Spanned, run_span};

@@ -69,7 +69,7 @@ module _ (d : Dataset) (spans : List Span) (leads : Lead 0 (length d.rows) spans
   abbrev whole_loop : List Pass → ShardLoop
   whole_loop ps = fault_or_lines (first_fault d ps) (map (pass_line d) ps)
 
-  loop_is : (ps : List Pass) → span_loop spans d 0 (length spans) ps ≡ whole_loop ps
+  pub loop_is : (ps : List Pass) → span_loop spans d 0 (length spans) ps ≡ whole_loop ps
   loop_is ps = ap₂ (λ o e. fault_or_lines o (map (pass_line e) ps)) (whole_fault ps) whole_table
 
   abbrev all_loops : List (List Pass) → List ShardLoop

@@ -1,0 +1,2 @@
+mod Looping
+mod WholeTables

@@ -1,0 +1,20 @@
+use Rattle.std.proofs.Common.{◌≡◌, ◌<◌, length, subst}
+use Rattle.entry_fns.specs.Lists.{functions_in}
+use Rattle.graph_numbers.specs.Graphs.{GraphView, IsGraph, graph_loops}
+use Rattle.rdf_values.specs.Functions.{fn_names}
+use Rattle.chain_loop.proofs.loops.table_loop.Goals as goal
+
+pub run_table-one-requires-clause-job : goal.run_table-one-requires-clause-job
+run_table-one-requires-clause-job g c κs within =
+    let graph = c.args.table.now.graph.now in
+    let same : ◌≡◌ {A = GraphView} graph (record { script = graph.script; header = c.args.table.now.columns.now.table.columns; names = fn_names (functions_in c.args.table.now.functions.now) })
+    = λ i. record { script = graph.script; header = c.requires.graph.0 i; names = c.requires.graph.1 i } in
+    record {
+      graph = same;
+      job = record {
+        graph = subst IsGraph same c.is_booked.ensures;
+        table = c.columns-columns.ensures.valid;
+        cuts = c.cuts.ensures.valid;
+        loop = subst (λ (h : GraphView). c.args.number < length (graph_loops h)) same c.requires.number;
+      };
+    }

@@ -1,0 +1,2 @@
+pub mod ChainPrints
+pub mod Laws

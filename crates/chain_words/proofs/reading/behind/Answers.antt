@@ -1,0 +1,7 @@
+use Rattle.std.proofs.Common.{ap, ◌∙◌, sym, take, drop}
+use Rattle.std.proofs.Math.Seq.{take-length}
+use Rattle.std.proofs.lemmas.List.{length-drop}
+use Rattle.chain_words.proofs.reading.behind.Goals as goal
+
+pub returns : goal.returns
+returns c = ap (λ n. take n (drop c.args.n c.args.word.now)) (sym (length-drop c.args.n c.args.word.now)) ∙ take-length (drop c.args.n c.args.word.now)
