@@ -11,12 +11,10 @@ use Rattle.rdf_values.specs.declared.cell.Cell.{Cell}
 use Rattle.rdf_values.specs.declared.fault.EntryFault.{EntryFault}
 use Rattle.rdf_values.specs.declared.value.Value.{Value}
 use Rattle.rdf_model.specs.Demanded.{with_needs}
-use Rattle.rdf_model.specs.EntryOutcomes.{truth_of}
 use Rattle.rdf_model.specs.Evaluation.{Outcome, Gives, Faults, Needs, ◌>>=◌, for_all}
 use Rattle.expr_eval.specs.Inputs.{input_outcome}
 use Rattle.expr_eval.specs.declared.inputs.Input.{Input}
 use Rattle.expr_eval.specs.declared.inputs.Input.TheVariants as told
-use Rattle.snapshot_text.specs.TableTexts.{entry_text}
 use Rattle.snapshot_rows.specs.Snapshots.{kept_cells}
 use Rattle.snapshot_entries.specs.Entries.{IsEntryAnswer, IsRowAnswer, outcome_at}
 use Rattle.snapshot_entries.specs.Values.{AreServed, Grows, IsAnswer, IsColumn, IsServed, IsStoredOutcome, IsStoredValue, source_of, version_in}

@@ -1,12 +1,11 @@
 -- The filters above a node and its columns, by the numbers of sites and versions.
-use Rattle.std.proofs.Common.{◌≡◌, ℕ, ◌<◌, List, [], ◌∷◌, map, length, Option, Some, None, Ok, refl, sym, ◌∙◌, ap, subst, arith, slice_get}
-use Rattle.std.specs.List.{AllByRecursion}
+use Rattle.std.proofs.Common.{◌≡◌, ℕ, ◌<◌, List, map, length, Ok, sym, subst}
 use Rattle.std.proofs.lemmas.Option.{get_or_from_slice_get, slice_get_within}
 use Rattle.rdf_values.specs.Functions.{fn_names}
 use Rattle.rdf_values.specs.Kinds.{column_kind, scope_of}
 use Rattle.rdf_values.specs.Path.{Under, path}
 use Rattle.rdf_values.specs.Tables.{FitsRow, IsStored}
-use Rattle.rdf_values.specs.Verdict.{AreAccepted, scope_at}
+use Rattle.rdf_values.specs.Verdict.{scope_at}
 use Rattle.rdf_values.specs.declared.statement.Statement.{Statement}
 use Rattle.rdf_values.specs.declared.value.ColType.{ColType}
 use Rattle.rdf_values.specs.declared.value.ColType.TheVariants as k
@@ -24,7 +23,7 @@ use Rattle.graph_numbers.specs.Sources.{IsBelow, source_in, sources}
 use Rattle.graph_numbers.specs.Versions.{version_at, version_count}
 use Rattle.graph_numbers.specs.declared.source.Source.{Source}
 use Rattle.graph_numbers.specs.declared.source.Source.TheVariants as from
-use Rattle.graph_numbers.proofs.ColumnSources.{HasSource, IsGiven, column_source}
+use Rattle.graph_numbers.proofs.ColumnSources.{IsGiven, column_source}
 use Rattle.graph_numbers.proofs.Equations.{source_is}
 use Rattle.graph_numbers.proofs.Extending.{itself, source_count}
 use Rattle.graph_numbers.proofs.Passing.{AreVisible, through_is, values_are}

@@ -1,11 +1,11 @@
 -- Rows one after another: their first fault, and the entries that are kept.
-use Rattle.std.proofs.Common.{◌≡◌, ◌⊎◌, inl, inr, ℕ, suc, ◌+◌, ◌-◌, ◌<◌, ◌≤◌, List, [], ◌∷◌, ◌++◌, length, Option, Some, None, refl, sym, ◌∙◌, ap, ap₂, subst, arith, slice_get}
+use Rattle.std.proofs.Common.{◌≡◌, ℕ, suc, ◌+◌, ◌<◌, ◌≤◌, List, [], ◌∷◌, ◌++◌, length, Option, Some, None, refl, sym, ◌∙◌, ap, ap₂, arith}
 use Rattle.std.specs.Prelude.{filter_map}
 use Rattle.std.specs.List.{cons_option}
 use Rattle.rdf_values.specs.Path.{Path, Under}
 use Rattle.rdf_values.specs.declared.fault.EntryFault.{EntryFault}
 use Rattle.rdf_values.specs.declared.value.Value.{Value}
-use Rattle.rdf_model.specs.Evaluation.{Outcome, Gives, Faults, Needs}
+use Rattle.rdf_model.specs.Evaluation.{Gives, Faults}
 use Rattle.rdf_model.specs.Results.{Dataset, fault_in}
 use Rattle.snapshot_rows.specs.Snapshots.{SnapFault, cells_in, fault_from, fault_or, kept_row, kept_rows, row_outcome}
 

@@ -1,8 +1,7 @@
 -- What a site comes to, by what its versions come to; and what is known of the versions that it reads.
-use Rattle.std.proofs.Common.{◌≡◌, ℕ, ◌<◌, Bool, true, false, not, List, [], ◌∷◌, map, length, Option, Some, None, refl, sym, ◌∙◌, ap, subst, arith, nat_eq, slice_get, if◌then◌else◌}
+use Rattle.std.proofs.Common.{◌≡◌, ℕ, ◌<◌, Bool, true, false, not, List, [], ◌∷◌, map, length, Option, Some, None, refl, sym, ◌∙◌, ap, subst, nat_eq, slice_get, if◌then◌else◌}
 use Rattle.std.specs.Prelude.{filter}
 use Rattle.std.specs.List.{AllByRecursion}
-use Rattle.std.proofs.lemmas.List.Elements.{recursion_from_All}
 use Rattle.rdf_values.specs.Depends.{columns_in}
 use Rattle.rdf_values.specs.Functions.{fn_names}
 use Rattle.rdf_values.specs.Kinds.{FunctionNames, scope_of}
@@ -16,12 +15,11 @@ use Rattle.rdf_values.specs.declared.value.ColType.{ColType}
 use Rattle.rdf_values.specs.declared.value.Value.{Value}
 use Rattle.rdf_model.specs.ColumnValues.{tag_element}
 use Rattle.rdf_model.specs.Demanded.{with_needs}
-use Rattle.rdf_model.specs.Evaluation.{Outcome, Gives, Faults, Needs, ◌>>=◌, evaluate, call_outcome, untyped}
+use Rattle.rdf_model.specs.Evaluation.{Outcome, Gives, Faults, Needs, ◌>>=◌, evaluate, call_outcome}
 use Rattle.rdf_model.specs.Laws.{FitsOutcome}
 use Rattle.rdf_model.specs.Results.{Dataset}
 use Rattle.rdf_model.proofs.Missing.{site_alike, tag_alike, alike_is}
 use Rattle.expr_check.specs.NumKinds.{CheckedExpr, IsWellTyped, distinct}
-use Rattle.graph_numbers.specs.Graphs.{IsSiteExpr}
 use Rattle.graph_numbers.specs.Kinds.{version_kinds}
 use Rattle.graph_numbers.specs.Sites.{SiteAt, site_outcome, sites}
 use Rattle.graph_numbers.specs.Sources.{IsBelow, cell_value, site_value, source_in, source_value, sources}

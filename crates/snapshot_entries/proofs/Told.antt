@@ -1,6 +1,6 @@
 -- What is told of the versions of an entry, by what is known of their sites.
 use Rattle.std.proofs.Common.{◌≡◌, ℕ, ◌<◌, List, length, get_or, Option, Some, None, Result, Ok, Err, refl, sym, ◌∙◌, ap, subst, arith}
-use Rattle.std.specs.Prelude.{MatchOption, slice_get, slice_set}
+use Rattle.std.specs.Prelude.{MatchOption, slice_get}
 use Rattle.std.proofs.lemmas.Option.{slice_get-get_or}
 use Rattle.rdf_values.specs.Functions.{fn_names}
 use Rattle.rdf_values.specs.Kinds.{scope_of}
@@ -9,7 +9,7 @@ use Rattle.rdf_values.specs.declared.fault.EntryFault.{EntryFault}
 use Rattle.rdf_values.specs.declared.value.Value.{Value}
 use Rattle.rdf_model.specs.ColumnValues.{tag_element}
 use Rattle.rdf_model.specs.Demanded.{with_needs}
-use Rattle.rdf_model.specs.Evaluation.{Outcome, Gives, Faults, Needs, ◌>>=◌}
+use Rattle.rdf_model.specs.Evaluation.{Outcome, ◌>>=◌}
 use Rattle.rdf_model.specs.Results.{Dataset}
 use Rattle.rdf_model.proofs.Verdicts.{verdict_is_the_first_refusal}
 use Rattle.graph_numbers.specs.Graphs.{booked_statements}
@@ -18,7 +18,7 @@ use Rattle.graph_numbers.specs.declared.source.Source.{Source}
 use Rattle.graph_numbers.specs.declared.source.Source.TheVariants as from
 use Rattle.snapshot_plan.specs.Views.{PlanView}
 use Rattle.snapshot_entries.specs.Jobs.{IsWork}
-use Rattle.snapshot_entries.specs.Values.{AreKnown, IsHeld, IsReadable, IsSourceHeld, element_of, outcome_of, row_in, site_behind, site_in, site_total, source_of, version_in}
+use Rattle.snapshot_entries.specs.Values.{AreKnown, IsHeld, IsReadable, IsSourceHeld, element_of, outcome_of, row_in, site_in, site_total, source_of, version_in}
 use Rattle.snapshot_entries.specs.declared.known.Known.{Known}
 
 pub accepted_of : (p : PlanView) (d : Dataset) → IsWork p d → AreAccepted (fn_names d.fns) (scope_of d.columns) (booked_statements p.graph)

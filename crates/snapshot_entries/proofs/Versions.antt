@@ -1,5 +1,5 @@
 -- The numbers of a plan's versions and sites, by what the graph answers.
-use Rattle.std.proofs.Common.{◌≡◌, ℕ, ◌<◌, ◌≤◌, List, length, sym, ap, ap₂, ◌∙◌, subst, arith}
+use Rattle.std.proofs.Common.{◌≡◌, ℕ, ◌≤◌, List, length, sym, ap, ap₂, ◌∙◌, arith}
 use Rattle.rdf_values.specs.Functions.{fn_names}
 use Rattle.rdf_values.specs.Path.{path, target_of}
 use Rattle.rdf_values.specs.declared.column.Column.{Column}

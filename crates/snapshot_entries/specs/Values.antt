@@ -1,5 +1,5 @@
 -- What the sites and versions of a plan's graph come to in an entry, by their numbers, and what is known of them.
-use Rattle.std.specs.Prelude.{◌≡◌, ⊤, ◌<◌, ℕ, Bool, List, [], ◌∷◌, length, MatchOption, Option, Some, None, Result, Ok, Err, slice_get, unwrap_or}
+use Rattle.std.specs.Prelude.{◌≡◌, ⊤, ◌<◌, ℕ, Bool, List, [], length, MatchOption, Option, Some, None, Result, Ok, Err, slice_get, unwrap_or}
 use Rattle.std.specs.List.{AllByRecursion}
 use Rattle.rdf_values.specs.Functions.{fn_names}
 use Rattle.rdf_values.specs.declared.fault.EntryFault.{EntryFault}

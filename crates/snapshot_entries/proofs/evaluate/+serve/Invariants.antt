@@ -1,4 +1,4 @@
-use Rattle.std.proofs.Common.{◌≡◌, ℕ, ◌<◌, get_or}
+use Rattle.std.proofs.Common.{ℕ, ◌<◌, get_or}
 use Rattle.snapshot_entries.specs.Jobs.{data_of, plan_of}
 use Rattle.snapshot_entries.specs.Values.{AreKnown, Grows, IsSourceHeld, source_of}
 use Rattle.snapshot_entries.proofs.evaluate.+serve.Given as goal

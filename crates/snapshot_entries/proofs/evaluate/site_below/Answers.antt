@@ -1,12 +1,10 @@
-use Rattle.std.proofs.Common.{◌≡◌, ◌<◌, ℕ, List, map, Option, Some, None, refl, ◌∙◌, sym, ap}
-use Rattle.std.specs.Prelude.{IfSome, Contains}
+use Rattle.std.proofs.Common.{◌≡◌, ◌<◌, ℕ, map, Option, Some, None, ◌∙◌, sym, ap}
+use Rattle.std.specs.Prelude.{IfSome}
 use Rattle.rdf_values.specs.declared.value.ColType.{ColType}
 use Rattle.rdf_model.specs.Results.{Dataset}
-use Rattle.expr_check.specs.NumKinds.{CheckedExpr}
-use Rattle.graph_numbers.specs.Graphs.{IsSiteExpr}
 use Rattle.snapshot_plan.specs.Views.{PlanView}
-use Rattle.snapshot_entries.specs.Jobs.{IsWork, data_of, plan_of}
-use Rattle.snapshot_entries.specs.Values.{plan_graph, site_behind, source_of}
+use Rattle.snapshot_entries.specs.Jobs.{data_of, plan_of}
+use Rattle.snapshot_entries.specs.Values.{site_behind, source_of}
 use Rattle.snapshot_entries.proofs.Evaluated.{below}
 use Rattle.snapshot_entries.proofs.Serving.{behind_below, in_list}
 use Rattle.snapshot_entries.proofs.evaluate.site_below.Goals as goal

@@ -1,4 +1,4 @@
-use Rattle.std.proofs.Common.{◌∷◌, List, Ok, sym, ap, ◌∙◌, subst}
+use Rattle.std.proofs.Common.{sym, subst}
 use Rattle.snapshot_entries.specs.Jobs.{data_of, plan_of}
 use Rattle.snapshot_entries.specs.Values.{AreServed}
 use Rattle.snapshot_entries.proofs.Answering.{served_more}
