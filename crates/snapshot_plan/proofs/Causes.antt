@@ -1,12 +1,11 @@
 -- The first cause that applies, step by step.
-use Rattle.std.proofs.Common.{◌≡◌, ◌≤◌, ◌<◌, ◌+◌, ◌*◌, ℕ, Bool, true, false, List, [], length, Option, Some, None, refl, ap, sym, ◌∙◌, arith}
-use Rattle.std.specs.Prelude.{filter, not, nat_lt, if◌then◌else◌}
+use Rattle.std.proofs.Common.{◌≡◌, ◌≤◌, ◌<◌, ℕ, true, false, List, [], length, Option, Some, None, refl, ap, arith}
+use Rattle.std.specs.Prelude.{nat_lt}
 use Rattle.std.proofs.lemmas.Bool.Decides.{nat_tests}
 use Rattle.rdf_values.specs.Path.{Under, Variation}
 use Rattle.rdf_values.specs.Verdict.{is_node}
-use Rattle.rdf_values.specs.declared.statement.Statement.{Statement}
 use Rattle.graph_numbers.specs.Graphs.{GraphView, booked_statements, graph_variations}
-use Rattle.snapshot_plan.specs.Plans.{first_bad, is_under, makes_node, statements_planned}
+use Rattle.snapshot_plan.specs.Plans.{first_bad, is_under, statements_planned}
 use Rattle.snapshot_plan.specs.Views.{IsNumber, cause_in, scope_in}
 use Rattle.snapshot_plan.specs.declared.cause.SnapCause.TheVariants as cause
 

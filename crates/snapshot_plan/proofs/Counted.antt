@@ -1,5 +1,5 @@
 -- One more statement is counted.
-use Rattle.std.proofs.Common.{◌≡◌, ◌+◌, ℕ, Bool, true, false, List, [], ◌∷◌, length, refl, arith}
+use Rattle.std.proofs.Common.{◌≡◌, ◌+◌, Bool, true, false, List, ◌∷◌, length, refl, arith}
 use Rattle.std.specs.Prelude.{filter, if◌then◌else◌}
 use Rattle.rdf_values.specs.declared.statement.Statement.{Statement}
 use Rattle.snapshot_plan.specs.Plans.{makes_node}

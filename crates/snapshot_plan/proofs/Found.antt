@@ -1,7 +1,7 @@
 -- The kind of a column at a node, by what look-ups answer.
 use Rattle.std.proofs.Common.{◌≡◌, ◌<◌, ℕ, Bool, true, false, List, length, Some, Ok, Err, refl, ap, ap₂, sym, ◌∙◌}
 use Rattle.std.specs.Prelude.{slice_get}
-use Rattle.rdf_values.specs.Kinds.{FunctionNames, column_kind, scope_of}
+use Rattle.rdf_values.specs.Kinds.{column_kind, scope_of}
 use Rattle.rdf_values.specs.Path.{path, target_of}
 use Rattle.rdf_values.specs.Verdict.{is_visible, scope_at}
 use Rattle.rdf_values.specs.declared.column.Column.{Column}

@@ -1,10 +1,10 @@
 -- The columns of a plan are a header.
-use Rattle.std.proofs.Common.{◌≡◌, ◌<◌, ◌≤◌, ◌+◌, ℕ, Bool, true, false, ◌||◌, List, [], ◌∷◌, ◌++◌, length, map, Option, Some, None, Result, Ok, Err, refl, ap, ap₂, subst, ◌∙◌, arith}
+use Rattle.std.proofs.Common.{◌≡◌, ◌+◌, ℕ, Bool, true, false, ◌||◌, List, [], ◌∷◌, ◌++◌, map, Option, Some, None, Result, Ok, Err, refl, ap₂, subst, ◌∙◌, arith}
 use Rattle.std.specs.Prelude.{not, if◌then◌else◌}
 use Rattle.std.proofs.lemmas.List.{length-map, map-append}
 use Rattle.rdf_values.specs.Kinds.{Scope, column_kind}
 use Rattle.rdf_values.specs.Names.{among}
-use Rattle.rdf_values.specs.Tables.{AreColumns, IsHeader, IsStored, has_name}
+use Rattle.rdf_values.specs.Tables.{AreColumns, IsStored, has_name}
 use Rattle.rdf_values.specs.Verdict.{is_node, kind_or_int}
 use Rattle.rdf_values.specs.declared.graph_cause.GraphCause.{GraphCause}
 use Rattle.rdf_values.specs.declared.value.ColType.{ColType}

@@ -4,3 +4,4 @@ pub mod Counted
 pub mod Found
 pub mod Headed
 pub mod Varied
+pub mod Listed

@@ -2,6 +2,7 @@
 ghost use Rattle.std.specs.Prelude.{◌≡◌, ◌<◌, ◌≤◌, [], length, Err, Ok, Some, MatchOption, slice_get};
 ghost use Rattle.rdf_values.specs.Kinds.{column_kind};
 ghost use Rattle.rdf_values.specs.Names.{among};
+ghost use Rattle.rdf_values.specs.Verdict.{kind_or_int};
 ghost use Rattle.rdf_values.specs.declared.graph_cause.GraphCause.TheVariants.{UnknownColumn};
 ghost use Rattle.snapshot_plan.specs.Plans.{first_bad, is_bad};
 ghost use Rattle.snapshot_plan.specs.Views.{scope_in};
@@ -30,6 +31,16 @@ fn kind_at(graph: &Graph, node: &Name, name: &Name) -> Option<ColType>
     let target = target_of(lines, node, name);
     let version = named_version(lines, header, kinds.len(), node, target);
     Some(kind_of(kinds, version))
+}
+
+/// The kind of a column at a node; Int where it isn't visible there.
+pub(crate) fn kind_or_int(graph: &Graph, node: &Name, name: &Name) -> ColType
+    ensures { result ≡ kind_or_int (column_kind (scope_in graph.now node.now) name.now) }
+{
+    match kind_at(graph, node, name) {
+        Some(kind) => kind,
+        None => ColType::Int,
+    }
 }
 
 fn is_among(names: &[Name], name: &Name) -> bool

@@ -2,15 +2,15 @@
 ghost use Rattle.std.specs.Prelude.{◌≡◌, ◌<◌, ◌≤◌, None, Some, length, IfOk, MatchResult};
 ghost use Rattle.rdf_values.specs.Answers.{Answers};
 ghost use Rattle.graph_numbers.specs.Graphs.{graph_under, graph_variations};
-ghost use Rattle.snapshot_plan.specs.Views.{IsNumber, IsPlan, IsWithin, cause_in, plan_of, planned, under_of};
+ghost use Rattle.snapshot_plan.specs.Views.{IsNumber, IsPlan, IsWithin, cause_in, plan_columns, plan_of, planned, under_of};
 
 use crate::amounts::node_count;
 use crate::cause::SnapCause;
-use crate::columns::first_bad;
+use crate::columns::{first_bad, kind_or_int};
 use crate::refusal::SnapRefusal;
 use crate::under::{Under, number_under};
 use node_graph::Graph;
-use rdf_values::{ListOf, Memory, Name};
+use rdf_values::{Column, ListOf, Memory, Name};
 use statement_checks::lookup::is_node;
 use std::alloc::Global;
 use std::marker::Model;
@@ -124,6 +124,26 @@ impl SnapPlan {
         ensures { result.now ≡ self.now.columns }
     {
         self.columns.as_slice()
+    }
+
+    /// The columns with their kinds, as a table has them.
+    pub fn header(&self, alloc: Global) -> Result<ListOf<Column>, Memory>
+        ensures { IfOk result (λ header. header ≡ plan_columns self.now) }
+    {
+        let mut header = ListOf::new(alloc);
+        for column in self.columns.as_slice() {
+            let kind = kind_or_int(&self.graph, &self.node, column);
+            let name = column.copy(alloc)?;
+            header.push(Column { name, kind })?;
+        }
+        Ok(header)
+    }
+
+    /// What `plan` found of it.
+    pub fn is_planned(&self)
+        ensures { IsPlan self.now }
+    {
+        let _variation = self.variation;
     }
 
     /// The number of the variation; none for nominal.

@@ -1,0 +1,12 @@
+pub mod Answering
+pub mod Evaluated
+pub mod None
+pub mod Paths
+pub mod Planned
+pub mod Ranging
+pub mod Rows
+pub mod Serving
+pub mod Sites
+pub mod Stored
+pub mod Told
+pub mod Versions

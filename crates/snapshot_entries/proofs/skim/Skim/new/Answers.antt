@@ -1,0 +1,12 @@
+use Rattle.std.proofs.Common.{length, sym, ap, ◌∙◌, arith}
+use Rattle.graph_numbers.specs.Graphs.{GraphView, graph_sites}
+use Rattle.snapshot_entries.specs.Jobs.{data_of, plan_of}
+use Rattle.snapshot_entries.proofs.skim.Skim.new.Goals as goal
+
+pub returns : goal.returns
+returns g c = record {
+  wanted = c.in_ok-wanted.ensures;
+  known = c.in_ok-cells.ensures (plan_of c.args.job.now) (data_of c.args.job.now)
+      (sym (c.sites.ensures ∙ ap (λ (g : GraphView). length (graph_sites g)) (c.graph.ensures ∙ c.requires.work.graph)))
+      (let few = c.requires.work.table.few in omega (arith, few));
+}

@@ -1,0 +1,4 @@
+pub mod Entries
+pub mod Jobs
+pub mod Values
+pub mod Wanted

@@ -1,0 +1,6 @@
+use Rattle.std.proofs.Common.{subst}
+use Rattle.snapshot_plan.specs.Views.{IsPlan}
+use Rattle.snapshot_plan.proofs.planning.SnapPlan.is_planned.Goals as goal
+
+pub returns : goal.returns
+returns c = subst IsPlan c.self.view_is c.self.invariant.0
