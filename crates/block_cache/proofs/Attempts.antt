@@ -1,6 +1,6 @@
 -- What one evaluation of a site at the places of a group comes to.
-use Rattle.std.proofs.Common.{◌≡◌, ◌<◌, ◌≤◌, ◌+◌, ◌||◌, ◌⊎◌, inl, inr, not, ℕ, zero, suc, Bool, true, false, List, [], ◌∷◌, length, take, set, Option, Some, None, All, refl, sym, ◌∙◌, ap, subst, arith, slice_get}
-use Rattle.std.specs.Prelude.{Contains, count_by, nat_lt}
+use Rattle.std.proofs.Common.{◌≡◌, ◌<◌, ◌≤◌, ◌+◌, ◌||◌, ◌⊎◌, inl, inr, not, ℕ, zero, suc, Bool, true, false, List, [], ◌∷◌, length, take, set, Option, Some, None, refl, sym, ◌∙◌, ap, subst, arith, slice_get}
+use Rattle.std.specs.Prelude.{Contains, count_by}
 use Rattle.std.proofs.lemmas.Bool.{cases_eq, ltb-true}
 use Rattle.std.proofs.lemmas.List.Elements.{All-contains}
 use Rattle.std.proofs.lemmas.Option.{slice_get_within}
@@ -16,15 +16,13 @@ use Rattle.expr_lanes.proofs.Sequence.{filtered_out}
 use Rattle.graph_numbers.specs.Graphs.{GraphView, graph_sites, graph_variations}
 use Rattle.graph_numbers.specs.declared.source.Source.{Source}
 use Rattle.graph_numbers.specs.declared.source.Source.TheVariants as from
-use Rattle.block_lanes.specs.Lanes.{IsEvaluated, LaneView, is_held, is_tried}
-use Rattle.block_lanes.proofs.LaneSteps.{in_given}
+use Rattle.block_lanes.specs.Lanes.{LaneView, is_held, is_tried}
 use Rattle.entry_cache.specs.Jobs.{JobView, job_graph}
 use Rattle.entry_cache.specs.Keys.{key, key_count, keys_before, slot_at}
 use Rattle.entry_cache.specs.Store.{IsMissingSource, IsSiteOf, held_in, is_held as has_held, source_at}
-use Rattle.entry_cache.specs.declared.held.Held.TheVariants as held
 use Rattle.entry_cache.proofs.FillLaws.{there}
 use Rattle.entry_cache.proofs.KeyLaws.{key_below}
-use Rattle.block_cache.specs.Blocks.{AreReady, IsTelling, IsTriedOver, cells_at, held_at}
+use Rattle.block_cache.specs.Blocks.{AreReady, IsTelling, IsTriedOver, cells_at}
 use Rattle.block_cache.specs.Faults.{IsLeastFault, fault_of}
 use Rattle.block_cache.specs.Fills.{IsGrownOver, IsOnlyCalled, IsSameAt, begun_at, begun_count, holds_at, is_below, lane_begun, lane_holds, site_fault}
 use Rattle.block_cache.specs.Turns.{IsAttemptedOver, IsFaultOf, IsWaiting, need_at}

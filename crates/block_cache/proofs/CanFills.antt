@@ -1,21 +1,25 @@
 -- The sites that a site meets can be filled where it can.
-use Rattle.std.proofs.Common.{◌≡◌, ◌<◌, ◌≤◌, ◌+◌, ℕ, ℤ, Bool, true, false, List, [], length, Option, Some, None, refl, sym, ◌∙◌, ap, subst, arith, nat_eq, slice_get, if◌then◌else◌}
+use Rattle.std.proofs.Common.{◌≡◌, ◌<◌, ◌+◌, ℕ, ℤ, Bool, true, false, List, [], length, Option, Some, refl, sym, ◌∙◌, ap, subst, arith, nat_eq, slice_get, if◌then◌else◌}
 use Rattle.std.proofs.lemmas.Bool.Decides.{Decides-eqb}
 use Rattle.rdf_values.specs.EachColumn.{EachColumn}
+use Rattle.rdf_values.specs.Path.{history}
 use Rattle.rdf_values.specs.declared.value.ColType.{ColType}
 use Rattle.rdf_values.specs.declared.value.Value.{Value}
 use Rattle.rdf_model.specs.Demanded.{with_needs}
-use Rattle.rdf_model.specs.Evaluation.{Outcome, Gives, Faults, Needs, call_outcome, evaluate, is_need, without}
+use Rattle.rdf_model.specs.Evaluation.{Outcome, Gives, Faults, Needs, call_outcome, is_need, without}
 use Rattle.rdf_model.proofs.Close as close
 use Rattle.rdf_model.proofs.KnownColumns.{each_weaker}
-use Rattle.graph_numbers.specs.Graphs.{graph_sites}
+use Rattle.graph_numbers.proofs.Equations.{columns_below}
+use Rattle.graph_numbers.specs.Graphs.{graph_sites, graph_under}
 use Rattle.graph_numbers.specs.Sites.{SiteAt}
+use Rattle.graph_numbers.specs.Sources.{IsBelow}
+use Rattle.graph_numbers.specs.Versions.{version_count}
 use Rattle.graph_numbers.specs.declared.source.Source.{Source}
 use Rattle.graph_numbers.specs.declared.source.Source.TheVariants as from
 use Rattle.entry_cache.specs.Jobs.{JobView, IsJob, job_graph}
 use Rattle.entry_cache.specs.Plain.{ArePlain}
 use Rattle.entry_cache.specs.Store.{IsSiteOf, IsSound, MeetsAt, site_in, source_at, version_in}
-use Rattle.entry_cache.proofs.EvaluateLaws.{whole}
+use Rattle.entry_cache.proofs.EvaluateLaws.{accepted_of, whole}
 use Rattle.entry_cache.proofs.FillLaws.{in_source}
 use Rattle.entry_cache.proofs.PlainLaws.{plain_closed}
 use Rattle.block_cache.specs.Fills.{CanFill, IsRankedBelow}
@@ -77,3 +81,13 @@ some_level j first u count s kinds cells scratch levels can = let room = can.roo
 pub can_moved : (j : JobView) (first : ℕ) (u : Option ℕ) (count s : ℕ) (kinds now : List ColType) (cells : List (List ℤ)) (scratch left levels : ℕ) → CanFill j first u count kinds cells scratch levels s → now ≡ kinds → left ≡ scratch → CanFill j first u count now cells left levels s
 can_moved j first u count s kinds now cells scratch left levels can same enough =
     subst (λ (n : ℕ). CanFill j first u count now cells n levels s) (sym enough) (subst (λ (l : List ColType). CanFill j first u count l cells scratch levels s) (sym same) can)
+
+-- the sites of what a site reads have lower numbers: they may stand for the ranks
+pub falls_by_number : (j : JobView) (job : IsJob j) (u : Option ℕ) (s : ℕ) (x : SiteAt) → slice_get (graph_sites (job_graph j)) s ≡ Some x → EachColumn (λ c. IsRankedBelow (λ n. n) s (source_at j u c)) x.tree
+falls_by_number j job u s x at =
+    each_weaker (λ c. (c < version_count j.dataset.columns (history j.script)) × IsBelow (length j.dataset.columns) s (source_at j u c)) _ (λ c below. lower (source_at j u c) below.1) x.tree (columns_below j.dataset.fns j.dataset.columns (graph_under (job_graph j) u) (history j.script) (accepted_of j job) s x at)
+  where
+    lower : (src : Source) → IsBelow (length j.dataset.columns) s src → IsRankedBelow (λ n. n) s src
+    lower (from.Cell col) below = tt
+    lower (from.Site t) below = below
+    lower (from.Element t k tags) below = below

@@ -1,6 +1,5 @@
 -- What is known over a block grows, one step after another.
-use Rattle.std.proofs.Common.{◌≡◌, ◌<◌, ◌≤◌, ◌+◌, ◌⊎◌, inl, inr, ℕ, Bool, true, false, List, length, Option, refl, sym, ◌∙◌, ap, subst, arith}
-use Rattle.std.specs.List.{filter}
+use Rattle.std.proofs.Common.{◌≡◌, ◌<◌, ◌≤◌, ◌+◌, ◌⊎◌, inl, inr, ℕ, Bool, true, false, List, length, Option, refl, sym, ◌∙◌, ap, arith}
 use Rattle.graph_numbers.specs.Graphs.{graph_sites}
 use Rattle.graph_numbers.specs.declared.source.Source.{Source}
 use Rattle.graph_numbers.specs.declared.source.Source.TheVariants as from
@@ -8,7 +7,7 @@ use Rattle.expr_lanes.specs.Places.{EachPlace, is_in}
 use Rattle.block_lanes.specs.Lanes.{LaneView}
 use Rattle.entry_cache.specs.Jobs.{JobView, job_graph}
 use Rattle.entry_cache.specs.Keys.{key, key_count}
-use Rattle.entry_cache.specs.Store.{IsClosed, IsSiteOf, IsSourceIn, MeetsAt, held_in, is_held as has_held, source_at}
+use Rattle.entry_cache.specs.Store.{IsClosed, IsSiteOf, IsSourceIn, MeetsAt, source_at}
 use Rattle.entry_cache.proofs.FillLaws.{grows_on, in_source}
 use Rattle.block_cache.specs.Blocks.{cells_at}
 use Rattle.block_cache.specs.Fills.{IsGrownOver, IsOnlyCalled, IsSameAt, IsSettled, begun_at, holds_at}

@@ -1,17 +1,12 @@
 -- What is known of a key at a place, by its lane.
-use Rattle.std.proofs.Common.{◌≡◌, ◌<◌, ◌≤◌, ◌+◌, ◌||◌, ◌⊎◌, inl, inr, not, ℕ, zero, suc, Bool, true, false, List, [], ◌∷◌, length, map, set, Option, Some, None, refl, sym, ◌∙◌, ap, subst, arith, if◌then◌else◌, slice_get, get_or, cond}
-use Rattle.std.specs.Prelude.{count_by}
-use Rattle.std.specs.List.{filter, sum_by}
-use Rattle.std.proofs.lemmas.Bool.{cases_eq}
+use Rattle.std.proofs.Common.{◌≡◌, ◌<◌, ◌+◌, not, ℕ, zero, suc, Bool, true, false, List, [], ◌∷◌, length, map, set, Option, Some, None, refl, sym, ◌∙◌, ap, subst, arith, if◌then◌else◌, slice_get, get_or}
+use Rattle.std.specs.List.{filter}
 use Rattle.std.proofs.lemmas.List.Sums.{sum_by-set}
 use Rattle.std.proofs.lemmas.Option.{slice_get-get_or, slice_get_within, get_or_from_slice_get}
-use Rattle.rdf_values.specs.declared.fault.EntryFault.{EntryFault}
-use Rattle.rdf_values.specs.declared.value.ColType.{ColType}
 use Rattle.rdf_values.specs.declared.value.Value.{Value}
-use Rattle.rdf_model.specs.Evaluation.{Outcome, Gives}
+use Rattle.rdf_model.specs.Evaluation.{Gives}
 use Rattle.rdf_model.specs.Results.{fault_in}
 use Rattle.graph_numbers.specs.Graphs.{graph_sites}
-use Rattle.expr_lanes.specs.Places.{EachPlace, is_in}
 use Rattle.block_lanes.specs.Lanes.{LaneView, is_held, is_tried, kinds_of, room_of, rooms_of, tried_count, value_of}
 use Rattle.entry_cache.specs.Jobs.{JobView, job_graph}
 use Rattle.entry_cache.specs.Keys.{key, key_count}
@@ -19,7 +14,7 @@ use Rattle.entry_cache.specs.Store.{Grows, IsRight, held_in, is_held as has_held
 use Rattle.entry_cache.specs.declared.held.Held.{Held}
 use Rattle.entry_cache.specs.declared.held.Held.TheVariants as held
 use Rattle.block_cache.specs.Blocks.{AreReady, cells_at, held_at, held_value}
-use Rattle.block_cache.specs.Fills.{IsSameAt, begun_at, begun_count, holds_at, lane_begun, lane_holds, site_fault}
+use Rattle.block_cache.specs.Fills.{IsSameAt, begun_count, holds_at, lane_begun, lane_holds, site_fault}
 use Rattle.block_cache.proofs.BlockLaws.{held_of_lane, lane_held, right_value, value_held}
 use Rattle.block_cache.proofs.OverLaws.{get_other, get_set, held_true}
 

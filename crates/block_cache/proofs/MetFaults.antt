@@ -1,7 +1,6 @@
 -- A version that an evaluation meets and that faults gives its fault to the site.
 use Rattle.std.proofs.Common.{◌≡◌, ℕ, Bool, true, false, List, [], refl, sym, ◌∙◌, ap, subst, nat_eq, slice_get, Option, Some, None, if◌then◌else◌}
 use Rattle.std.proofs.lemmas.Bool.Decides.{Decides-eqb}
-use Rattle.rdf_values.specs.EachColumn.{EachColumn, EachArgument}
 use Rattle.rdf_values.specs.Tree.{Tree, Trees, Lit, Truth, Col, Neg, Not, Bin, Cond, Pick, Call, End, More}
 use Rattle.rdf_values.specs.declared.expr.BinOp.{BinOp}
 use Rattle.rdf_values.specs.declared.expr.BinOp.TheVariants as op

@@ -1,11 +1,10 @@
 -- What is noted of stops, one after another.
-use Rattle.std.proofs.Common.{◌≡◌, ◌<◌, ◌≤◌, ◌+◌, ◌++◌, ◌⊎◌, inl, inr, not, All, ℕ, Bool, true, false, List, [], ◌∷◌, length, length-set, take, set, get_or, refl, sym, ◌∙◌, ap, subst, arith, get_or-set_same, get_or-set_other}
-use Rattle.std.specs.Prelude.{Contains, nat_eq, slice_set}
+use Rattle.std.proofs.Common.{◌≡◌, ◌<◌, ◌+◌, ◌++◌, ◌⊎◌, inl, inr, All, ℕ, Bool, true, false, List, [], ◌∷◌, length, length-set, take, set, get_or, refl, sym, ◌∙◌, ap, subst, arith, get_or-set_same, get_or-set_other}
+use Rattle.std.specs.Prelude.{Contains}
 use Rattle.std.proofs.lemmas.Bool.{cases_eq}
 use Rattle.std.proofs.lemmas.List.Elements.{Contains-append_left, Contains-push, Contains-push_cases}
 use Rattle.std.proofs.lemmas.List.{take_more}
-use Rattle.expr_eval.specs.declared.stop.ScalarStop.{ScalarStop}
-use Rattle.expr_eval.specs.declared.stop.ScalarStop.TheVariants.{Fault, Need}
+use Rattle.expr_eval.specs.declared.stop.ScalarStop.TheVariants.{Need}
 use Rattle.expr_lanes.specs.Places.{EachPlace, is_in, is_marked, stopped}
 use Rattle.expr_lanes.specs.declared.stopped.Stopped.{Stopped}
 use Rattle.expr_lanes.proofs.Selected.{in_more}

@@ -1,12 +1,11 @@
 -- The places of a selection that pass a filter.
-use Rattle.std.proofs.Common.{◌≡◌, ◌<◌, ◌+◌, ℕ, ℤ, Bool, true, false, List, [], length, get_or, Option, Some, None, refl, sym, ◌∙◌, ap, subst, slice_get}
+use Rattle.std.proofs.Common.{◌≡◌, ◌<◌, ◌+◌, ℕ, ℤ, true, List, [], length, get_or, Option, Some, sym, ◌∙◌, ap, subst, slice_get}
 use Rattle.std.proofs.lemmas.Option.{slice_get-get_or}
 use Rattle.std.specs.List.{filter}
 use Rattle.rdf_values.specs.declared.value.ColType.{ColType}
 use Rattle.rdf_values.specs.declared.value.ColType.TheVariants as kind
-use Rattle.rdf_values.specs.declared.value.Value.{Value}
 use Rattle.rdf_model.specs.EntryOutcomes.{truth_of}
-use Rattle.rdf_model.specs.Evaluation.{Outcome, Gives, ◌>>=◌, is_set}
+use Rattle.rdf_model.specs.Evaluation.{Gives, ◌>>=◌, is_set}
 use Rattle.rdf_model.specs.Results.{is_true}
 use Rattle.expr_lanes.specs.Marks.{lane_value}
 use Rattle.expr_lanes.specs.Places.{EachPlace, IsSelected, at_place, is_in}

@@ -1,8 +1,8 @@
 -- The filling of a site, from its first evaluation to the last.
-use Rattle.std.proofs.Common.{◌≡◌, ◌<◌, ◌≤◌, ◌+◌, ◌*◌, ◌||◌, ◌⊎◌, inl, inr, not, ℕ, zero, suc, Bool, true, false, List, [], ◌∷◌, length, Option, Some, None, Result, Ok, Err, IfOk, OnOk, refl, sym, ◌∙◌, ap, subst, arith, cond}
-use Rattle.std.specs.Prelude.{count_by, nat_eq, nat_lt}
+use Rattle.std.proofs.Common.{◌≡◌, ◌<◌, ◌≤◌, ◌+◌, ◌⊎◌, inl, inr, not, ℕ, Bool, true, false, List, [], ◌∷◌, length, Option, Some, None, Result, Ok, Err, IfOk, OnOk, refl, sym, ◌∙◌, ap, subst, arith, cond}
+use Rattle.std.specs.Prelude.{count_by, nat_eq}
 use Rattle.std.specs.List.{filter}
-use Rattle.std.proofs.lemmas.Bool.{cases_eq, cases_lt, lt-ltb, ltb-true}
+use Rattle.std.proofs.lemmas.Bool.{cases_lt, lt-ltb, ltb-true}
 use Rattle.std.proofs.lemmas.Bool.Decides.{Decides-eqb}
 use Rattle.std.proofs.lemmas.List.Sums.{length-filter, sum_by-cons}
 use Rattle.rdf_values.specs.declared.fault.EntryFault.{EntryFault}
@@ -11,7 +11,6 @@ use Rattle.rdf_values.specs.declared.value.Value.{Value}
 use Rattle.rdf_model.specs.Evaluation.{Outcome, Gives, Faults, Needs}
 use Rattle.rdf_model.specs.Results.{fault_in}
 use Rattle.expr_lanes.specs.Places.{AreRising, EachPlace, IsSelected, is_in}
-use Rattle.expr_lanes.specs.declared.TheConstants.{MAX_PLACES}
 use Rattle.expr_lanes.proofs.Sequence.{filtered_in, first_in, rest_in}
 use Rattle.graph_numbers.specs.Graphs.{graph_sites}
 use Rattle.graph_numbers.specs.declared.source.Source.{Source}
@@ -21,8 +20,8 @@ use Rattle.entry_cache.specs.Jobs.{JobView, IsJob, job_graph}
 use Rattle.entry_cache.specs.Keys.{key, key_count}
 use Rattle.entry_cache.specs.Store.{IsSiteOf, MeetsAt, site_in, source_at}
 use Rattle.block_cache.specs.Blocks.{AreReady}
-use Rattle.block_cache.specs.Fills.{IsFilledOver, IsGrownOver, IsSameAt, IsSettled, IsSpentOver, below_fault, begun_at, begun_count, fault_over, holds_at, is_below, site_fault}
-use Rattle.block_cache.specs.Turns.{IsAttemptedOver, IsFaultOf, IsResumedOver, IsSettledTo, IsUnderway, IsWaiting, found_or, left_to_begin, need_at}
+use Rattle.block_cache.specs.Fills.{IsFilledOver, IsGrownOver, IsSameAt, IsSettled, IsSpentOver, below_fault, begun_at, holds_at, is_below, site_fault}
+use Rattle.block_cache.specs.Turns.{IsFaultOf, IsResumedOver, IsSettledTo, IsUnderway, IsWaiting, found_or, left_to_begin, need_at}
 use Rattle.block_cache.specs.declared.faults.PlaceFault.{PlaceFault}
 use Rattle.block_cache.proofs.Attempts.{key_lower}
 use Rattle.block_cache.proofs.GrownLaws.{grown_below, grown_on, later_keys, other_places, settled_all}

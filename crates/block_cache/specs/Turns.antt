@@ -1,5 +1,5 @@
 -- How far the filling of a site over a block has come.
-use Rattle.std.specs.Prelude.{◌≡◌, ◌⊎◌, ◌<◌, ◌≤◌, ◌+◌, ◌*◌, ⊤, ℕ, Bool, true, false, not, List, length, Option, Some, None, count_by, slice_index}
+use Rattle.std.specs.Prelude.{◌≡◌, ◌⊎◌, ◌<◌, ◌≤◌, ◌+◌, ◌*◌, ⊤, ℕ, true, false, not, List, length, Option, Some, None, count_by, slice_index}
 use Rattle.std.specs.List.{filter, range_with_len, sum_by}
 use Rattle.rdf_values.specs.declared.fault.EntryFault.{EntryFault}
 use Rattle.expr_lanes.specs.Places.{EachPlace, is_in}

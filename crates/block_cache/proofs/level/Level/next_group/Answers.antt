@@ -1,8 +1,7 @@
-use Rattle.std.proofs.Common.{◌<◌, ◌≡◌, ◌∙◌, ap, arith, get_or, List, ℕ, not, true, nat_eq, subst, sym}
+use Rattle.std.proofs.Common.{◌<◌, ◌≡◌, ◌∙◌, ap, get_or, List, ℕ, not, true, subst, sym}
 use Rattle.std.specs.List.{filter}
 use Rattle.expr_lanes.specs.Places.{is_in}
 use Rattle.expr_lanes.proofs.Selected.{is_in_at}
-use Rattle.block_cache.specs.Turns.{need_at}
 use Rattle.block_cache.proofs.Members.{filter_same, twice_not}
 use Rattle.block_cache.proofs.level.Level.next_group.Goals as goal
 
