@@ -2,3 +2,15 @@ pub mod BlockLaws
 pub mod OverLaws
 pub mod ColumnCells
 pub mod LeastFaults
+pub mod MetFaults
+pub mod Knowns
+pub mod StopLists
+pub mod Members
+pub mod Attempts
+pub mod GrownLaws
+pub mod LeftToBegin
+pub mod CanTries
+pub mod UnderwayLaws
+pub mod CanFills
+pub mod NotedNeeds
+pub mod PassedLaws

@@ -28,12 +28,12 @@ use Rattle.block_cache.proofs.BlockLaws.{cells_long, given_right, held_of_lane, 
 
 -- ---- a lane that is written
 
-get_set : (lanes : List LaneView) (k : ℕ) (l : LaneView) → k < length lanes → slice_get (set lanes k l) k ≡ Some l
+pub get_set : (lanes : List LaneView) (k : ℕ) (l : LaneView) → k < length lanes → slice_get (set lanes k l) k ≡ Some l
 get_set [] k l inside = absurd (omega (arith, inside))
 get_set (x ∷ lanes) zero l inside = refl
 get_set (x ∷ lanes) (suc k) l inside = get_set lanes k l (omega (arith, inside))
 
-get_other : (lanes : List LaneView) (k i : ℕ) (l : LaneView) → (i ≡ k → ⊥) → slice_get (set lanes k l) i ≡ slice_get lanes i
+pub get_other : (lanes : List LaneView) (k i : ℕ) (l : LaneView) → (i ≡ k → ⊥) → slice_get (set lanes k l) i ≡ slice_get lanes i
 get_other [] k i l other = refl
 get_other (x ∷ lanes) zero zero l other = absurd (other refl)
 get_other (x ∷ lanes) zero (suc i) l other = refl
@@ -69,14 +69,14 @@ written_part lanes below rest k l parts long =
 
 -- ---- what it holds
 
-held_true : (l : LaneView) (p : ℕ) → is_held l p ≡ true → held_at l p ≡ held_value (value_of l p)
+pub held_true : (l : LaneView) (p : ℕ) → is_held l p ≡ true → held_at l p ≡ held_value (value_of l p)
 held_true l p h = ap (λ b. if b then held_value (value_of l p) else held.Nothing) h
 
 held_false : (l : LaneView) (p : ℕ) → is_held l p ≡ false → held_at l p ≡ held.Nothing
 held_false l p h = ap (λ b. if b then held_value (value_of l p) else held.Nothing) h
 
 -- a place that came to no value holds what it held
-same_held : (f : ℕ → Outcome ℕ Value) (sel left : List ℕ) (own lane : LaneView) (stops more : List Stopped) → IsEvaluated f sel left own lane stops more → EachPlace sel (λ p. is_held own p ≡ false) → (p : ℕ) → is_in p left ≡ false → held_at own p ≡ held_at lane p
+pub same_held : (f : ℕ → Outcome ℕ Value) (sel left : List ℕ) (own lane : LaneView) (stops more : List Stopped) → IsEvaluated f sel left own lane stops more → EachPlace sel (λ p. is_held own p ≡ false) → (p : ℕ) → is_in p left ≡ false → held_at own p ≡ held_at lane p
 same_held f sel left own lane stops more ev unknown p not_left = by (is_held own p) refl (is_in p sel) refl
   where
     as_was : is_held lane p ≡ is_held own p

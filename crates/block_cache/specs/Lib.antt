@@ -1,2 +1,4 @@
 pub mod Blocks
 pub mod Faults
+pub mod Fills
+pub mod Turns

@@ -6,4 +6,7 @@
 pub mod attempt;
 pub mod cells;
 pub mod faults;
+pub mod fill;
+pub mod level;
+pub mod passing;
 mod view;

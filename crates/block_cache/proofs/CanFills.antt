@@ -1,0 +1,93 @@
+-- The sites that a site meets can be filled where it can.
+use Rattle.std.proofs.Common.{◌≡◌, ◌<◌, ◌+◌, ℕ, ℤ, Bool, true, false, List, [], length, Option, Some, refl, sym, ◌∙◌, ap, subst, arith, nat_eq, slice_get, if◌then◌else◌}
+use Rattle.std.proofs.lemmas.Bool.Decides.{Decides-eqb}
+use Rattle.rdf_values.specs.EachColumn.{EachColumn}
+use Rattle.rdf_values.specs.Path.{history}
+use Rattle.rdf_values.specs.declared.value.ColType.{ColType}
+use Rattle.rdf_values.specs.declared.value.Value.{Value}
+use Rattle.rdf_model.specs.Demanded.{with_needs}
+use Rattle.rdf_model.specs.Evaluation.{Outcome, Gives, Faults, Needs, call_outcome, is_need, without}
+use Rattle.rdf_model.proofs.Close as close
+use Rattle.rdf_model.proofs.KnownColumns.{each_weaker}
+use Rattle.graph_numbers.proofs.Equations.{columns_below}
+use Rattle.graph_numbers.specs.Graphs.{graph_sites, graph_under}
+use Rattle.graph_numbers.specs.Sites.{SiteAt}
+use Rattle.graph_numbers.specs.Sources.{IsBelow}
+use Rattle.graph_numbers.specs.Versions.{version_count}
+use Rattle.graph_numbers.specs.declared.source.Source.{Source}
+use Rattle.graph_numbers.specs.declared.source.Source.TheVariants as from
+use Rattle.entry_cache.specs.Jobs.{JobView, IsJob, job_graph}
+use Rattle.entry_cache.specs.Plain.{ArePlain}
+use Rattle.entry_cache.specs.Store.{IsSiteOf, IsSound, MeetsAt, site_in, source_at, version_in}
+use Rattle.entry_cache.proofs.EvaluateLaws.{accepted_of, whole}
+use Rattle.entry_cache.proofs.FillLaws.{in_source}
+use Rattle.entry_cache.proofs.PlainLaws.{plain_closed}
+use Rattle.block_cache.specs.Fills.{CanFill, IsRankedBelow}
+
+known_never : (o : Outcome ⊥ Value) → is_need (with_needs {M = ℕ} o) ≡ true → ⊥
+known_never (Gives v) e = cc e
+known_never (Faults k) e = cc e
+known_never (Needs m) e = elim m [ ]
+
+-- what holds of each column of an expression holds of each that its evaluation meets
+pub met_each : (j : JobView) (job : IsJob j) (entry : ℕ) (u : Option ℕ) (s c : ℕ) (P : ℕ → Type 0) (met : MeetsAt j entry u s c) → EachColumn P met.0.tree → P c
+met_each j job entry u s c P met each = go _ _ (close.evaluate_close N (without nat_eq c (version_in j entry u)) (version_in j entry u) (call_outcome j.dataset.fns) met.0.tree (each_weaker P _ (λ d v. alone d v (nat_eq c d) refl) met.0.tree each)) met.2
+    (whole j job entry u [] none_held s met.0 met.1)
+  where
+    N : ℕ → Type 0
+    N m = P c
+
+    none_held : IsSound j entry []
+    none_held = record { each = λ w r lt. tt }
+
+    alone : (d : ℕ) → P d → (b : Bool) → nat_eq c d ≡ b → close.Close {M = ℕ} {A = Value} N (if b then Needs c else version_in {M = ℕ} j entry u d) (version_in {M = ℕ} j entry u d)
+    alone d v true e = close.missing (subst P (sym ((Decides-eqb c d).0 e)) v)
+    alone d v false e = close.same
+
+    go : (o p : Outcome ℕ Value) → close.Close N o p → is_need o ≡ true → p ≡ with_needs (site_in j entry u s) → P c
+    go o p close.same m w = absurd (known_never (site_in j entry u s) (ap is_need (sym w) ∙ m))
+    go o p (close.missing {d = d} n) m w = n
+
+pub met_used : (j : JobView) (job : IsJob j) (entry : ℕ) (u : Option ℕ) (s c t : ℕ) (used : ℕ → Bool) → ArePlain j used → used s ≡ true → MeetsAt j entry u s c → IsSiteOf t (source_at j u c) → used t ≡ true
+met_used j job entry u s c t used plain has met site = in_source used t (source_at j u c) site ((plain_closed j job entry u used plain).each s c has met)
+
+ranked : (rank : ℕ → ℕ) (m t : ℕ) (x : Source) → IsSiteOf t x → IsRankedBelow rank m x → rank t < m
+ranked rank m t (from.Cell col) site h = elim site [ ]
+ranked rank m t (from.Site s) site h = subst (λ (n : ℕ). rank n < m) site h
+ranked rank m t (from.Element s k tags) site h = subst (λ (n : ℕ). rank n < m) site h
+
+-- with one level fewer
+pub can_below : (j : JobView) (job : IsJob j) (first : ℕ) (u : Option ℕ) (count s c t p : ℕ) (kinds : List ColType) (cells : List (List ℤ)) (scratch levels fewer : ℕ) → CanFill j first u count kinds cells scratch levels s → MeetsAt j (first + p) u s c → IsSiteOf t (source_at j u c) → levels ≡ fewer + 1
+    → CanFill j first u count kinds cells scratch fewer t
+can_below j job first u count s c t p kinds cells scratch levels fewer can met site less = record {
+  used = can.used;
+  plain = can.plain;
+  has = met_used j job (first + p) u s c t can.used can.plain can.has met site;
+  kinds_are = can.kinds_are;
+  rank = can.rank;
+  each = can.each;
+  room =
+      (let falls = met_each j job (first + p) u s c (λ d. IsRankedBelow can.rank (can.rank s) (source_at j u d)) met (can.each s met.0 can.has met.1).falls in
+      let lower = ranked can.rank (can.rank s) t (source_at j u c) site falls in
+      let room = can.room in
+      omega (arith, lower, room, less));
+}
+
+-- there is a level for a site that can be filled
+pub some_level : (j : JobView) (first : ℕ) (u : Option ℕ) (count s : ℕ) (kinds : List ColType) (cells : List (List ℤ)) (scratch levels : ℕ) → CanFill j first u count kinds cells scratch levels s → 0 < levels
+some_level j first u count s kinds cells scratch levels can = let room = can.room in omega (arith, room)
+
+-- over lanes of the same kinds
+pub can_moved : (j : JobView) (first : ℕ) (u : Option ℕ) (count s : ℕ) (kinds now : List ColType) (cells : List (List ℤ)) (scratch left levels : ℕ) → CanFill j first u count kinds cells scratch levels s → now ≡ kinds → left ≡ scratch → CanFill j first u count now cells left levels s
+can_moved j first u count s kinds now cells scratch left levels can same enough =
+    subst (λ (n : ℕ). CanFill j first u count now cells n levels s) (sym enough) (subst (λ (l : List ColType). CanFill j first u count l cells scratch levels s) (sym same) can)
+
+-- the sites of what a site reads have lower numbers: they may stand for the ranks
+pub falls_by_number : (j : JobView) (job : IsJob j) (u : Option ℕ) (s : ℕ) (x : SiteAt) → slice_get (graph_sites (job_graph j)) s ≡ Some x → EachColumn (λ c. IsRankedBelow (λ n. n) s (source_at j u c)) x.tree
+falls_by_number j job u s x at =
+    each_weaker (λ c. (c < version_count j.dataset.columns (history j.script)) × IsBelow (length j.dataset.columns) s (source_at j u c)) _ (λ c below. lower (source_at j u c) below.1) x.tree (columns_below j.dataset.fns j.dataset.columns (graph_under (job_graph j) u) (history j.script) (accepted_of j job) s x at)
+  where
+    lower : (src : Source) → IsBelow (length j.dataset.columns) s src → IsRankedBelow (λ n. n) s src
+    lower (from.Cell col) below = tt
+    lower (from.Site t) below = below
+    lower (from.Element t k tags) below = below

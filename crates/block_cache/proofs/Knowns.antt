@@ -1,0 +1,117 @@
+-- What is known of a key at a place, by its lane.
+use Rattle.std.proofs.Common.{◌≡◌, ◌<◌, ◌+◌, not, ℕ, zero, suc, Bool, true, false, List, [], ◌∷◌, length, map, set, Option, Some, None, refl, sym, ◌∙◌, ap, subst, arith, if◌then◌else◌, slice_get, get_or}
+use Rattle.std.specs.List.{filter}
+use Rattle.std.proofs.lemmas.List.Sums.{sum_by-set}
+use Rattle.std.proofs.lemmas.Option.{slice_get-get_or, slice_get_within, get_or_from_slice_get}
+use Rattle.rdf_values.specs.declared.value.Value.{Value}
+use Rattle.rdf_model.specs.Evaluation.{Gives}
+use Rattle.rdf_model.specs.Results.{fault_in}
+use Rattle.graph_numbers.specs.Graphs.{graph_sites}
+use Rattle.block_lanes.specs.Lanes.{LaneView, is_held, is_tried, kinds_of, room_of, rooms_of, tried_count, value_of}
+use Rattle.entry_cache.specs.Jobs.{JobView, job_graph}
+use Rattle.entry_cache.specs.Keys.{key, key_count}
+use Rattle.entry_cache.specs.Store.{Grows, IsRight, held_in, is_held as has_held, site_in}
+use Rattle.entry_cache.specs.declared.held.Held.{Held}
+use Rattle.entry_cache.specs.declared.held.Held.TheVariants as held
+use Rattle.block_cache.specs.Blocks.{AreReady, cells_at, held_at, held_value}
+use Rattle.block_cache.specs.Fills.{IsSameAt, begun_count, holds_at, lane_begun, lane_holds, site_fault}
+use Rattle.block_cache.proofs.BlockLaws.{held_of_lane, lane_held, right_value, value_held}
+use Rattle.block_cache.proofs.OverLaws.{get_other, get_set, held_true}
+
+-- ---- what is held
+
+lane_says : (o : Option LaneView) (p : ℕ) → has_held (lane_held o p) ≡ lane_holds o p
+lane_says None p = refl
+lane_says (Some l) p = go (is_held l p) (value_of l p)
+  where
+    go : (b : Bool) (v : Value) → has_held (if b then held_value v else held.Nothing) ≡ b
+    go true v = value_held v
+    go false v = refl
+
+pub holds_is : (n : ℕ) (lanes : List LaneView) (k p : ℕ) → has_held (held_in (cells_at n lanes p) k) ≡ holds_at lanes k p
+holds_is n lanes k p = ap has_held (held_of_lane n lanes p k) ∙ lane_says (slice_get lanes k) p
+
+pub same_holds : (n : ℕ) (a b : List LaneView) (k p : ℕ) → IsSameAt n a b k p → holds_at b k p ≡ holds_at a k p
+same_holds n a b k p same = sym (holds_is n b k p) ∙ ap has_held same.1 ∙ holds_is n a k p
+
+pub same_refl : (n : ℕ) (a : List LaneView) (k p : ℕ) → IsSameAt n a a k p
+same_refl n a k p = (refl, refl)
+
+pub same_on : (n : ℕ) (a b c : List LaneView) (k p : ℕ) → IsSameAt n a b k p → IsSameAt n b c k p → IsSameAt n a c k p
+same_on n a b c k p h i = (i.0 ∙ h.0, i.1 ∙ h.1)
+
+nothing_is : (h : Held) → has_held h ≡ false → h ≡ held.Nothing
+nothing_is held.Nothing e = refl
+nothing_is (held.Int z) e = cc e
+nothing_is (held.Bool b) e = cc e
+nothing_is (held.Vect zs) e = cc e
+nothing_is (held.Faulted k) e = cc e
+
+pub nothing_held : (n : ℕ) (lanes : List LaneView) (k p : ℕ) → holds_at lanes k p ≡ false → held_in (cells_at n lanes p) k ≡ held.Nothing
+nothing_held n lanes k p lacks = nothing_is (held_in (cells_at n lanes p) k) (holds_is n lanes k p ∙ lacks)
+
+pub holds_nothing : (n : ℕ) (lanes : List LaneView) (k p : ℕ) → held_in (cells_at n lanes p) k ≡ held.Nothing → holds_at lanes k p ≡ false
+holds_nothing n lanes k p none = sym (holds_is n lanes k p) ∙ ap has_held none
+
+pub holds_on : (n : ℕ) (a b : List LaneView) (k p : ℕ) → Grows (cells_at n a p) (cells_at n b p) → holds_at a k p ≡ true → holds_at b k p ≡ true
+holds_on n a b k p grows holds = let was = holds_is n a k p ∙ holds in sym (holds_is n b k p) ∙ ap has_held (grows k was) ∙ was
+
+-- what is held by one and the other
+pub lacks_before : (n : ℕ) (a b : List LaneView) (k p : ℕ) → Grows (cells_at n a p) (cells_at n b p) → holds_at b k p ≡ false → holds_at a k p ≡ false
+lacks_before n a b k p grows lacks = go (holds_at a k p) refl
+  where
+    go : (c : Bool) → holds_at a k p ≡ c → c ≡ false
+    go true h = absurd (cc (lacks, holds_on n a b k p grows h))
+    go false h = refl
+
+-- a held value is the site's
+module _ (j : JobView) (first : ℕ) (u : Option ℕ) (count s : ℕ) (inside : s < length (graph_sites (job_graph j))) (lanes : List LaneView) (ready : AreReady j first count lanes) (p : ℕ) (low : p < count) where
+  held_right : (o : Option LaneView) → lane_holds o p ≡ true → lane_held o p ≡ held_in (cells_at (key_count (job_graph j)) lanes p) (key (job_graph j) s u) → (v : Value) × (site_in {M = ⊥} j (first + p) u s ≡ Gives v)
+  held_right None holds at = cc holds
+  held_right (Some l) holds at = (
+    value_of l p,
+    right_value (site_in j (first + p) u s) (value_of l p) (subst (λ (h : Held). IsRight (site_in j (first + p) u s) h) (sym at ∙ held_true l p holds) ((ready.sound p low).each u s inside)),
+  )
+
+  pub held_gives : holds_at lanes (key (job_graph j) s u) p ≡ true → (v : Value) × (site_in {M = ⊥} j (first + p) u s ≡ Gives v)
+  held_gives holds = held_right (slice_get lanes (key (job_graph j) s u)) holds (sym (held_of_lane (key_count (job_graph j)) lanes p (key (job_graph j) s u)))
+
+  pub held_no_fault : holds_at lanes (key (job_graph j) s u) p ≡ true → site_fault j first u s p ≡ None
+  held_no_fault holds = ap fault_in (held_gives holds).1
+
+-- ---- a lane that is written
+
+map_set : {A : Type 0} (f : LaneView → A) (lanes : List LaneView) (k : ℕ) (own lane : LaneView) → slice_get lanes k ≡ Some own → f lane ≡ f own → map f (set lanes k lane) ≡ map f lanes
+map_set f [] k own lane at same = refl
+map_set {A = A} f (l ∷ lanes) zero own lane at same = let e : l ≡ own = cc at in let h : f lane ≡ f l = same ∙ ap f (sym e) in ap (λ (x : A). x ∷ map f lanes) h
+map_set f (l ∷ lanes) (suc k) own lane at same = ap (λ xs. f l ∷ xs) (map_set f lanes k own lane at same)
+
+pub kinds_set : (lanes : List LaneView) (k : ℕ) (own lane : LaneView) → slice_get lanes k ≡ Some own → lane.kind ≡ own.kind → kinds_of (set lanes k lane) ≡ kinds_of lanes
+kinds_set lanes k own lane at same = map_set (λ (l : LaneView). l.kind) lanes k own lane at same
+
+pub rooms_set : (lanes : List LaneView) (k : ℕ) (own lane : LaneView) → slice_get lanes k ≡ Some own → room_of lane ≡ room_of own → rooms_of (set lanes k lane) ≡ rooms_of lanes
+rooms_set lanes k own lane at same = map_set room_of lanes k own lane at same
+
+pub count_set : (lanes : List LaneView) (k m : ℕ) (own lane : LaneView) → slice_get lanes k ≡ Some own → tried_count lane ≡ tried_count own + m → begun_count (set lanes k lane) ≡ begun_count lanes + m
+count_set lanes k m own lane at more =
+    let e = sum_by-set tried_count lanes k lane own (slice_get_within lanes k own at) in
+    let same = ap tried_count (get_or_from_slice_get lanes k own own at) in
+    omega (arith, e, same, more)
+
+pub other_same : (n : ℕ) (lanes : List LaneView) (k i p : ℕ) (lane : LaneView) → (i ≡ k → ⊥) → IsSameAt n lanes (set lanes k lane) i p
+other_same n lanes k i p lane other =
+    let e = get_other lanes k i lane other in
+    (ap (λ o. lane_begun o p) e, held_of_lane n (set lanes k lane) p i ∙ ap (λ o. lane_held o p) e ∙ sym (held_of_lane n lanes p i))
+
+pub own_same : (n : ℕ) (lanes : List LaneView) (k p : ℕ) (own lane : LaneView) → slice_get lanes k ≡ Some own → is_tried lane p ≡ is_tried own p → held_at own p ≡ held_at lane p → IsSameAt n lanes (set lanes k lane) k p
+own_same n lanes k p own lane at tried held_alike =
+    let e = get_set lanes k lane (slice_get_within lanes k own at) in (
+      ap (λ o. lane_begun o p) e ∙ tried ∙ ap (λ o. lane_begun o p) (sym at),
+      held_of_lane n (set lanes k lane) p k ∙ ap (λ o. lane_held o p) e ∙ sym held_alike ∙ ap (λ o. lane_held o p) (sym at) ∙ sym (held_of_lane n lanes p k),
+    )
+
+-- the places that are left where a lane holds nothing
+pub kept_lacking : (lanes : List LaneView) (k own : ℕ) (d : LaneView) (sel copied left : List ℕ) → k ≡ own → k < length lanes → copied ≡ sel → left ≡ filter (λ p. not (is_held (get_or lanes k d) p)) copied → left ≡ filter (λ p. not (holds_at lanes own p)) sel
+kept_lacking lanes k own d sel copied left same inside copy kept =
+    let at : slice_get lanes own ≡ Some (get_or lanes k d) = ap (slice_get lanes) (sym same) ∙ slice_get-get_or lanes k d inside in
+    kept ∙ ap (filter (λ p. not (is_held (get_or lanes k d) p))) copy ∙ ap (λ o. filter (λ p. not (lane_holds o p)) sel) (sym at)

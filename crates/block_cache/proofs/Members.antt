@@ -1,0 +1,104 @@
+-- Places of selections that a test keeps, and the first fault among them.
+use Rattle.std.proofs.Common.{◌≡◌, ◌≤◌, ◌||◌, not, ℕ, Bool, true, false, List, [], ◌∷◌, length, Option, Some, None, refl, sym, ◌∙◌, ap, arith, cond}
+use Rattle.std.specs.Prelude.{nat_eq, nat_lt}
+use Rattle.std.specs.List.{filter}
+use Rattle.std.proofs.lemmas.Bool.{lt-ltb}
+use Rattle.std.proofs.lemmas.Bool.Decides.{Decides-eqb}
+use Rattle.std.proofs.lemmas.List.Sums.{length-filter, count_by-le-length}
+use Rattle.rdf_values.specs.declared.fault.EntryFault.{EntryFault}
+use Rattle.expr_lanes.specs.Places.{AreRising, EachPlace, is_in}
+use Rattle.expr_lanes.proofs.Sequence.{filtered_in, first_in, rest_in}
+use Rattle.block_cache.specs.Faults.{fault_at}
+use Rattle.block_cache.specs.Fills.{below_fault, fault_before, fault_over, is_below}
+use Rattle.block_cache.specs.Turns.{IsFaultOf}
+use Rattle.block_cache.specs.declared.faults.PlaceFault.{PlaceFault}
+
+-- ---- filters
+
+kept_here : (f : ℕ → Bool) (p q : ℕ) (xs : List ℕ) → f p ≡ true → (b : Bool) → nat_eq p q ≡ b → (c : Bool) → f q ≡ c → (b || is_in p xs) ≡ true → (is_in p xs ≡ true → is_in p (filter f xs) ≡ true) → is_in p (cond c (q ∷ filter f xs) (filter f xs)) ≡ true
+kept_here f p q xs passes true e true k h rest = ap (λ b. b || is_in p (filter f xs)) e
+kept_here f p q xs passes true e false k h rest = absurd (cc (ap f ((Decides-eqb p q).0 e), passes, k))
+kept_here f p q xs passes false e true k h rest = rest_in p q (filter f xs) (rest h)
+kept_here f p q xs passes false e false k h rest = rest h
+
+pub filter_in : (xs : List ℕ) (f : ℕ → Bool) (p : ℕ) → is_in p xs ≡ true → f p ≡ true → is_in p (filter f xs) ≡ true
+filter_in [] f p among passes = cc among
+filter_in (q ∷ xs) f p among passes = kept_here f p q xs passes (nat_eq p q) refl (f q) refl among (λ h. filter_in xs f p h passes)
+
+passes_here : (f : ℕ → Bool) (p q : ℕ) (xs : List ℕ) → f q ≡ true → (b : Bool) → nat_eq p q ≡ b → (b || is_in p xs) ≡ true → (is_in p xs ≡ true → f p ≡ true) → f p ≡ true
+passes_here f p q xs k true e h rest = ap f ((Decides-eqb p q).0 e) ∙ k
+passes_here f p q xs k false e h rest = rest h
+
+passes_kept : (f : ℕ → Bool) (p q : ℕ) (xs : List ℕ) (c : Bool) → f q ≡ c → is_in p (cond c (q ∷ xs) xs) ≡ true → (is_in p xs ≡ true → f p ≡ true) → f p ≡ true
+passes_kept f p q xs true k h rest = passes_here f p q xs k (nat_eq p q) refl h rest
+passes_kept f p q xs false k h rest = rest h
+
+pub filter_passes : (xs : List ℕ) (f : ℕ → Bool) (p : ℕ) → is_in p (filter f xs) ≡ true → f p ≡ true
+filter_passes [] f p among = cc among
+filter_passes (q ∷ xs) f p among = passes_kept f p q (filter f xs) (f q) refl among (λ h. filter_passes xs f p h)
+
+pub filter_short : (f : ℕ → Bool) (xs : List ℕ) → length (filter f xs) ≤ length xs
+filter_short f xs = omega (arith, length-filter f xs, count_by-le-length f xs)
+
+same_kept : (b c : Bool) (p : ℕ) (xs ys : List ℕ) → b ≡ c → xs ≡ ys → cond b (p ∷ xs) xs ≡ cond c (p ∷ ys) ys
+same_kept b c p xs ys e f = λ i. cond (e i) (p ∷ f i) (f i)
+
+pub filter_same : (sel : List ℕ) (f g : ℕ → Bool) → EachPlace sel (λ p. f p ≡ g p) → filter f sel ≡ filter g sel
+filter_same [] f g each = refl
+filter_same (p ∷ sel) f g each = same_kept (f p) (g p) p (filter f sel) (filter g sel) (each p (first_in p sel)) (filter_same sel f g (λ q i. each q (rest_in q p sel i)))
+
+pub twice_not : (b : Bool) → not (not b) ≡ b
+twice_not true = refl
+twice_not false = refl
+
+-- ---- places below a fault
+
+pub below_in : (fault : Option PlaceFault) (sel : List ℕ) (p : ℕ) → is_in p sel ≡ true → is_below fault p ≡ true → is_in p (below_fault fault sel) ≡ true
+below_in None sel p among low = among
+below_in (Some f) sel p among low = filter_in sel (λ q. nat_lt q f.place) p among low
+
+pub below_among : (fault : Option PlaceFault) (sel : List ℕ) (p : ℕ) → is_in p (below_fault fault sel) ≡ true → is_in p sel ≡ true
+below_among None sel p h = h
+below_among (Some f) sel p h = filtered_in (λ q. nat_lt q f.place) p sel h
+
+pub below_low : (fault : Option PlaceFault) (sel : List ℕ) (p : ℕ) → is_in p (below_fault fault sel) ≡ true → is_below fault p ≡ true
+below_low None sel p h = refl
+below_low (Some f) sel p h = filter_passes sel (λ q. nat_lt q f.place) p h
+
+pub below_short : (fault : Option PlaceFault) (sel : List ℕ) → length (below_fault fault sel) ≤ length sel
+below_short None sel = omega arith
+below_short (Some f) sel = filter_short (λ q. nat_lt q f.place) sel
+
+-- ---- the first fault
+
+no_fault_over : (sel : List ℕ) (f : ℕ → Option EntryFault) → EachPlace sel (λ p. f p ≡ None) → fault_over f sel ≡ None
+no_fault_over [] f none = refl
+no_fault_over (p ∷ sel) f none = ap (λ o. fault_before p o (fault_over f sel)) (none p (first_in p sel)) ∙ no_fault_over sel f (λ q i. none q (rest_in q p sel i))
+
+first_here : (p : ℕ) (sel : List ℕ) (f : ℕ → Option EntryFault) (x : PlaceFault) → f x.place ≡ Some x.kind → (b : Bool) → nat_eq x.place p ≡ b → (b || is_in x.place sel) ≡ true → (is_in x.place sel ≡ true → f p ≡ None) → (is_in x.place sel ≡ true → Some x ≡ fault_over f sel)
+    → Some x ≡ fault_before p (f p) (fault_over f sel)
+first_here p sel f x at true e h none rest =
+    let same : x.place ≡ p = (Decides-eqb x.place p).0 e in
+    let here : f p ≡ Some x.kind = ap f (sym same) ∙ at in
+    (λ i. Some (fault_at (same i) x.kind)) ∙ ap (λ o. fault_before p o (fault_over f sel)) (sym here)
+first_here p sel f x at false e h none rest = rest h ∙ ap (λ o. fault_before p o (fault_over f sel)) (sym (none h))
+
+first_over : (sel : List ℕ) (f : ℕ → Option EntryFault) (x : PlaceFault) → AreRising sel → is_in x.place sel ≡ true → f x.place ≡ Some x.kind → EachPlace sel (λ p. nat_lt p x.place ≡ true → f p ≡ None) → Some x ≡ fault_over f sel
+first_over [] f x rising among at below = cc among
+first_over (p ∷ sel) f x rising among at below =
+    first_here p sel f x at (nat_eq x.place p) refl among (λ h. below p (first_in p sel) (lt-ltb p x.place (rising.0 x.place h))) (λ h. first_over sel f x rising.1 h at (λ q i. below q (rest_in q p sel i)))
+
+-- a fault of one of the places below which none has one is the first
+pub fault_first : (fault : Option PlaceFault) (sel : List ℕ) (f : ℕ → Option EntryFault) → AreRising sel → IsFaultOf f sel fault → EachPlace sel (λ p. is_below fault p ≡ true → f p ≡ None) → fault ≡ fault_over f sel
+fault_first None sel f rising is none = sym (no_fault_over sel f (λ p i. none p i refl))
+fault_first (Some x) sel f rising is none = first_over sel f x rising is.0 is.1 none
+
+-- what is known of the first fault of a list
+pub over_first : (sel : List ℕ) (f : ℕ → Option EntryFault) → IsFaultOf f sel (fault_over f sel)
+over_first [] f = tt
+over_first (p ∷ sel) f = go (f p) refl (fault_over f sel) (over_first sel f)
+  where
+    go : (o : Option EntryFault) → f p ≡ o → (r : Option PlaceFault) → IsFaultOf f sel r → IsFaultOf f (p ∷ sel) (fault_before p o r)
+    go None e None h = tt
+    go None e (Some x) h = (rest_in x.place p sel h.0, h.1)
+    go (Some k) e r h = (first_in p sel, e)

@@ -1,0 +1,12 @@
+use Rattle.entry_cache.specs.Jobs.{job_of}
+use Rattle.block_cache.specs.Turns.{IsUnderway, left_to_begin}
+use Rattle.block_cache.proofs.fill.+fill_site.Given as goal
+
+abbrev pub decreases-fill_site : goal.decreases-fill_site
+decreases-fill_site g l = l.site
+
+abbrev pub invariant-loop-level : goal.invariant-loop-level
+invariant-loop-level g l = IsUnderway (job_of l.block.at.now.job.now) l.block.at.now.entry l.block.at.now.under l.block.count l.site l.selection l.fn.lanes l.fn.steps l.lanes l.fault l.level.lacking l.level.needs l.steps
+
+abbrev pub decreases-loop-level : goal.decreases-loop-level
+decreases-loop-level g l = left_to_begin l.block.count l.lanes

@@ -1,0 +1,20 @@
+use Rattle.std.proofs.Common.{arith, ◌∙◌, sym, subst, List, get_or}
+use Rattle.std.specs.Prelude.{Contains}
+use Rattle.std.proofs.lemmas.List.Elements.{Contains-get_or}
+use Rattle.expr_lanes.specs.declared.stopped.Stopped.{Stopped}
+use Rattle.entry_cache.specs.Jobs.{job_of}
+use Rattle.block_cache.specs.Faults.{IsLeastFault}
+use Rattle.block_cache.proofs.Attempts.{attempted_from, place_inside}
+use Rattle.block_cache.proofs.fill.attempt.Goals as goal
+
+pub note_needs-requires : goal.note_needs-requires
+note_needs-requires g c = λ k d low.
+    let near = place_inside (job_of c.args.block.now.at.now.job.now) c.args.block.now.at.now.entry c.args.block.now.at.now.under c.args.block.now.count c.args.site c.args.level.now.group c.try_lane.new.selection c.args.lanes.now c.try_lane.new.lanes _ _ c.clear.ensures c.try_lane.ensures.tried
+    c.requires.selected.inside _ (subst (λ (l : List Stopped). Contains l (get_or c.as_slice.result.now k d)) c.as_slice.ensures.value (Contains-get_or c.as_slice.result.now k d low)) in
+    omega (arith, near, c.requires.selected.small)
+
+pub returns-clause-attempted : goal.returns-clause-attempted
+returns-clause-attempted g c =
+    attempted_from (job_of c.args.block.now.at.now.job.now) c.args.block.now.at.now.entry c.args.block.now.at.now.under c.args.block.now.count c.args.site c.requires.site c.args.level.now.group c.try_lane.new.selection c.args.lanes.now c.try_lane.new.lanes _ _ c.as_slice.result.now
+    c.clear.ensures c.as_slice.ensures.value c.try_lane.ensures.tried c.requires.selected.inside c.requires.lacks c.least_fault.result
+    (subst (λ (l : List Stopped). IsLeastFault l c.least_fault.result) (c.as_slice-2.ensures.value ∙ sym c.as_slice.ensures.value) c.least_fault.ensures) c.args.level.now.needs c.note_needs.new.needs c.note_needs.ensures.noted c.note_needs.ensures.others

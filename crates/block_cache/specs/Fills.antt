@@ -1,0 +1,153 @@
+-- What filling a site over a block does.
+use Rattle.std.specs.Prelude.{◌≡◌, ◌⊎◌, ◌<◌, ◌≤◌, ◌+◌, ◌*◌, ⊤, ℕ, ℤ, Bool, true, false, not, List, [], ◌∷◌, Option, Some, None, count_by, nat_lt, slice_get}
+use Rattle.std.specs.List.{filter, sum_by}
+use Rattle.rdf_values.specs.EachColumn.{EachColumn}
+use Rattle.rdf_values.specs.Tables.{kind_at}
+use Rattle.rdf_values.specs.declared.fault.EntryFault.{EntryFault}
+use Rattle.rdf_values.specs.declared.value.ColType.{ColType}
+use Rattle.rdf_values.specs.declared.value.ColType.TheVariants as kind
+use Rattle.rdf_model.specs.Results.{fault_in, is_true}
+use Rattle.expr_check.specs.NumKinds.{CheckedExpr}
+use Rattle.expr_lanes.specs.Depths.{depth}
+use Rattle.expr_lanes.specs.Places.{EachPlace, is_in}
+use Rattle.graph_numbers.specs.Graphs.{GraphView, IsSiteExpr, graph_sites}
+use Rattle.graph_numbers.specs.Sites.{SiteAt}
+use Rattle.graph_numbers.specs.declared.source.Source.{Source}
+use Rattle.graph_numbers.specs.declared.source.Source.TheVariants as from
+use Rattle.block_lanes.specs.Lanes.{LaneView, is_held, is_tried, kinds_of, rooms_of, tried_count}
+use Rattle.entry_cache.specs.Jobs.{JobView, job_graph}
+use Rattle.entry_cache.specs.Keys.{key, key_count}
+use Rattle.entry_cache.specs.Known.{truth_in}
+use Rattle.entry_cache.specs.Plain.{ArePlain}
+use Rattle.entry_cache.specs.Store.{Grows, IsClosed, held_in, site_in, source_at}
+use Rattle.block_cache.specs.Blocks.{AreReady, HasColumn, cells_at}
+use Rattle.block_cache.specs.Faults.{fault_at}
+use Rattle.block_cache.specs.declared.faults.PlaceFault.{PlaceFault}
+
+-- ---- what is known of a key at a place
+
+abbrev pub lane_begun : Option LaneView → ℕ → Bool
+lane_begun None p = false
+lane_begun (Some l) p = is_tried l p
+
+abbrev pub lane_holds : Option LaneView → ℕ → Bool
+lane_holds None p = false
+lane_holds (Some l) p = is_held l p
+
+-- its evaluation was begun there
+abbrev pub begun_at : List LaneView → ℕ → ℕ → Bool
+begun_at lanes k p = lane_begun (slice_get lanes k) p
+
+-- it holds a value there
+abbrev pub holds_at : List LaneView → ℕ → ℕ → Bool
+holds_at lanes k p = lane_holds (slice_get lanes k) p
+
+-- how many evaluations were begun
+abbrev pub begun_count : List LaneView → ℕ
+begun_count lanes = sum_by tried_count lanes
+
+-- at the places of the selection all that was begun holds its value
+abbrev pub IsSettled : List LaneView → List ℕ → Type 0
+IsSettled lanes sel = EachPlace sel (λ p. (k : ℕ) → begun_at lanes k p ≡ true → holds_at lanes k p ≡ true)
+
+-- the same is known of the key at the place
+abbrev pub IsSameAt : ℕ → List LaneView → List LaneView → ℕ → ℕ → Type 0
+IsSameAt keys before after k p = (begun_at after k p ≡ begun_at before k p) × (held_in (cells_at keys after p) k ≡ held_in (cells_at keys before p) k)
+
+-- ---- the first fault
+
+-- a fault before others
+abbrev pub fault_before : ℕ → Option EntryFault → Option PlaceFault → Option PlaceFault
+fault_before p None rest = rest
+fault_before p (Some k) rest = Some (fault_at p k)
+
+-- the first place of the selection that has a fault: the least, since selections rise
+abbrev pub fault_over : (ℕ → Option EntryFault) → List ℕ → Option PlaceFault
+fault_over f [] = None
+fault_over f (p ∷ sel) = fault_before p (f p) (fault_over f sel)
+
+-- the place is below the fault
+abbrev pub is_below : Option PlaceFault → ℕ → Bool
+is_below None p = true
+is_below (Some f) p = nat_lt p f.place
+
+-- the places below the fault
+abbrev pub below_fault : Option PlaceFault → List ℕ → List ℕ
+below_fault None sel = sel
+below_fault (Some f) sel = filter (λ p. nat_lt p f.place) sel
+
+-- the site's fault at a place of a block that begins at this entry
+abbrev pub site_fault : JobView → ℕ → Option ℕ → ℕ → ℕ → Option EntryFault
+site_fault j first u s p = fault_in (site_in j (first + p) u s)
+
+-- ---- what can be filled
+
+-- each key's values are of the kind of its site
+abbrev pub AreSiteKinds : GraphView → List ColType → Type 0
+AreSiteKinds g kinds = (t : ℕ) (w : Option ℕ) (e : CheckedExpr) (k : ColType) → IsSiteExpr g t e → slice_get kinds (key g t w) ≡ Some k → e.kind ≡ k
+
+-- a column of numbers is there; no source is an element of a vector
+abbrev pub IsLoaded : JobView → ℕ → ℕ → List (List ℤ) → Source → Type 0
+IsLoaded j first count cells (from.Cell col) = kind_at j.dataset.columns col ≡ Some kind.Int → HasColumn j first count cells col
+IsLoaded j first count cells (from.Site t) = ⊤
+IsLoaded j first count cells (from.Element t k tags) = ⊥
+
+-- the source is no site, or one of a lower rank
+abbrev pub IsRankedBelow : (ℕ → ℕ) → ℕ → Source → Type 0
+IsRankedBelow rank n (from.Cell col) = ⊤
+IsRankedBelow rank n (from.Site t) = rank t < n
+IsRankedBelow rank n (from.Element t k tags) = rank t < n
+
+-- the levels of scratch are enough for the site's expression; the columns that it reads are there; and its sites are of lower ranks
+pub record IsFillable (j : JobView) (first : ℕ) (u : Option ℕ) (count : ℕ) (cells : List (List ℤ)) (scratch : ℕ) (rank : ℕ → ℕ) (s : ℕ) (x : SiteAt) : Type 0 where
+  pub deep : depth x.tree ≤ scratch
+  pub loaded : EachColumn (λ c. IsLoaded j first count cells (source_at j u c)) x.tree
+  pub falls : EachColumn (λ c. IsRankedBelow rank (rank s) (source_at j u c)) x.tree
+
+-- the site is one of a set without vectors, each of which can be filled, and there are levels for it and those below it
+pub record CanFill (j : JobView) (first : ℕ) (u : Option ℕ) (count : ℕ) (kinds : List ColType) (cells : List (List ℤ)) (scratch levels s : ℕ) : Type 0 where
+  pub used : ℕ → Bool
+  pub plain : ArePlain j used
+  pub has : used s ≡ true
+  pub kinds_are : AreSiteKinds (job_graph j) kinds
+  pub rank : ℕ → ℕ
+  pub each : (t : ℕ) (x : SiteAt) → used t ≡ true → slice_get (graph_sites (job_graph j)) t ≡ Some x → IsFillable j first u count cells scratch rank t x
+  pub room : rank s < levels
+
+-- ---- filling
+
+-- all is as it was, but for the sites that the site calls for at the selected places
+abbrev pub IsOnlyCalled : JobView → ℕ → Option ℕ → ℕ → List ℕ → List LaneView → List LaneView → Type 0
+IsOnlyCalled j first u s sel before after =
+    (D : ℕ → ℕ → Bool) → EachPlace sel (λ p. IsClosed j (first + p) u (D p) × (D p s ≡ true))
+    → (k p : ℕ) → IsSameAt (key_count (job_graph j)) before after k p ⊎ ((is_in p sel ≡ true) × ((t : ℕ) × (t ≤ s) × (D p t ≡ true) × (k ≡ key (job_graph j) t u)))
+
+-- what was begun stays so, what was held is held as it was, and the lanes are of the same kinds with as much room
+pub record IsGrownOver (j : JobView) (first : ℕ) (u : Option ℕ) (s : ℕ) (sel : List ℕ) (before after : List LaneView) : Type 0 where
+  pub kinds : kinds_of after ≡ kinds_of before
+  pub rooms : rooms_of after ≡ rooms_of before
+  pub stays : (k p : ℕ) → begun_at before k p ≡ true → begun_at after k p ≡ true
+  pub grows : (p : ℕ) → Grows (cells_at (key_count (job_graph j)) before p) (cells_at (key_count (job_graph j)) after p)
+  pub only : IsOnlyCalled j first u s sel before after
+
+-- and each evaluation that is newly begun was made twice at most
+pub record IsSpentOver (j : JobView) (first : ℕ) (u : Option ℕ) (s : ℕ) (sel : List ℕ) (before after : List LaneView) (start end : ℕ) : Type 0 where
+  pub grown : IsGrownOver j first u s sel before after
+  pub cost : end + 2 * begun_count before ≤ start + 2 * begun_count after
+
+-- the first fault among the places, which are left below it, each with the site's value held
+pub record IsFilledOver (j : JobView) (first : ℕ) (u : Option ℕ) (count s : ℕ) (sel left : List ℕ) (before after : List LaneView) (found : Option PlaceFault) (start end : ℕ) : Type 0 where
+  pub fault : found ≡ fault_over (site_fault j first u s) sel
+  pub left_is : left ≡ below_fault found sel
+  pub held : EachPlace left (λ p. holds_at after (key (job_graph j) s u) p ≡ true)
+  pub ready : AreReady j first count after
+  -- where the site wasn't held, its first evaluation was the last, or is paid by the sites that it lacked
+  pub paid : end + 2 * begun_count before + count_by (λ p. not (holds_at before (key (job_graph j) s u) p)) sel ≤ start + 2 * begun_count after
+
+-- the first fault among the places; left are those below it at which the filter is true; and below it all is settled as before
+pub record IsPassedOver (j : JobView) (first : ℕ) (u : Option ℕ) (count s : ℕ) (sel left : List ℕ) (before after : List LaneView) (found : Option PlaceFault) (start end : ℕ) : Type 0 where
+  pub fault : found ≡ fault_over (site_fault j first u s) sel
+  pub left_is : left ≡ filter (λ p. is_true (truth_in j (first + p) u s)) (below_fault found sel)
+  pub ready : AreReady j first count after
+  pub settled : IsSettled after (below_fault found sel)
+  pub paid : end + 2 * begun_count before + count_by (λ p. not (holds_at before (key (job_graph j) s u) p)) sel ≤ start + 2 * begun_count after
