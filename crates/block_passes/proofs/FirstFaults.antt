@@ -6,14 +6,8 @@ use Rattle.rdf_values.specs.declared.fault.EntryFault.{EntryFault}
 use Rattle.rdf_values.specs.declared.fault.Fault.{Fault}
 use Rattle.rdf_values.specs.declared.value.Value.{Value}
 use Rattle.rdf_model.specs.Results.{Dataset, fault_at, fault_or, first_of, first_fault_from, first_fault_in}
-use Rattle.block_passes.specs.Searches.{IsSearched}
+use Rattle.block_passes.specs.Searches.{IsSearched, fault_of}
 use Rattle.block_passes.specs.declared.found.Found.{Found}
-
--- the fault of a row in a pass, where both are there
-abbrev pub fault_of : Dataset → Option (List Value) → Option Pass → Option EntryFault
-fault_of d None p = None
-fault_of d (Some row) None = None
-fault_of d (Some row) (Some p) = fault_at d row p
 
 module _ (d : Dataset) where
   -- ---- one row

@@ -79,6 +79,18 @@ flat_filtered f g p (x ∷ xs) gives none = go (p x) refl (flat_filtered f g p x
     go true q h = ap₂ (λ a b. a ++ b) (gives x q) h
     go false q h = ap (λ l. l ++ flat_map f xs) (none x q) ∙ h
 
+-- the same of the places from a on below a + n
+pub flat_filtered_range : {B : Type 0} (f g : ℕ → List B) (p : ℕ → Bool) (n a : ℕ) → ((i : ℕ) → a ≤ i → i < a + n → p i ≡ true → f i ≡ g i) → ((i : ℕ) → a ≤ i → i < a + n → p i ≡ false → f i ≡ [])
+    → flat_map f (range_with_len a n) ≡ flat_map g (filter p (range_with_len a n))
+flat_filtered_range f g p zero a gives none = refl
+flat_filtered_range f g p (suc n) a gives none =
+    go (p a) refl (flat_filtered_range f g p n (a + 1) (λ i l k. gives i (omega (arith, l)) (omega (arith, k))) (λ i l k. none i (omega (arith, l)) (omega (arith, k))))
+  where
+    go : (b : Bool) → p a ≡ b → flat_map f (range_with_len (a + 1) n) ≡ flat_map g (filter p (range_with_len (a + 1) n))
+        → f a ++ flat_map f (range_with_len (a + 1) n) ≡ flat_map g (cond b (a ∷ filter p (range_with_len (a + 1) n)) (filter p (range_with_len (a + 1) n)))
+    go true q h = ap₂ (λ x y. x ++ y) (gives a (omega arith) (omega arith) q) h
+    go false q h = ap (λ l. l ++ flat_map f (range_with_len (a + 1) n)) (none a (omega arith) (omega arith) q) ∙ h
+
 -- what rows give, by their places from a on
 flat_taken : {A B : Type 0} (f : A → List B) (g : ℕ → List B) (n : ℕ) (xs : List A) (a : ℕ) → n ≤ length xs
     → ((i : ℕ) (x : A) → i < n → slice_get xs i ≡ Some x → f x ≡ g (a + i)) → flat_map f (take n xs) ≡ flat_map g (range_with_len a n)
@@ -88,6 +100,10 @@ flat_taken f g (suc n) (x ∷ xs) a h e =
     let z : a + 0 ≡ a = omega arith in
     let rest = flat_taken f g n xs (a + 1) (omega (arith, h)) (λ i y lt q. (let u : a + suc i ≡ a + 1 + i = omega arith in e (suc i) y (omega (arith, lt)) q ∙ ap g u)) in
     ap₂ (λ b c. b ++ c) (e 0 x (omega arith) refl ∙ ap g z) rest
+
+pub flat_first : {A B : Type 0} (f : A → List B) (g : ℕ → List B) (n : ℕ) (xs : List A) → n ≤ length xs
+    → ((i : ℕ) (x : A) → i < n → slice_get xs i ≡ Some x → f x ≡ g i) → flat_map f (take n xs) ≡ flat_map g (range_with_len 0 n)
+flat_first f g n xs h e = flat_taken f g n xs 0 h (λ i x lt q. (let u : i ≡ 0 + i = omega arith in e i x lt q ∙ ap g u))
 
 pub flat_rows : {A B : Type 0} (f : A → List B) (g : ℕ → List B) (n lo : ℕ) (xs : List A) → lo + n ≤ length xs
     → ((i : ℕ) (x : A) → i < n → slice_get xs (lo + i) ≡ Some x → f x ≡ g i) → flat_map f (take n (drop lo xs)) ≡ flat_map g (range_with_len 0 n)

@@ -41,7 +41,7 @@ pub step_kept : (chains more : List Chain) (k : ℕ) (x : Step) → IsStep chain
 step_kept chains more k step.Block h = get_kept chains more k _ h
 step_kept chains more k (step.Filter parent site u) h = record { before = h.before; up = h.up; its_up = get_kept chains more parent h.up h.its_up; alike = h.alike; own = get_kept chains more k _ h.own }
 
-same_step : {A : Type 0} (x y : A) → ◌≡◌ {A = Option A} (Some x) (Some y) → x ≡ y
+pub same_step : {A : Type 0} (x y : A) → ◌≡◌ {A = Option A} (Some x) (Some y) → x ≡ y
 same_step x y e = cc e
 
 module _ (chains : List Chain) (steps : List Step) (are : AreSteps chains steps) (parent site : ℕ) (u : Option ℕ) (up : Chain) (its : slice_get chains parent ≡ Some up) (alike : (up.sites ≡ []) ⊎ (up.under ≡ u)) where

@@ -1,7 +1,11 @@
 -- The search for the first fault of a block: pass after pass over the places below a limit, which falls to each place that faults.
-use Rattle.std.specs.Prelude.{◌≡◌, ◌<◌, ◌≤◌, ◌+◌, ℕ, Option, None, Some}
+use Rattle.std.specs.Prelude.{◌≡◌, ◌<◌, ◌≤◌, ◌+◌, ℕ, List, Option, None, Some}
+use Rattle.rdf_values.specs.Bookings.{Pass}
 use Rattle.rdf_values.specs.declared.fault.EntryFault.{EntryFault}
 use Rattle.rdf_values.specs.declared.fault.Fault.{Fault}
+use Rattle.rdf_values.specs.declared.value.Value.{Value}
+use Rattle.rdf_model.specs.Results.{Dataset}
+use Rattle.rdf_model.specs.Results.{fault_at as fault_in_pass}
 use Rattle.block_passes.specs.declared.found.Found.{Found}
 
 -- the search with a fault of a pass at a place of a block that begins at this entry
@@ -33,3 +37,9 @@ pub record IsAmid (fault : ℕ → ℕ → Option EntryFault) (left : ℕ → Op
   pub within : s.limit ≤ count
   pub at_limit : (f : Fault) → s.best ≡ Some f
       → (f.entry ≡ first + s.limit) × (s.limit < count) × (f.pass < pass + 1) × (fault s.limit f.pass ≡ Some f.kind) × ((n : ℕ) → n < f.pass → fault s.limit n ≡ None)
+
+-- the fault of a row in a pass, where both are there
+abbrev pub fault_of : Dataset → Option (List Value) → Option Pass → Option EntryFault
+fault_of d None p = None
+fault_of d (Some row) None = None
+fault_of d (Some row) (Some p) = fault_in_pass d row p
