@@ -244,9 +244,9 @@ feeds j s lo n m r k values job at of h =
     let begins : at.span.lo ≡ lo = at.begins in
     let within : at.span.lo + s.entries + s.block ≤ at.span.hi = (let w = at.within in omega (arith, w, begins)) in
     subst (λ (a : ℕ).
-        ((q : ℕ) → q < s.block → is_true (through_sites (site_in j (a + s.entries + q) m.variation) r.filters) ≡ true
-        → (for_all (version_in {M = ⊥} j (a + s.entries + q) m.variation) r.inputs ≡ Gives (values q)) × (feed_fault k (values q) ≡ None))
-        → flat_map (λ q. spread k (values q)) (filter (λ q. is_true (through_sites (site_in j (a + s.entries + q) m.variation) r.filters)) (range_with_len 0 s.block)) ≡ block_items (facts_in j) s (actions_before j n)) begins
+    ((q : ℕ) → q < s.block → is_true (through_sites (site_in j (a + s.entries + q) m.variation) r.filters) ≡ true
+    → (for_all (version_in {M = ⊥} j (a + s.entries + q) m.variation) r.inputs ≡ Gives (values q)) × (feed_fault k (values q) ≡ None))
+    → flat_map (λ q. spread k (values q)) (filter (λ q. is_true (through_sites (site_in j (a + s.entries + q) m.variation) r.filters)) (range_with_len 0 s.block)) ≡ block_items (facts_in j) s (actions_before j n)) begins
     (block_fed j s at.span at.its_span within at.inside job n m r k of values) h
 
 pub counts : law.FilterCounts
@@ -254,6 +254,6 @@ counts j s lo f x up own job at here covered split clear =
     let begins : at.span.lo ≡ lo = at.begins in
     let within : at.span.lo + s.entries + s.block ≤ at.span.hi = (let w = at.within in omega (arith, w, begins)) in
     subst (λ (a : ℕ).
-        ((q : ℕ) → q < s.block → fault_in (through_sites (site_in j (a + s.entries + q) None) (up ++ own ∷ [])) ≡ None)
-        → counted (block_reaches (facts_in j) s f) ≡ record { all = length (law.places_through j (a + s.entries) s.block up); pass = length (law.places_through j (a + s.entries) s.block (up ++ own ∷ [])) }) begins
+    ((q : ℕ) → q < s.block → fault_in (through_sites (site_in j (a + s.entries + q) None) (up ++ own ∷ [])) ≡ None)
+    → counted (block_reaches (facts_in j) s f) ≡ record { all = length (law.places_through j (a + s.entries) s.block up); pass = length (law.places_through j (a + s.entries) s.block (up ++ own ∷ [])) }) begins
     (covered_counts j s at.span at.its_span within at.inside job f x here covered up own split) clear

@@ -207,12 +207,11 @@ module _ (j : JobView) (chains : List Chain) (old : List Step) (count : ℕ) (na
     where
       one : (f : ℕ) (x : FilterAt) → slice_get (graph_filters (job_graph j)) f ≡ Some x → (f < count) ⊎ (f ≡ count) → (p : Option NamedSteps) × (slice_get (named ++ o ∷ []) f ≡ Some p) × IsPlannedFilter j ((chains ++ h.more) ++ more) f x p
       one f x q (inl lt) = let w = h.each f x lt q in (w.0, get_kept named (o ∷ []) f w.0 w.1, filter_kept j (chains ++ h.more) more f x w.0 w.2)
-      one f x q (inr i) =
-          (
-            o,
-            ap (slice_get (named ++ o ∷ [])) (i ∙ sym h.many) ∙ get_last named o,
-            subst (λ (n : ℕ). IsPlannedFilter j ((chains ++ h.more) ++ more) n x o) (sym i) (its x (ap (slice_get (graph_filters (job_graph j))) (sym i) ∙ q)),
-          )
+      one f x q (inr i) = (
+        o,
+        ap (slice_get (named ++ o ∷ [])) (i ∙ sym h.many) ∙ get_last named o,
+        subst (λ (n : ℕ). IsPlannedFilter j ((chains ++ h.more) ++ more) n x o) (sym i) (its x (ap (slice_get (graph_filters (job_graph j))) (sym i) ∙ q)),
+      )
 
   pub filters_go_on : (new : List Step) (o : Option NamedSteps) (now : List (Option NamedSteps)) → now ≡ named ++ o ∷ [] → IsFilterStepped j (chains ++ h.more) new count o → AreFiltersPlanned j chains new (count + 1) now
   filters_go_on new o now e s = one_more new s.more o now e s.steps_of s.each

@@ -52,7 +52,7 @@ BlockFeeds =
     (j : JobView) (s : BlockStage) (lo n : ℕ) (m : NumberedPass) (r : ResultAt) (k : ActionKind) (values : ℕ → List Value)
     → IsJob j → IsInCluster j s lo → IsActionOf j n m r k
     → ((q : ℕ) → q < s.block → is_true (through_sites (site_in j (lo + s.entries + q) m.variation) r.filters) ≡ true
-        → (for_all (version_in {M = ⊥} j (lo + s.entries + q) m.variation) r.inputs ≡ Gives (values q)) × (feed_fault k (values q) ≡ None))
+    → (for_all (version_in {M = ⊥} j (lo + s.entries + q) m.variation) r.inputs ≡ Gives (values q)) × (feed_fault k (values q) ≡ None))
     → flat_map (λ q. spread k (values q)) (filter (λ q. is_true (through_sites (site_in j (lo + s.entries + q) m.variation) r.filters)) (range_with_len 0 s.block))
     ≡ block_items (facts_in j) s (actions_before j n)
 

@@ -79,12 +79,7 @@ fn is_covered(job: &Job<'_>, filter: u32) -> bool
 }
 
 // The last step of a pass: that of its action's filters, and of a report none.
-fn pass_step(
-    job: &Job<'_>,
-    _pass: u32,
-    own: Pass,
-    steps: &mut ListOf<Step>,
-) -> Result<u32, Memory>
+fn pass_step(job: &Job<'_>, _pass: u32, own: Pass, steps: &mut ListOf<Step>) -> Result<u32, Memory>
     requires job { Fits job.now }
     requires own { numbered_in (job_of job.now) _pass ≡ Some own }
     requires steps { (chains : List Chain) × AreSteps chains steps.old }
@@ -97,11 +92,7 @@ fn pass_step(
 }
 
 // The last step of each pass.
-fn pass_steps(
-    alloc: Global,
-    job: &Job<'_>,
-    steps: &mut ListOf<Step>,
-) -> Result<ListOf<u32>, Memory>
+fn pass_steps(alloc: Global, job: &Job<'_>, steps: &mut ListOf<Step>) -> Result<ListOf<u32>, Memory>
     requires job { Fits job.now }
     requires steps { (chains : List Chain) × AreSteps chains steps.old }
     ensures { (chains : List Chain) → AreSteps chains steps.old → IfOk result (ArePassesPlanned (job_of job.now) chains steps.new (length (passes_in (job_of job.now)))) }
@@ -116,11 +107,7 @@ fn pass_steps(
 }
 
 // The steps of a named filter that a report covers.
-fn named_steps(
-    job: &Job<'_>,
-    filter: u32,
-    steps: &mut ListOf<Step>,
-) -> Result<NamedSteps, Memory>
+fn named_steps(job: &Job<'_>, filter: u32, steps: &mut ListOf<Step>) -> Result<NamedSteps, Memory>
     requires job { Fits job.now }
     requires filter { filter < length (graph_filters (job_graph (job_of job.now))) }
     requires covered { slice_get (covered_in (job_of job.now)) filter ≡ Some true }
