@@ -1,0 +1,153 @@
+-- The blocks of a cluster, one after the other.
+use Rattle.std.proofs.Common.{◌≡◌, ℕ, ◌+◌, ◌-◌, ◌*◌, ◌<◌, ◌≤◌, List, length, map, Option, None, Some, refl, sym, ap, ◌∙◌, subst, arith, min, slice_get}
+use Rattle.std.specs.Prelude.{Err, slice_range}
+use Rattle.std.proofs.lemmas.List.{length-map}
+use Rattle.rdf_values.proofs.Leading.{cuts_lead}
+use Rattle.rdf_values.specs.declared.fault.Fault.{Fault}
+use Rattle.rdf_values.specs.declared.span.Span.{Span}
+use Rattle.rdf_values.specs.declared.value.Value.{Value}
+use Rattle.rdf_model.specs.LoopFacts.{spreads_of}
+use Rattle.rdf_model.specs.PartialResults.{span_rows}
+use Rattle.rdf_model.specs.Results.{fault_at, first_fault_from, first_of}
+use Rattle.columns.proofs.Joining.{span_within}
+use Rattle.entry_cache.specs.Jobs.{IsJob, JobView, passes_in}
+use Rattle.entry_passes.specs.Entries.{facts_in, job_spans}
+use Rattle.cluster_tally.specs.Stages.{at_begin}
+use Rattle.cluster_tally.specs.Tallies.{Holds, TallyView}
+use Rattle.loop_pieces.specs.Whole.{begin_of, cluster_fault}
+use Rattle.loop_pieces.proofs.Places.{range_length, range_none}
+use Rattle.block_laws.specs.Blocks.{IsFirst, first_length, row_elements}
+use Rattle.block_laws.specs.Counts.{cluster_demands, rows_demand}
+use Rattle.block_laws.specs.PassMajor.{pass_major}
+use Rattle.block_laws.proofs.BlockCuts.{first_is, lengths_same, plain_first}
+use Rattle.block_laws.proofs.BlockFaults.{block_then_rest, is_first_fault}
+use Rattle.block_laws.proofs.Costs.{count_goes_on}
+use Rattle.block_passes.specs.Blocks.{IsBefore, IsBlockAnswer, IsBlockOf, after_block, block_demands, block_rows}
+use Rattle.block_passes.specs.Clusters.{IsClusterAnswer, at_end, at_entry, demands_in, span_demands}
+use Rattle.block_passes.specs.declared.stop.BlockStop.{BlockStop}
+use Rattle.block_passes.specs.declared.stop.BlockStop.TheVariants as stop
+
+-- where no vectors are evaluated a block has as many entries as any, or all that are left
+pub plain_end : (size lo hi n : ℕ) (rows : List (List Value)) → 1 ≤ size → lo ≤ hi → hi ≤ length rows → n ≡ min size (hi - lo) → lo + n ≡ lo + first_length size 4194304 (map (row_elements 0) (slice_range rows lo hi))
+plain_end size lo hi n rows some up within e =
+    let long = range_length rows lo hi up within in
+    ap (λ k. lo + k) (e ∙ ap (λ k. min size k) (sym long) ∙ sym (plain_first size 4194304 (slice_range rows lo hi) some))
+
+-- what is known before the block from an entry on: of the tally, of the faults and of the evaluations so far
+pub record IsAtBlock (j : JobView) (cluster size keys : ℕ) (span : Span) (first : TallyView) (start lo : ℕ) (tally : TallyView) (steps : ℕ) : Type 0 where
+  pub holds : (watched done : List ℕ) → Holds (facts_in j) watched (at_begin done cluster) first → Holds (facts_in j) watched (at_entry done cluster (lo - span.lo)) tally
+  pub fault : cluster_fault j.dataset (job_spans j) (passes_in j) cluster ≡ first_fault_from j.dataset lo (slice_range j.dataset.rows lo span.hi) (passes_in j)
+  pub cost : steps + 2 * cluster_demands j.dataset (passes_in j) size keys lo span.hi ≤ start + 2 * cluster_demands j.dataset (passes_in j) size keys span.lo span.hi
+  pub from : span.lo ≤ lo
+  pub to : lo ≤ span.hi
+
+module _ (j : JobView) (job : IsJob j) (cluster size keys : ℕ) (some : 1 ≤ size) (span : Span) (its : slice_get (job_spans j) cluster ≡ Some span) where
+  bounds : (0 ≤ span.lo) × (span.lo < span.hi) × (span.hi ≤ j.cuts.entries)
+  bounds = span_within (job_spans j) 0 j.cuts.entries cluster span (cuts_lead j.cuts.entries j.cuts.size j.cuts.marks) its
+
+  pub ends_within : span.hi ≤ length j.dataset.rows
+  ends_within = let b = bounds.2 in let e = job.cuts in omega (arith, b, e)
+
+  abbrev all_demands : ℕ → ℕ
+  all_demands lo = cluster_demands j.dataset (passes_in j) size keys lo span.hi
+
+  pub demands_are : span_demands j size keys cluster ≡ all_demands span.lo
+  demands_are = ap (demands_in j size keys) its
+
+  pub at_first : (first : TallyView) (start : ℕ) → IsAtBlock j cluster size keys span first start span.lo first start
+  at_first first start = record {
+    holds = λ watched done h. (let none : 0 ≡ span.lo - span.lo = omega arith in subst (λ (n : ℕ). Holds (facts_in j) watched (at_entry done cluster n) first) none h);
+    fault = ap (λ (o : Option Span). first_fault_from j.dataset (begin_of o) (span_rows j.dataset.rows o) (passes_in j)) its;
+    cost = omega arith;
+    from = omega arith;
+    to = (let b = bounds.1 in omega (arith, b));
+  }
+
+  module _ (first : TallyView) (start lo : ℕ) (tally : TallyView) (steps : ℕ) (at : IsAtBlock j cluster size keys span first start lo tally steps) (lt : lo < span.hi)
+      (hi : ℕ) (is : hi ≡ lo + first_length size 4194304 (map (row_elements keys) (slice_range j.dataset.rows lo span.hi))) where
+    abbrev b : Span
+    b = record { lo = lo; hi = hi }
+
+    rows_left : length (map (row_elements keys) (slice_range j.dataset.rows lo span.hi)) ≡ span.hi - lo
+    rows_left = lengths_same (row_elements keys) (slice_range j.dataset.rows lo span.hi) ∙ range_length j.dataset.rows lo span.hi (omega (arith, lt)) ends_within
+
+    first_block : IsFirst size 4194304 (map (row_elements keys) (slice_range j.dataset.rows lo span.hi)) (first_length size 4194304 (map (row_elements keys) (slice_range j.dataset.rows lo span.hi)))
+    first_block = first_is size 4194304 (map (row_elements keys) (slice_range j.dataset.rows lo span.hi)) some (let l = rows_left in omega (arith, l, lt))
+
+    pub has_entry : lo < hi
+    has_entry = let s = first_block.some in omega (arith, s, is)
+
+    pub within : hi ≤ span.hi
+    within = let w = first_block.within in let l = rows_left in omega (arith, w, l, is, lt)
+
+    pub short : hi ≤ lo + size
+    short = let s = first_block.small in omega (arith, s, is)
+
+    block_of : IsBlockOf j cluster (lo - span.lo) b
+    block_of = record { span = span; its_span = its; is = (let f = at.from in omega (arith, f)); some = has_entry; within = within; inside = ends_within }
+
+    pub before : (watched done : List ℕ) → Holds (facts_in j) watched (at_begin done cluster) first → IsBefore j watched (at_entry done cluster (lo - span.lo)) cluster b tally
+    before watched done h = record { holds = at.holds watched done h; its_cluster = refl; next = block_of; no_pass = refl; no_filter = refl }
+
+    rest_fault : first_fault_from j.dataset lo (slice_range j.dataset.rows lo span.hi) (passes_in j)
+        ≡ first_of (first_fault_from j.dataset lo (block_rows j b) (passes_in j)) (first_fault_from j.dataset hi (slice_range j.dataset.rows hi span.hi) (passes_in j))
+    rest_fault =
+        block_then_rest j.dataset j.dataset.rows (passes_in j) lo hi span.hi (let m = has_entry in omega (arith, m)) within ends_within
+        ∙ ap (λ o. first_of o (first_fault_from j.dataset hi (slice_range j.dataset.rows hi span.hi) (passes_in j))) (is_first_fault j.dataset lo (block_rows j b) (passes_in j))
+
+    counts : ((e : ℕ) (f : Fault) → first_fault_from j.dataset e (block_rows j b) (passes_in j) ≡ Some f → all_demands lo ≡ block_demands j b)
+        × ((e : ℕ) → first_fault_from j.dataset e (block_rows j b) (passes_in j) ≡ None → all_demands lo ≡ block_demands j b + all_demands hi)
+        × (block_demands j b ≤ all_demands lo)
+        × (cluster_demands j.dataset (passes_in j) size keys span.hi span.hi ≡ 0)
+    counts = count_goes_on j.dataset (passes_in j) size keys lo hi span.hi lt ends_within is within
+
+    -- the block has no fault, and was taken in
+    pub at_next : (now : TallyView) (last : ℕ)
+        → ((watched done : List ℕ) → IsBefore j watched (at_entry done cluster (lo - span.lo)) cluster b tally → Holds (facts_in j) watched (after_block (at_entry done cluster (lo - span.lo)) b) now)
+        → first_fault_from j.dataset lo (block_rows j b) (passes_in j) ≡ None → last ≤ steps + 2 * block_demands j b → IsAtBlock j cluster size keys span first start hi now last
+    at_next now last holds none bound = record {
+      holds = λ watched done h. (
+          let f = at.from in
+          let m = has_entry in
+          let e : lo - span.lo + (hi - lo) ≡ hi - span.lo = omega (arith, f, m) in
+          subst (λ (n : ℕ). Holds (facts_in j) watched (at_entry done cluster n) now) e (holds watched done (before watched done h)));
+      fault = at.fault ∙ rest_fault ∙ ap (λ o. first_of o (first_fault_from j.dataset hi (slice_range j.dataset.rows hi span.hi) (passes_in j))) none;
+      cost = (let c = counts.1 lo none in let a = at.cost in omega (arith, c, a, bound));
+      from = (let f = at.from in let m = has_entry in omega (arith, f, m));
+      to = within;
+    }
+
+    -- it stops the cluster
+    pub cost_here : (last : ℕ) → last ≤ steps + 2 * block_demands j b → last ≤ start + 2 * span_demands j size keys cluster
+    cost_here last bound = let c = counts.2 in let a = at.cost in let e = demands_are in omega (arith, c, a, e, bound)
+
+    pub answer_here : (why : BlockStop) → IsBlockAnswer j b (Err why) → IsClusterAnswer j cluster (Err why)
+    answer_here (stop.Fault f) h = at.fault ∙ rest_fault ∙ ap (λ o. first_of o (first_fault_from j.dataset hi (slice_range j.dataset.rows hi span.hi) (passes_in j))) h
+    answer_here stop.Memory h = tt
+
+  -- ---- the end
+
+  module _ (first : TallyView) (start lo : ℕ) (tally : TallyView) (steps : ℕ) (at : IsAtBlock j cluster size keys span first start lo tally steps) (end : span.hi ≤ lo) where
+    at_hi : lo ≡ span.hi
+    at_hi = let t = at.to in omega (arith, t, end)
+
+    pub no_fault : cluster_fault j.dataset (job_spans j) (passes_in j) cluster ≡ None
+    no_fault =
+        at.fault ∙ ap (λ k. first_fault_from j.dataset lo (slice_range j.dataset.rows k span.hi) (passes_in j)) at_hi
+        ∙ ap (λ rows. first_fault_from j.dataset lo rows (passes_in j)) (range_none j.dataset.rows span.hi)
+
+    pub cost_all : steps ≤ start + 2 * span_demands j size keys cluster
+    cost_all = let a = at.cost in let e = demands_are in omega (arith, a, e)
+
+    all_rows : lo - span.lo ≡ length (span_rows (map (spreads_of j.dataset (passes_in j)) j.dataset.rows) (slice_get (job_spans j) cluster))
+    all_rows =
+        let e = at_hi in
+        let w = ends_within in
+        let u = bounds.1 in
+        let many = length-map j.dataset.rows (spreads_of j.dataset (passes_in j)) in
+        let long = range_length (map (spreads_of j.dataset (passes_in j)) j.dataset.rows) span.lo span.hi (omega (arith, u)) (omega (arith, w, many)) in
+        (let d : lo - span.lo ≡ span.hi - span.lo = omega (arith, e) in d) ∙ sym long
+        ∙ ap (λ (o : Option Span). length (span_rows (map (spreads_of j.dataset (passes_in j)) j.dataset.rows) o)) (sym its)
+
+    pub holds_all : (watched done : List ℕ) → Holds (facts_in j) watched (at_begin done cluster) first → Holds (facts_in j) watched (at_end (facts_in j) done cluster) tally
+    holds_all watched done h = subst (λ (n : ℕ). Holds (facts_in j) watched (at_entry done cluster n) tally) all_rows (at.holds watched done h)

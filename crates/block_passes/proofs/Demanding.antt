@@ -1,0 +1,136 @@
+-- What is evaluated for a pass at a place, the loop demands there.
+use Rattle.std.proofs.Common.{◌≡◌, ◌⊎◌, inl, inr, ℕ, Bool, true, false, List, [], ◌∷◌, ◌++◌, Option, None, Some, refl, sym, ◌∙◌, ap, subst, slice_get, unwrap_or, append_assoc, if◌then◌else◌}
+use Rattle.std.specs.Prelude.{All}
+use Rattle.rdf_values.specs.Bookings.{ActionAt, Booking}
+use Rattle.rdf_values.specs.Path.{Path, history}
+use Rattle.rdf_values.specs.declared.action.ActionKind.{ActionKind}
+use Rattle.rdf_values.specs.declared.value.Value.{Value}
+use Rattle.rdf_model.specs.Demanded.{Demand, booking_demands, filter_demands}
+use Rattle.rdf_model.specs.Evaluation.{Outcome, Gives, Faults, Needs, ◌>>=◌}
+use Rattle.rdf_model.specs.EntryOutcomes.{truth_of}
+use Rattle.rdf_model.specs.Results.{is_true}
+use Rattle.graph_numbers.specs.Graphs.{graph_filters, graph_results, graph_under}
+use Rattle.graph_numbers.specs.Meets.{HasFilters, HasInputs, IfPassed}
+use Rattle.graph_numbers.specs.Outcomes.{through_sites}
+use Rattle.graph_numbers.specs.Results.{FilterAt, ResultAt}
+use Rattle.graph_numbers.specs.declared.pass.Pass.{Pass as NumberedPass}
+use Rattle.graph_numbers.proofs.Closing.{IsDemanded, then_wider, wider_filters, wider_inputs}
+use Rattle.graph_numbers.proofs.Extending.{itself}
+use Rattle.graph_numbers.proofs.Reporting.{IsActionDemanded, IsFilterDemanded, filter_demanded, result_demanded}
+use Rattle.entry_cache.specs.Caches.{IsCovered}
+use Rattle.entry_cache.specs.Jobs.{IsJob, JobView, job_graph}
+use Rattle.entry_cache.specs.Keys.{demand_key}
+use Rattle.entry_cache.specs.Store.{HasPassed, HasTried, row_of, site_in, version_in}
+use Rattle.entry_cache.proofs.DemandSets.{demanded_in, demands_closed, demands_keys, in_demands}
+use Rattle.entry_cache.proofs.EvaluateLaws.{accepted_of}
+use Rattle.entry_cache.proofs.PassTies.{pass_of}
+use Rattle.entry_passes.specs.Turns.{HasAllDemands}
+use Rattle.entry_passes.proofs.ReportTies.{has_filter}
+use Rattle.block_passes.specs.Demands.{Demands, IsDemandedAt}
+use Rattle.block_passes.specs.Plans.{IsActionOf, IsOfFilter, IsOfPass, IsTried}
+use Rattle.block_passes.specs.Steps.{Chain, IsBegin}
+
+module _ (j : JobView) (job : IsJob j) (entry : ℕ) (row : List Value) (here : slice_get j.dataset.rows entry ≡ Some row) (T : ℕ → Bool) (all : HasAllDemands j entry T) where
+  same_row : row ≡ row_of j entry
+  same_row = ap (λ o. unwrap_or o []) (sym here)
+
+  -- ---- an action's pass
+
+  module _ (n : ℕ) (m : NumberedPass) (r : ResultAt) (k : ActionKind) (of : IsActionOf j n m r k) where
+    abbrev demands : List Demand
+    demands = booking_demands j.dataset.fns j.dataset.columns (row_of j entry) (ActionAt k of.at) (graph_under (job_graph j) m.variation)
+
+    own : IsActionDemanded j.dataset.fns j.dataset.columns (row_of j entry) (graph_under (job_graph j) m.variation) (history j.script) (accepted_of j job) r (ActionAt k of.at)
+    own =
+        subst (λ (b : Booking). IsActionDemanded j.dataset.fns j.dataset.columns (row_of j entry) (graph_under (job_graph j) m.variation) (history j.script) (accepted_of j job) r b) of.booking
+        (result_demanded j.dataset.fns j.dataset.columns (row_of j entry) (graph_under (job_graph j) m.variation) (history j.script) (accepted_of j job) (history j.script) (accepted_of j job) itself m.result r of.its_result)
+
+    abbrev D : ℕ → Bool
+    D = in_demands j job entry m.variation demands own.0
+
+    all_in : All (λ (d : Demand). T (demand_key (job_graph j) d) ≡ true) demands
+    all_in =
+        subst (λ (b : Booking). All (λ (d : Demand). T (demand_key (job_graph j) d) ≡ true) (booking_demands j.dataset.fns j.dataset.columns (row_of j entry) b (graph_under (job_graph j) m.variation))) of.booking
+        (subst (λ (x : List Value). All (λ (d : Demand). T (demand_key (job_graph j) d) ≡ true) (booking_demands j.dataset.fns j.dataset.columns x r.booked.booking (graph_under (job_graph j) m.variation))) same_row
+        (all n row _ here (pass_of j n m of.its_pass r of.its_result)))
+
+    tried : HasPassed j entry m.variation r.filters r.inputs D
+    tried = (
+      wider_filters j.dataset.fns j.dataset.columns (row_of j entry) (graph_under (job_graph j) m.variation) (history j.script) (accepted_of j job)
+          (IsDemanded j.dataset.fns j.dataset.columns (row_of j entry) (graph_under (job_graph j) m.variation) (history j.script) (accepted_of j job) demands) (λ s. D s ≡ true)
+          (demanded_in j job entry m.variation demands own.0) (site_in j entry m.variation) r.filters own.1,
+      then_wider j.dataset.fns j.dataset.columns (row_of j entry) (graph_under (job_graph j) m.variation) (history j.script) (accepted_of j job)
+          (through_sites (site_in j entry m.variation) r.filters)
+          (wider_inputs j.dataset.fns j.dataset.columns (row_of j entry) (graph_under (job_graph j) m.variation) (history j.script) (accepted_of j job)
+          (IsDemanded j.dataset.fns j.dataset.columns (row_of j entry) (graph_under (job_graph j) m.variation) (history j.script) (accepted_of j job) demands) (λ s. D s ≡ true)
+          (demanded_in j job entry m.variation demands own.0) r.inputs) own.2,
+    )
+
+    -- the sites that the pass tries and reads
+    pub pass_set : (E : ℕ → Bool) × IsDemandedAt j entry m.variation T E × HasPassed j entry m.variation r.filters r.inputs E
+    pass_set = (D, record { closed = demands_closed j job entry m.variation demands own.0; keys = demands_keys j job entry m.variation demands own.0 T all_in }, tried)
+
+  -- ---- a named filter that a report covers
+
+  module _ (f : ℕ) (covered : IsCovered j f) (x : FilterAt) (its : slice_get (graph_filters (job_graph j)) f ≡ Some x) where
+    abbrev filter_sites : List Demand
+    filter_sites = filter_demands j.dataset.fns j.dataset.columns (row_of j entry) x.at None
+
+    own_filter : IsFilterDemanded j.dataset.fns j.dataset.columns (row_of j entry) (history j.script) (accepted_of j job) x
+    own_filter = filter_demanded j.dataset.fns j.dataset.columns (row_of j entry) (history j.script) (accepted_of j job) (history j.script) itself f x its
+
+    abbrev E : ℕ → Bool
+    E = in_demands j job entry None filter_sites own_filter.0
+
+    filter_in : All (λ (d : Demand). T (demand_key (job_graph j) d) ≡ true) filter_sites
+    filter_in =
+        subst (λ (r : List Value). All (λ (d : Demand). T (demand_key (job_graph j) d) ≡ true) (filter_demands j.dataset.fns j.dataset.columns r x.at None)) same_row
+        (has_filter j job entry f covered T all row x here its)
+
+    pub filter_set : (F : ℕ → Bool) × IsDemandedAt j entry None T F × HasTried j entry None x.sites F
+    filter_set = (
+      E,
+      record { closed = demands_closed j job entry None filter_sites own_filter.0; keys = demands_keys j job entry None filter_sites own_filter.0 T filter_in },
+      wider_filters j.dataset.fns j.dataset.columns (row_of j entry) None (history j.script) (accepted_of j job)
+          (IsDemanded j.dataset.fns j.dataset.columns (row_of j entry) None (history j.script) (accepted_of j job) filter_sites) (λ s. E s ≡ true)
+          (demanded_in j job entry None filter_sites own_filter.0) (site_in j entry None) x.sites own_filter.1,
+    )
+
+  -- ---- one filter
+
+  -- a filter is tried where those before it are passed
+  tried_at : (D : ℕ → Bool) (site : ℕ → Outcome ⊥ Value) (up rest : List ℕ) (s : ℕ) → HasFilters (λ t. D t ≡ true) site (up ++ s ∷ rest) → is_true (through_sites site up) ≡ true → D s ≡ true
+  tried_at D site [] rest s h e = h.0
+  tried_at D site (t ∷ up) rest s h e = go (site t >>= truth_of) h.1 e (tried_at D site up rest s)
+    where
+      go : (o : Outcome ⊥ Bool) → IfPassed o (HasFilters (λ t. D t ≡ true) site (up ++ s ∷ rest)) → is_true (o >>= λ passed. if passed then through_sites site up else Gives false) ≡ true
+          → (HasFilters (λ t. D t ≡ true) site (up ++ s ∷ rest) → is_true (through_sites site up) ≡ true → D s ≡ true) → D s ≡ true
+      go (Gives true) a b next = next a b
+      go (Gives false) a b next = cc b
+      go (Faults k) a b next = cc b
+      go (Needs m) a b next = elim m [ ]
+
+  begin_split : (path : List ℕ) (c : Chain) (up rest : List ℕ) (s : ℕ) → c.sites ≡ up ++ s ∷ [] → path ≡ c.sites ++ rest → path ≡ up ++ s ∷ rest
+  begin_split path c up rest s e h = h ∙ ap (λ l. l ++ rest) e ∙ append_assoc up (s ∷ []) rest
+
+  pub step_demanded : (c : Chain) → IsTried j c → (up : List ℕ) (s : ℕ) → c.sites ≡ up ++ s ∷ [] → is_true (through_sites (site_in j entry c.under) up) ≡ true → Demands j entry c.under T s
+  step_demanded c tried_by up s e passed = go tried_by
+    where
+      none : (up : List ℕ) → up ++ s ∷ [] ≡ [] → ⊥
+      none [] q = cc q
+      none (x ∷ xs) q = cc q
+
+      at_under : (u v : Option ℕ) (path rest : List ℕ) → c.under ≡ v → path ≡ c.sites ++ rest → (D : ℕ → Bool) → IsDemandedAt j entry v T D → HasTried j entry v path D → Demands j entry c.under T s
+      at_under u v path rest same begins D at h =
+          let at_c : IsDemandedAt j entry c.under T D = subst (λ (w : Option ℕ). IsDemandedAt j entry w T D) (sym same) at in
+          let h_c : HasTried j entry c.under path D = subst (λ (w : Option ℕ). HasTried j entry w path D) (sym same) h in
+          (D, at_c, tried_at D (site_in j entry c.under) up rest s (subst (λ (p : List ℕ). HasTried j entry c.under p D) (begin_split path c up rest s e begins) h_c) passed)
+
+      go : IsTried j c → Demands j entry c.under T s
+      go (inl q) = absurd (none up (sym e ∙ q))
+      go (inr (inl p)) =
+          let w = pass_set p.pass p.numbered p.result p.kind p.action in
+          at_under c.under p.numbered.variation p.result.filters p.begins.rest p.begins.its_under p.begins.begins w.0 w.1 w.2.0
+      go (inr (inr f)) =
+          let w = filter_set f.filter f.covered f.named f.its_filter in
+          at_under c.under None f.named.sites f.begins.rest f.begins.its_under f.begins.begins w.0 w.1 w.2

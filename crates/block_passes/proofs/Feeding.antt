@@ -1,0 +1,259 @@
+-- What a block feeds to a pass, and what it does at a named filter.
+use Rattle.std.proofs.Common.{◌≡◌, ℕ, zero, suc, ◌+◌, ◌-◌, ◌<◌, ◌≤◌, Bool, true, false, cond, List, [], ◌∷◌, ◌++◌, length, length-drop, map, take, drop, Option, None, Some, option_map, refl, sym, ◌∙◌, ap, subst, arith, slice_get, unwrap_or, if◌then◌else◌}
+use Rattle.std.specs.Prelude.{count_by, flat_map, slice_range}
+use Rattle.std.specs.List.{filter, range_with_len}
+use Rattle.std.proofs.lemmas.List.{length-map}
+use Rattle.std.proofs.lemmas.List.Sums.{sum_by-cons}
+use Rattle.rdf_values.specs.Bookings.{ActionAt, Booking, Pass, named_before}
+use Rattle.rdf_values.specs.Path.{Path, history}
+use Rattle.rdf_values.specs.Spread.{feed_fault, spread}
+use Rattle.rdf_values.specs.declared.action.ActionKind.{ActionKind}
+use Rattle.rdf_values.specs.declared.fault.EntryFault.{EntryFault}
+use Rattle.rdf_values.specs.declared.item.Item.{Item}
+use Rattle.rdf_values.specs.declared.span.Span.{Span}
+use Rattle.rdf_values.specs.declared.value.Value.{Value}
+use Rattle.rdf_model.specs.EntryOutcomes.{Entry, Feed, Skip, action_outcome, feed_outcome, truth_of, unless_fault}
+use Rattle.rdf_model.specs.Evaluation.{Outcome, Faults, Gives, Needs, ◌>>=◌, for_all}
+use Rattle.rdf_model.specs.LoopFacts.{filter_reach, if_there, is_covered, is_passed, is_reached, list_at, reaches_of, spreads_of}
+use Rattle.rdf_model.specs.PartialResults.{span_rows}
+use Rattle.rdf_model.specs.Results.{fault_in, is_true, items_fed, items_of}
+use Rattle.rdf_model.specs.declared.loop_facts.Reach.{Reach}
+use Rattle.rdf_model.specs.declared.loop_facts.Reach.TheVariants.{Failed, Passed, Stopped}
+use Rattle.graph_numbers.specs.Graphs.{graph_filters, graph_under}
+use Rattle.graph_numbers.specs.Outcomes.{action_numbers, booking_numbers, through_sites}
+use Rattle.graph_numbers.specs.Results.{FilterAt, ResultAt}
+use Rattle.graph_numbers.specs.declared.pass.Pass.{Pass as NumberedPass}
+use Rattle.loop_pieces.proofs.Places.{range_length}
+use Rattle.filters_report.specs.declared.flow.Counts.{Counts}
+use Rattle.cluster_tally.specs.Blocks.{BlockStage, block_items, block_reaches}
+use Rattle.cluster_tally.specs.Stages.{counted}
+use Rattle.entry_cache.specs.Jobs.{IsJob, JobView, job_graph, outcome_of, pass_outcome, passes_in}
+use Rattle.entry_cache.specs.Store.{row_of, site_in, version_in}
+use Rattle.entry_cache.proofs.NamedLaws.{stopped_answer, tried_answer}
+use Rattle.entry_cache.proofs.PassTies.{get_mapped, pass_answer, pass_of}
+use Rattle.entry_cache.proofs.TableLaws.{row_there}
+use Rattle.entry_passes.specs.Entries.{facts_in, job_spans}
+use Rattle.entry_passes.specs.Turns.{actions_before}
+use Rattle.entry_passes.proofs.Covered.{cover_at}
+use Rattle.entry_passes.proofs.Taken.{at_place, covered_reach, uncovered_reach}
+use Rattle.entry_passes.specs.Plans.{covered_in}
+use Rattle.block_passes.specs.Laws as law
+use Rattle.block_passes.specs.Plans.{IsActionOf}
+use Rattle.block_passes.proofs.FirstFaults.{get_dropped, row_in_block}
+use Rattle.block_passes.proofs.Parts.{through_more}
+use Rattle.block_passes.proofs.PlaceLists.{filter_alike, flat_filtered_range, flat_first}
+use Rattle.block_passes.proofs.StepLaws.{same_step}
+
+-- ---- outcomes
+
+given_items : (k : ActionKind) (o : Outcome ⊥ Bool) (a : Outcome ⊥ (List Value)) (vs : List Value) → is_true o ≡ true → a ≡ Gives vs → feed_fault k vs ≡ None
+    → items_fed k (o >>= λ passed. if passed then a >>= feed_outcome k else Gives Skip) ≡ spread k vs
+given_items k (Gives true) a vs t e f = ap (λ (x : Outcome ⊥ (List Value)). items_fed k (x >>= feed_outcome k)) e ∙ ap (λ (x : Option EntryFault). items_fed k (unless_fault {M = ⊥} vs x)) f
+given_items k (Gives false) a vs t e f = cc t
+given_items k (Faults x) a vs t e f = cc t
+given_items k (Needs m) a vs t e f = elim m [ ]
+
+none_items : (k : ActionKind) (o : Outcome ⊥ Bool) (x : Outcome ⊥ Entry) → is_true o ≡ false → items_fed k (o >>= λ passed. if passed then x else Gives Skip) ≡ []
+none_items k (Gives true) x t = cc t
+none_items k (Gives false) x t = refl
+none_items k (Faults f) x t = refl
+none_items k (Needs m) x t = elim m [ ]
+
+some_list : (lists : List (List Item)) (i : ℕ) (xs : List Item) → slice_get lists i ≡ Some xs → list_at lists i ≡ xs
+some_list lists i xs h = ap (λ (o : Option (List Item)). elim o [ None ↦ [] | Some ys ↦ ys ]) h
+
+reached_if : (b : Bool) → is_reached (if b then Passed else Failed) ≡ true
+reached_if true = refl
+reached_if false = refl
+
+passed_if : (b : Bool) → is_passed (if b then Passed else Failed) ≡ b
+passed_if true = refl
+passed_if false = refl
+
+count_singles : {A : Type 0} (t : A → Bool) (h : ℕ → A) (xs : List ℕ) → count_by t (flat_map (λ q. h q ∷ []) xs) ≡ length (filter (λ q. t (h q)) xs)
+count_singles t h [] = refl
+count_singles t h (x ∷ xs) = sum_by-cons (λ y. cond (t y) 1 0) (h x) (flat_map (λ q. h q ∷ []) xs) ∙ ap (λ n. cond (t (h x)) 1 0 + n) (count_singles t h xs) ∙ one (t (h x))
+  where
+    one : (b : Bool) → cond b 1 0 + length (filter (λ q. t (h q)) xs) ≡ length (cond b (x ∷ filter (λ q. t (h q)) xs) (filter (λ q. t (h q)) xs))
+    one true = omega arith
+    one false = omega arith
+
+-- ---- a block
+
+module _ (j : JobView) (s : BlockStage) (span : Span) (its : slice_get (job_spans j) s.cluster ≡ Some span) (within : span.lo + s.entries + s.block ≤ span.hi) (inside : span.hi ≤ length j.dataset.rows) where
+  -- the entry at a place
+  abbrev pub entry_at : ℕ → ℕ
+  entry_at q = span.lo + s.entries + q
+
+  pub row_here : (q : ℕ) → q < s.block → slice_get j.dataset.rows (entry_at q) ≡ Some (row_of j (entry_at q))
+  row_here q lt = let r = row_there j.dataset.rows (entry_at q) (omega (arith, lt, within, inside)) in r.1 ∙ ap Some (ap (λ o. unwrap_or o []) (sym r.1))
+
+  abbrev rows_left : {A : Type 0} → (List Value → A) → List A
+  rows_left f = drop s.entries (span_rows (map f j.dataset.rows) (slice_get (job_spans j) s.cluster))
+
+  left_is : {A : Type 0} (f : List Value → A) → rows_left f ≡ drop s.entries (slice_range (map f j.dataset.rows) span.lo span.hi)
+  left_is f = ap (λ o. drop s.entries (span_rows (map f j.dataset.rows) o)) its
+
+  left_at : {A : Type 0} (f : List Value → A) (q : ℕ) (x : A) → q < s.block → slice_get (rows_left f) q ≡ Some x → x ≡ f (row_of j (entry_at q))
+  left_at f q x lt h =
+      let e : span.lo + (s.entries + q) ≡ entry_at q = omega arith in
+      same_step x (f (row_of j (entry_at q)))
+      (sym h ∙ ap (λ l. slice_get l q) (left_is f) ∙ get_dropped s.entries (slice_range (map f j.dataset.rows) span.lo span.hi) q
+      ∙ row_in_block (map f j.dataset.rows) span.lo span.hi (s.entries + q) (omega (arith, lt, within)) ∙ ap (slice_get (map f j.dataset.rows)) e
+      ∙ get_mapped f j.dataset.rows (entry_at q) (row_of j (entry_at q)) (row_here q lt))
+
+  left_long : {A : Type 0} (f : List Value → A) → s.block ≤ length (rows_left f)
+  left_long f =
+      let m = length-map j.dataset.rows f in
+      let l = length-drop s.entries (slice_range (map f j.dataset.rows) span.lo span.hi) in
+      let r = range_length (map f j.dataset.rows) span.lo span.hi (omega (arith, within)) (omega (arith, inside, m)) in
+      let e = ap length (left_is f) in
+      omega (arith, within, l, r, e)
+
+  block_flat : {A B : Type 0} (f : List Value → A) (h : A → List B) → flat_map h (take s.block (rows_left f)) ≡ flat_map (λ q. h (f (row_of j (entry_at q)))) (range_with_len 0 s.block)
+  block_flat f h = flat_first h (λ q. h (f (row_of j (entry_at q)))) s.block (rows_left f) (left_long f) (λ i x lt q. ap h (left_at f i x lt q))
+
+  -- ---- an action's pass
+
+  module _ (job : IsJob j) (n : ℕ) (m : NumberedPass) (r : ResultAt) (k : ActionKind) (of : IsActionOf j n m r k) where
+    abbrev its_pass : Pass
+    its_pass = record { result = r.booked; under = graph_under (job_graph j) m.variation }
+
+    there_is : slice_get (passes_in j) n ≡ Some its_pass
+    there_is = pass_of j n m of.its_pass r of.its_result
+
+    -- whether the place passes the filters
+    abbrev pub passes : ℕ → Bool
+    passes q = is_true (through_sites (site_in j (entry_at q) m.variation) r.filters)
+
+    abbrev items_at : ℕ → List Item
+    items_at q = items_of j.dataset k of.at (graph_under (job_graph j) m.variation) (row_of j (entry_at q))
+
+    its_items : (q : ℕ) → list_at (spreads_of j.dataset (passes_in j) (row_of j (entry_at q))) (actions_before j n) ≡ items_at q
+    its_items q = some_list (spreads_of j.dataset (passes_in j) (row_of j (entry_at q))) (actions_before j n) (items_at q) (at_place j.dataset (row_of j (entry_at q)) n (passes_in j) its_pass k of.at there_is of.booking).1
+
+    outcome_by : (q : ℕ) → q < s.block → pass_outcome j (entry_at q) n ≡ action_outcome j.dataset.fns j.dataset.columns (row_of j (entry_at q)) k of.at (graph_under (job_graph j) m.variation)
+    outcome_by q lt =
+        (λ i. outcome_of j (row_here q lt i) (there_is i))
+        ∙ ap (λ (c : Booking). outcome_of j (Some (row_of j (entry_at q))) (Some (record { result = record { name = r.booked.name; booking = c }; under = graph_under (job_graph j) m.variation }))) of.booking
+
+    numbers_by : (q : ℕ) → q < s.block → pass_outcome j (entry_at q) n ≡ action_numbers (site_in j (entry_at q) m.variation) (version_in j (entry_at q) m.variation) k r
+    numbers_by q lt =
+        pass_answer j job (entry_at q) (row_of j (entry_at q)) (row_here q lt) n m of.its_pass r of.its_result
+        ∙ ap (λ (c : Booking). booking_numbers {M = ⊥} (site_in j (entry_at q) None) (site_in j (entry_at q) m.variation) (version_in j (entry_at q) m.variation) (graph_filters (job_graph j)) r c) of.booking
+
+    by_numbers : (q : ℕ) → q < s.block → items_at q ≡ items_fed k (action_numbers (site_in j (entry_at q) m.variation) (version_in j (entry_at q) m.variation) k r)
+    by_numbers q lt = ap (items_fed k) (sym (outcome_by q lt) ∙ numbers_by q lt)
+
+    -- the block feeds the values of the places that pass the filters
+    pub block_fed : (values : ℕ → List Value)
+        → ((q : ℕ) → q < s.block → passes q ≡ true → (for_all (version_in {M = ⊥} j (entry_at q) m.variation) r.inputs ≡ Gives (values q)) × (feed_fault k (values q) ≡ None))
+        → flat_map (λ q. spread k (values q)) (filter passes (range_with_len 0 s.block)) ≡ block_items (facts_in j) s (actions_before j n)
+    block_fed values h =
+        sym (block_flat (spreads_of j.dataset (passes_in j)) (λ row. list_at row (actions_before j n))
+        ∙ (λ i. flat_map (λ q. its_items q i) (range_with_len 0 s.block))
+        ∙ flat_filtered_range items_at (λ q. spread k (values q)) passes s.block 0
+        (λ q a lt t. (let w = h q (omega (arith, lt)) t in by_numbers q (omega (arith, lt)) ∙ given_items k (through_sites (site_in j (entry_at q) m.variation) r.filters) (for_all (version_in j (entry_at q) m.variation) r.inputs) (values q) t w.0 w.1))
+        (λ q a lt t. by_numbers q (omega (arith, lt)) ∙ none_items k (through_sites (site_in j (entry_at q) m.variation) r.filters) _ t))
+
+  -- ---- a named filter
+
+  module _ (job : IsJob j) (f : ℕ) (x : FilterAt) (here : slice_get (graph_filters (job_graph j)) f ≡ Some x) where
+    says : (b : Bool) → slice_get (covered_in j) f ≡ Some b → is_covered (passes_in j) x.at ≡ b
+    says b h = same_step (is_covered (passes_in j) x.at) b (sym (cover_at j job f x here) ∙ h)
+
+    abbrev reach_at : ℕ → Option Reach
+    reach_at q = slice_get (reaches_of j.dataset (passes_in j) (named_before (history j.script)) (row_of j (entry_at q))) f
+
+    reaches_are : (h : ℕ → Reach) → ((q : ℕ) → q < s.block → reach_at q ≡ Some (h q)) → block_reaches (facts_in j) s f ≡ flat_map (λ q. h q ∷ []) (range_with_len 0 s.block)
+    reaches_are h e =
+        flat_first (λ row. if_there (slice_get row f)) (λ q. h q ∷ []) s.block (rows_left (reaches_of j.dataset (passes_in j) (named_before (history j.script)))) (left_long (reaches_of j.dataset (passes_in j) (named_before (history j.script))))
+        (λ i y lt q. ap (λ row. if_there (slice_get row f)) (left_at (reaches_of j.dataset (passes_in j) (named_before (history j.script))) i y lt q) ∙ ap if_there (e i lt))
+
+    -- no place reaches one that no report covers
+    pub uncovered_counts : slice_get (covered_in j) f ≡ Some false → counted (block_reaches (facts_in j) s f) ≡ record { all = 0; pass = 0 }
+    uncovered_counts h =
+        let e = reaches_are (λ q. Stopped) (λ q lt. uncovered_reach j (entry_at q) (row_of j (entry_at q)) (row_here q lt) f x here (says false h)) in
+        ap counted e ∙ (λ i. record { all = none is_reached refl s.block 0 i; pass = none is_passed refl s.block 0 i })
+      where
+        none : (t : Reach → Bool) → t Stopped ≡ false → (n a : ℕ) → count_by t (flat_map (λ (q : ℕ). Stopped ∷ []) (range_with_len a n)) ≡ 0
+        none t e zero a = refl
+        none t e (suc n) a = sum_by-cons (λ y. cond (t y) 1 0) Stopped (flat_map (λ (q : ℕ). Stopped ∷ []) (range_with_len (a + 1) n)) ∙ (λ i. cond (e i) 1 0 + none t e n (a + 1) i)
+
+    module _ (covered : slice_get (covered_in j) f ≡ Some true) (up : List ℕ) (own : ℕ) (split : x.sites ≡ up ++ own ∷ []) where
+      abbrev above : ℕ → Outcome ⊥ Bool
+      above q = through_sites (site_in j (entry_at q) None) up
+
+      abbrev all : ℕ → Outcome ⊥ Bool
+      all q = through_sites (site_in j (entry_at q) None) (up ++ own ∷ [])
+
+      abbrev its_reach : ℕ → Reach
+      its_reach q = filter_reach j.dataset (row_of j (entry_at q)) x.at
+
+      -- what the filter does at a place without a fault
+      reached : (q : ℕ) → q < s.block → fault_in (all q) ≡ None → (is_reached (its_reach q) ≡ is_true (above q)) × (is_passed (its_reach q) ≡ is_true (all q))
+      reached q lt clear = go (above q) refl (site_in j (entry_at q) None own >>= truth_of) refl
+        where
+          named : option_map (λ (y : FilterAt). y.sites) (slice_get (graph_filters (job_graph j)) f) ≡ Some x.sites
+          named = ap (option_map (λ (y : FilterAt). y.sites)) here
+
+          within_table : entry_at q < length j.dataset.rows
+          within_table = omega (arith, lt, within, inside)
+
+          more : all q ≡ (above q >>= λ passed. if passed then site_in j (entry_at q) None own >>= truth_of else Gives false)
+          more = through_more (site_in j (entry_at q) None) up own
+
+          go : (o : Outcome ⊥ Bool) → above q ≡ o → (y : Outcome ⊥ Bool) → (site_in j (entry_at q) None own >>= truth_of) ≡ y → (is_reached (its_reach q) ≡ is_true (above q)) × (is_passed (its_reach q) ≡ is_true (all q))
+          go (Gives false) e y i =
+              let a : all q ≡ Gives false = more ∙ ap (λ (w : Outcome ⊥ Bool). w >>= λ passed. if passed then site_in j (entry_at q) None own >>= truth_of else Gives false) e in
+              let r = (stopped_answer j job f x.sites named up own split (entry_at q) within_table [] [] 0 0 e a (row_of j (entry_at q)) x (row_here q lt) here).0 in
+              (ap is_reached r ∙ sym (ap is_true e), ap is_passed r ∙ sym (ap is_true a))
+          go (Gives true) e (Gives v) i =
+              let a : all q ≡ Gives v = more ∙ ap (λ (w : Outcome ⊥ Bool). w >>= λ passed. if passed then site_in j (entry_at q) None own >>= truth_of else Gives false) e ∙ i in
+              let r = (tried_answer j job f x.sites named up own split (entry_at q) within_table [] [] 0 0 v e a (row_of j (entry_at q)) x (row_here q lt) here).0 in
+              (ap is_reached r ∙ reached_if v ∙ sym (ap is_true e), ap is_passed r ∙ passed_if v ∙ sym (ap is_true a))
+          go (Gives true) e (Faults g) i =
+              let a : all q ≡ Faults g = more ∙ ap (λ (w : Outcome ⊥ Bool). w >>= λ passed. if passed then site_in j (entry_at q) None own >>= truth_of else Gives false) e ∙ i in
+              absurd (let w : ◌≡◌ {A = Option EntryFault} None (Some g) = sym clear ∙ ap fault_in a in cc w)
+          go (Gives true) e (Needs g) i = elim g [ ]
+          go (Faults g) e y i =
+              let a : all q ≡ Faults g = more ∙ ap (λ (w : Outcome ⊥ Bool). w >>= λ passed. if passed then site_in j (entry_at q) None own >>= truth_of else Gives false) e in
+              absurd (let w : ◌≡◌ {A = Option EntryFault} None (Some g) = sym clear ∙ ap fault_in a in cc w)
+          go (Needs g) e y i = elim g [ ]
+
+      -- the counts are the sizes of two selections
+      pub covered_counts : ((q : ℕ) → q < s.block → fault_in (all q) ≡ None)
+          → counted (block_reaches (facts_in j) s f) ≡ record { all = length (filter (λ q. is_true (above q)) (range_with_len 0 s.block)); pass = length (filter (λ q. is_true (all q)) (range_with_len 0 s.block)) }
+      covered_counts clear =
+          let e = reaches_are its_reach (λ q lt. covered_reach j (entry_at q) (row_of j (entry_at q)) (row_here q lt) f x here (says true covered) (its_reach q) refl) in
+          let one = count_singles is_reached its_reach (range_with_len 0 s.block) in
+          let two = count_singles is_passed its_reach (range_with_len 0 s.block) in
+          ap counted e ∙ (λ i. record { all = one i; pass = two i })
+          ∙ (λ i. record { all = length (same_one i); pass = length (same_two i) })
+        where
+          same_one : filter (λ q. is_reached (its_reach q)) (range_with_len 0 s.block) ≡ filter (λ q. is_true (above q)) (range_with_len 0 s.block)
+          same_one = filter_alike _ _ s.block 0 (λ q a lt. (reached q (omega (arith, lt)) (clear q (omega (arith, lt)))).0)
+
+          same_two : filter (λ q. is_passed (its_reach q)) (range_with_len 0 s.block) ≡ filter (λ q. is_true (all q)) (range_with_len 0 s.block)
+          same_two = filter_alike _ _ s.block 0 (λ q a lt. (reached q (omega (arith, lt)) (clear q (omega (arith, lt)))).1)
+
+-- ---- the laws
+
+pub feeds : law.BlockFeeds
+feeds j s lo n m r k values job at of h =
+    let begins : at.span.lo ≡ lo = at.begins in
+    let within : at.span.lo + s.entries + s.block ≤ at.span.hi = (let w = at.within in omega (arith, w, begins)) in
+    subst (λ (a : ℕ).
+    ((q : ℕ) → q < s.block → is_true (through_sites (site_in j (a + s.entries + q) m.variation) r.filters) ≡ true
+    → (for_all (version_in {M = ⊥} j (a + s.entries + q) m.variation) r.inputs ≡ Gives (values q)) × (feed_fault k (values q) ≡ None))
+    → flat_map (λ q. spread k (values q)) (filter (λ q. is_true (through_sites (site_in j (a + s.entries + q) m.variation) r.filters)) (range_with_len 0 s.block)) ≡ block_items (facts_in j) s (actions_before j n)) begins
+    (block_fed j s at.span at.its_span within at.inside job n m r k of values) h
+
+pub counts : law.FilterCounts
+counts j s lo f x up own job at here covered split clear =
+    let begins : at.span.lo ≡ lo = at.begins in
+    let within : at.span.lo + s.entries + s.block ≤ at.span.hi = (let w = at.within in omega (arith, w, begins)) in
+    subst (λ (a : ℕ).
+    ((q : ℕ) → q < s.block → fault_in (through_sites (site_in j (a + s.entries + q) None) (up ++ own ∷ [])) ≡ None)
+    → counted (block_reaches (facts_in j) s f) ≡ record { all = length (law.places_through j (a + s.entries) s.block up); pass = length (law.places_through j (a + s.entries) s.block (up ++ own ∷ [])) }) begins
+    (covered_counts j s at.span at.its_span within at.inside job f x here covered up own split) clear

@@ -1,0 +1,9 @@
+pub mod ClusterBlocks
+pub mod Demanding
+pub mod Feeding
+pub mod FirstFaults
+pub mod Parts
+pub mod PlaceLists
+pub mod PlanSteps
+pub mod Searching
+pub mod StepLaws

@@ -1,0 +1,9 @@
+use Rattle.std.proofs.Common.{List}
+use Rattle.entry_cache.specs.Jobs.{job_of}
+use Rattle.block_passes.specs.Plans.{AreFiltersPlanned}
+use Rattle.block_passes.specs.Steps.{AreSteps, Chain}
+use Rattle.block_passes.proofs.plan.filter_steps.Given as goal
+
+-- the filters so far have their steps
+abbrev pub invariant-loop-filter : goal.invariant-loop-filter
+invariant-loop-filter g l = (chains : List Chain) → AreSteps chains l.fn.steps → AreFiltersPlanned (job_of l.job) chains l.steps l.filter l.named

@@ -1,0 +1,70 @@
+-- Laws of a block by numbers.
+use Rattle.std.specs.Prelude.{◌≡◌, ◌<◌, ◌≤◌, ◌+◌, ℕ, Bool, true, List, [], ◌∷◌, ◌++◌, None, Some, flat_map, length, slice_get}
+use Rattle.std.specs.List.{filter, range_with_len}
+use Rattle.rdf_values.specs.Bookings.{Pass}
+use Rattle.rdf_values.specs.Spread.{feed_fault, spread}
+use Rattle.rdf_values.specs.declared.action.ActionKind.{ActionKind}
+use Rattle.rdf_values.specs.declared.span.Span.{Span}
+use Rattle.rdf_values.specs.declared.value.Value.{Value}
+use Rattle.rdf_model.specs.Evaluation.{Gives, for_all}
+use Rattle.rdf_model.specs.Results.{Dataset, fault_in, first_fault_from, is_true}
+use Rattle.graph_numbers.specs.Graphs.{graph_filters}
+use Rattle.graph_numbers.specs.Outcomes.{through_sites}
+use Rattle.graph_numbers.specs.Results.{FilterAt, ResultAt}
+use Rattle.graph_numbers.specs.declared.pass.Pass.{Pass as NumberedPass}
+use Rattle.cluster_tally.specs.Blocks.{BlockStage, block_items, block_reaches}
+use Rattle.cluster_tally.specs.Stages.{counted}
+use Rattle.entry_cache.specs.Jobs.{IsJob, JobView, job_graph}
+use Rattle.entry_cache.specs.Store.{site_in, version_in}
+use Rattle.entry_passes.specs.Entries.{facts_in, job_spans}
+use Rattle.entry_passes.specs.Plans.{covered_in}
+use Rattle.entry_passes.specs.Turns.{HasAllDemands, actions_before}
+use Rattle.block_passes.specs.Demands.{Demands}
+use Rattle.block_passes.specs.Plans.{IsActionOf, IsTried}
+use Rattle.block_passes.specs.Searches.{IsSearched, fault_of}
+use Rattle.block_passes.specs.Steps.{Chain}
+use Rattle.block_passes.specs.declared.found.Found.{Found}
+
+-- where all passes were tried over the rows of a block, the best fault is the first one
+abbrev pub SearchIsFirstFault : Type 0
+SearchIsFirstFault =
+    (d : Dataset) (ps : List Pass) (rows : List (List Value)) (e : ℕ) (s : Found)
+    → IsSearched (λ p n. fault_of d (slice_get rows p) (slice_get ps n)) e (length rows) (length ps) s → first_fault_from d e rows ps ≡ s.best
+
+-- a filter that is tried at a place is demanded there
+abbrev pub StepIsDemanded : Type 0
+StepIsDemanded =
+    (j : JobView) (entry : ℕ) (row : List Value) (T : ℕ → Bool) (c : Chain) (up : List ℕ) (s : ℕ)
+    → IsJob j → slice_get j.dataset.rows entry ≡ Some row → HasAllDemands j entry T → IsTried j c → c.sites ≡ up ++ s ∷ []
+    → is_true (through_sites (site_in j entry c.under) up) ≡ true → Demands j entry c.under T s
+
+-- the block of a stage stands in its cluster, which begins at that entry
+pub record IsInCluster (j : JobView) (s : BlockStage) (lo : ℕ) : Type 0 where
+  pub span : Span
+  pub its_span : slice_get (job_spans j) s.cluster ≡ Some span
+  pub begins : span.lo ≡ lo
+  pub within : lo + s.entries + s.block ≤ span.hi
+  pub inside : span.hi ≤ length j.dataset.rows
+
+-- a block feeds to a pass what the values of the places that pass its filters give
+abbrev pub BlockFeeds : Type 0
+BlockFeeds =
+    (j : JobView) (s : BlockStage) (lo n : ℕ) (m : NumberedPass) (r : ResultAt) (k : ActionKind) (values : ℕ → List Value)
+    → IsJob j → IsInCluster j s lo → IsActionOf j n m r k
+    → ((q : ℕ) → q < s.block → is_true (through_sites (site_in j (lo + s.entries + q) m.variation) r.filters) ≡ true
+    → (for_all (version_in {M = ⊥} j (lo + s.entries + q) m.variation) r.inputs ≡ Gives (values q)) × (feed_fault k (values q) ≡ None))
+    → flat_map (λ q. spread k (values q)) (filter (λ q. is_true (through_sites (site_in j (lo + s.entries + q) m.variation) r.filters)) (range_with_len 0 s.block))
+    ≡ block_items (facts_in j) s (actions_before j n)
+
+-- the places of a block that pass filters under nominal
+abbrev pub places_through : JobView → ℕ → ℕ → List ℕ → List ℕ
+places_through j first count sites = filter (λ q. is_true (through_sites (site_in j (first + q) None) sites)) (range_with_len 0 count)
+
+-- the counts of a named filter that is covered are the sizes of two selections, where it faults at no place
+abbrev pub FilterCounts : Type 0
+FilterCounts =
+    (j : JobView) (s : BlockStage) (lo f : ℕ) (x : FilterAt) (up : List ℕ) (own : ℕ)
+    → IsJob j → IsInCluster j s lo → slice_get (graph_filters (job_graph j)) f ≡ Some x → slice_get (covered_in j) f ≡ Some true → x.sites ≡ up ++ own ∷ []
+    → ((q : ℕ) → q < s.block → fault_in (through_sites (site_in j (lo + s.entries + q) None) (up ++ own ∷ [])) ≡ None)
+    → counted (block_reaches (facts_in j) s f)
+    ≡ record { all = length (places_through j (lo + s.entries) s.block up); pass = length (places_through j (lo + s.entries) s.block (up ++ own ∷ [])) }

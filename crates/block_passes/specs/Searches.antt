@@ -1,0 +1,45 @@
+-- The search for the first fault of a block: pass after pass over the places below a limit, which falls to each place that faults.
+use Rattle.std.specs.Prelude.{◌≡◌, ◌<◌, ◌≤◌, ◌+◌, ℕ, List, Option, None, Some}
+use Rattle.rdf_values.specs.Bookings.{Pass}
+use Rattle.rdf_values.specs.declared.fault.EntryFault.{EntryFault}
+use Rattle.rdf_values.specs.declared.fault.Fault.{Fault}
+use Rattle.rdf_values.specs.declared.value.Value.{Value}
+use Rattle.rdf_model.specs.Results.{Dataset}
+use Rattle.rdf_model.specs.Results.{fault_at as fault_in_pass}
+use Rattle.block_passes.specs.declared.found.Found.{Found}
+
+-- the search with a fault of a pass at a place of a block that begins at this entry
+abbrev pub fault_at : ℕ → ℕ → ℕ → EntryFault → Found
+fault_at first pass place kind = record { limit = place; best = Some (record { entry = first + place; pass = pass; kind = kind }) }
+
+-- the places below the limit were tried in a part of a pass, with the fault of each place in it: the first that faults is the new limit
+-- and the best fault, and where none faults all is as it was
+pub record Lowers (part : ℕ → Option EntryFault) (first pass : ℕ) (old new : Found) : Type 0 where
+  pub falls : new.limit ≤ old.limit
+  pub clear : (p : ℕ) → p < new.limit → part p ≡ None
+  pub same : new.limit ≡ old.limit → new ≡ old
+  pub found : new.limit < old.limit → (kind : EntryFault) × (part new.limit ≡ Some kind) × (new ≡ fault_at first pass new.limit kind)
+
+-- the passes below a number were tried, with the fault of each place in each pass: below the limit none of them faults, and the best
+-- fault is that of the first pass that faults at the limit; where there is none, the limit is behind all places
+pub record IsSearched (fault : ℕ → ℕ → Option EntryFault) (first count passes : ℕ) (s : Found) : Type 0 where
+  pub clear : (p n : ℕ) → p < s.limit → n < passes → fault p n ≡ None
+  pub whole : s.best ≡ None → s.limit ≡ count
+  pub within : s.limit ≤ count
+  pub at_limit : (f : Fault) → s.best ≡ Some f
+      → (f.entry ≡ first + s.limit) × (s.limit < count) × (f.pass < passes) × (fault s.limit f.pass ≡ Some f.kind) × ((n : ℕ) → n < f.pass → fault s.limit n ≡ None)
+
+-- and of the next pass some parts: below the limit its fault is that of the parts that are left
+pub record IsAmid (fault : ℕ → ℕ → Option EntryFault) (left : ℕ → Option EntryFault) (first count pass : ℕ) (s : Found) : Type 0 where
+  pub clear : (p n : ℕ) → p < s.limit → n < pass → fault p n ≡ None
+  pub rest : (p : ℕ) → p < s.limit → fault p pass ≡ left p
+  pub whole : s.best ≡ None → s.limit ≡ count
+  pub within : s.limit ≤ count
+  pub at_limit : (f : Fault) → s.best ≡ Some f
+      → (f.entry ≡ first + s.limit) × (s.limit < count) × (f.pass < pass + 1) × (fault s.limit f.pass ≡ Some f.kind) × ((n : ℕ) → n < f.pass → fault s.limit n ≡ None)
+
+-- the fault of a row in a pass, where both are there
+abbrev pub fault_of : Dataset → Option (List Value) → Option Pass → Option EntryFault
+fault_of d None p = None
+fault_of d (Some row) None = None
+fault_of d (Some row) (Some p) = fault_in_pass d row p

@@ -1,0 +1,37 @@
+// How far the search for a block's first fault has come.
+ghost use Rattle.std.specs.Prelude.{◌≡◌, ◌<◌, ◌+◌, ◌^◌, None, Some};
+ghost use Rattle.block_passes.specs.Searches.{fault_at};
+
+use rdf_values::{EntryFault, Fault};
+
+/// The first fault so far of the passes of a loop over a block, if one faults, and the places that are still tried: those below the limit.
+#[derive(Clone, Copy, Debug)]
+pub struct Found {
+    pub limit: u32,
+    pub best: Option<Fault>,
+}
+
+impl Found {
+    /// Where nothing was tried of so many entries.
+    pub fn begin(count: u32) -> Found
+        ensures { result ≡ record { limit = count; best = None } }
+    {
+        Found {
+            limit: count,
+            best: None,
+        }
+    }
+
+    /// A fault below the limit becomes the first one, and its place the limit. The block begins at entry `first`.
+    pub fn lower(&mut self, first: u32, pass: u32, place: u32, kind: EntryFault)
+        requires { first + place < 2 ^ 32 }
+        ensures { self.new ≡ fault_at first pass place kind }
+    {
+        self.limit = place;
+        self.best = Some(Fault {
+            entry: first + place,
+            pass,
+            kind,
+        });
+    }
+}

@@ -1,0 +1,15 @@
+//! All passes of an event loop over the entries of one block, pass after pass with a limit that falls: which selections of places they
+//! share, and the laws by which the parts of each pass find the block's first fault, feed a tally and are counted. It stands on
+//! `entry_cache` for the numbers of a job, on `block_laws` and on `cluster_tally`.
+#![tactic(auto)]
+
+pub mod found;
+pub mod laws;
+pub mod plan;
+pub mod steps;
+pub mod stop;
+
+pub use crate::found::Found;
+pub use crate::plan::{LoopPlan, NamedSteps};
+pub use crate::steps::Step;
+pub use crate::stop::BlockStop;

@@ -1,0 +1,177 @@
+// What is the same for each block of a loop.
+ghost use Rattle.std.specs.Prelude.{◌≡◌, ◌<◌, ◌≤◌, ◌^◌, List, Bool, IfOk, Some, length, slice_get, true, nat_eq};
+ghost use Rattle.std.specs.List.{list_any};
+ghost use Rattle.graph_numbers.specs.Graphs.{graph_filters, graph_results};
+ghost use Rattle.entry_cache.specs.Caches.{numbered_in};
+ghost use Rattle.entry_cache.specs.Jobs.{Fits, job_graph, job_of, passes_in};
+ghost use Rattle.entry_passes.specs.Plans.{covered_in};
+ghost use Rattle.entry_passes.specs.Turns.{is_covering, numbered_passes};
+ghost use Rattle.block_passes.specs.Plans.{AreFiltersPlanned, ArePassesPlanned, IsFilterLed, IsFilterStepped, IsPassLed, IsPlan};
+ghost use Rattle.block_passes.specs.Steps.{AreSteps, Chain};
+
+use crate::steps::{Step, next_step, path_steps};
+use entry_cache::Job;
+use graph_numbers::{Pass, ResultKind};
+use rdf_values::{ListOf, Memory};
+use std::alloc::Global;
+use std::marker::Model;
+
+/// The steps of a named filter: the last of the filters above it, and its own.
+#[derive(Clone, Copy, Debug)]
+pub struct NamedSteps {
+    pub above: u32,
+    pub own: u32,
+}
+
+/// Which selections the passes of a loop share, and which each of them takes.
+#[derive(Drop)]
+pub struct LoopPlan {
+    steps: ListOf<Step>,
+    passes: ListOf<u32>,
+    filters: ListOf<Option<NamedSteps>>,
+}
+
+impl Model for LoopPlan {
+    ghost use Rattle.block_passes.specs.Plans.{PlanView};
+
+    ghost Value = { PlanView };
+
+    ghost view = { λ p. record { steps = p.steps; passes = p.passes; filters = p.filters } };
+}
+
+/// The passes of a job's loop.
+pub(crate) fn loop_passes<'a>(job: &Job<'a>) -> &'a [Pass]
+    requires { Fits job.now }
+    ensures passes { result.now ≡ numbered_passes (job_of job.now) }
+    ensures count { length result.now ≡ length (passes_in (job_of job.now)) }
+    ensures few { length result.now < 2 ^ 32 }
+{
+    job.graph.is_booked();
+    let _few = job.graph.variations().len();
+    job.graph.passes(job.loop_index)
+}
+
+// Whether the number is among them.
+fn is_among(number: u32, numbers: &[u32]) -> bool
+    ensures { result ≡ list_any (nat_eq number) numbers.now }
+{
+    for other in numbers {
+        if number == *other {
+            return true;
+        }
+    }
+    false
+}
+
+// Whether a report of the loop covers the filter of that number.
+fn is_covered(job: &Job<'_>, filter: u32) -> bool
+    requires job { Fits job.now }
+    requires filter { filter < length (graph_filters (job_graph (job_of job.now))) }
+    ensures { slice_get (covered_in (job_of job.now)) filter ≡ Some result }
+{
+    let passes = loop_passes(job);
+    for pass in passes {
+        if is_among(filter, job.graph.covered(pass.result)) {
+            return true;
+        }
+    }
+    false
+}
+
+// The last step of a pass: that of its action's filters, and of a report none.
+fn pass_step(job: &Job<'_>, _pass: u32, own: Pass, steps: &mut ListOf<Step>) -> Result<u32, Memory>
+    requires job { Fits job.now }
+    requires own { numbered_in (job_of job.now) _pass ≡ Some own }
+    requires steps { (chains : List Chain) × AreSteps chains steps.old }
+    ensures { (chains : List Chain) → AreSteps chains steps.old → IfOk result (IsPassLed (job_of job.now) chains steps.new _pass) }
+{
+    match job.graph.kind(own.result) {
+        ResultKind::Action(_) => path_steps(steps, job.graph.path(own.result), own.variation),
+        ResultKind::Report => Ok(0),
+    }
+}
+
+// The last step of each pass.
+fn pass_steps(alloc: Global, job: &Job<'_>, steps: &mut ListOf<Step>) -> Result<ListOf<u32>, Memory>
+    requires job { Fits job.now }
+    requires steps { (chains : List Chain) × AreSteps chains steps.old }
+    ensures { (chains : List Chain) → AreSteps chains steps.old → IfOk result (ArePassesPlanned (job_of job.now) chains steps.new (length (passes_in (job_of job.now)))) }
+{
+    let mut last_steps = ListOf::new(alloc);
+    let passes = loop_passes(job);
+    for (pass, own) in passes.iter().enumerate() {
+        let last = pass_step(job, pass as u32, *own, steps)?;
+        last_steps.push(last)?;
+    }
+    Ok(last_steps)
+}
+
+// The steps of a named filter that a report covers.
+fn named_steps(job: &Job<'_>, filter: u32, steps: &mut ListOf<Step>) -> Result<NamedSteps, Memory>
+    requires job { Fits job.now }
+    requires filter { filter < length (graph_filters (job_graph (job_of job.now))) }
+    requires covered { slice_get (covered_in (job_of job.now)) filter ≡ Some true }
+    requires steps { (chains : List Chain) × AreSteps chains steps.old }
+    ensures { (chains : List Chain) → AreSteps chains steps.old → IfOk result (IsFilterLed (job_of job.now) chains steps.new filter) }
+{
+    let Some((site, up)) = job.graph.filter_path(filter).split_last() else {
+        return Err(Memory);
+    };
+    let above = path_steps(steps, up, None)?;
+    let own = next_step(steps, above, *site, None)?;
+    Ok(NamedSteps { above, own })
+}
+
+// The steps of a named filter, where a report covers it.
+fn filter_step(
+    job: &Job<'_>,
+    filter: u32,
+    steps: &mut ListOf<Step>,
+) -> Result<Option<NamedSteps>, Memory>
+    requires job { Fits job.now }
+    requires filter { filter < length (graph_filters (job_graph (job_of job.now))) }
+    requires steps { (chains : List Chain) × AreSteps chains steps.old }
+    ensures { (chains : List Chain) → AreSteps chains steps.old → IfOk result (IsFilterStepped (job_of job.now) chains steps.new filter) }
+{
+    if is_covered(job, filter) {
+        let named = named_steps(job, filter, steps)?;
+        return Ok(Some(named));
+    }
+    Ok(None)
+}
+
+// The steps of each named filter.
+fn filter_steps(
+    alloc: Global,
+    job: &Job<'_>,
+    steps: &mut ListOf<Step>,
+) -> Result<ListOf<Option<NamedSteps>>, Memory>
+    requires job { Fits job.now }
+    requires steps { (chains : List Chain) × AreSteps chains steps.old }
+    ensures { (chains : List Chain) → AreSteps chains steps.old → IfOk result (AreFiltersPlanned (job_of job.now) chains steps.new (length (graph_filters (job_graph (job_of job.now))))) }
+{
+    let mut named = ListOf::new(alloc);
+    for filter in 0..job.graph.filters() {
+        let own = filter_step(job, filter, steps)?;
+        named.push(own)?;
+    }
+    Ok(named)
+}
+
+impl LoopPlan {
+    /// The plan of a job's loop.
+    pub fn new(alloc: Global, job: &Job<'_>) -> Result<LoopPlan, Memory>
+        requires { Fits job.now }
+        ensures { IfOk result (IsPlan (job_of job.now)) }
+    {
+        let mut steps = ListOf::new(alloc);
+        steps.push(Step::Block)?;
+        let passes = pass_steps(alloc, job, &mut steps)?;
+        let filters = filter_steps(alloc, job, &mut steps)?;
+        Ok(LoopPlan {
+            steps,
+            passes,
+            filters,
+        })
+    }
+}
