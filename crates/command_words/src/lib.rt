@@ -9,4 +9,4 @@ mod read;
 
 pub use crate::command::{Command, Friend, Input};
 pub use crate::file_name::FileName;
-pub use crate::read::read_command;
+pub use crate::read::{number, read_command};

@@ -29,9 +29,9 @@ fn borrowed<'a>(alloc: Global, words: &'a WordList) -> Result<Vec<&'a str>, Memo
     Ok(list)
 }
 
-// The number that the text is canonical for, within the limits.
 #[tactic(auto, unfolding(crate::specs::Asked::number_of))]
-fn number(text: &str, least: u32, most: u32) -> Option<u32>
+/// The number that a text is canonical for, within the limits.
+pub fn number(text: &str, least: u32, most: u32) -> Option<u32>
     ensures { result ≡ number_of least most text.now }
 {
     let n = read_integer(text.as_bytes())?;

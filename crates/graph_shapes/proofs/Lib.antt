@@ -1,0 +1,4 @@
+pub mod Booked
+pub mod Fitting
+pub mod Looped
+pub mod Shaping

@@ -1,0 +1,64 @@
+-- The shapes of a loop, pass by pass, and of a graph, loop by loop.
+use Rattle.std.proofs.Common.{◌≡◌, ◌≤◌, ◌<◌, ◌+◌, ℕ, zero, suc, List, [], ◌∷◌, ◌++◌, length, map, take, Option, Some, sym, ap, ap₂, ◌∙◌, arith}
+use Rattle.std.specs.Prelude.{option_map, slice_get, unwrap_or}
+use Rattle.std.proofs.lemmas.List.{length-map, map-append, take_all}
+use Rattle.std.proofs.lemmas.Option.{slice_get-map}
+use Rattle.rdf_values.specs.Bookings.{Booked, Pass}
+use Rattle.rdf_values.specs.declared.value.ColType.{ColType}
+use Rattle.rdf_model.specs.Loops.{loop_passes, loop_results}
+use Rattle.graph_numbers.specs.Graphs.{GraphView, booked_statements, graph_loops}
+use Rattle.graph_numbers.specs.Results.{pass_at}
+use Rattle.graph_numbers.proofs.Extending.{itself}
+use Rattle.graph_numbers.proofs.Looping.{loops_are}
+use Rattle.result_text.specs.FilledLines.{passes_at}
+use Rattle.result_text.proofs.ActionLines.{something_at}
+use Rattle.shard_lines.specs.Shapes.{booking_shape}
+use Rattle.shard_lines.specs.declared.pass_shape.PassShape.{PassShape}
+use Rattle.shard_spans.specs.Laws.{pass_shapes}
+use Rattle.shard_spans.specs.Spans.{loops_of}
+use Rattle.graph_shapes.specs.GraphShapes.{graph_shapes, pass_kind}
+
+pub take_next : {A : Type 0} (xs : List A) (i : ℕ) (x : A) → slice_get xs i ≡ Some x → take (i + 1) xs ≡ take i xs ++ x ∷ []
+take_next [] i x at = absurd (cc at)
+take_next {A} (y ∷ ys) zero x at = ap (λ z. z ∷ []) (same_some at)
+  where
+    same_some : {a b : A} → ◌≡◌ {A = Option A} (Some a) (Some b) → a ≡ b
+    same_some q = cc
+take_next (y ∷ ys) (suc i) x at = (let e : suc i + 1 ≡ suc (i + 1) = omega arith in ap (λ k. take k (y ∷ ys)) e) ∙ ap (λ l. y ∷ l) (take_next ys i x at)
+
+-- ---- passes
+
+module _ (column : Pass → ColType) where
+  pub shapes_more : (ps : List Pass) (i : ℕ) (p : Pass) (shapes more : List PassShape) (s : PassShape) → slice_get ps i ≡ Some p → s ≡ booking_shape (column p) p.result.booking → more ≡ shapes ++ s ∷ [] → shapes ≡ pass_shapes column (take i ps)
+      → more ≡ pass_shapes column (take (i + 1) ps)
+  shapes_more ps i p shapes more s at is pushed before =
+      pushed ∙ ap₂ (λ (x : List PassShape) y. x ++ y ∷ []) before is ∙ sym (map-append (λ (q : Pass). booking_shape (column q) q.result.booking) (take i ps) (p ∷ [])) ∙ sym (ap (pass_shapes column) (take_next ps i p at))
+
+  pub shapes_all : (ps : List Pass) (i : ℕ) (shapes : List PassShape) → length ps ≤ i → shapes ≡ pass_shapes column (take i ps) → shapes ≡ pass_shapes column ps
+  shapes_all ps i shapes le h = h ∙ ap (pass_shapes column) (take_all i ps le)
+
+-- ---- loops
+
+pub loops_many : (g : GraphView) → length (graph_loops g) ≡ length (loops_of g.script)
+loops_many g =
+    let h = booked_statements g in
+    sym (length-map (graph_loops g) (map (pass_at h))) ∙ ap length (loops_are h h itself) ∙ length-map (loop_results h) (λ results. map (λ (p : Pass). Some p) (loop_passes h results))
+    ∙ sym (length-map (loop_results h) (loop_passes h))
+
+shapes_at : (g : GraphView) (n : ℕ) → n < length (graph_loops g) → slice_get (graph_shapes g) n ≡ Some (pass_shapes (pass_kind g) (passes_at g n))
+shapes_at g n lt =
+    let h = booked_statements g in
+    let many : length (loops_of g.script) ≡ length (loop_results h) = length-map (loop_results h) (loop_passes h) in
+    let here = something_at (loop_results h) n (omega (arith, loops_many g)) in
+    slice_get-map (pass_shapes (pass_kind g)) (loops_of g.script) n ∙ ap (option_map (pass_shapes (pass_kind g))) (slice_get-map (loop_passes h) (loop_results h) n ∙ ap (option_map (loop_passes h)) here.1)
+    ∙ ap (λ (o : Option (List Booked)). Some (pass_shapes (pass_kind g) (loop_passes h (unwrap_or o [])))) (sym here.1)
+
+pub loop_more : (g : GraphView) (n : ℕ) (all more : List (List PassShape)) (one : List PassShape) → n < length (graph_loops g) → one ≡ pass_shapes (pass_kind g) (passes_at g n) → more ≡ all ++ one ∷ [] → all ≡ take n (graph_shapes g)
+    → more ≡ take (n + 1) (graph_shapes g)
+loop_more g n all more one lt is pushed before =
+    pushed ∙ ap₂ (λ (x : List (List PassShape)) y. x ++ y ∷ []) before is ∙ sym (take_next (graph_shapes g) n (pass_shapes (pass_kind g) (passes_at g n)) (shapes_at g n lt))
+
+pub loops_all : (g : GraphView) (n : ℕ) (all : List (List PassShape)) → length (graph_loops g) ≤ n → all ≡ take n (graph_shapes g) → all ≡ graph_shapes g
+loops_all g n all le h =
+    let many : length (graph_shapes g) ≡ length (loops_of g.script) = length-map (loops_of g.script) (pass_shapes (pass_kind g)) in
+    h ∙ take_all n (graph_shapes g) (omega (arith, loops_many g))

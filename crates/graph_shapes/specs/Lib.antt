@@ -1,0 +1,2 @@
+pub mod GraphShapes
+pub mod Laws

@@ -1,0 +1,91 @@
+-- What reading a script's file, or a table's, comes to.
+use Rattle.std.specs.Prelude.{◌≡◌, ◌<◌, ◌≤◌, ℕ, List, All, Option, Some, None, Ok, MatchResult, length}
+use Rattle.rdf_outside.specs.Outside.{Rose}
+use Rattle.rdf_values.specs.Bookable.{IsBookable}
+use Rattle.rdf_values.specs.Path.{history}
+use Rattle.rdf_values.specs.RefusalLines.{read_failed_line, script_cause_line, table_cause_line}
+use Rattle.rdf_values.specs.Scripts.{IsScript, RefusesScript}
+use Rattle.rdf_values.specs.TableText.{MarkedTable, table_of}
+use Rattle.rdf_values.specs.Words.{StatementsHaveWords}
+use Rattle.rdf_values.specs.declared.script.Script.{Script}
+use Rattle.rdf_values.specs.declared.script_cause.ScriptCause.{ScriptCause}
+use Rattle.table_csv.specs.Csv.{csv_records}
+use Rattle.table_csv.specs.declared.marked_pieces.MarkedPieces.{MarkedPieces}
+use Rattle.input_files.specs.Due.{Due, FileStatuses, WithScriptFile, WithTableFile, due_of, max_script, max_table}
+use Rattle.input_files.specs.Fetching.{Tells}
+use Rattle.input_files.specs.declared.file_cause.FileCause.{FileCause}
+use Rattle.input_files.specs.declared.file_cause.FileCause.TheVariants.{ReadFailed, NoFile, ScriptRefused, TableRefused}
+use Rattle.input_files.specs.declared.read_file.ReadFile.{ReadFile}
+use Rattle.input_files.specs.declared.read_file.ReadFile.TheVariants.{Whole, Refused}
+
+-- the causes as statuses of their own
+abbrev pub causes : FileStatuses FileCause
+causes = record { read_failed = ReadFailed; no_file = NoFile; script_refused = ScriptRefused; table_refused = TableRefused }
+
+-- the status of a program for a cause
+abbrev pub status_for : {S : Type 0} → FileStatuses S → FileCause → S
+status_for statuses ReadFailed = statuses.read_failed
+status_for statuses NoFile = statuses.no_file
+status_for statuses ScriptRefused = statuses.script_refused
+status_for statuses TableRefused = statuses.table_refused
+
+-- the cause and line that are due to the file, or the line of a read that failed
+abbrev pub Refuses : (Option (List ℕ) → Due FileCause → Type 0) → Option (List ℕ → Option (List ℕ)) → List ℕ → ℕ → ℕ → FileCause → List ℕ → Type 0
+Refuses IsDueTo files name before now ReadFailed line = Rose before now × (line ≡ read_failed_line name)
+Refuses IsDueTo files name before now cause line = Tells files name (λ file. IsDueTo file (due_of cause line))
+
+-- ---- scripts
+
+-- the file holds the script
+abbrev pub HoldsTheScript : Script → Option (List ℕ) → Type 0
+HoldsTheScript script None = ⊥
+HoldsTheScript script (Some bytes) = (length bytes ≤ max_script) × IsScript bytes script
+
+-- what is due to the file where it holds no script
+abbrev pub RefusesScriptFile : List ℕ → Option (List ℕ) → Due FileCause → Type 0
+RefusesScriptFile name file due = WithScriptFile causes name file (λ script d. ⊥) due
+
+-- a script that can be booked
+pub record IsScriptRead (files : Option (List ℕ → Option (List ℕ))) (name : List ℕ) (script : Script) : Type 0 where
+  pub holds : Tells files name (HoldsTheScript script)
+  pub bookable : IsBookable script
+  pub words : StatementsHaveWords (history script)
+
+-- the script that the file holds, or why it holds none
+abbrev pub ReadsScriptFile : Option (List ℕ → Option (List ℕ)) → List ℕ → ℕ → ℕ → ReadFile Script → Type 0
+ReadsScriptFile files name before now (Whole script) = IsScriptRead files name script
+ReadsScriptFile files name before now (Refused r) = Refuses (RefusesScriptFile name) files name before now r.cause r.line
+
+-- the script that the text is, or the line of its refusal
+abbrev pub ReadsScriptText : List ℕ → ReadFile Script → Type 0
+ReadsScriptText bytes (Whole script) = IsScript bytes script × IsBookable script × StatementsHaveWords (history script)
+ReadsScriptText bytes (Refused r) = (r.cause ≡ ScriptRefused) × ((c : ScriptCause) × RefusesScript bytes c × (r.line ≡ script_cause_line c))
+
+-- ---- tables
+
+abbrev pub marked_table : MarkedPieces → MarkedTable
+marked_table m = record { table = m.table; marks = m.marks }
+
+-- the file holds the table
+abbrev pub HoldsTheTable : MarkedTable → Option (List ℕ) → Type 0
+HoldsTheTable table None = ⊥
+HoldsTheTable table (Some bytes) = (length bytes ≤ max_table) × (table_of (csv_records bytes) ≡ Ok table)
+
+-- what is due to the file where it holds no table
+abbrev pub RefusesTableFile : List ℕ → Option (List ℕ) → Due FileCause → Type 0
+RefusesTableFile name file due = WithTableFile causes name file (λ table d. ⊥) due
+
+-- a table whose marks are entries of it
+pub record IsTableRead (files : Option (List ℕ → Option (List ℕ))) (name : List ℕ) (m : MarkedPieces) : Type 0 where
+  pub holds : Tells files name (HoldsTheTable (marked_table m))
+  pub within : All (λ e. e < length m.table.rows) m.marks
+
+-- the table that the file holds, or why it holds none
+abbrev pub ReadsTableFile : Option (List ℕ → Option (List ℕ)) → List ℕ → ℕ → ℕ → ReadFile MarkedPieces → Type 0
+ReadsTableFile files name before now (Whole m) = IsTableRead files name m
+ReadsTableFile files name before now (Refused r) = Refuses (RefusesTableFile name) files name before now r.cause r.line
+
+-- the table that the bytes spell, or the line of their refusal
+abbrev pub ReadsTableText : List ℕ → ReadFile MarkedPieces → Type 0
+ReadsTableText bytes (Whole m) = (table_of (csv_records bytes) ≡ Ok (marked_table m)) × All (λ e. e < length m.table.rows) m.marks
+ReadsTableText bytes (Refused r) = (r.cause ≡ TableRefused) × MatchResult (table_of (csv_records bytes)) (λ table. ⊥) (λ cause. r.line ≡ table_cause_line cause)

@@ -1,0 +1,17 @@
+//! Scripts and tables in files, for the programs that read both: a whole file by its name, the script or the table that its bytes
+//! spell, or the line that is due where they spell none. It stands on `rdf_outside` for files, on `script_read` and `table_csv` for
+//! what bytes mean, and on `result_text` for lines. `specs/Due` has the stages in which a program's answer is due.
+#![tactic(auto)]
+
+mod file_cause;
+mod read_file;
+mod refuse;
+mod scripts;
+mod tables;
+mod whole_file;
+
+pub use crate::file_cause::FileCause;
+pub use crate::read_file::{FileRefusal, ReadFile};
+pub use crate::scripts::read_script_file;
+pub use crate::tables::read_table_file;
+pub use crate::whole_file::{Fetched, fetch};

@@ -1,0 +1,46 @@
+// Refusals of files with their lines.
+ghost use Rattle.std.specs.Prelude.{◌≡◌, IfOk};
+ghost use Rattle.rdf_values.specs.RefusalLines.{no_file_line, read_failed_line};
+ghost use Rattle.result_text.specs.RefusalText.{refusal_text};
+
+use crate::file_cause::FileCause;
+use crate::read_file::FileRefusal;
+use rdf_values::{Memory, Text};
+use result_text::{Refusal, refusal_line};
+use std::alloc::Global;
+
+/// A cause with the line of a refusal.
+pub(crate) fn refused(
+    alloc: Global,
+    cause: FileCause,
+    refusal: &Refusal,
+) -> Result<FileRefusal, Memory>
+    ensures { IfOk result (λ r. (r.cause ≡ cause) × (r.line ≡ refusal_text refusal.now)) }
+{
+    let line = refusal_line(alloc, refusal)?;
+    Ok(FileRefusal { cause, line })
+}
+
+fn text_of(alloc: Global, name: &str) -> Result<Text, Memory>
+    ensures { IfOk result (λ text. text ≡ name.now) }
+{
+    let mut text = Text::new(alloc);
+    text.extend(name.as_bytes())?;
+    Ok(text)
+}
+
+/// There is no file of that name.
+pub(crate) fn absent(alloc: Global, name: &str) -> Result<FileRefusal, Memory>
+    ensures { IfOk result (λ r. (r.cause ≡ FileCause.NoFile) × (r.line ≡ no_file_line name.now)) }
+{
+    let name = text_of(alloc, name)?;
+    refused(alloc, FileCause::NoFile, &Refusal::NoFile { name })
+}
+
+/// A read of the file failed.
+pub(crate) fn unread(alloc: Global, name: &str) -> Result<FileRefusal, Memory>
+    ensures { IfOk result (λ r. (r.cause ≡ FileCause.ReadFailed) × (r.line ≡ read_failed_line name.now)) }
+{
+    let name = text_of(alloc, name)?;
+    refused(alloc, FileCause::ReadFailed, &Refusal::Read { name })
+}

@@ -1,0 +1,23 @@
+-- Laws of dropped Watch lines. Each is the contract of a function of this crate, and so proved.
+use Rattle.std.specs.Prelude.{◌≡◌, ℕ, List, []}
+use Rattle.rdf_values.specs.Bookings.{Booked}
+use Rattle.rdf_values.specs.Path.{history}
+use Rattle.rdf_values.specs.declared.script.Script.{Script}
+use Rattle.rdf_model.specs.Loops.{loop_passes, loop_results}
+use Rattle.rdf_model.specs.PartialResults.{Course}
+use Rattle.rdf_model.specs.Results.{Dataset}
+use Rattle.rdf_model.specs.Transcript.{transcript}
+use Rattle.unwatched_scripts.specs.Unwatched.{unwatched}
+
+-- the loops fill the same results, with the same passes
+abbrev pub DroppedWatchesChangeNoLoop : Type 0
+DroppedWatchesChangeNoLoop =
+    (script : Script)
+    → (loop_results (history (unwatched script)) ≡ loop_results (history script))
+    × ((results : List Booked) → loop_passes (history (unwatched script)) results ≡ loop_passes (history script) results)
+
+-- the transcript is that of the script in a course in which no loop noted a set of clusters
+abbrev pub DroppedWatchesDropPartialLines : Type 0
+DroppedWatchesDropPartialLines =
+    (script : Script) (d : Dataset) (course unnoted : Course)
+    → ((l : ℕ) → unnoted.chains l ≡ []) → transcript (unwatched script) d course ≡ transcript script d unnoted
