@@ -1,0 +1,46 @@
+-- Statuses as numbers.
+use Rattle.std.specs.Prelude.{ℕ, zero, suc}
+use Rattle.input_files.specs.Due.{FileStatuses}
+use Rattle.chain_due.specs.declared.status.ChainStatus.{ChainStatus}
+use Rattle.chain_due.specs.declared.status.ChainStatus.TheVariants.{Done, Memory, Words, ReadFault, WriteFault, NoFile, ScriptRefused, TableRefused, LoopFault, FileRefused, FilesDiffer, NotCovered, TooLong, FileChanged}
+
+-- the exit status of the program
+abbrev pub exit_status : ChainStatus → ℕ
+exit_status Done = 0
+exit_status Memory = 1
+exit_status Words = 2
+exit_status ReadFault = 3
+exit_status WriteFault = 4
+exit_status NoFile = 5
+exit_status ScriptRefused = 6
+exit_status TableRefused = 7
+exit_status LoopFault = 8
+exit_status FileChanged = 25
+exit_status FileRefused = 21
+exit_status FilesDiffer = 22
+exit_status NotCovered = 23
+exit_status TooLong = 24
+
+-- the statuses where a file gives nothing
+abbrev pub statuses : FileStatuses ChainStatus
+statuses = record { read_failed = ReadFault; no_file = NoFile; script_refused = ScriptRefused; table_refused = TableRefused }
+
+-- merged lines end with 0, or with 8 after a fault
+abbrev pub printed_status : ℕ → ChainStatus
+printed_status zero = Done
+printed_status (suc n) = LoopFault
+
+-- a status that is due: no fault of a file or of the output, no want of memory, and no file that was found changed
+abbrev pub IsFinal : ChainStatus → Type 0
+IsFinal Memory = ⊥
+IsFinal ReadFault = ⊥
+IsFinal WriteFault = ⊥
+IsFinal FileChanged = ⊥
+IsFinal status = Unit {0}
+
+-- a status that comes once the words are taken
+abbrev pub IsOfFiles : ChainStatus → Type 0
+IsOfFiles Memory = ⊥
+IsOfFiles Words = ⊥
+IsOfFiles WriteFault = ⊥
+IsOfFiles status = Unit {0}
