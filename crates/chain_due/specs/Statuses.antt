@@ -37,10 +37,3 @@ IsFinal ReadFault = ⊥
 IsFinal WriteFault = ⊥
 IsFinal FileChanged = ⊥
 IsFinal status = Unit {0}
-
--- a status that comes once the words are taken
-abbrev pub IsOfFiles : ChainStatus → Type 0
-IsOfFiles Memory = ⊥
-IsOfFiles Words = ⊥
-IsOfFiles WriteFault = ⊥
-IsOfFiles status = Unit {0}
