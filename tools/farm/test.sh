@@ -170,7 +170,7 @@ try_step() { # TABLES..
 # Runs the recipe in its work folder, with what it is called with beside.
 call() { # WORDS..
     : >calls
-    timeout 100 "$farm/$recipe" --work "my work" --group 4 $beside "$@" >out 2>err </dev/null
+    timeout 300 "$farm/$recipe" --work "my work" --group 4 $beside "$@" >out 2>err </dev/null
     echo $? >status
 }
 
