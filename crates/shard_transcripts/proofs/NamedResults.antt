@@ -1,12 +1,12 @@
 -- The result of a Print among those that its loop fills.
-use Rattle.std.proofs.Common.{◌≡◌, ◌⊎◌, inl, inr, ℕ, zero, suc, ◌+◌, ◌<◌, ◌≤◌, Bool, true, false, not, ◌||◌, List, [], ◌∷◌, ◌++◌, length, map, Option, None, Some, refl, sym, ap, ap₂, ◌∙◌, subst, arith, append-nil, append_assoc, if◌then◌else◌, filter}
+use Rattle.std.proofs.Common.{◌≡◌, ℕ, zero, suc, Bool, true, false, not, ◌||◌, List, [], ◌∷◌, ◌++◌, Option, Some, refl, sym, ap, ap₂, ◌∙◌, arith, if◌then◌else◌, filter}
 use Rattle.std.specs.Prelude.{flat_map, slice_get}
 use Rattle.std.proofs.lemmas.Grind.{flat_map-append}
-use Rattle.rdf_values.specs.Bookings.{Booked, Pass, booked_by, bookings, filled, is_watched, names_of, passes_of, results_named, waiting}
+use Rattle.rdf_values.specs.Bookings.{ActionAt, Booked, Booking, Pass, ReportOn, booked_by, bookings, filled, is_watched, names_of, passes_of, results_named, waiting}
 use Rattle.rdf_values.specs.Names.{among, same}
 use Rattle.rdf_values.specs.declared.statement.Statement.{Statement}
-use Rattle.rdf_model.specs.Loops.{loop_passes}
-use Rattle.rdf_model.specs.PartialResults.{Course}
+use Rattle.rdf_model.specs.Loops.{loop_of, loop_passes}
+use Rattle.rdf_model.specs.PartialResults.{Course, partial_line, partial_result}
 use Rattle.rdf_model.specs.ResultLines.{pass_lines}
 use Rattle.rdf_model.specs.Results.{Dataset}
 use Rattle.rdf_model.specs.Transcript.{named_lines, partial_lines, result_lines}
@@ -100,6 +100,27 @@ module _ (script : List Statement) (turn : AreNamedInTurn script) (before : List
       filters_swap (λ (b : Booked). same b.name name) waits (bookings before) ∙ ap (filter waits) (alone before begins found.there)
       ∙ ap (λ (b : Bool). if b then found.b ∷ [] else []) found.passes ∙ sym (alone script itself (booked_kept before script begins found.r found.b found.there))
 
+-- ---- partial lines
+
+-- there are none
+abbrev pub PrintsNoPartials : List Statement → Dataset → Course → Type 0
+PrintsNoPartials script d course = (b : Booked) → (if is_watched script b.name then partial_lines script d course b.name b.booking else []) ≡ []
+
+module _ (script : List Statement) (d : Dataset) (course : Course) where
+  pub unwatched_print_none : ((name : List ℕ) → is_watched script name ≡ false) → PrintsNoPartials script d course
+  unwatched_print_none h b = ap (λ (t : Bool). if t then partial_lines script d course b.name b.booking else []) (h b.name)
+
+  pub unnoted_print_none : ((l : ℕ) → course.chains l ≡ []) → PrintsNoPartials script d course
+  unnoted_print_none h b = go (is_watched script b.name) (none b.name b.booking)
+    where
+      none : (name : List ℕ) (k : Booking) → partial_lines script d course name k ≡ []
+      none name (ActionAt k at) = ap (flat_map (λ set. partial_line name set (partial_result course.spans d set k at))) (h (loop_of script name))
+      none name (ReportOn filters) = refl
+
+      go : (t : Bool) → partial_lines script d course b.name b.booking ≡ [] → (if t then partial_lines script d course b.name b.booking else []) ≡ []
+      go true e = e
+      go false e = refl
+
 -- ---- the lines of a result
 
 module _ (script : List Statement) (d : Dataset) (name : List ℕ) where
@@ -130,10 +151,10 @@ module _ (script : List Statement) (d : Dataset) (name : List ℕ) where
       go true = refl
       go false = refl
 
-  module _ (course : Course) (unwatched : (n : List ℕ) → is_watched script n ≡ false) where
+  module _ (course : Course) (plainly : PrintsNoPartials script d course) where
     plain : (bs : List Booked) → flat_map (result_lines script d course) bs ≡ flat_map (λ b. flat_map (pass_lines d) (passes_of script b)) bs
     plain [] = refl
-    plain (b ∷ bs) = ap₂ (λ (x y : List ℕ). x ++ y) (ap (λ (t : Bool). (if t then partial_lines script d course b.name b.booking else []) ++ flat_map (pass_lines d) (passes_of script b)) (unwatched b.name)) (plain bs)
+    plain (b ∷ bs) = ap₂ (λ (x y : List ℕ). x ++ y) (ap (λ (l : List ℕ). l ++ flat_map (pass_lines d) (passes_of script b)) (plainly b)) (plain bs)
 
     -- what a result by itself prints
     pub named_are : (bs : List Booked) → results_named name bs ≡ results_named name (bookings script) → flat_map if_named (loop_passes script bs) ≡ named_lines script d course name

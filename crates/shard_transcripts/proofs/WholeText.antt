@@ -1,9 +1,8 @@
 -- What the loops of one run over all clusters print.
-use Rattle.std.proofs.Common.{◌≡◌, ◌⊎◌, inl, inr, ℕ, zero, suc, ◌+◌, ◌-◌, ◌<◌, ◌≤◌, Bool, true, false, List, [], ◌∷◌, ◌++◌, length, map, drop, Option, None, Some, refl, sym, ap, ap₂, ◌∙◌, subst, arith, ⊎_elim}
+use Rattle.std.proofs.Common.{◌≡◌, ◌⊎◌, ℕ, zero, suc, ◌+◌, ◌-◌, ◌<◌, List, [], ◌∷◌, length, map, drop, Option, None, Some, refl, sym, ap, ap₂, ◌∙◌, subst, arith, ⊎_elim}
 use Rattle.std.specs.Prelude.{option_map, slice_get, unwrap_or}
-use Rattle.std.proofs.lemmas.List.{length-map}
 use Rattle.std.proofs.lemmas.Option.{same_Some, slice_get-map, slice_get_within}
-use Rattle.rdf_values.specs.Bookings.{Booked, Pass, is_watched, results_named, bookings}
+use Rattle.rdf_values.specs.Bookings.{Booked, Pass, results_named, bookings}
 use Rattle.rdf_values.specs.Cuts.{Lead, below}
 use Rattle.rdf_values.specs.Functions.{fn_names}
 use Rattle.rdf_values.specs.Machine.{first_in}
@@ -27,7 +26,7 @@ use Rattle.graph_numbers.proofs.Extending.{itself}
 use Rattle.loop_pieces.specs.Whole.{cluster_fault}
 use Rattle.loop_pieces.proofs.ClusterFaults.{first_cluster_has_first_fault}
 use Rattle.loop_pieces.proofs.WholeLoops.{all_clusters_are_the_table}
-use Rattle.lazy_loop.specs.Places.{fills, loop_filling}
+use Rattle.lazy_loop.specs.Places.{fills}
 use Rattle.lazy_loop.proofs.Accesses.{none_more, one_loop_more}
 use Rattle.lazy_loop.proofs.Filling.{many}
 use Rattle.lazy_loop.proofs.Filling as filling
@@ -44,8 +43,8 @@ use Rattle.result_text.specs.FilledLines.{passes_at}
 use Rattle.merged_text.specs.MergedPrints.{lines_of_result, loop_printed, merged_text, prints_text}
 use Rattle.merged_text.specs.MergedPrints as merged
 use Rattle.merged_text.proofs.SamePasses.{lines_print_their_passes}
-use Rattle.shard_transcripts.specs.Laws.{MergedRunPrintsTheTranscript, ShardsMergeToTheTranscript}
-use Rattle.shard_transcripts.proofs.NamedResults.{named_are, same_results}
+use Rattle.shard_transcripts.specs.Laws.{MergedRunPrintsNoPartials, MergedRunPrintsTheTranscript, ShardsMergeToTheTranscript}
+use Rattle.shard_transcripts.proofs.NamedResults.{PrintsNoPartials, named_are, same_results, unnoted_print_none, unwatched_print_none}
 
 -- ---- the span of all clusters is the table
 
@@ -123,7 +122,7 @@ head_at (y ∷ ys) (suc p) x rest h =
     let r = head_at ys p x rest h in
     (r.0, (let e : suc p + 1 ≡ suc (p + 1) = omega arith in ap (λ k. drop k (y ∷ ys)) e) ∙ r.1)
 
-module _ (script : Script) (d : Dataset) (spans : List Span) (course : Course) (booked : IsGraph (graph_of script d)) (unwatched : (name : List ℕ) → is_watched (history script) name ≡ false)
+module _ (script : Script) (d : Dataset) (spans : List Span) (course : Course) (booked : IsGraph (graph_of script d)) (plainly : PrintsNoPartials (history script) d course)
     (leads : Lead 0 (length d.rows) spans) where
   abbrev h : List Statement
   h = history script
@@ -168,7 +167,7 @@ module _ (script : Script) (d : Dataset) (spans : List Span) (course : Course) (
   sound_gives a f rest before none =
       ap (λ o. loop_printed (passes_at g (loop_of h a.result)) a.result o rest) (loop_there d spans leads L (loop_of h a.result) (loop_passes h f.results) (passes_there a f) before ∙ ap (λ o. Some (fault_or_lines o (map (pass_line d) (loop_passes h f.results)))) none)
       ∙ ap (λ ps. in_front_of (lines_of_result a.result ps (map (pass_line d) (loop_passes h f.results))) rest) (passes_are a f)
-      ∙ ap (λ l. in_front_of l rest) (lines_print_their_passes d a.result (loop_passes h f.results) ∙ named_are h d a.result course unwatched f.results f.named)
+      ∙ ap (λ l. in_front_of l rest) (lines_print_their_passes d a.result (loop_passes h f.results) ∙ named_are h d a.result course plainly f.results f.named)
 
   -- a faulty loop gives its line
   fault_gives : (a : Access) (f : IsFilling a) (rest : Printed) (fault : Fault) → AreSound d spans leads (loop_of h a.result) L → first_fault d (loop_passes h f.results) ≡ Some fault
@@ -232,9 +231,16 @@ module _ (script : Script) (d : Dataset) (spans : List Span) (course : Course) (
           ∙ sym (ap (λ ps. access_printed h d course a (first_fault d ps) (printed h d course rest)) passes ∙ ap (λ x. access_printed h d course a x (printed h d course rest)) (no_passes d 0 d.rows))
       by_fills (Some results) is next = by_fault results is (first_fault d (loop_passes h f.results)) refl next
 
+whole_text : (script : Script) (d : Dataset) (spans : List Span) (course : Course) → IsGraph (graph_of script d) → PrintsNoPartials (history script) d course → Lead 0 (length d.rows) spans
+    → merged_text (graph_of script d) (span_loops spans d 0 (length spans) (loops_of script)) ≡ transcript script d course
+whole_text script d spans course booked plainly leads =
+    prints_are script d spans course booked plainly leads (accesses (history script)) 0 refl (λ i ps lt at. let none : loops_before (history script) 0 ≡ 0 = refl in absurd (omega arith))
+
 pub merged_run_prints_the_transcript : MergedRunPrintsTheTranscript
-merged_run_prints_the_transcript script d spans course booked unwatched leads =
-    prints_are script d spans course booked unwatched leads (accesses (history script)) 0 refl (λ i ps lt at. let none : loops_before (history script) 0 ≡ 0 = refl in absurd (omega arith))
+merged_run_prints_the_transcript script d spans course booked unwatched leads = whole_text script d spans course booked (unwatched_print_none (history script) d course unwatched) leads
+
+pub merged_run_prints_no_partials : MergedRunPrintsNoPartials
+merged_run_prints_no_partials script d spans course booked unnoted leads = whole_text script d spans course booked (unnoted_print_none (history script) d course unnoted) leads
 
 pub shards_merge_to_the_transcript : ShardsMergeToTheTranscript
 shards_merge_to_the_transcript script d spans parts course column booked unwatched leads some within covered =

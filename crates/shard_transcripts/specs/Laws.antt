@@ -1,5 +1,5 @@
 -- Laws of shards and transcripts. Each is the contract of a function of this crate, and so proved.
-use Rattle.std.specs.Prelude.{◌≡◌, ◌≤◌, ◌<◌, ℕ, List, All, None, false, length, map}
+use Rattle.std.specs.Prelude.{◌≡◌, ◌≤◌, ◌<◌, ℕ, List, [], All, None, false, length, map}
 use Rattle.rdf_values.specs.Bookings.{Pass, is_watched}
 use Rattle.rdf_values.specs.Cuts.{Lead}
 use Rattle.rdf_values.specs.Path.{history}
@@ -28,7 +28,15 @@ MergedRunPrintsTheTranscript =
     → IsGraph (graph_of script d) → IsUnwatched script → Lead 0 (length d.rows) spans
     → merged_text (graph_of script d) (span_loops spans d 0 (length spans) (loops_of script)) ≡ transcript script d course
 
--- so do the joined loops of shards over spans of one cutting that hold each cluster once, in whatever order they are named
+-- whatever partial results the script asks for, they print its transcript in a course in which no loop noted a set of clusters
+abbrev pub MergedRunPrintsNoPartials : Type 0
+MergedRunPrintsNoPartials =
+    (script : Script) (d : Dataset) (spans : List Span) (course : Course)
+    → IsGraph (graph_of script d) → ((l : ℕ) → course.chains l ≡ []) → Lead 0 (length d.rows) spans
+    → merged_text (graph_of script d) (span_loops spans d 0 (length spans) (loops_of script)) ≡ transcript script d course
+
+-- the joined loops of shards over spans of one cutting that hold each cluster once, in whatever order they are named, print the
+-- transcript of a script that asks for no partial results
 abbrev pub ShardsMergeToTheTranscript : Type 0
 ShardsMergeToTheTranscript =
     (script : Script) (d : Dataset) (spans parts : List Span) (course : Course) (column : Pass → ColType)

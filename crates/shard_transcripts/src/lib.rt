@@ -4,4 +4,6 @@
 
 mod laws;
 
-pub use crate::laws::{merged_run_prints_the_transcript, shards_merge_to_the_transcript};
+pub use crate::laws::{
+    merged_run_prints_no_partials, merged_run_prints_the_transcript, shards_merge_to_the_transcript,
+};

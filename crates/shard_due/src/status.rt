@@ -1,0 +1,31 @@
+// Statuses.
+ghost use Rattle.std.specs.Prelude.{◌≡◌};
+ghost use Rattle.shard_due.specs.Statuses.{exit_status};
+
+/// How a command ended.
+#[derive(Clone, Copy, Debug, PartialEq, Eq)]
+pub enum ShardStatus {
+    Done = 0,
+    Memory = 1,
+    Words = 2,
+    ReadFault = 3,
+    WriteFault = 4,
+    NoFile = 5,
+    ScriptRefused = 6,
+    TableRefused = 7,
+    LoopFault = 8,
+    BadSpan = 20,
+    FileRefused = 21,
+    FilesDiffer = 22,
+    NotCovered = 23,
+    TooLong = 24,
+}
+
+impl ShardStatus {
+    /// The program's exit status.
+    pub fn code(self) -> u8
+        ensures { result ≡ exit_status self }
+    {
+        self as u8
+    }
+}
