@@ -15,9 +15,9 @@ case $program in /*) ;; *) program=$PWD/$program ;; esac
 [ -x "$program" ] || { echo "farm: no program at $program"; exit 1; }
 
 folder=$(mktemp -d) || exit 1
-started=
+started= running=
 finish() {
-    for each in $started; do kill "$each" 2>/dev/null; done
+    for each in $started $running; do kill "$each" 2>/dev/null; done
     wait
     rm -rf "$folder"
 }
@@ -170,8 +170,11 @@ try_step() { # TABLES..
 # Runs the recipe in its work folder, with what it is called with beside.
 call() { # WORDS..
     : >calls
-    timeout 300 "$farm/$recipe" --work "my work" --group 4 $beside "$@" >out 2>err </dev/null
+    timeout 300 "$farm/$recipe" --work "my work" --group 4 $beside "$@" >out 2>err </dev/null &
+    running=$!
+    wait "$running"
     echo $? >status
+    running=
 }
 
 try_recipe() { # TABLES..
@@ -222,9 +225,11 @@ start_scheduler() {
             --dashboard-address 127.0.0.1:0 --local-directory "$folder" >worker$each.log 2>&1 &
         started="$started $!"
     done
-    for each in 1 2 3 4 5 6 7 8 9 10 11 12 13 14 15; do
-        [ -s scheduler.json ] && break
+    seconds=0
+    until [ -s scheduler.json ]; do
+        [ $seconds -lt 120 ] || { echo "FAILED $recipe: no scheduler begins within 120 seconds"; exit 1; }
         sleep 1
+        seconds=$((seconds + 1))
     done
     address=$(sed -n 's/.*"address": "\(tcp:[^"]*\)".*/\1/p' scheduler.json | head -n 1)
 }
