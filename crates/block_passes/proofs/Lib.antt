@@ -1,9 +1,16 @@
 pub mod ClusterBlocks
 pub mod Demanding
+pub mod FaultsOver
 pub mod Feeding
 pub mod FirstFaults
+pub mod NextPlaces
 pub mod Parts
 pub mod PlaceLists
 pub mod PlanSteps
 pub mod Searching
+pub mod Selecting
+pub mod SitesThere
+pub mod Spending
+pub mod StepCases
 pub mod StepLaws
+pub mod StepSelecting

@@ -5,4 +5,6 @@ pub mod Laws
 pub mod Parts
 pub mod Plans
 pub mod Searches
+pub mod Selections
+pub mod Spends
 pub mod Steps

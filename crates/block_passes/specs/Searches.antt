@@ -1,11 +1,13 @@
 -- The search for the first fault of a block: pass after pass over the places below a limit, which falls to each place that faults.
-use Rattle.std.specs.Prelude.{◌≡◌, ◌<◌, ◌≤◌, ◌+◌, ℕ, List, Option, None, Some}
+use Rattle.std.specs.Prelude.{◌≡◌, ◌<◌, ◌≤◌, ◌+◌, ℕ, List, Option, None, Some, if◌then◌else◌}
 use Rattle.rdf_values.specs.Bookings.{Pass}
 use Rattle.rdf_values.specs.declared.fault.EntryFault.{EntryFault}
 use Rattle.rdf_values.specs.declared.fault.Fault.{Fault}
 use Rattle.rdf_values.specs.declared.value.Value.{Value}
 use Rattle.rdf_model.specs.Results.{Dataset}
 use Rattle.rdf_model.specs.Results.{fault_at as fault_in_pass}
+use Rattle.expr_lanes.specs.Places.{is_in}
+use Rattle.block_cache.specs.declared.faults.PlaceFault.{PlaceFault}
 use Rattle.block_passes.specs.declared.found.Found.{Found}
 
 -- the search with a fault of a pass at a place of a block that begins at this entry
@@ -43,3 +45,12 @@ abbrev pub fault_of : Dataset → Option (List Value) → Option Pass → Option
 fault_of d None p = None
 fault_of d (Some row) None = None
 fault_of d (Some row) (Some p) = fault_in_pass d row p
+
+-- the search where a place of a block had this fault, if it is one
+abbrev pub noted : ℕ → ℕ → Found → Option PlaceFault → Found
+noted first pass s None = s
+noted first pass s (Some f) = fault_at first pass f.place f.kind
+
+-- the fault of a place, where it is selected
+abbrev pub where_in : (ℕ → Option EntryFault) → List ℕ → ℕ → Option EntryFault
+where_in f sel p = if is_in p sel then f p else None

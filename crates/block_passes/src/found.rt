@@ -1,7 +1,9 @@
 // How far the search for a block's first fault has come.
 ghost use Rattle.std.specs.Prelude.{◌≡◌, ◌<◌, ◌+◌, ◌^◌, None, Some};
-ghost use Rattle.block_passes.specs.Searches.{fault_at};
+ghost use Rattle.block_cache.specs.declared.faults.PlaceFault.{PlaceFault as FaultAt};
+ghost use Rattle.block_passes.specs.Searches.{fault_at, noted};
 
+use block_cache::faults::PlaceFault;
 use rdf_values::{EntryFault, Fault};
 
 /// The first fault so far of the passes of a loop over a block, if one faults, and the places that are still tried: those below the limit.
@@ -33,5 +35,16 @@ impl Found {
             pass,
             kind,
         });
+    }
+
+    /// A fault that was found at a place, if one was, lowers the limit.
+    pub fn note(&mut self, first: u32, pass: u32, fault: Option<PlaceFault>)
+        requires { (f : FaultAt) → fault ≡ Some f → first + f.place < 2 ^ 32 }
+        ensures { self.new ≡ noted first pass self.old fault }
+    {
+        let Some(found) = fault else {
+            return;
+        };
+        self.lower(first, pass, found.place, found.kind);
     }
 }

@@ -1,13 +1,16 @@
 //! All passes of an event loop over the entries of one block, pass after pass with a limit that falls: which selections of places they
-//! share, and the laws by which the parts of each pass find the block's first fault, feed a tally and are counted. It stands on
-//! `entry_cache` for the numbers of a job, on `block_laws` and on `cluster_tally`.
+//! share and how each is made from the one above it, and the laws by which the parts of each pass find the block's first fault, feed a
+//! tally and are counted. It stands on `block_cache`, which evaluates filters over a block, on `block_laws` and on `cluster_tally`.
 #![tactic(auto)]
 
 pub mod found;
+pub mod kept;
 pub mod laws;
 pub mod plan;
+mod select;
 pub mod steps;
 pub mod stop;
+pub mod turn;
 
 pub use crate::found::Found;
 pub use crate::plan::{LoopPlan, NamedSteps};

@@ -174,4 +174,12 @@ impl LoopPlan {
             filters,
         })
     }
+
+    /// The step of that number.
+    pub(crate) fn step(&self, step: u32) -> Step
+        requires { step < length self.now.steps }
+        ensures { slice_get self.now.steps step ≡ Some result }
+    {
+        *self.steps.at(step as usize)
+    }
 }

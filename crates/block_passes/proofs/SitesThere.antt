@@ -1,0 +1,38 @@
+-- The sites that a loop tries are there.
+use Rattle.std.proofs.Common.{◌≡◌, ◌⊎◌, inl, inr, ℕ, ◌<◌, List, [], ◌∷◌, ◌++◌, length, Some, sym, ◌∙◌, ap, subst, append_assoc, slice_get}
+use Rattle.std.specs.List.{AllByRecursion}
+use Rattle.rdf_values.specs.Bookings.{Booking}
+use Rattle.rdf_values.specs.Functions.{fn_names}
+use Rattle.rdf_values.specs.Path.{history}
+use Rattle.graph_numbers.specs.Graphs.{graph_sites, graph_under}
+use Rattle.graph_numbers.proofs.Extending.{itself}
+use Rattle.graph_numbers.proofs.Ranges.{filters_below}
+use Rattle.entry_cache.specs.Jobs.{IsJob, JobView, job_graph}
+use Rattle.entry_cache.proofs.ActionNumbers.{IsSoundBooking, result_sound}
+use Rattle.entry_cache.proofs.EvaluateLaws.{accepted_of}
+use Rattle.block_passes.specs.Plans.{IsOfFilter, IsOfPass, IsTried}
+use Rattle.block_passes.specs.Steps.{Chain}
+
+all_at : (P : ℕ → Type 0) (up rest : List ℕ) (s : ℕ) → AllByRecursion P (up ++ s ∷ rest) → P s
+all_at P [] rest s h = h.0
+all_at P (t ∷ up) rest s h = all_at P up rest s h.1
+
+none : (up : List ℕ) (s : ℕ) → up ++ s ∷ [] ≡ [] → ⊥
+none [] s q = cc q
+none (x ∷ xs) s q = cc q
+
+module _ (j : JobView) (job : IsJob j) (c : Chain) (up : List ℕ) (s : ℕ) (e : c.sites ≡ up ++ s ∷ []) where
+  in_path : (path rest : List ℕ) → path ≡ c.sites ++ rest → AllByRecursion (λ t. t < length (graph_sites (job_graph j))) path → s < length (graph_sites (job_graph j))
+  in_path path rest h all =
+      all_at (λ t. t < length (graph_sites (job_graph j))) up rest s
+      (subst (λ (p : List ℕ). AllByRecursion (λ t. t < length (graph_sites (job_graph j))) p) (h ∙ ap (λ l. l ++ rest) e ∙ append_assoc up (s ∷ []) rest) all)
+
+  -- the last filter of a chain that is tried is a site of the graph
+  pub site_there : IsTried j c → s < length (graph_sites (job_graph j))
+  site_there (inl q) = absurd (none up s (sym e ∙ q))
+  site_there (inr (inl p)) =
+      let u = graph_under (job_graph j) p.numbered.variation in
+      let sound = subst (λ (b : Booking). IsSoundBooking j.dataset u (history j.script) p.result b) p.action.booking
+      (result_sound j.dataset u (history j.script) (history j.script) (accepted_of j job) itself p.numbered.result p.result p.action.its_result) in
+      in_path p.result.filters p.begins.rest p.begins.begins sound.filters
+  site_there (inr (inr f)) = in_path f.named.sites f.begins.rest f.begins.begins (filters_below j.dataset.columns (fn_names j.dataset.fns) (history j.script) f.filter f.named f.its_filter)

@@ -1,0 +1,71 @@
+use Rattle.std.proofs.Common.{◌≡◌, ◌<◌, ◌∙◌, arith, refl, length}
+use Rattle.std.proofs.lemmas.Option.{slice_get_read}
+use Rattle.std.proofs.lemmas.Result.{on_ok_weaker}
+use Rattle.entry_cache.specs.Jobs.{job_of}
+use Rattle.block_passes.specs.Selections.{IsFilteredTo}
+use Rattle.block_passes.specs.Steps.{longer}
+use Rattle.block_passes.specs.declared.steps.Step.TheVariants as step
+use Rattle.block_passes.proofs.NextPlaces.{from_inside, next_selected, next_spends}
+use Rattle.block_passes.proofs.SitesThere.{site_there}
+use Rattle.block_passes.proofs.StepLaws.{get_kept}
+use Rattle.block_passes.proofs.select.next_places.Goals as goal
+
+pub filter_places-requires-clause-site : goal.filter_places-requires-clause-site
+filter_places-requires-clause-site g c =
+    let p = c.requires.plan in
+    let s = p.steps.each c.args.next.step (step.Filter c.args.next.parent c.args.next.filter.site c.args.next.filter.under) c.requires.step in
+    site_there (job_of c.args.at.now.job.now) c.requires.job.job (longer s.up c.args.next.filter.site c.args.next.filter.under) s.up.sites c.args.next.filter.site refl (p.tried c.args.next.step _ s.own)
+
+pub filter_places-requires-clause-ready : goal.filter_places-requires-clause-ready
+filter_places-requires-clause-ready g c = (c.requires.ready c.requires.plan).ready
+
+pub filter_places-requires-clause-can : goal.filter_places-requires-clause-can
+filter_places-requires-clause-can g c = c.requires.can.each c.args.next.step c.args.next.parent c.args.next.filter.site c.args.next.filter.under c.requires.step
+
+pub filter_places-requires-clause-truth : goal.filter_places-requires-clause-truth
+filter_places-requires-clause-truth g c = c.requires.can.truths c.args.next.step c.args.next.parent c.args.next.filter.site c.args.next.filter.under c.requires.step
+
+pub filter_places-requires-clause-limit : goal.filter_places-requires-clause-limit
+filter_places-requires-clause-limit g c = (c.requires.ready c.requires.plan).within
+
+pub filter_places-requires-clause-settled : goal.filter_places-requires-clause-settled
+filter_places-requires-clause-settled g c = (c.requires.ready c.requires.plan).settled
+
+pub bounds-above-next : goal.bounds-above-next
+bounds-above-next g c =
+    let s = c.requires.plan.steps.each c.args.next.step (step.Filter c.args.next.parent c.args.next.filter.site c.args.next.filter.under) c.requires.step in
+    let b = s.before in
+    let l = c.requires.above in
+    omega (arith, b, l)
+
+pub filter_places-requires-clause-inside : goal.filter_places-requires-clause-inside
+filter_places-requires-clause-inside g c =
+    let s = c.requires.plan.steps.each c.args.next.step (step.Filter c.args.next.parent c.args.next.filter.site c.args.next.filter.under) c.requires.step in
+    let lt : c.args.next.parent < length c.args.above.now = (let b = s.before in let l = c.requires.above in omega (arith, b, l)) in
+    let here = slice_get_read c.args.above.now (length c.args.above.now) c.args.next.parent c.index-above-next.result refl lt c.index-above-next.is in
+    from_inside (job_of c.args.at.now.job.now) c.requires.job.job c.args.at.now.first c.args.at.now.count c.args.at.now.pass c.args.at.now.plan.now c.requires.plan c.args.next.step c.args.next.parent c.args.next.filter.site c.args.next.filter.under c.requires.step
+    c.requires.within c.args.above.now c.args.own.now c.index-above-next.result here c.requires.above c.args.work.now.lanes.items c.args.work.now.found (c.requires.ready c.requires.plan)
+    (c.requires.made c.index-above-next.result (get_kept c.args.above.now c.args.own.now c.args.next.parent c.index-above-next.result here))
+
+pub returns-clause-spends : goal.returns-clause-spends
+returns-clause-spends g c =
+    let s = c.requires.plan.steps.each c.args.next.step (step.Filter c.args.next.parent c.args.next.filter.site c.args.next.filter.under) c.requires.step in
+    let lt : c.args.next.parent < length c.args.above.now = (let b = s.before in let l = c.requires.above in omega (arith, b, l)) in
+    let here = slice_get_read c.args.above.now (length c.args.above.now) c.args.next.parent c.index-above-next.result refl lt c.index-above-next.is in
+    next_spends (job_of c.args.at.now.job.now) c.requires.job.job c.args.at.now.first c.args.at.now.count c.args.at.now.pass c.args.at.now.plan.now c.requires.plan c.args.next.step c.args.next.parent c.args.next.filter.site c.args.next.filter.under c.requires.step
+    c.requires.within c.args.above.now c.args.own.now c.index-above-next.result here c.requires.above c.args.work.now.lanes.items c.args.work.now.found (c.requires.ready c.requires.plan)
+    (c.requires.made c.index-above-next.result (get_kept c.args.above.now c.args.own.now c.args.next.parent c.index-above-next.result here))
+    c.filter_places.new.work.lanes.items _ _ c.filter_places.ensures.spent
+
+pub returns-clause-selected : goal.returns-clause-selected
+returns-clause-selected g c = λ p.
+    let s = c.requires.plan.steps.each c.args.next.step (step.Filter c.args.next.parent c.args.next.filter.site c.args.next.filter.under) c.requires.step in
+    let lt : c.args.next.parent < length c.args.above.now = (let b = s.before in let l = c.requires.above in omega (arith, b, l)) in
+    let here = slice_get_read c.args.above.now (length c.args.above.now) c.args.next.parent c.index-above-next.result refl lt c.index-above-next.is in
+    on_ok_weaker c.filter_places.result
+    (λ (h : IsFilteredTo (job_of c.args.at.now.job.now) c.args.at.now.first c.args.at.now.count c.args.next.filter.under c.args.next.filter.site c.args.at.now.pass c.index-above-next.result.places c.filter_places.new.to c.filter_places.new.work.lanes.items c.args.work.now.found c.filter_places.new.work.found).
+    next_selected (job_of c.args.at.now.job.now) c.requires.job.job c.args.at.now.first c.args.at.now.count c.args.at.now.pass c.args.at.now.plan.now p c.args.next.step c.args.next.parent c.args.next.filter.site c.args.next.filter.under c.requires.step
+    c.requires.within c.args.above.now c.args.own.now c.index-above-next.result here c.requires.above c.args.work.now.lanes.items c.args.work.now.found (c.requires.ready p)
+    (c.requires.made c.index-above-next.result (get_kept c.args.above.now c.args.own.now c.args.next.parent c.index-above-next.result here))
+    c.filter_places.new.to _ c.filter_places.new.work.lanes.items c.filter_places.new.work.found h refl c.requires.own)
+    c.filter_places.ensures.filtered

@@ -1,0 +1,120 @@
+// Selecting the places of a block that pass filters.
+ghost use Rattle.std.specs.Prelude.{◌≡◌, ◌<◌, ◌≤◌, ◌+◌, ◌++◌, ℕ, OnOk, Some, length, slice_get};
+ghost use Rattle.rdf_values.specs.declared.value.ColType.TheVariants as kind;
+ghost use Rattle.graph_numbers.specs.Graphs.{graph_sites};
+ghost use Rattle.expr_lanes.specs.Places.{EachPlace};
+ghost use Rattle.expr_lanes.specs.declared.TheConstants.{MAX_PLACES};
+ghost use Rattle.block_lanes.specs.Lanes.{kinds_of};
+ghost use Rattle.entry_cache.specs.Jobs.{Fits, job_graph, job_of};
+ghost use Rattle.entry_cache.specs.Keys.{AreKeys, key};
+ghost use Rattle.block_cache.specs.Blocks.{AreReady};
+ghost use Rattle.block_cache.specs.Fills.{CanFill, IsSpentOver};
+ghost use Rattle.block_passes.specs.Plans.{IsPlan};
+ghost use Rattle.block_passes.specs.Selections.{CanSelect, IsFilteredTo, IsNextSelected, IsReadyBelow};
+ghost use Rattle.block_passes.specs.Spends.{IsSettledAt, Spends};
+ghost use Rattle.block_passes.specs.declared.kept.Kept.{Kept as KeptView};
+
+use crate::kept::Kept;
+use crate::steps::Step;
+use crate::turn::{NextStep, SiteFilter, Turn, Work};
+use block_cache::attempt::Block;
+use block_cache::passing::pass_filter;
+use entry_cache::reading::Reading;
+use entry_cache::rows::row_at;
+use expr_eval::Steps;
+use rdf_values::Memory;
+use std::sync::ledger::Ledger;
+
+/// Selects those of the places of a selection that pass a filter, below the first that faults in it.
+pub(crate) fn filter_places<L: Ledger>(
+    at: &Turn<'_>,
+    work: &mut Work,
+    from: &Kept,
+    to: &mut Kept,
+    filter: SiteFilter,
+    steps: &mut Steps<L>,
+) -> Result<(), Memory>
+    requires job { Fits at.now.job.now }
+    requires rows { AreKeys (job_graph (job_of at.now.job.now)) at.now.rows.now }
+    requires site { filter.site < length (graph_sites (job_graph (job_of at.now.job.now))) }
+    requires ready { AreReady (job_of at.now.job.now) at.now.first at.now.count work.old.lanes.items }
+    requires can { CanFill (job_of at.now.job.now) at.now.first filter.under at.now.count (kinds_of work.old.lanes.items) at.now.cells.now (length work.old.scratch.items) (length work.old.levels.items) filter.site }
+    requires truth { slice_get (kinds_of work.old.lanes.items) (key (job_graph (job_of at.now.job.now)) filter.site filter.under) ≡ Some kind.Bool }
+    requires small { at.now.count ≤ MAX_PLACES }
+    requires few { at.now.first + at.now.count ≤ 1000000 }
+    requires limit { work.old.found.limit ≤ at.now.count }
+    requires inside { EachPlace from.now.places (λ p. p < work.old.found.limit) }
+    requires settled { (p : ℕ) → p < work.old.found.limit → IsSettledAt work.old.lanes.items p }
+    ensures spent { IsSpentOver (job_of at.now.job.now) at.now.first filter.under filter.site from.now.places work.old.lanes.items work.new.lanes.items steps.old steps.new }
+    ensures filtered { OnOk result (IsFilteredTo (job_of at.now.job.now) at.now.first at.now.count filter.under filter.site at.now.pass from.now.places to.new work.new.lanes.items work.old.found work.new.found) }
+    ensures scratch { length work.new.scratch.items ≡ length work.old.scratch.items }
+    ensures levels { length work.new.levels.items ≡ length work.old.levels.items }
+{
+    to.places.copy_from(&from.places);
+    let _rising = to.places.as_slice();
+    let _few = to.places.len();
+    let reading = Reading {
+        job: at.job,
+        row: row_at(at.rows, at.job.graph, filter.under),
+        entry: at.first,
+        under: filter.under,
+    };
+    let block = Block {
+        at: &reading,
+        count: at.count as usize,
+        cells: at.cells,
+    };
+    match pass_filter(
+        &block,
+        &mut work.lanes,
+        filter.site,
+        &mut to.places,
+        &mut work.levels,
+        &mut work.scratch,
+        steps,
+    ) {
+        Ok(fault) => {
+            work.found.note(at.first, at.pass, fault);
+            to.limit = Some(work.found.limit);
+            Ok(())
+        }
+        Err(Memory) => Err(Memory),
+    }
+}
+
+/// Selects the places of a step with one more filter than the step of the parent, which is selected.
+pub(crate) fn next_places<L: Ledger>(
+    at: &Turn<'_>,
+    work: &mut Work,
+    above: &[Kept],
+    own: &mut [Kept],
+    next: NextStep,
+    steps: &mut Steps<L>,
+) -> Result<(), Memory>
+    requires job { Fits at.now.job.now }
+    requires rows { AreKeys (job_graph (job_of at.now.job.now)) at.now.rows.now }
+    requires small { at.now.count ≤ MAX_PLACES }
+    requires few { at.now.first + at.now.count ≤ 1000000 }
+    requires within { at.now.first + at.now.count ≤ length at.now.job.now.columns.now.table.rows }
+    requires plan { IsPlan (job_of at.now.job.now) at.now.plan.now }
+    requires can { CanSelect (job_of at.now.job.now) at.now.first at.now.count at.now.plan.now (kinds_of work.old.lanes.items) at.now.cells.now (length work.old.scratch.items) (length work.old.levels.items) }
+    requires step { slice_get at.now.plan.now.steps next.step ≡ Some (Step.Filter next.parent next.filter.site next.filter.under) }
+    requires above { length above.now ≡ next.step }
+    requires own { 0 < length own.old }
+    requires ready { (p : IsPlan (job_of at.now.job.now) at.now.plan.now) → IsReadyBelow (job_of at.now.job.now) at.now.first at.now.count p.chains work.old.found.limit work.old.lanes.items (above.now ++ own.old) }
+    requires made { (s : KeptView) → slice_get (above.now ++ own.old) next.parent ≡ Some s → s.limit ≡ Some work.old.found.limit }
+    ensures spends { Spends (job_of at.now.job.now) at.now.first at.now.count work.old.lanes.items work.new.lanes.items steps.old steps.new }
+    ensures selected { (p : IsPlan (job_of at.now.job.now) at.now.plan.now)
+        → OnOk result (IsNextSelected (job_of at.now.job.now) at.now.first at.now.count p.chains at.now.pass next.step next.parent next.filter.site next.filter.under work.new.lanes.items (above.now ++ own.new) work.old.found work.new.found) }
+    ensures scratch { length work.new.scratch.items ≡ length work.old.scratch.items }
+    ensures levels { length work.new.levels.items ≡ length work.old.levels.items }
+{
+    filter_places(
+        at,
+        work,
+        &above[next.parent as usize],
+        &mut own[0],
+        next.filter,
+        steps,
+    )
+}

@@ -1,0 +1,45 @@
+// The block whose turn it is.
+use crate::found::Found;
+use crate::plan::LoopPlan;
+use block_cache::cells::CellLane;
+use block_cache::level::Level;
+use block_lanes::Lane;
+use entry_cache::Job;
+use entry_cache::rows::Row;
+use expr_lanes::Scratch;
+
+/// A pass of a loop, and the entries of a block over which it is tried.
+#[derive(Clone, Copy)]
+pub(crate) struct Turn<'a> {
+    pub(crate) job: &'a Job<'a>,
+    pub(crate) plan: &'a LoopPlan,
+    pub(crate) rows: &'a [Row],
+    pub(crate) cells: &'a [CellLane],
+    pub(crate) first: u32,
+    pub(crate) count: u32,
+    pub(crate) pass: u32,
+}
+
+/// What was evaluated of the block, with room for evaluations and for sites within one another, and the search for its first fault.
+#[derive(Drop)]
+pub struct Work {
+    pub(crate) lanes: Vec<Lane>,
+    pub(crate) scratch: Vec<Scratch>,
+    pub(crate) levels: Vec<Level>,
+    pub(crate) found: Found,
+}
+
+/// The filter of a site under nominal or a variation.
+#[derive(Clone, Copy, Debug)]
+pub(crate) struct SiteFilter {
+    pub(crate) site: u32,
+    pub(crate) under: Option<u32>,
+}
+
+/// A step of the plan with one more filter than the step of its parent.
+#[derive(Clone, Copy, Debug)]
+pub(crate) struct NextStep {
+    pub(crate) step: u32,
+    pub(crate) parent: u32,
+    pub(crate) filter: SiteFilter,
+}
