@@ -8,7 +8,7 @@ use Rattle.rdf_values.specs.declared.span.Span.{Span}
 use Rattle.rdf_values.specs.declared.value.Value.{Value}
 use Rattle.rdf_model.specs.LoopFacts.{spreads_of}
 use Rattle.rdf_model.specs.PartialResults.{span_rows}
-use Rattle.rdf_model.specs.Results.{fault_at, first_fault_from, first_of}
+use Rattle.rdf_model.specs.Results.{first_fault_from, first_of}
 use Rattle.columns.proofs.Joining.{span_within}
 use Rattle.entry_cache.specs.Jobs.{IsJob, JobView, passes_in}
 use Rattle.entry_passes.specs.Entries.{facts_in, job_spans}
@@ -17,8 +17,7 @@ use Rattle.cluster_tally.specs.Tallies.{Holds, TallyView}
 use Rattle.loop_pieces.specs.Whole.{begin_of, cluster_fault}
 use Rattle.loop_pieces.proofs.Places.{range_length, range_none}
 use Rattle.block_laws.specs.Blocks.{IsFirst, first_length, row_elements}
-use Rattle.block_laws.specs.Counts.{cluster_demands, rows_demand}
-use Rattle.block_laws.specs.PassMajor.{pass_major}
+use Rattle.block_laws.specs.Counts.{cluster_demands}
 use Rattle.block_laws.proofs.BlockCuts.{first_is, lengths_same, plain_first}
 use Rattle.block_laws.proofs.BlockFaults.{block_then_rest, is_first_fault}
 use Rattle.block_laws.proofs.Costs.{count_goes_on}

@@ -1,16 +1,16 @@
 -- What is evaluated for a pass at a place, the loop demands there.
-use Rattle.std.proofs.Common.{◌≡◌, ◌⊎◌, inl, inr, ℕ, Bool, true, false, List, [], ◌∷◌, ◌++◌, Option, None, Some, refl, sym, ◌∙◌, ap, subst, slice_get, unwrap_or, append_assoc, if◌then◌else◌}
+use Rattle.std.proofs.Common.{◌≡◌, inl, inr, ℕ, Bool, true, false, List, [], ◌∷◌, ◌++◌, Option, None, Some, sym, ◌∙◌, ap, subst, slice_get, unwrap_or, append_assoc, if◌then◌else◌}
 use Rattle.std.specs.Prelude.{All}
 use Rattle.rdf_values.specs.Bookings.{ActionAt, Booking}
-use Rattle.rdf_values.specs.Path.{Path, history}
+use Rattle.rdf_values.specs.Path.{history}
 use Rattle.rdf_values.specs.declared.action.ActionKind.{ActionKind}
 use Rattle.rdf_values.specs.declared.value.Value.{Value}
 use Rattle.rdf_model.specs.Demanded.{Demand, booking_demands, filter_demands}
 use Rattle.rdf_model.specs.Evaluation.{Outcome, Gives, Faults, Needs, ◌>>=◌}
 use Rattle.rdf_model.specs.EntryOutcomes.{truth_of}
 use Rattle.rdf_model.specs.Results.{is_true}
-use Rattle.graph_numbers.specs.Graphs.{graph_filters, graph_results, graph_under}
-use Rattle.graph_numbers.specs.Meets.{HasFilters, HasInputs, IfPassed}
+use Rattle.graph_numbers.specs.Graphs.{graph_filters, graph_under}
+use Rattle.graph_numbers.specs.Meets.{HasFilters, IfPassed}
 use Rattle.graph_numbers.specs.Outcomes.{through_sites}
 use Rattle.graph_numbers.specs.Results.{FilterAt, ResultAt}
 use Rattle.graph_numbers.specs.declared.pass.Pass.{Pass as NumberedPass}
@@ -20,15 +20,15 @@ use Rattle.graph_numbers.proofs.Reporting.{IsActionDemanded, IsFilterDemanded, f
 use Rattle.entry_cache.specs.Caches.{IsCovered}
 use Rattle.entry_cache.specs.Jobs.{IsJob, JobView, job_graph}
 use Rattle.entry_cache.specs.Keys.{demand_key}
-use Rattle.entry_cache.specs.Store.{HasPassed, HasTried, row_of, site_in, version_in}
+use Rattle.entry_cache.specs.Store.{HasPassed, HasTried, row_of, site_in}
 use Rattle.entry_cache.proofs.DemandSets.{demanded_in, demands_closed, demands_keys, in_demands}
 use Rattle.entry_cache.proofs.EvaluateLaws.{accepted_of}
 use Rattle.entry_cache.proofs.PassTies.{pass_of}
 use Rattle.entry_passes.specs.Turns.{HasAllDemands}
 use Rattle.entry_passes.proofs.ReportTies.{has_filter}
 use Rattle.block_passes.specs.Demands.{Demands, IsDemandedAt}
-use Rattle.block_passes.specs.Plans.{IsActionOf, IsOfFilter, IsOfPass, IsTried}
-use Rattle.block_passes.specs.Steps.{Chain, IsBegin}
+use Rattle.block_passes.specs.Plans.{IsActionOf, IsTried}
+use Rattle.block_passes.specs.Steps.{Chain}
 
 module _ (j : JobView) (job : IsJob j) (entry : ℕ) (row : List Value) (here : slice_get j.dataset.rows entry ≡ Some row) (T : ℕ → Bool) (all : HasAllDemands j entry T) where
   same_row : row ≡ row_of j entry

@@ -1,14 +1,13 @@
 -- The first fault over a selection, as a part of a pass lowers the limit.
-use Rattle.std.proofs.Common.{◌≡◌, ◌⊎◌, inl, inr, ℕ, zero, suc, ◌+◌, ◌<◌, ◌≤◌, Bool, true, false, ◌&&◌, ◌||◌, cond, List, [], ◌∷◌, Option, None, Some, refl, sym, ◌∙◌, ap, subst, arith, nat_eq, nat_lt, if◌then◌else◌}
-use Rattle.std.specs.List.{filter, list_any, range_with_len}
+use Rattle.std.proofs.Common.{◌≡◌, ◌⊎◌, inl, inr, ℕ, ◌<◌, Bool, true, false, ◌&&◌, ◌||◌, cond, List, [], ◌∷◌, Option, None, Some, refl, sym, ◌∙◌, ap, subst, arith, nat_eq, nat_lt, if◌then◌else◌}
+use Rattle.std.specs.List.{filter, range_with_len}
 use Rattle.std.proofs.lemmas.Bool.Decides.{Decides-eqb, Decides-ltb}
 use Rattle.rdf_values.specs.declared.fault.EntryFault.{EntryFault}
 use Rattle.expr_lanes.specs.Places.{AreRising, EachPlace, is_in}
 use Rattle.expr_lanes.proofs.Dense.{below_range, first_in_range}
 use Rattle.block_cache.specs.Fills.{below_fault, fault_before, fault_over}
-use Rattle.block_cache.specs.Faults.{fault_at as place_fault}
 use Rattle.block_cache.specs.declared.faults.PlaceFault.{PlaceFault}
-use Rattle.block_passes.specs.Searches.{Lowers, fault_at, noted, where_in}
+use Rattle.block_passes.specs.Searches.{Lowers, noted, where_in}
 use Rattle.block_passes.specs.declared.found.Found.{Found}
 use Rattle.block_passes.proofs.Searching.{fault_lowers, none_lowers}
 

@@ -1,18 +1,18 @@
 -- What a block feeds to a pass, and what it does at a named filter.
-use Rattle.std.proofs.Common.{◌≡◌, ℕ, zero, suc, ◌+◌, ◌-◌, ◌<◌, ◌≤◌, Bool, true, false, cond, List, [], ◌∷◌, ◌++◌, length, length-drop, map, take, drop, Option, None, Some, option_map, refl, sym, ◌∙◌, ap, subst, arith, slice_get, unwrap_or, if◌then◌else◌}
+use Rattle.std.proofs.Common.{◌≡◌, ℕ, zero, suc, ◌+◌, ◌<◌, ◌≤◌, Bool, true, false, cond, List, [], ◌∷◌, ◌++◌, length, length-drop, map, take, drop, Option, None, Some, option_map, refl, sym, ◌∙◌, ap, subst, arith, slice_get, unwrap_or, if◌then◌else◌}
 use Rattle.std.specs.Prelude.{count_by, flat_map, slice_range}
 use Rattle.std.specs.List.{filter, range_with_len}
 use Rattle.std.proofs.lemmas.List.{length-map}
 use Rattle.std.proofs.lemmas.List.Sums.{sum_by-cons}
-use Rattle.rdf_values.specs.Bookings.{ActionAt, Booking, Pass, named_before}
-use Rattle.rdf_values.specs.Path.{Path, history}
+use Rattle.rdf_values.specs.Bookings.{Booking, Pass, named_before}
+use Rattle.rdf_values.specs.Path.{history}
 use Rattle.rdf_values.specs.Spread.{feed_fault, spread}
 use Rattle.rdf_values.specs.declared.action.ActionKind.{ActionKind}
 use Rattle.rdf_values.specs.declared.fault.EntryFault.{EntryFault}
 use Rattle.rdf_values.specs.declared.item.Item.{Item}
 use Rattle.rdf_values.specs.declared.span.Span.{Span}
 use Rattle.rdf_values.specs.declared.value.Value.{Value}
-use Rattle.rdf_model.specs.EntryOutcomes.{Entry, Feed, Skip, action_outcome, feed_outcome, truth_of, unless_fault}
+use Rattle.rdf_model.specs.EntryOutcomes.{Entry, Skip, action_outcome, feed_outcome, truth_of, unless_fault}
 use Rattle.rdf_model.specs.Evaluation.{Outcome, Faults, Gives, Needs, ◌>>=◌, for_all}
 use Rattle.rdf_model.specs.LoopFacts.{filter_reach, if_there, is_covered, is_passed, is_reached, list_at, reaches_of, spreads_of}
 use Rattle.rdf_model.specs.PartialResults.{span_rows}
@@ -24,7 +24,6 @@ use Rattle.graph_numbers.specs.Outcomes.{action_numbers, booking_numbers, throug
 use Rattle.graph_numbers.specs.Results.{FilterAt, ResultAt}
 use Rattle.graph_numbers.specs.declared.pass.Pass.{Pass as NumberedPass}
 use Rattle.loop_pieces.proofs.Places.{range_length}
-use Rattle.filters_report.specs.declared.flow.Counts.{Counts}
 use Rattle.cluster_tally.specs.Blocks.{BlockStage, block_items, block_reaches}
 use Rattle.cluster_tally.specs.Stages.{counted}
 use Rattle.entry_cache.specs.Jobs.{IsJob, JobView, job_graph, outcome_of, pass_outcome, passes_in}

@@ -1,11 +1,11 @@
 -- The first fault of a block's rows, by the fault of each place in each pass.
-use Rattle.std.proofs.Common.{◌≡◌, ◌⊎◌, inl, inr, ℕ, zero, suc, ◌+◌, ◌-◌, ◌<◌, ◌≤◌, List, [], ◌∷◌, length, take, drop, Option, None, Some, refl, sym, ◌∙◌, ap, subst, arith}
+use Rattle.std.proofs.Common.{◌≡◌, ℕ, zero, suc, ◌+◌, ◌-◌, ◌<◌, List, [], ◌∷◌, length, take, drop, Option, None, Some, refl, sym, ◌∙◌, ap, arith}
 use Rattle.std.specs.Prelude.{slice_get, slice_range}
 use Rattle.rdf_values.specs.Bookings.{Pass}
 use Rattle.rdf_values.specs.declared.fault.EntryFault.{EntryFault}
 use Rattle.rdf_values.specs.declared.fault.Fault.{Fault}
 use Rattle.rdf_values.specs.declared.value.Value.{Value}
-use Rattle.rdf_model.specs.Results.{Dataset, fault_at, fault_or, first_of, first_fault_from, first_fault_in}
+use Rattle.rdf_model.specs.Results.{Dataset, fault_or, first_of, first_fault_from, first_fault_in}
 use Rattle.block_passes.specs.Searches.{IsSearched, fault_of}
 use Rattle.block_passes.specs.declared.found.Found.{Found}
 

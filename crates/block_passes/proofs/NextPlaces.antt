@@ -1,7 +1,6 @@
 -- One more filter of a step, over the selections of all steps.
-use Rattle.std.proofs.Common.{◌≡◌, ◌⊎◌, inl, inr, ℕ, zero, suc, ◌+◌, ◌<◌, ◌≤◌, Bool, true, false, List, [], ◌∷◌, ◌++◌, length, length-append, Option, None, Some, refl, sym, ◌∙◌, ap, subst, arith, slice_get, if◌then◌else◌}
+use Rattle.std.proofs.Common.{◌≡◌, ◌⊎◌, inl, inr, ℕ, zero, suc, ◌+◌, ◌<◌, ◌≤◌, List, [], ◌∷◌, ◌++◌, length, length-append, Option, None, Some, refl, sym, ◌∙◌, ap, subst, arith, slice_get, if◌then◌else◌}
 use Rattle.std.specs.Prelude.{slice_set}
-use Rattle.std.proofs.lemmas.Option.{slice_get_within}
 use Rattle.rdf_model.specs.Results.{fault_in, is_true}
 use Rattle.expr_lanes.specs.Places.{EachPlace, is_in}
 use Rattle.block_lanes.specs.Lanes.{LaneView}
@@ -13,10 +12,9 @@ use Rattle.block_passes.specs.Plans.{IsPlan, IsTried, PlanView, through_chain}
 use Rattle.block_passes.specs.Searches.{Lowers, where_in}
 use Rattle.block_passes.specs.Selections.{AreKept, IsFilteredTo, IsMade, IsNextSelected, IsReadyBelow, chosen}
 use Rattle.block_passes.specs.Spends.{Spends}
-use Rattle.block_passes.specs.Steps.{AreSteps, Chain, IsFilterStep, longer}
+use Rattle.block_passes.specs.Steps.{Chain, IsFilterStep, longer}
 use Rattle.block_passes.specs.declared.found.Found.{Found}
 use Rattle.block_passes.specs.declared.kept.Kept.{Kept}
-use Rattle.block_passes.specs.declared.steps.Step.{Step}
 use Rattle.block_passes.specs.declared.steps.Step.TheVariants as step
 use Rattle.block_passes.proofs.FaultsOver.{chosen_below, in_chosen}
 use Rattle.block_passes.proofs.Searching.{lowers_as, none_lowers}

@@ -1,5 +1,5 @@
 -- How the plan of a loop is made.
-use Rattle.std.proofs.Common.{◌≡◌, ◌⊎◌, inl, inr, ℕ, zero, suc, ◌+◌, ◌<◌, ◌≤◌, Bool, true, false, List, [], ◌∷◌, ◌++◌, length, length-append, Option, None, Some, option_map, refl, sym, ◌∙◌, ap, subst, arith, append_assoc}
+use Rattle.std.proofs.Common.{◌≡◌, ◌⊎◌, inl, inr, ℕ, zero, suc, ◌+◌, ◌<◌, Bool, true, false, List, [], ◌∷◌, ◌++◌, length, length-append, Option, None, Some, option_map, refl, sym, ◌∙◌, ap, subst, arith, append_assoc}
 use Rattle.std.specs.Prelude.{slice_get, Result, Ok, Err, IfOk}
 use Rattle.std.specs.List.{list_any}
 use Rattle.std.proofs.lemmas.List.{append-nil}
@@ -19,12 +19,12 @@ use Rattle.entry_passes.specs.Plans.{covered_in}
 use Rattle.entry_passes.specs.Turns.{is_covering, numbered_passes}
 use Rattle.entry_passes.proofs.Covered.{cover_at, cover_is, passes_count}
 use Rattle.entry_passes.proofs.FilterLaws.{plan_covered}
-use Rattle.block_passes.specs.Plans.{AreFiltersPlanned, ArePassesPlanned, AreStepsOf, IsActionOf, IsFilterLed, IsFilterStepped, IsLast, IsNamed, IsPassLed, IsPlan, IsPlannedFilter, IsPlannedPass, IsTried, PlanView}
-use Rattle.block_passes.specs.Steps.{AreSteps, Chain, IsBegin, IsLed, IsStep, IsStepped, longer}
+use Rattle.block_passes.specs.Plans.{AreFiltersPlanned, ArePassesPlanned, AreStepsOf, IsActionOf, IsFilterLed, IsFilterStepped, IsLast, IsNamed, IsPassLed, IsPlan, IsPlannedFilter, IsPlannedPass, IsTried}
+use Rattle.block_passes.specs.Steps.{AreSteps, Chain, IsLed, IsStep, IsStepped, longer}
 use Rattle.block_passes.specs.declared.plan.NamedSteps.{NamedSteps}
 use Rattle.block_passes.specs.declared.steps.Step.{Step}
 use Rattle.block_passes.specs.declared.steps.Step.TheVariants as step
-use Rattle.block_passes.proofs.StepLaws.{get_joined, get_kept, get_last, get_more, same_step}
+use Rattle.block_passes.proofs.StepLaws.{get_joined, get_kept, get_last, same_step}
 
 -- ---- more chains
 

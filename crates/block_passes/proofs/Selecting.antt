@@ -1,6 +1,6 @@
 -- How selections are made.
-use Rattle.std.proofs.Common.{◌≡◌, ◌⊎◌, inl, inr, ℕ, ◌+◌, ◌<◌, ◌≤◌, Bool, true, false, ◌&&◌, List, [], length, Option, None, Some, refl, sym, ◌∙◌, ap, subst, arith, nat_lt, slice_get}
-use Rattle.std.specs.List.{filter, range_with_len}
+use Rattle.std.proofs.Common.{◌≡◌, ℕ, ◌+◌, ◌<◌, ◌≤◌, Bool, true, false, ◌&&◌, List, [], length, Option, Some, refl, sym, ◌∙◌, ap, subst, arith, nat_lt}
+use Rattle.std.specs.List.{filter}
 use Rattle.std.proofs.lemmas.Bool.Decides.{Decides-ltb}
 use Rattle.rdf_model.specs.Results.{fault_in, is_true}
 use Rattle.expr_lanes.specs.Places.{AreRising, EachPlace, IsSelected, is_in}

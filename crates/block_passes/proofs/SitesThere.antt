@@ -1,5 +1,5 @@
 -- The sites that a loop tries are there.
-use Rattle.std.proofs.Common.{◌≡◌, ◌⊎◌, inl, inr, ℕ, ◌<◌, List, [], ◌∷◌, ◌++◌, length, Some, sym, ◌∙◌, ap, subst, append_assoc, slice_get}
+use Rattle.std.proofs.Common.{◌≡◌, inl, inr, ℕ, ◌<◌, List, [], ◌∷◌, ◌++◌, length, sym, ◌∙◌, ap, subst, append_assoc}
 use Rattle.std.specs.List.{AllByRecursion}
 use Rattle.rdf_values.specs.Bookings.{Booking}
 use Rattle.rdf_values.specs.Functions.{fn_names}
@@ -10,7 +10,7 @@ use Rattle.graph_numbers.proofs.Ranges.{filters_below}
 use Rattle.entry_cache.specs.Jobs.{IsJob, JobView, job_graph}
 use Rattle.entry_cache.proofs.ActionNumbers.{IsSoundBooking, result_sound}
 use Rattle.entry_cache.proofs.EvaluateLaws.{accepted_of}
-use Rattle.block_passes.specs.Plans.{IsOfFilter, IsOfPass, IsTried}
+use Rattle.block_passes.specs.Plans.{IsTried}
 use Rattle.block_passes.specs.Steps.{Chain}
 
 all_at : (P : ℕ → Type 0) (up rest : List ℕ) (s : ℕ) → AllByRecursion P (up ++ s ∷ rest) → P s

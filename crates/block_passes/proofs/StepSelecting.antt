@@ -1,10 +1,7 @@
 -- A step's selection from that of the step above it.
-use Rattle.std.proofs.Common.{◌≡◌, ◌⊎◌, inl, inr, ℕ, zero, suc, ◌+◌, ◌<◌, ◌≤◌, Bool, true, false, ◌&&◌, List, [], ◌∷◌, ◌++◌, length, set, Option, None, Some, refl, sym, ◌∙◌, ap, subst, arith, nat_eq, nat_lt, slice_get, if◌then◌else◌}
+use Rattle.std.proofs.Common.{◌≡◌, ◌⊎◌, inl, inr, ℕ, ◌+◌, ◌≤◌, Bool, true, ◌&&◌, List, [], length, Option, None, Some, refl, sym, ◌∙◌, ap, subst, arith, nat_lt, if◌then◌else◌}
 use Rattle.std.specs.List.{filter, range_with_len}
-use Rattle.rdf_values.specs.declared.fault.EntryFault.{EntryFault}
-use Rattle.rdf_values.specs.declared.value.Value.{Value}
-use Rattle.rdf_model.specs.Evaluation.{Gives, Outcome, ◌>>=◌}
-use Rattle.rdf_model.specs.EntryOutcomes.{truth_of}
+use Rattle.rdf_model.specs.Evaluation.{Outcome}
 use Rattle.rdf_model.specs.Results.{fault_in, is_true}
 use Rattle.graph_numbers.specs.Outcomes.{through_sites}
 use Rattle.expr_lanes.specs.Places.{is_in}
@@ -19,7 +16,7 @@ use Rattle.block_passes.specs.Demands.{Demands}
 use Rattle.block_passes.specs.Parts.{where_passed}
 use Rattle.block_passes.specs.Plans.{IsTried, through_chain}
 use Rattle.block_passes.specs.Searches.{Lowers, where_in}
-use Rattle.block_passes.specs.Selections.{AreKept, IsFilteredTo, IsMade, IsNarrowed, IsReadyBelow, chosen}
+use Rattle.block_passes.specs.Selections.{AreKept, IsFilteredTo, IsMade, IsNarrowed, chosen}
 use Rattle.block_passes.specs.Spends.{Spends}
 use Rattle.block_passes.specs.Steps.{Chain, longer}
 use Rattle.block_passes.specs.declared.found.Found.{Found}
@@ -28,7 +25,7 @@ use Rattle.block_passes.proofs.Demanding.{step_demanded}
 use Rattle.block_passes.proofs.FaultsOver.{chosen_below, in_chosen}
 use Rattle.block_passes.proofs.Parts.{step_fault, step_true, truth_fault}
 use Rattle.block_passes.proofs.PlaceLists.{all_pass, filter_twice, narrowed}
-use Rattle.block_passes.proofs.Searching.{both_lower, lowers_as, none_lowers, or_else}
+use Rattle.block_passes.proofs.Searching.{both_lower, lowers_as, or_else}
 use Rattle.block_passes.proofs.Spending.{spends_filled}
 
 module _ (j : JobView) (first : ℕ) (up : Chain) (site : ℕ) (u : Option ℕ) (alike : (up.sites ≡ []) ⊎ (up.under ≡ u)) where

@@ -1,4 +1,4 @@
-use Rattle.std.proofs.Common.{◌≡◌, List, None, ◌++◌, arith, length}
+use Rattle.std.proofs.Common.{◌≡◌, None, ◌++◌, arith, length}
 use Rattle.entry_cache.specs.Jobs.{job_of, passes_in}
 use Rattle.entry_passes.proofs.EntryLaws.{read_pass}
 use Rattle.block_passes.proofs.PlanSteps.{passes_begin, passes_end, passes_go_on}

@@ -1,4 +1,4 @@
-use Rattle.std.proofs.Common.{◌≡◌, ◌∙◌, ◌+◌, List, ℕ, ap, arith, refl, subst, sym, length, Some}
+use Rattle.std.proofs.Common.{◌∙◌, List, ℕ, ap, arith, refl, subst, sym, Some}
 use Rattle.std.proofs.lemmas.List.{with_items_is}
 use Rattle.expr_lanes.specs.Places.{is_in}
 use Rattle.block_lanes.specs.Lanes.{LaneView}

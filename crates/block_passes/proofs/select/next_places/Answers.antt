@@ -1,4 +1,4 @@
-use Rattle.std.proofs.Common.{◌≡◌, ◌<◌, ◌∙◌, arith, refl, length}
+use Rattle.std.proofs.Common.{◌<◌, arith, refl, length}
 use Rattle.std.proofs.lemmas.Option.{slice_get_read}
 use Rattle.std.proofs.lemmas.Result.{on_ok_weaker}
 use Rattle.entry_cache.specs.Jobs.{job_of}
