@@ -1,0 +1,4 @@
+pub mod Clusters
+pub mod Making
+pub mod Sharing
+pub mod Whole

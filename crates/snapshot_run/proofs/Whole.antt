@@ -1,0 +1,129 @@
+-- What is known of a whole run.
+use Rattle.std.proofs.Common.{◌≡◌, ℕ, ◌≤◌, ◌++◌, List, [], ◌∷◌, length, map, Option, None, Some, Ok, Err, refl, sym, ap, ap₂, ◌∙◌, subst}
+use Rattle.std.specs.Prelude.{flat_map, option_map, Result}
+use Rattle.std.specs.List.{All, range_with_len}
+use Rattle.std.proofs.lemmas.List.{length-map}
+use Rattle.std.proofs.lemmas.List.Concat.{flat_map-append}
+use Rattle.std.proofs.lemmas.List.FromFn.{length-range_with_len}
+use Rattle.std.proofs.lemmas.List.Elements.{All-map}
+use Rattle.rdf_values.specs.Cuts.{Lead}
+use Rattle.rdf_values.specs.Machine.{first_in}
+use Rattle.rdf_values.specs.Functions.{fn_names}
+use Rattle.rdf_values.specs.Kinds.{FunctionNames}
+use Rattle.rdf_values.specs.Tables.{IsTable, TableView}
+use Rattle.rdf_values.specs.declared.column.Column.{Column}
+use Rattle.rdf_values.specs.declared.fault.Fault.{Fault}
+use Rattle.rdf_values.specs.declared.span.Span.{Span}
+use Rattle.rdf_values.specs.declared.value.Value.{Value}
+use Rattle.rdf_values.proofs.Leading.{cuts_lead}
+use Rattle.rdf_model.specs.Results.{Dataset}
+use Rattle.clusters.specs.CutsView.{CutsView}
+use Rattle.cluster_claims.specs.Seats.{ClaimsSeen, SeatSeen, fresh_seat, fresh_seats}
+use Rattle.graph_numbers.specs.Graphs.{GraphView, IsGraph}
+use Rattle.graph_numbers.specs.Laws.{graph_of}
+use Rattle.snapshot_plan.specs.Views.{IsPlan, PlanView, plan_columns}
+use Rattle.snapshot_text.specs.TableTexts.{entries_text, entry_text, header_text, table_text}
+use Rattle.snapshot_rows.specs.Snapshots.{SnapFault, plan_path, snapshot_entries, snapshot_fault, unless_fault}
+use Rattle.snapshot_entries.specs.Entries.{rows_of}
+use Rattle.snapshot_entries.specs.Jobs.{IsWork}
+use Rattle.snapshot_entries.specs.Values.{plan_graph}
+use Rattle.snapshot_pieces.specs.Facts.{AreFacts}
+use Rattle.snapshot_pieces.specs.Gathered.{HasAll, IsOutcome}
+use Rattle.snapshot_pieces.specs.Stopping.{IsReady}
+use Rattle.snapshot_pieces.specs.declared.gather.Outcome.{Outcome}
+use Rattle.snapshot_pieces.specs.declared.gather.Outcome.TheVariants as outcome
+use Rattle.snapshot_run.specs.Runs.{as_fault, facts_of, spans_of}
+use Rattle.snapshot_run.specs.Texts.{AreRecords, IsRun, IsTogether, most_bytes}
+use Rattle.snapshot_run.specs.declared.stop.SnapStop.{SnapStop}
+use Rattle.snapshot_run.specs.declared.stop.SnapStop.TheVariants as stop
+use Rattle.snapshot_run.proofs.Clusters.{first_cluster, in_entry_order, kept_of_all}
+
+-- ---- seats
+
+many_seats : (c : ClaimsSeen) (n : ℕ) → length (fresh_seats c n) ≡ n
+many_seats c n = length-map (range_with_len 0 n) (fresh_seat c) ∙ length-range_with_len 0 n
+
+all_ready : (c : ClaimsSeen) (n : ℕ) → All (IsReady c) (fresh_seats c n)
+all_ready c n = All-map (IsReady c) (fresh_seat c) (range_with_len 0 n) (λ k d lt. record { of = (refl, refl); undrawn = refl; unkept = refl; unpassed = refl; unlowered = refl })
+
+pub seats_ready : (c : ClaimsSeen) (n : ℕ) (seats : List SeatSeen) → seats ≡ fresh_seats c n → All (IsReady c) seats
+seats_ready c n seats is = subst (All (IsReady c)) (sym is) (all_ready c n)
+
+pub seats_many : (c : ClaimsSeen) (n : ℕ) (seats : List SeatSeen) → seats ≡ fresh_seats c n → length seats ≡ n
+seats_many c n seats is = ap length is ∙ many_seats c n
+
+-- ---- texts
+
+texts_join : (g : Span → List (List Value)) (spans : List Span) → flat_map (λ t. t) (map (λ (s : Span). entries_text (g s)) spans) ≡ entries_text (flat_map g spans)
+texts_join g [] = refl
+texts_join g (s ∷ ss) = ap (λ l. entries_text (g s) ++ l) (texts_join g ss) ∙ sym (flat_map-append entry_text (g s) (flat_map g ss))
+
+-- ---- faults
+
+fault_as : (o : Option SnapFault) (f : Fault) → option_map as_fault o ≡ Some f → o ≡ Some (record { entry = f.entry; kind = f.kind })
+fault_as None f h = cc h
+fault_as (Some g) f h = let same : as_fault g ≡ f = cc h in ap (λ (x : Fault). Some (record { entry = x.entry; kind = x.kind })) same
+
+none_as : (o : Option SnapFault) → option_map as_fault o ≡ None → o ≡ None
+none_as None h = refl
+none_as (Some g) h = cc h
+
+-- ---- the clusters of a table
+
+module _ (p : PlanView) (d : Dataset) (cuts : CutsView) (all : cuts.entries ≡ length d.rows) where
+  leads : Lead 0 (length d.rows) (spans_of cuts)
+  leads = subst (λ (k : ℕ). Lead 0 k (spans_of cuts)) all (cuts_lead cuts.entries cuts.size cuts.marks)
+
+  pub are_facts : (n : ℕ) → n ≡ length (spans_of cuts) → AreFacts n (facts_of p d (spans_of cuts))
+  are_facts n is = record {
+    faults = length-map (spans_of cuts) (λ (s : Span). option_map as_fault (snapshot_fault p d s.lo (rows_of d s))) ∙ sym is;
+    texts = length-map (spans_of cuts) (λ (s : Span). entries_text (snapshot_entries p d (rows_of d s))) ∙ sym is;
+    order = in_entry_order d (plan_path p) p.columns p.under (spans_of cuts) leads;
+  }
+
+  first_is : first_in (facts_of p d (spans_of cuts)).faults ≡ option_map as_fault (snapshot_fault p d 0 d.rows)
+  first_is = first_cluster d (plan_path p) p.columns p.under (spans_of cuts) leads
+
+  pub is_fault : (end : Outcome) (fault : Fault) → IsOutcome (facts_of p d (spans_of cuts)) end → end ≡ outcome.Faulted fault → AreRecords p d (Err (stop.Fault fault.entry fault.kind))
+  is_fault end fault ended is = fault_as (snapshot_fault p d 0 d.rows) fault (sym first_is ∙ subst (IsOutcome (facts_of p d (spans_of cuts))) is ended)
+
+  pub has_all : (end : Outcome) (ps : _) → IsOutcome (facts_of p d (spans_of cuts)) end → end ≡ outcome.Made ps → HasAll (facts_of p d (spans_of cuts)) ps
+  has_all end ps ended is = (subst (IsOutcome (facts_of p d (spans_of cuts))) is ended).1
+
+  pub are_records : (end : Outcome) (ps : _) (texts : List (List ℕ)) → IsOutcome (facts_of p d (spans_of cuts)) end → end ≡ outcome.Made ps → texts ≡ (facts_of p d (spans_of cuts)).texts → AreRecords p d (Ok texts)
+  are_records end ps texts ended is same = (
+    none_as (snapshot_fault p d 0 d.rows) (sym first_is ∙ (subst (IsOutcome (facts_of p d (spans_of cuts))) is ended).0),
+    ap (flat_map (λ t. t)) same ∙ texts_join (λ (s : Span). snapshot_entries p d (rows_of d s)) (spans_of cuts) ∙ ap entries_text (kept_of_all d (plan_path p) p.columns p.under (spans_of cuts) leads),
+  )
+
+-- ---- the work
+
+-- a graph is its script, its header and its names
+graph_is : (graph : GraphView) (d : Dataset) → graph.header ≡ d.columns → graph.names ≡ fn_names d.fns → graph ≡ graph_of graph.script d
+graph_is graph d header names = ap₂ (λ (h : List Column) (n : FunctionNames). record { script = graph.script; header = h; names = n }) header names
+
+pub is_work : (p : PlanView) (d : Dataset) → p.graph.header ≡ d.columns → p.graph.names ≡ fn_names d.fns → IsGraph p.graph → IsPlan p → IsTable (record { columns = d.columns; rows = d.rows }) → IsWork p d
+is_work p d header names booked planned table =
+    let same : p.graph ≡ plan_graph p d = graph_is p.graph d header names in
+    record { graph = same; booked = subst IsGraph same booked; planned = planned; table = table }
+
+-- ---- the answer
+
+module _ (p : PlanView) (d : Dataset) where
+  abbrev table : TableView
+  table = record { columns = plan_columns p; rows = snapshot_entries p d d.rows }
+
+  pub run_stopped : (s : SnapStop) → AreRecords p d (Err s) → IsRun p d (Err s)
+  run_stopped (stop.Fault entry kind) h = ap (unless_fault table) h
+  run_stopped (stop.TooLong bytes) h = absurd h
+  run_stopped stop.Memory h = tt
+
+  pub is_run : (texts : List (List ℕ)) (r : Result (List ℕ) SnapStop) → AreRecords p d (Ok texts) → IsTogether (header_text (plan_columns p) ++ flat_map (λ t. t) texts) r → IsRun p d r
+  is_run texts (Ok text) h t =
+      let whole : header_text (plan_columns p) ++ flat_map (λ t. t) texts ≡ table_text table = ap (λ l. header_text (plan_columns p) ++ l) h.1 in
+      (table, ap (unless_fault table) h.0, t.0 ∙ whole, subst (λ (l : List ℕ). length l ≤ most_bytes) (sym t.0) t.1)
+  is_run texts (Err (stop.Fault entry kind)) h t = absurd t
+  is_run texts (Err (stop.TooLong bytes)) h t =
+      let whole : header_text (plan_columns p) ++ flat_map (λ t. t) texts ≡ table_text table = ap (λ l. header_text (plan_columns p) ++ l) h.1 in
+      (table, ap (unless_fault table) h.0, t.0 ∙ ap length whole, t.1)
+  is_run texts (Err stop.Memory) h t = tt

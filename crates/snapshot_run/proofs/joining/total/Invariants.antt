@@ -1,0 +1,6 @@
+use Rattle.std.proofs.Common.{◌≡◌, ◌+◌, length, take}
+use Rattle.std.specs.Prelude.{flat_map}
+use Rattle.snapshot_run.proofs.joining.total.Given as goal
+
+abbrev pub invariant-loop-text : goal.invariant-loop-text
+invariant-loop-text l = l.total ≡ l.fn.first + length (flat_map (λ t. t) (take l.text-index l.texts))

@@ -1,0 +1,38 @@
+use contract.Lifetimes.{Lfts}
+use mathlib.Core.List.{[]}
+use mir.Syntax.{named}
+use denote.Param.{param}
+use denote.Param.Callables.{held_fn}
+use denote.Param.Object.{Vt, ghosts_of}
+use denote.Param.Send.{IsSync, sendable, shr_sync}
+use Rattle.std.proofs.Crossing.{crosses, dyn_box_sync}
+use Rattle.rdf_values.proofs.fn_names.FnNames.TheSendSync as names
+use Rattle.std.specs.contracts.alloc.Global.{the_row as global_row}
+use Rattle.columns.specs.contracts.columns.Columns.{the_row as columns_row}
+use Rattle.cluster_claims.specs.contracts.claims.Claims.{the_row as claims_row}
+use Rattle.entry_fns.specs.contracts.list.FnList.{the_row as functions_row}
+use Rattle.snapshot_plan.specs.contracts.planning.SnapPlan.{the_row as plan_row}
+use Rattle.snapshot_run.proofs.Sharing.{plan_sync, table_sync, claims_sync, six_sync}
+use Rattle.snapshot_run.specs.contracts.workers.run_slots.{G-row}
+use Rattle.snapshot_run.specs.contracts.workers.run_slots.dyn-1 as dyn
+use Rattle.snapshot_run.proofs.workers.run_slots.Lts as lts
+use Rattle.snapshot_run.proofs.workers.run_slots.Given as given
+use Rattle.snapshot_run.proofs.workers.run_slots.Goals as goal
+
+-- threads may share what the closure captures
+captured_sync : (g : given.Over) → IsSync (G-row g.row.R g.row.G) → (κs : Lfts 13) → IsSync (param 4 (lts.arg-0-4 g.row.R g.row.G g.R.laws g.G.laws g.R.Threads g.R.Threads-dict g.G.Gate g.G.Gate-dict g.dyn-1 g.dyn-1-has κs))
+captured_sync g s κs =
+    let global : IsSync global_row = search (sendable, crosses) depth 40 fits 4000 in
+    let functions : IsSync (functions_row (Vt (dyn.slots g.row.R g.row.G) g.dyn-1.0) (ghosts_of (dyn.slots g.row.R g.row.G) g.dyn-1.0 g.dyn-1.1) (held_fn g.dyn-1.0)) = search (sendable, crosses, names.the_sync, dyn_box_sync) depth 40 fits 4000 in
+    record {
+      shared = (six_sync [] _ _ _ _ _ _
+          (shr_sync (named 7) κs.1.1.1.1.1.1.1.0 plan_row plan_sync)
+          (shr_sync (named 8) κs.1.1.1.1.1.1.1.1.0 columns_row table_sync)
+          (shr_sync (named 9) κs.1.1.1.1.1.1.1.1.1.0 (functions_row (Vt (dyn.slots g.row.R g.row.G) g.dyn-1.0) (ghosts_of (dyn.slots g.row.R g.row.G) g.dyn-1.0 g.dyn-1.1) (held_fn g.dyn-1.0)) functions)
+          (shr_sync (named 10) κs.1.1.1.1.1.1.1.1.1.1.0 global_row global)
+          (shr_sync (named 11) κs.1.1.1.1.1.1.1.1.1.1.1.0 claims_row claims_sync)
+          (shr_sync (named 12) κs.1.1.1.1.1.1.1.1.1.1.1.1.0 (param 1 g.row.G) s)).shared;
+    }
+
+pub map_vec-requires-sync-F : goal.map_vec-requires-sync-F
+map_vec-requires-sync-F g c = λ κs h. captured_sync g c.type_bounds.sync-G κs

@@ -1,0 +1,42 @@
+-- What the clusters of a snapshot are to give.
+use Rattle.std.specs.Prelude.{◌≡◌, ⊤, ℕ, List, map, option_map, Some, None, Result, Ok, Err, slice_get}
+use Rattle.rdf_values.specs.Cuts.{cut}
+use Rattle.rdf_values.specs.declared.fault.Fault.{Fault}
+use Rattle.rdf_values.specs.declared.span.Span.{Span}
+use Rattle.rdf_model.specs.Results.{Dataset}
+use Rattle.rdf_values.specs.Functions.{Function}
+use Rattle.columns.specs.ColumnsView.{ColumnsView}
+use Rattle.clusters.specs.CutsView.{CutsView}
+use Rattle.snapshot_plan.specs.Views.{PlanView}
+use Rattle.snapshot_text.specs.TableTexts.{entries_text}
+use Rattle.snapshot_rows.specs.Snapshots.{SnapFault, snapshot_entries, snapshot_fault}
+use Rattle.snapshot_entries.specs.Entries.{rows_of}
+use Rattle.snapshot_entries.specs.declared.stop.SkimStop.{SkimStop}
+use Rattle.snapshot_entries.specs.declared.stop.SkimStop.TheVariants as skim
+use Rattle.snapshot_pieces.specs.Facts.{IsPieceOf, SnapFacts}
+use Rattle.snapshot_pieces.specs.declared.piece.Piece.{Piece}
+
+-- the clusters
+abbrev pub spans_of : CutsView → List Span
+spans_of c = cut c.entries c.size c.marks
+
+-- a snapshot's fault, as that of a loop of one pass
+abbrev pub as_fault : SnapFault → Fault
+as_fault f = record { entry = f.entry; pass = 0; kind = f.kind }
+
+-- for each cluster its first fault, and the records of its entries
+abbrev pub facts_of : PlanView → Dataset → List Span → SnapFacts
+facts_of p d spans = record {
+  faults = map (λ (s : Span). option_map as_fault (snapshot_fault p d s.lo (rows_of d s))) spans;
+  texts = map (λ (s : Span). entries_text (snapshot_entries p d (rows_of d s))) spans;
+}
+
+-- a cluster without a fault has that piece; or the fault is the cluster's; or memory was wanted
+abbrev pub IsMade : SnapFacts → ℕ → Result Piece SkimStop → Type 0
+IsMade facts c (Ok piece) = (piece.cluster ≡ c) × IsPieceOf facts piece × (slice_get facts.faults c ≡ Some None)
+IsMade facts c (Err (skim.Fault entry kind)) = slice_get facts.faults c ≡ Some (Some (record { entry = entry; pass = 0; kind = kind }))
+IsMade facts c (Err skim.Memory) = ⊤
+
+-- a table of columns, with functions
+abbrev pub data_with : ColumnsView → List Function → Dataset
+data_with c fns = record { fns = fns; columns = c.table.columns; rows = c.table.rows }
