@@ -1,3 +1,4 @@
+pub mod Answers
 pub mod Due
 pub mod Fetching
 pub mod Reading

@@ -30,7 +30,7 @@ fn text_of(alloc: Global, name: &str) -> Result<Text, Memory>
 }
 
 /// There is no file of that name.
-pub(crate) fn absent(alloc: Global, name: &str) -> Result<FileRefusal, Memory>
+pub fn absent(alloc: Global, name: &str) -> Result<FileRefusal, Memory>
     ensures { IfOk result (λ r. (r.cause ≡ FileCause.NoFile) × (r.line ≡ no_file_line name.now)) }
 {
     let name = text_of(alloc, name)?;
@@ -38,7 +38,7 @@ pub(crate) fn absent(alloc: Global, name: &str) -> Result<FileRefusal, Memory>
 }
 
 /// A read of the file failed.
-pub(crate) fn unread(alloc: Global, name: &str) -> Result<FileRefusal, Memory>
+pub fn unread(alloc: Global, name: &str) -> Result<FileRefusal, Memory>
     ensures { IfOk result (λ r. (r.cause ≡ FileCause.ReadFailed) × (r.line ≡ read_failed_line name.now)) }
 {
     let name = text_of(alloc, name)?;

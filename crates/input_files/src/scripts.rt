@@ -14,10 +14,10 @@ use script_read::{ScriptRefusal, read_script};
 use std::alloc::Global;
 
 /// The most bytes of a script.
-const MAX_SCRIPT: usize = 65_536;
+pub const MAX_SCRIPT: usize = 65_536;
 
-// The script that a text is, or its refusal.
-fn script_of(alloc: Global, bytes: &[u8]) -> Result<ReadFile<Script>, Memory>
+/// The script that a text of at most `MAX_SCRIPT` bytes is, or its refusal.
+pub fn script_of(alloc: Global, bytes: &[u8]) -> Result<ReadFile<Script>, Memory>
     requires { length bytes.now ≤ 65536 }
     ensures { IfOk result (ReadsScriptText bytes.now) }
 {

@@ -14,10 +14,10 @@ use std::thread::Threads;
 use table_csv::{MarkedPieces, TableRefusal, read_table_in_slots};
 
 /// The most bytes of a table.
-const MAX_TABLE: usize = 67_108_864;
+pub const MAX_TABLE: usize = 67_108_864;
 
-// The table that bytes spell, or its refusal.
-fn table_of<R: Threads + Sync>(
+/// The table that at most `MAX_TABLE` bytes spell, read in pieces side by side where there are several slots, or its refusal.
+pub fn table_of<R: Threads + Sync>(
     rt: &R,
     alloc: Global,
     bytes: &[u8],
