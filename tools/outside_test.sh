@@ -43,6 +43,17 @@ run_within() { # SECONDS WORDS..
 
 skip() { skipped=$((skipped + 1)); echo "skipped: $1"; }
 
+# So many random cases of the program, always the same ones, beside the reference in Python.
+run_random() { # WHAT COUNT
+    command -v python3 >/dev/null || { skip "random $1: there is no python3"; return; }
+    tests=$((tests + 1))
+    if ! RDF_PROGRAM=$rdf python3 -B "$top/tools/cases/random_$1.py" "$program" "$2" gate >out 2>&1; then
+        failed=$((failed + 1))
+        echo "FAILED random $1"
+        tail -n 100 out
+    fi
+}
+
 printf 'n = df.Count()\nPrint(n)\n' >s.txt
 printf 'x:int\n1\n2\n3\n' >a.csv
 
@@ -363,9 +374,11 @@ awk 'BEGIN { for (i = 0; i < 16; i++) print "t" i " = df.Take(\"x\")"; for (i = 
 # 16 lines, each of 88,890 digits and 20,000 blanks or line ends, and labels of 5 or 6 bytes
 judge "1.7 MB of output through a pipe" 0 1742326
 
+rdf=$program
+run_random cases 60
+
 # ---- shards: rdf_shard is RDF_SHARD_PROGRAM, or crates/rdf_shard/out/rdf_shard
 
-rdf=$program
 shard=${RDF_SHARD_PROGRAM:-$top/crates/rdf_shard/out/rdf_shard}
 case $shard in /*) ;; *) shard=$old_folder/$shard ;; esac
 
