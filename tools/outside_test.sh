@@ -434,6 +434,7 @@ end"
     run merge pieces.txt $files
     judge "rdf_shard: spans of a table with marks and vectors" 0 "$due"
     rm -f p*
+    run_random shards 60
 
     head -c 134217728 /dev/zero >huge
     run merge s.txt huge
