@@ -18,7 +18,7 @@ use Rattle.shard_due.specs.Lines.{long_files_line}
 use Rattle.shard_due.specs.Statuses.{statuses}
 use Rattle.shard_due.specs.declared.status.ShardStatus.TheVariants.{TooLong}
 use Rattle.shard_program.specs.Answers.{Answers, IsAnswer}
-use Rattle.shard_program.specs.Shards.{AreShards, AreShardsRead, HoldAll, HoldShards, HoldsTheShard, IsDueToFile, IsDueToFiles, IsDueToNames, IsReadShard, IsTextOf}
+use Rattle.shard_program.specs.Shards.{AreShards, AreShardsRead, HoldAll, HoldShards, HoldsTheShard, IsDueToFile, IsDueToFiles, IsDueToNames, IsShardOf, IsTextOf}
 use Rattle.shard_program.specs.Turns.{IsShardRead}
 use Rattle.shard_program.specs.declared.answer.Answer.{Answer}
 use Rattle.shard_program.proofs.FileReading.{if_ok, of_answer, staged}
@@ -146,7 +146,7 @@ module _ (told : Option Files) (turns0 : List (List ℕ)) (f0 : ℕ) (names : Li
       turned_next : turns' ≡ turns0 ++ take (suc i) names
       turned_next = turned ∙ ap (λ l. l ++ name ∷ []) so_far.turned ∙ append_assoc turns0 (take i names) (name ∷ []) ∙ sym (ap (λ l. turns0 ++ l) (taken_next names i name at))
 
-      pub one_read : (told'' : Option Files) (s : ShardView) (n : ℕ) (shards' : List ShardView) → told'' ≡ told' → IsReadShard told' name count n s → shards' ≡ shards ++ s ∷ []
+      pub one_read : (told'' : Option Files) (s : ShardView) (n : ℕ) (shards' : List ShardView) → told'' ≡ told' → IsShardOf told' name count n s → shards' ≡ shards ++ s ∷ []
           → IsSoFar told turns0 f0 names (i + 1) shards' (count + n) told'' turns' f'
       one_read told'' s n shards' same read pushed = subst (λ k. IsSoFar told turns0 f0 names k shards' (count + n) told'' turns' f') (sym (add-one i)) (record {
         same = same ∙ so_far.same;
