@@ -5,7 +5,6 @@ use Rattle.std.specs.Prelude.{slice_get, unwrap_or}
 use Rattle.std.proofs.lemmas.Bool.{le-ltb}
 use Rattle.std.proofs.lemmas.List.{take-append-drop}
 use Rattle.std.proofs.lemmas.List.Sums.{sum_by-append, sum_by-cons}
-use Rattle.std.proofs.Math.Seq.{take-length}
 use Rattle.rdf_values.specs.Functions.{Function}
 use Rattle.rdf_values.specs.declared.script.Script.{Script}
 use Rattle.input_files.specs.Answers.{AreTurnedTo}
@@ -18,7 +17,7 @@ use Rattle.shard_due.specs.Lines.{long_files_line}
 use Rattle.shard_due.specs.Statuses.{statuses}
 use Rattle.shard_due.specs.declared.status.ShardStatus.TheVariants.{TooLong}
 use Rattle.shard_program.specs.Answers.{Answers, IsAnswer}
-use Rattle.shard_program.specs.Shards.{AreShards, AreShardsRead, HoldAll, HoldShards, HoldsTheShard, IsDueToFile, IsDueToFiles, IsDueToNames, IsReadShard, IsTextOf}
+use Rattle.shard_program.specs.Shards.{AreShards, AreShardsRead, HoldAll, HoldShards, HoldsTheShard, IsDueToFile, IsDueToFiles, IsDueToNames, IsShardOf, IsTextOf}
 use Rattle.shard_program.specs.Turns.{IsShardRead}
 use Rattle.shard_program.specs.declared.answer.Answer.{Answer}
 use Rattle.shard_program.proofs.FileReading.{if_ok, of_answer, staged}
@@ -125,28 +124,12 @@ pub record IsSoFar (told : Option Files) (turns0 : List (List ℕ)) (f0 : ℕ) (
   pub hold : IfSome told (HoldAll (take i names) shards count)
 
 module _ (told : Option Files) (turns0 : List (List ℕ)) (f0 : ℕ) (names : List (List ℕ)) where
-  pub none_read : (shards : List ShardView) → shards ≡ [] → IsSoFar told turns0 f0 names 0 shards 0 told turns0 f0
-  none_read shards e = record {
-    same = refl;
-    later = omega arith;
-    turned = sym (append-nil turns0);
-    within = omega arith;
-    many = ap length e;
-    valid = subst AreShards (sym e) tt;
-    few = omega arith;
-    hold = each told;
-  }
-    where
-      each : (o : Option Files) → IfSome o (HoldAll [] shards 0)
-      each None = tt
-      each (Some f) = record { hold = subst (HoldShards f []) (sym e) tt; bytes = refl }
-
   module _ (i : ℕ) (shards : List ShardView) (count : ℕ) (told' : Option Files) (turns : List (List ℕ)) (f : ℕ) (so_far : IsSoFar told turns0 f0 names i shards count told' turns f) where
     module _ (name : List ℕ) (lt : i < length names) (at : slice_get names i ≡ Some name) (turns' : List (List ℕ)) (turned : turns' ≡ turns ++ name ∷ []) (f' : ℕ) (later : f ≤ f') where
       turned_next : turns' ≡ turns0 ++ take (suc i) names
       turned_next = turned ∙ ap (λ l. l ++ name ∷ []) so_far.turned ∙ append_assoc turns0 (take i names) (name ∷ []) ∙ sym (ap (λ l. turns0 ++ l) (taken_next names i name at))
 
-      pub one_read : (told'' : Option Files) (s : ShardView) (n : ℕ) (shards' : List ShardView) → told'' ≡ told' → IsReadShard told' name count n s → shards' ≡ shards ++ s ∷ []
+      pub one_read : (told'' : Option Files) (s : ShardView) (n : ℕ) (shards' : List ShardView) → told'' ≡ told' → IsShardOf told' name count n s → shards' ≡ shards ++ s ∷ []
           → IsSoFar told turns0 f0 names (i + 1) shards' (count + n) told'' turns' f'
       one_read told'' s n shards' same read pushed = subst (λ k. IsSoFar told turns0 f0 names k shards' (count + n) told'' turns' f') (sym (add-one i)) (record {
         same = same ∙ so_far.same;
@@ -193,13 +176,6 @@ module _ (told : Option Files) (turns0 : List (List ℕ)) (f0 : ℕ) (names : Li
     module _ (past : length names ≤ i) where
       pub turned_to_all : AreTurnedTo names (IsShardRead told names) turns0 turns
       turned_to_all = turned_up_to told names i i count shards turns0 turns so_far.hold so_far.within so_far.within (omega arith) so_far.turned
-
-      pub all_read : AreShardsRead told names shards
-      all_read =
-          let within = so_far.within in
-          let many = so_far.many in
-          let last : i ≡ length names = omega (arith, within, past) in
-          record { many = many ∙ last; valid = so_far.valid; count = count; few = so_far.few; hold = subst (λ l. IfSome told (HoldAll l shards count)) (ap (λ n. take n names) last ∙ take-length names) so_far.hold }
 
 -- ---- what is due to them
 

@@ -31,14 +31,14 @@ abbrev pub IsDueToFile : List ℕ → ℕ → Files → ShardDue → Type 0
 IsDueToFile name before files due = WithFile statuses name (files name) (λ bytes d. WithShard name before bytes (λ s e. ⊥) d) due
 
 -- the shard of a file that isn't too long together with those before it
-pub record IsReadShard (told : Option Files) (name : List ℕ) (before count : ℕ) (shard : ShardView) : Type 0 where
+pub record IsShardOf (told : Option Files) (name : List ℕ) (before count : ℕ) (shard : ShardView) : Type 0 where
   pub holds : Tells told name (HoldsTheShard shard count)
   pub few : before + count ≤ max_files
   pub valid : IsShard shard
 
 -- the shard that the file holds, or why it gives none
 abbrev pub ReadsShardFile : Option Files → List (List ℕ) → ℕ → ℕ → List ℕ → ℕ → ReadShard → Type 0
-ReadsShardFile told turns faults now name before (one.Whole shard count) = IsReadShard told name before count shard
+ReadsShardFile told turns faults now name before (one.Whole shard count) = IsShardOf told name before count shard
 ReadsShardFile told turns faults now name before (one.Refused answer) = IsAnswer (IsDueToFile name before) told turns faults now answer
 
 -- ---- all files
