@@ -4,7 +4,7 @@ use Rattle.std.specs.Bool.{MatchBool}
 use Rattle.std.specs.Prelude.{MatchOption, MatchResult}
 use Rattle.std.proofs.lemmas.Bool.Decides.{nat_tests}
 use Rattle.rdf_values.specs.Functions.{Function, fn_names}
-use Rattle.rdf_values.specs.RefusalLines.{graph_cause_line, long_script_line, long_table_line, no_file_line, table_cause_line}
+use Rattle.rdf_values.specs.RefusalLines.{graph_cause_line, long_script_line, long_table_line, table_cause_line}
 use Rattle.rdf_values.specs.Scripts.{IsScript}
 use Rattle.rdf_values.specs.TableText.{MarkedTable, table_of}
 use Rattle.rdf_values.specs.Tables.{IsTable, TableView}
@@ -36,7 +36,6 @@ use Rattle.snapshot_due.specs.Due.{IsDueOver, IsDueToFiles, IsRunDue, IsTextDue,
 use Rattle.snapshot_due.specs.Laws.{ReadsBack, SnapshotReadsBack}
 use Rattle.snapshot_due.specs.Lines.{cause_line, fault_line, long_line, usage_line}
 use Rattle.snapshot_due.specs.Statuses.{status_of, statuses}
-use Rattle.snapshot_due.specs.declared.status.SnapshotStatus.{SnapshotStatus}
 use Rattle.snapshot_due.specs.declared.status.SnapshotStatus.TheVariants.{Done, Words, NoFile, ScriptRefused, TableRefused, LoopFault, TooLong}
 use Rattle.snapshot_due.proofs.Spelt.{spelt_is_table}
 
@@ -156,8 +155,16 @@ module _ (bytes : List ℕ) where
         let s = by_script_file files (files c.script) h in
         let t = by_table_file s.script (files c.table) s.next in
         record {
-          script = s.script; script_bytes = s.script_bytes; few = s.few; is_script = s.is_script; holds_script = s.holds;
-          own = t.own; table_bytes = t.table_bytes; is_own = t.is_own; holds_table = t.holds; run = t.run;
+          script = s.script;
+          script_bytes = s.script_bytes;
+          few = s.few;
+          is_script = s.is_script;
+          holds_script = s.holds;
+          own = t.own;
+          table_bytes = t.table_bytes;
+          is_own = t.is_own;
+          holds_table = t.holds;
+          run = t.run;
         }
 
 -- ---- all of it

@@ -3,7 +3,6 @@ use Rattle.std.specs.Prelude.{◌≡◌, ℕ, List, length, nat_lt, Option, Matc
 use Rattle.std.specs.Bool.{MatchBool}
 use Rattle.rdf_values.specs.Functions.{Function, fn_names}
 use Rattle.rdf_values.specs.RefusalLines.{graph_cause_line}
-use Rattle.rdf_values.specs.TableText.{MarkedTable}
 use Rattle.rdf_values.specs.Tables.{TableView}
 use Rattle.rdf_values.specs.Verdict.{verdict}
 use Rattle.rdf_values.specs.declared.column.Column.{Column}

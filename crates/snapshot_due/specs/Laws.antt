@@ -1,6 +1,6 @@
 -- Laws of what is due. Each is the contract of a function of this crate, and so proved.
 use Rattle.std.specs.Prelude.{◌≡◌, ◌≤◌, ℕ, List, [], None, Some, Ok, length}
-use Rattle.rdf_values.specs.Functions.{Function, fn_names}
+use Rattle.rdf_values.specs.Functions.{Function}
 use Rattle.rdf_values.specs.TableText.{MarkedTable, table_of}
 use Rattle.rdf_values.specs.Tables.{IsTable, TableView}
 use Rattle.rdf_values.specs.Words.{AnswerIn64Bits}

@@ -1,9 +1,7 @@
 -- Answers to the words.
-use Rattle.std.proofs.Common.{◌≡◌, ◌⊎◌, inl, inr, ℕ, List, [], ◌∷◌, ◌++◌, Option, None, Some, IfSome, arith, ap, refl, sym, subst, ◌∙◌}
+use Rattle.std.proofs.Common.{◌≡◌, ℕ, List, [], ◌∷◌, Option, None, Some, IfSome, sym, subst, ◌∙◌}
 use Rattle.std.specs.Prelude.{MatchOption}
-use Rattle.rdf_outside.specs.Outside.{Rose}
 use Rattle.rdf_values.specs.Functions.{Function}
-use Rattle.rdf_values.specs.TableText.{MarkedTable}
 use Rattle.rdf_values.specs.Tables.{TableView}
 use Rattle.rdf_values.specs.declared.script.Script.{Script}
 use Rattle.input_files.specs.Answers.{AreTurnedTo, Files}
@@ -15,10 +13,10 @@ use Rattle.snapshot_words.specs.Asked.{asked_of}
 use Rattle.snapshot_words.specs.declared.command.SnapCommand.{SnapCommand}
 use Rattle.snapshot_due.specs.Due.{IsDue, IsDueOver, IsDueToFiles, IsRunDue, SnapshotDue, dataset_of}
 use Rattle.snapshot_due.specs.Lines.{usage_line}
-use Rattle.snapshot_due.specs.Statuses.{IsFinal, statuses}
+use Rattle.snapshot_due.specs.Statuses.{statuses}
 use Rattle.snapshot_due.specs.declared.status.SnapshotStatus.{SnapshotStatus}
 use Rattle.snapshot_due.specs.declared.status.SnapshotStatus.TheVariants.{Memory, Words, ReadFault, WriteFault}
-use Rattle.snapshot_program.specs.Answers.{Answers, AnswersFiles, AreInputs, IsAnswer, IsOfTable, IsPlanned, IsRefusal, IsScriptFile, RefusesFiles}
+use Rattle.snapshot_program.specs.Answers.{Answers, AreInputs, IsAnswer, IsOfTable, IsPlanned, IsRefusal, IsScriptFile, RefusesFiles}
 use Rattle.snapshot_program.specs.Top.{TurnsBesides}
 use Rattle.snapshot_program.specs.declared.answer.Answer.{Answer}
 use Rattle.snapshot_program.specs.declared.inputs.Inputs.{Inputs}

@@ -19,27 +19,25 @@ use Rattle.rdf_values.specs.declared.statement.Statement.{Statement}
 use Rattle.rdf_model.specs.Results.{Dataset}
 use Rattle.graph_numbers.specs.Graphs.{GraphView, booked, booked_statements, booked_unless}
 use Rattle.node_graph.specs.Refusals.{refused_at}
-use Rattle.node_graph.specs.declared.refusal.GraphRefusal.{GraphRefusal}
 use Rattle.node_graph.specs.declared.refusal.GraphRefusal.TheVariants as graph
 use Rattle.input_files.specs.Due.{due_of}
-use Rattle.snapshot_plan.specs.Plans.{cause_of, first_bad, is_bad, is_under, most_statements, statements_planned, unless_bad, unless_many}
+use Rattle.snapshot_plan.specs.Plans.{first_bad, is_bad, is_under, most_statements, statements_planned, unless_bad}
 use Rattle.snapshot_plan.specs.Views.{PlanView, cause_in, planned, under_of, unless_cause}
 use Rattle.snapshot_plan.specs.declared.cause.SnapCause.{SnapCause}
 use Rattle.snapshot_plan.specs.declared.cause.SnapCause.TheVariants as cause
 use Rattle.snapshot_plan.specs.declared.refusal.SnapRefusal.{SnapRefusal}
 use Rattle.snapshot_plan.specs.declared.refusal.SnapRefusal.TheVariants as refusal
-use Rattle.snapshot_rows.specs.Snapshots.{SnapFault, snapshot}
+use Rattle.snapshot_rows.specs.Snapshots.{SnapFault}
 use Rattle.snapshot_run.specs.Texts.{IsRun, most_bytes}
 use Rattle.snapshot_run.specs.declared.stop.SnapStop.TheVariants as stop
 use Rattle.snapshot_text.specs.TableTexts.{table_text}
 use Rattle.snapshot_words.specs.declared.command.SnapCommand.{SnapCommand}
-use Rattle.snapshot_due.specs.Due.{IsDueOver, IsRunDue, IsTextDue, SnapshotDue, WithPlan, cause_over, dataset_of, graph_over, plan_over}
+use Rattle.snapshot_due.specs.Due.{IsDueOver, IsRunDue, IsTextDue, SnapshotDue, cause_over, dataset_of, graph_over, plan_over}
 use Rattle.snapshot_due.specs.Lines.{cause_line, fault_line, long_line}
 use Rattle.snapshot_due.specs.Statuses.{status_of}
 use Rattle.snapshot_due.specs.declared.status.SnapshotStatus.TheVariants.{Done, LoopFault, ScriptRefused, TooLong}
 use Rattle.snapshot_program.specs.Answers.{Answers, IsOfTable, IsPlanned, IsWithin}
 use Rattle.snapshot_program.specs.declared.answer.Answer.{Answer}
-use Rattle.snapshot_program.specs.declared.planning.Planned.{Planned}
 use Rattle.snapshot_program.specs.declared.planning.Planned.TheVariants as planning
 
 -- ---- booking

@@ -1,8 +1,7 @@
 -- Answers where a file gives nothing, and the files that are turned to.
-use Rattle.std.proofs.Common.{◌≡◌, ◌≤◌, ◌<◌, ◌+◌, ℕ, zero, suc, List, [], ◌∷◌, ◌++◌, length, Option, None, Some, IfSome, arith, ap, refl, sym, subst, append_assoc, ◌∙◌}
+use Rattle.std.proofs.Common.{◌≡◌, ◌≤◌, ℕ, List, [], ◌∷◌, ◌++◌, Option, None, Some, IfSome, arith, ap, refl, sym, subst, append_assoc, ◌∙◌}
 use Rattle.rdf_outside.specs.Outside.{Rose}
 use Rattle.rdf_values.specs.RefusalLines.{read_failed_line}
-use Rattle.rdf_values.specs.TableText.{MarkedTable}
 use Rattle.rdf_values.specs.declared.script.Script.{Script}
 use Rattle.input_files.specs.Answers.{AreTurnedTo, Files, IsLast}
 use Rattle.input_files.specs.Due.{Due, WithTableFile, due_of}

@@ -1,6 +1,6 @@
 -- What the top call leaves written.
-use Rattle.std.proofs.Common.{◌≡◌, ◌⊎◌, inl, inr, ℕ, List, Option, None, Some, IfSome, refl, subst, sym, ⊎_elim}
-use Rattle.rdf_outside.specs.Outside.{Appends, AppendsPart, Rose}
+use Rattle.std.proofs.Common.{◌≡◌, ◌⊎◌, inl, inr, ℕ, List, Option, None, Some, IfSome, refl, subst, ⊎_elim}
+use Rattle.rdf_outside.specs.Outside.{Appends, AppendsPart}
 use Rattle.rdf_values.specs.Functions.{Function}
 use Rattle.input_files.specs.Answers.{Files, WritesDue, WritesDuePart, WritesPart, WritesReadFailed}
 use Rattle.input_files.specs.Due.{due_of}

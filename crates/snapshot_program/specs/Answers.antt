@@ -1,5 +1,6 @@
 -- What the program answers before anything is written.
 use Rattle.std.specs.Prelude.{◌≡◌, ◌<◌, ℕ, List, All, Option, None, IfSome, length}
+use Rattle.columns.specs.ColumnsView.{ColumnsView}
 use Rattle.rdf_outside.specs.Outside.{Rose}
 use Rattle.rdf_values.specs.Bookable.{IsBookable}
 use Rattle.rdf_values.specs.Functions.{Function, fn_names}
@@ -7,6 +8,7 @@ use Rattle.rdf_values.specs.RefusalLines.{read_failed_line}
 use Rattle.rdf_values.specs.Verdict.{verdict}
 use Rattle.rdf_values.specs.declared.column.Column.{Column}
 use Rattle.rdf_values.specs.declared.script.Script.{Script}
+use Rattle.table_csv.specs.declared.marked_pieces.MarkedPieces.{MarkedPieces}
 use Rattle.input_files.specs.Answers.{Files, IsLast}
 use Rattle.input_files.specs.Due.{WithScriptFile, WithTableFile, due_of}
 use Rattle.input_files.specs.Fetching.{Tells}
@@ -28,6 +30,10 @@ use Rattle.snapshot_program.specs.declared.planning.Planned.{Planned}
 use Rattle.snapshot_program.specs.declared.planning.Planned.TheVariants as planned
 
 -- ---- over a table
+
+-- the columns of a table, cut at its marks into clusters of at most that size
+abbrev pub columns_over : MarkedPieces → ℕ → ColumnsView
+columns_over m size = record { table = m.table; cuts = record { entries = length m.table.rows; size = size; marks = m.marks } }
 
 -- a column that a cause names is one of so many
 abbrev pub IsWithin : ℕ → SnapCause → Type 0

@@ -7,7 +7,7 @@ ghost use Rattle.snapshot_due.specs.Due.{IsDueOver, IsRunDue};
 ghost use Rattle.snapshot_due.specs.Lines.{fault_line, long_line};
 ghost use Rattle.snapshot_entries.specs.Jobs.{data_of, plan_of};
 ghost use Rattle.snapshot_words.specs.Limits.{IsAsked};
-ghost use Rattle.snapshot_program.specs.Answers.{Answers};
+ghost use Rattle.snapshot_program.specs.Answers.{Answers, columns_over};
 
 use crate::answer::Answer;
 use crate::inputs::Inputs;
@@ -35,7 +35,7 @@ fn columns_of<R: Threads + Sync>(
 ) -> Result<Columns, Memory>
     requires within { All (λ e. e < length marked.table.rows) marked.marks }
     requires size { 1 ≤ command.now.cluster }
-    ensures { IfOk result (λ columns. columns.table ≡ marked.table) }
+    ensures { IfOk result (λ columns. columns ≡ columns_over marked command.now.cluster) }
 {
     let entries = marked.table.entries();
     let cuts = cut(alloc, entries, command.cluster, &marked.marks)?;

@@ -1,5 +1,5 @@
 -- The definitions computed: words that are taken, and words that aren't.
-use Rattle.std.proofs.Common.{◌≡◌, List, ℕ, [], ◌∷◌, Some, None, refl, codes}
+use Rattle.std.proofs.Common.{◌≡◌, [], ◌∷◌, Some, None, refl, codes}
 use Rattle.clap.proofs.OnLiterals.{clap_on_literals}
 use Rattle.rdf_values.specs.Integers.{integer_of, magnitude_of}
 use Rattle.rdf_values.specs.Names.{is_name}

@@ -1,5 +1,5 @@
 -- What the words ask for.
-use Rattle.std.specs.Prelude.{ℕ, Bool, true, false, ◌&&◌, List, [], ◌∷◌, length, Option, Some, None, if◌then◌else◌, nat_eq, nat_le, codes, bytes_eq}
+use Rattle.std.specs.Prelude.{ℕ, Bool, true, ◌&&◌, List, length, Option, Some, None, if◌then◌else◌, nat_eq, nat_le, codes, bytes_eq}
 use Rattle.std.specs.List.{after_first, before_first, list_all, slice_split}
 use Rattle.clap.specs.Words.{App, Row, Text, fault_of, first_of, matches_of, new_app, with_rule}
 use Rattle.clap.specs.Simple.{on_top}

@@ -65,7 +65,11 @@ fn value<'a>(matches: &ArgMatches<'a>, id: &str) -> Option<&'a str>
 }
 
 // The files of these names.
-fn files_of(alloc: Global, script: Option<&str>, table: Option<&str>) -> Result<Option<Files>, Memory>
+fn files_of(
+    alloc: Global,
+    script: Option<&str>,
+    table: Option<&str>,
+) -> Result<Option<Files>, Memory>
     ensures { IfOk result (λ files. files ≡ files_of (option_map (λ s. s.now) script.entry) (option_map (λ s. s.now) table.entry)) }
 {
     let Some(script) = script else {
