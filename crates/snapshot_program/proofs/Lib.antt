@@ -1,0 +1,5 @@
+pub mod Answering
+pub mod Plans
+pub mod Refusing
+pub mod Staging
+pub mod Writing

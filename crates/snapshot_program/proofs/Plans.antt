@@ -1,0 +1,230 @@
+-- Plans and their refusals, and what is due of a run.
+use Rattle.std.proofs.Common.{◌≡◌, inl, inr, ◌<◌, ◌≤◌, ◌+◌, ℕ, suc, Bool, true, false, not, List, [], ◌∷◌, ◌++◌, length, Option, None, Some, Result, Ok, Err, IfOk, if◌then◌else◌, nat_lt, arith, ap, refl, sym, subst, ◌∙◌}
+use Rattle.std.specs.Prelude.{MatchOption, MatchResult}
+use Rattle.std.specs.Bool.{MatchBool}
+use Rattle.std.proofs.lemmas.Bool.{le-ltb}
+use Rattle.std.proofs.lemmas.Bool.Decides.{nat_tests}
+use Rattle.rdf_values.specs.Answers.{Refuses}
+use Rattle.rdf_values.specs.Functions.{Function, fn_names}
+use Rattle.rdf_values.specs.Kinds.{FunctionNames, Scope, scope_of}
+use Rattle.rdf_values.specs.Path.{Under, variations}
+use Rattle.rdf_values.specs.RefusalLines.{graph_cause_line}
+use Rattle.rdf_values.specs.Tables.{TableView}
+use Rattle.rdf_values.specs.Verdict.{is_node, scope_at, verdict}
+use Rattle.rdf_values.specs.declared.column.Column.{Column}
+use Rattle.rdf_values.specs.declared.fault.EntryFault.{EntryFault}
+use Rattle.rdf_values.specs.declared.graph_cause.GraphCause.{GraphCause}
+use Rattle.rdf_values.specs.declared.script.Script.{Script}
+use Rattle.rdf_values.specs.declared.statement.Statement.{Statement}
+use Rattle.rdf_model.specs.Results.{Dataset}
+use Rattle.graph_numbers.specs.Graphs.{GraphView, booked, booked_statements, booked_unless}
+use Rattle.node_graph.specs.Refusals.{refused_at}
+use Rattle.node_graph.specs.declared.refusal.GraphRefusal.TheVariants as graph
+use Rattle.input_files.specs.Due.{due_of}
+use Rattle.snapshot_plan.specs.Plans.{first_bad, is_bad, is_under, most_statements, statements_planned, unless_bad}
+use Rattle.snapshot_plan.specs.Views.{PlanView, cause_in, planned, under_of, unless_cause}
+use Rattle.snapshot_plan.specs.declared.cause.SnapCause.{SnapCause}
+use Rattle.snapshot_plan.specs.declared.cause.SnapCause.TheVariants as cause
+use Rattle.snapshot_plan.specs.declared.refusal.SnapRefusal.{SnapRefusal}
+use Rattle.snapshot_plan.specs.declared.refusal.SnapRefusal.TheVariants as refusal
+use Rattle.snapshot_rows.specs.Snapshots.{SnapFault}
+use Rattle.snapshot_run.specs.Texts.{IsRun, most_bytes}
+use Rattle.snapshot_run.specs.declared.stop.SnapStop.TheVariants as stop
+use Rattle.snapshot_text.specs.TableTexts.{table_text}
+use Rattle.snapshot_words.specs.declared.command.SnapCommand.{SnapCommand}
+use Rattle.snapshot_due.specs.Due.{IsDueOver, IsRunDue, IsTextDue, SnapshotDue, cause_over, dataset_of, graph_over, plan_over}
+use Rattle.snapshot_due.specs.Lines.{cause_line, fault_line, long_line}
+use Rattle.snapshot_due.specs.Statuses.{status_of}
+use Rattle.snapshot_due.specs.declared.status.SnapshotStatus.TheVariants.{Done, LoopFault, ScriptRefused, TooLong}
+use Rattle.snapshot_program.specs.Answers.{Answers, IsOfTable, IsPlanned, IsWithin}
+use Rattle.snapshot_program.specs.declared.answer.Answer.{Answer}
+use Rattle.snapshot_program.specs.declared.planning.Planned.TheVariants as planning
+
+-- ---- booking
+
+by_verdict : (g h : GraphView) (v : Option (ℕ × GraphCause)) → ◌≡◌ {A = Result GraphView (ℕ × GraphCause)} (booked_unless g v) (Ok h) → (v ≡ None) × (h ≡ g)
+by_verdict g h None e = (refl, cc e)
+by_verdict g h (Some refused) e = absurd (cc e)
+
+-- a booked graph's script is accepted
+pub booked_is : (script : Script) (header : List Column) (names : FunctionNames) (g : GraphView) → booked script header names ≡ Ok g
+    → (verdict names header script ≡ None) × (g ≡ record { script = script; header = header; names = names })
+booked_is script header names g e = by_verdict (record { script = script; header = header; names = names }) g (verdict names header script) e
+
+refused_verdict : (g : GraphView) (v : Option (ℕ × GraphCause)) (c : ℕ × GraphCause) → ◌≡◌ {A = Result GraphView (ℕ × GraphCause)} (booked_unless g v) (Err c) → v ≡ Some c
+refused_verdict g None c e = absurd (cc e)
+refused_verdict g (Some d) c e = cc e
+
+refusal_of : (wanted : Result GraphView (ℕ × GraphCause)) (line : ℕ) (why : GraphCause) → Refuses refused_at graph.Memory wanted (graph.At line why) → wanted ≡ Err (line, why)
+refusal_of wanted line why (inl e) = absurd (cc e)
+refusal_of wanted line why (inr h) =
+    let e = h.1 in
+    let p : h.0.0 ≡ line = cc e in
+    let q : h.0.1 ≡ why = cc e in
+    h.2 ∙ (λ i. Err (p i, q i))
+
+-- a script that isn't booked is refused
+pub unbooked_is : (script : Script) (header : List Column) (names : FunctionNames) (line : ℕ) (why : GraphCause) → Refuses refused_at graph.Memory (booked script header names) (graph.At line why)
+    → verdict names header script ≡ Some (line, why)
+unbooked_is script header names line why h = refused_verdict (record { script = script; header = header; names = names }) (verdict names header script) (line, why) (refusal_of (booked script header names) line why h)
+
+-- ---- planning
+
+by_cause : (p q : PlanView) (k : Option SnapCause) → ◌≡◌ {A = Result PlanView SnapCause} (unless_cause p k) (Ok q) → (k ≡ None) × (q ≡ p)
+by_cause p q None e = (refl, cc e)
+by_cause p q (Some why) e = absurd (cc e)
+
+pub planned_is : (g : GraphView) (node : List ℕ) (columns : List (List ℕ)) (u : Under) (p : PlanView) → planned g node columns u ≡ Ok p
+    → (cause_in g node columns u ≡ None) × (p ≡ record { graph = g; node = node; columns = columns; under = u })
+planned_is g node columns u p e = by_cause (record { graph = g; node = node; columns = columns; under = u }) p (cause_in g node columns u) e
+
+refused_cause : (p : PlanView) (k : Option SnapCause) (why : SnapCause) → ◌≡◌ {A = Result PlanView SnapCause} (unless_cause p k) (Err why) → k ≡ Some why
+refused_cause p None why e = absurd (cc e)
+refused_cause p (Some d) why e = cc e
+
+cause_refused : (wanted : Result PlanView SnapCause) (why : SnapCause) → Refuses refusal.At refusal.Memory wanted (refusal.At why) → wanted ≡ Err why
+cause_refused wanted why (inl e) = absurd (cc e)
+cause_refused wanted why (inr h) = (let same : h.0 ≡ why = cc h.1 in h.2 ∙ ap Err same)
+
+pub unplanned_is : (g : GraphView) (node : List ℕ) (columns : List (List ℕ)) (u : Under) (why : SnapCause) → Refuses refusal.At refusal.Memory (planned g node columns u) (refusal.At why)
+    → cause_in g node columns u ≡ Some why
+unplanned_is g node columns u why h =
+    refused_cause (record { graph = g; node = node; columns = columns; under = u }) (cause_in g node columns u) why (cause_refused (planned g node columns u) why h)
+
+-- ---- the column that a cause names is one of those that were asked for
+
+bad_within : (names : List (List ℕ)) (scope : Scope) (i : ℕ) (before : List (List ℕ)) (k : ℕ) → first_bad scope i before names ≡ Some k → k < i + length names
+bad_within [] scope i before k e = absurd (cc e)
+bad_within (name ∷ names) scope i before k e = go (is_bad scope before name) e (bad_within names scope (i + 1) (before ++ name ∷ []) k)
+  where
+    go : (b : Bool) → (if b then Some i else first_bad scope (i + 1) (before ++ name ∷ []) names) ≡ Some k → (first_bad scope (i + 1) (before ++ name ∷ []) names ≡ Some k → k < i + 1 + length names) → k < i + suc (length names)
+    go true e more = (let same : i ≡ k = cc e in omega (arith, same))
+    go false e more = (let h = more e in omega (arith, h))
+
+many_within : (n m : ℕ) (b : Bool) (why : SnapCause) → (if b then Some (cause.TooMany n) else None) ≡ Some why → IsWithin m why
+many_within n m true why e = (let same : cause.TooMany n ≡ why = cc e in subst (IsWithin m) same tt)
+many_within n m false why e = absurd (cc e)
+
+variation_within : (n m : ℕ) (b c : Bool) (why : SnapCause) → (if b then Some cause.BadVariation else (if c then Some (cause.TooMany n) else None)) ≡ Some why → IsWithin m why
+variation_within n m true c why e = (let same : cause.BadVariation ≡ why = cc e in subst (IsWithin m) same tt)
+variation_within n m false c why e = many_within n m c why e
+
+column_within : (m : ℕ) (o : Option ℕ) (rest : Option SnapCause) (why : SnapCause) → ((k : ℕ) → o ≡ Some k → k < m) → (rest ≡ Some why → IsWithin m why) → unless_bad o rest ≡ Some why → IsWithin m why
+column_within m None rest why h more e = more e
+column_within m (Some k) rest why h more e = (let same : cause.BadColumn k ≡ why = cc e in subst (IsWithin m) same (h k refl))
+
+node_within : (m : ℕ) (b : Bool) (rest : Option SnapCause) (why : SnapCause) → (rest ≡ Some why → IsWithin m why) → (if b then Some cause.BadNode else rest) ≡ Some why → IsWithin m why
+node_within m true rest why more e = (let same : cause.BadNode ≡ why = cc e in subst (IsWithin m) same tt)
+node_within m false rest why more e = more e
+
+pub cause_within : (g : GraphView) (node : List ℕ) (columns : List (List ℕ)) (u : Under) (why : SnapCause) → cause_in g node columns u ≡ Some why → IsWithin (length columns) why
+cause_within g node columns u why e =
+    let before : List Statement = booked_statements g in
+    let scope : Scope = scope_at g.names (scope_of g.header) before node in
+    node_within (length columns) (not (is_node before node)) _ why
+    (column_within (length columns) (first_bad scope 0 [] columns) _ why (λ k bad. (let h = bad_within columns scope 0 [] k bad in omega (arith, h)))
+    (variation_within (statements_planned before (length columns)) (length columns) (not (is_under (variations before) u)) (nat_lt most_statements (statements_planned before (length columns))) why)) e
+
+-- ---- what is due where there is no plan
+
+is_of_table : (why : SnapCause) → IsOfTable (status_of why)
+is_of_table cause.BadNode = tt
+is_of_table (cause.BadColumn i) = tt
+is_of_table cause.BadVariation = tt
+is_of_table (cause.TooMany n) = tt
+
+module _ (fns : List Function) (c : SnapCommand) (script : Script) (columns : List Column) where
+  -- the script isn't accepted
+  pub unaccepted_due : (line : ℕ) (why : GraphCause) (a : Answer) → verdict (fn_names fns) columns script ≡ Some (line, why) → (a.status ≡ ScriptRefused) × (a.text ≡ graph_cause_line line why)
+      → IsPlanned fns c script columns (planning.Refused a)
+  unaccepted_due line why a v e =
+      let due : SnapshotDue = due_of a.status a.text in
+      let is : due ≡ due_of ScriptRefused (graph_cause_line line why) = (λ i. due_of (e.0 i) (e.1 i)) in (
+        subst IsOfTable (sym e.0) tt,
+        subst (λ o. MatchOption o (MatchOption (cause_over fns c script columns) ⊥ (λ k. due ≡ due_of (status_of k) (cause_line c k))) (λ refused. due ≡ due_of ScriptRefused (graph_cause_line refused.0 refused.1))) (sym v) is,
+      )
+
+  -- there is no plan
+  pub unplanned_due : (why : SnapCause) (a : Answer) → verdict (fn_names fns) columns script ≡ None → cause_over fns c script columns ≡ Some why → (a.status ≡ status_of why) × (a.text ≡ cause_line c why)
+      → IsPlanned fns c script columns (planning.Refused a)
+  unplanned_due why a v k e =
+      let due : SnapshotDue = due_of a.status a.text in
+      let is : due ≡ due_of (status_of why) (cause_line c why) = (λ i. due_of (e.0 i) (e.1 i)) in
+      let by : MatchOption (cause_over fns c script columns) ⊥ (λ k. due ≡ due_of (status_of k) (cause_line c k)) = subst (λ o. MatchOption o ⊥ (λ k. due ≡ due_of (status_of k) (cause_line c k))) (sym k) is in (
+        subst IsOfTable (sym e.0) (is_of_table why),
+        subst (λ o. MatchOption o (MatchOption (cause_over fns c script columns) ⊥ (λ k. due ≡ due_of (status_of k) (cause_line c k))) (λ refused. due ≡ due_of ScriptRefused (graph_cause_line refused.0 refused.1))) (sym v) by,
+      )
+
+-- ---- a run
+
+module _ (p : PlanView) (d : Dataset) where
+  abbrev OfRun : SnapshotDue → Result TableView SnapFault → Type 0
+  OfRun due r = MatchResult r (λ t. IsTextDue t due) (λ fault. due ≡ due_of LoopFault (fault_line p.node fault))
+
+  pub text_due : (text : List ℕ) → IsRun p d (Ok text) → Answers (IsRunDue p d) (record { status = Done; text = text })
+  text_due text h =
+      let t : TableView = h.0 in
+      let due : SnapshotDue = due_of Done text in
+      let fits : nat_lt most_bytes (length (table_text t)) ≡ false = le-ltb most_bytes (length (table_text t)) (subst (λ (x : List ℕ). length x ≤ most_bytes) h.2 h.3) in
+      let short : IsTextDue t due = subst (λ b. MatchBool b (due ≡ due_of TooLong long_line) (due ≡ due_of Done (table_text t))) (sym fits) (ap (due_of Done) h.2) in
+      (tt, subst (OfRun due) (sym h.1) short)
+
+  pub fault_due : (entry : ℕ) (kind : EntryFault) (a : Answer) → IsRun p d (Err (stop.Fault entry kind)) → (a.status ≡ LoopFault) × (a.text ≡ fault_line p.node (record { entry = entry; kind = kind })) → Answers (IsRunDue p d) a
+  fault_due entry kind a h e =
+      let due : SnapshotDue = due_of a.status a.text in
+      let is : due ≡ due_of LoopFault (fault_line p.node (record { entry = entry; kind = kind })) = (λ i. due_of (e.0 i) (e.1 i)) in
+      (subst IsOfTable (sym e.0) tt, subst (OfRun due) (sym h) is)
+
+  pub long_due : (bytes : ℕ) (a : Answer) → IsRun p d (Err (stop.TooLong bytes)) → (a.status ≡ TooLong) × (a.text ≡ long_line) → Answers (IsRunDue p d) a
+  long_due bytes a h e =
+      let t : TableView = h.0 in
+      let due : SnapshotDue = due_of a.status a.text in
+      let over : nat_lt most_bytes (length (table_text t)) ≡ true = is_over (length (table_text t)) (subst (λ (n : ℕ). most_bytes < n) h.2 h.3) in
+      let is : due ≡ due_of TooLong long_line = (λ i. due_of (e.0 i) (e.1 i)) in
+      let long : IsTextDue t due = subst (λ b. MatchBool b (due ≡ due_of TooLong long_line) (due ≡ due_of Done (table_text t))) (sym over) is in
+      (subst IsOfTable (sym e.0) tt, subst (OfRun due) (sym h.1) long)
+    where
+      is_over : (n : ℕ) → most_bytes < n → nat_lt most_bytes n ≡ true
+      is_over n lt = grind (arith, nat_tests)
+
+-- ---- the plan over a table's columns
+
+module _ (fns : List Function) (c : SnapCommand) (script : Script) (columns header : List Column) (names : FunctionNames) (g : GraphView) (shown : List (List ℕ))
+    (h : header ≡ columns) (n : names ≡ fn_names fns) (k : shown ≡ c.columns) (b : booked script header names ≡ Ok g) where
+  is_over : g ≡ graph_over fns c script columns
+  is_over = (booked_is script header names g b).1 ∙ (λ i. record { script = script; header = h i; names = n i })
+
+  accepted : verdict (fn_names fns) columns script ≡ None
+  accepted = rw (h, n) at ((booked_is script header names g b).0)
+
+  pub planned_due : (p : PlanView) → planned g c.node shown (under_of c.under) ≡ Ok p → IsPlanned fns c script columns (planning.Plan p)
+  planned_due p e =
+      let is = planned_is g c.node shown (under_of c.under) p e in
+      (accepted, rw (is_over, k) at is.0, is.1 ∙ (λ i. record { graph = is_over i; node = c.node; columns = k i; under = under_of c.under }))
+
+  cause_found : (r : SnapRefusal) (why found : SnapCause) → r ≡ refusal.At why → Refuses refusal.At refusal.Memory (planned g c.node shown (under_of c.under)) r → found ≡ why → cause_in g c.node shown (under_of c.under) ≡ Some found
+  cause_found r why found is e same = unplanned_is g c.node shown (under_of c.under) why (rw is at e) ∙ ap Some (sym same)
+
+  pub found_within : (r : SnapRefusal) (why found : SnapCause) → r ≡ refusal.At why → Refuses refusal.At refusal.Memory (planned g c.node shown (under_of c.under)) r → found ≡ why → IsWithin (length c.columns) found
+  found_within r why found is e same = subst (λ (names : List (List ℕ)). IsWithin (length names) found) k (cause_within g c.node shown (under_of c.under) found (cause_found r why found is e same))
+
+  pub found_due : (r : SnapRefusal) (why found : SnapCause) (a : Answer) → r ≡ refusal.At why → Refuses refusal.At refusal.Memory (planned g c.node shown (under_of c.under)) r → found ≡ why
+      → (a.status ≡ status_of found) × (a.text ≡ cause_line c found) → IsPlanned fns c script columns (planning.Refused a)
+  found_due r why found a is e same answers =
+      let cause = cause_found r why found is e same in
+      unplanned_due fns c script columns found a accepted (rw (is_over, k) at cause) answers
+
+-- ---- a run is due over the table
+
+pub run_answer : {E : Type 0} (fns : List Function) (c : SnapCommand) (script : Script) (t own : TableView) (p : PlanView) (r : Result Answer E) → IsPlanned fns c script t.columns (planning.Plan p) → t ≡ own
+    → IfOk r (Answers (IsRunDue p (dataset_of fns c t))) → IfOk r (Answers (IsDueOver fns c script own))
+run_answer fns c script t own p (Err e) h same run = tt
+run_answer fns c script t own p (Ok a) h same run =
+    let due : SnapshotDue = due_of a.status a.text in
+    let next : IsRunDue (plan_over fns c script t.columns) (dataset_of fns c t) due = subst (λ (x : PlanView). IsRunDue x (dataset_of fns c t) due) h.2 run.1 in
+    let by : MatchOption (cause_over fns c script t.columns) (IsRunDue (plan_over fns c script t.columns) (dataset_of fns c t) due) (λ why. due ≡ due_of (status_of why) (cause_line c why)) =
+    subst (λ o. MatchOption o (IsRunDue (plan_over fns c script t.columns) (dataset_of fns c t) due) (λ why. due ≡ due_of (status_of why) (cause_line c why))) (sym h.1) next in
+    let over : IsDueOver fns c script t due =
+    subst (λ o. MatchOption o (MatchOption (cause_over fns c script t.columns) (IsRunDue (plan_over fns c script t.columns) (dataset_of fns c t) due) (λ why. due ≡ due_of (status_of why) (cause_line c why))) (λ refused. due ≡ due_of ScriptRefused (graph_cause_line refused.0 refused.1)))
+    (sym h.0) by in
+    (run.0, subst (λ (x : TableView). IsDueOver fns c script x due) same over)

@@ -1,0 +1,102 @@
+-- What the program answers before anything is written.
+use Rattle.std.specs.Prelude.{◌≡◌, ◌<◌, ℕ, List, All, Option, None, IfSome, length}
+use Rattle.columns.specs.ColumnsView.{ColumnsView}
+use Rattle.rdf_outside.specs.Outside.{Rose}
+use Rattle.rdf_values.specs.Bookable.{IsBookable}
+use Rattle.rdf_values.specs.Functions.{Function, fn_names}
+use Rattle.rdf_values.specs.RefusalLines.{read_failed_line}
+use Rattle.rdf_values.specs.Verdict.{verdict}
+use Rattle.rdf_values.specs.declared.column.Column.{Column}
+use Rattle.rdf_values.specs.declared.script.Script.{Script}
+use Rattle.table_csv.specs.declared.marked_pieces.MarkedPieces.{MarkedPieces}
+use Rattle.input_files.specs.Answers.{Files, IsLast}
+use Rattle.input_files.specs.Due.{WithScriptFile, WithTableFile, due_of}
+use Rattle.input_files.specs.Fetching.{Tells}
+use Rattle.input_files.specs.Reading.{HoldsTheScript, HoldsTheTable, marked_table}
+use Rattle.snapshot_plan.specs.declared.cause.SnapCause.{SnapCause}
+use Rattle.snapshot_plan.specs.declared.cause.SnapCause.TheVariants as cause
+use Rattle.snapshot_words.specs.Asked.{asked_of}
+use Rattle.snapshot_words.specs.declared.command.SnapCommand.{SnapCommand}
+use Rattle.snapshot_due.specs.Due.{IsDue, SnapshotDue, WithPlan, cause_over, plan_over}
+use Rattle.snapshot_due.specs.Lines.{usage_line}
+use Rattle.snapshot_due.specs.Statuses.{IsFinal, statuses}
+use Rattle.snapshot_due.specs.declared.status.SnapshotStatus.{SnapshotStatus}
+use Rattle.snapshot_due.specs.declared.status.SnapshotStatus.TheVariants.{Memory, Words, ReadFault, WriteFault}
+use Rattle.snapshot_program.specs.declared.answer.Answer.{Answer}
+use Rattle.snapshot_program.specs.declared.inputs.Inputs.{Inputs}
+use Rattle.snapshot_program.specs.declared.inputs.ReadInputs.{ReadInputs}
+use Rattle.snapshot_program.specs.declared.inputs.ReadInputs.TheVariants as read
+use Rattle.snapshot_program.specs.declared.planning.Planned.{Planned}
+use Rattle.snapshot_program.specs.declared.planning.Planned.TheVariants as planned
+
+-- ---- over a table
+
+-- the columns of a table, cut at its marks into clusters of at most that size
+abbrev pub columns_over : MarkedPieces → ℕ → ColumnsView
+columns_over m size = record { table = m.table; cuts = record { entries = length m.table.rows; size = size; marks = m.marks } }
+
+-- a column that a cause names is one of so many
+abbrev pub IsWithin : ℕ → SnapCause → Type 0
+IsWithin n cause.BadNode = Unit {0}
+IsWithin n (cause.BadColumn i) = i < n
+IsWithin n cause.BadVariation = Unit {0}
+IsWithin n (cause.TooMany m) = Unit {0}
+
+-- a status that comes once both files were read
+abbrev pub IsOfTable : SnapshotStatus → Type 0
+IsOfTable Memory = ⊥
+IsOfTable Words = ⊥
+IsOfTable ReadFault = ⊥
+IsOfTable WriteFault = ⊥
+IsOfTable status = Unit {0}
+
+-- the answer is due
+abbrev pub Answers : (SnapshotDue → Type 0) → Answer → Type 0
+Answers IsDueTo a = IsOfTable a.status × IsDueTo (due_of a.status a.text)
+
+-- the plan that is asked for; or what is due where there is none
+abbrev pub IsPlanned : List Function → SnapCommand → Script → List Column → Planned → Type 0
+IsPlanned fns c script columns (planned.Plan p) =
+    (verdict (fn_names fns) columns script ≡ None) × (cause_over fns c script columns ≡ None) × (p ≡ plan_over fns c script columns)
+IsPlanned fns c script columns (planned.Refused a) = Answers (WithPlan fns c script columns (λ p d. ⊥)) a
+
+-- ---- the files
+
+-- an answer to files that a shelf tells: what is due to them, or the line of a failed read of the file that was turned to last
+pub record AnswersFiles (IsDueTo : Files → SnapshotDue → Type 0) (files : Option Files) (turns : List (List ℕ)) (before now : ℕ) (a : Answer) : Type 0 where
+  pub no_want : a.status ≡ Memory → ⊥
+  pub no_write : a.status ≡ WriteFault → ⊥
+  pub rose : a.status ≡ ReadFault → Rose before now
+  pub named : a.status ≡ ReadFault → (name : List ℕ) × IsLast turns name × (a.text ≡ read_failed_line name)
+  pub is_due : IsFinal a.status → IfSome files (λ f. IsDueTo f (due_of a.status a.text))
+
+-- what is due where a file isn't there or is refused
+abbrev pub RefusesFiles : SnapCommand → Files → SnapshotDue → Type 0
+RefusesFiles c files due = WithScriptFile statuses c.script (files c.script) (λ script d. WithTableFile statuses c.table (files c.table) (λ t e. ⊥) d) due
+
+-- the script's file holds a script
+abbrev pub IsScriptFile : Option Files → List ℕ → ℕ → Type 0
+IsScriptFile files name i = IfSome files (λ f. (s : Script) × HoldsTheScript s (f name))
+
+-- the script and the table of the files
+pub record AreInputs (c : SnapCommand) (files : Option Files) (inputs : Inputs) : Type 0 where
+  pub script : Tells files c.script (HoldsTheScript inputs.script)
+  pub table : Tells files c.table (HoldsTheTable (marked_table inputs.table))
+  pub bookable : IsBookable inputs.script
+  pub within : All (λ e. e < length inputs.table.table.rows) inputs.table.marks
+
+-- the answer where a file gives nothing
+pub record IsRefusal (c : SnapCommand) (files : Option Files) (turns : List (List ℕ)) (before now : ℕ) (a : Answer) : Type 0 where
+  pub taken : a.status ≡ Words → ⊥
+  pub answers : AnswersFiles (RefusesFiles c) files turns before now a
+
+abbrev pub ReadsInputs : SnapCommand → Option Files → List (List ℕ) → ℕ → ℕ → ReadInputs → Type 0
+ReadsInputs c files turns before now (read.Both inputs) = AreInputs c files inputs
+ReadsInputs c files turns before now (read.Refused a) = IsRefusal c files turns before now a
+
+-- ---- the words
+
+pub record IsAnswer (fns : List Function) (words : List (List ℕ)) (files : Option Files) (turns : List (List ℕ)) (before now : ℕ) (a : Answer) : Type 0 where
+  pub untaken : a.status ≡ Words → (asked_of words ≡ None) × (a.text ≡ usage_line)
+  pub taken : asked_of words ≡ None → a.status ≡ Words
+  pub answers : AnswersFiles (IsDue fns words) files turns before now a

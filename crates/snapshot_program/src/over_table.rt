@@ -1,0 +1,122 @@
+// What is due to a script over a table.
+ghost use Rattle.std.specs.Prelude.{◌≡◌, ◌≤◌, ◌<◌, All, IfOk, length};
+ghost use Rattle.entry_fns.specs.Lists.{functions_in};
+ghost use Rattle.rdf_values.specs.Bookable.{IsBookable};
+ghost use Rattle.rdf_values.specs.Functions.{fn_names};
+ghost use Rattle.snapshot_due.specs.Due.{IsDueOver, IsRunDue};
+ghost use Rattle.snapshot_due.specs.Lines.{fault_line, long_line};
+ghost use Rattle.snapshot_entries.specs.Jobs.{data_of, plan_of};
+ghost use Rattle.snapshot_words.specs.Limits.{IsAsked};
+ghost use Rattle.snapshot_program.specs.Answers.{Answers, columns_over};
+
+use crate::answer::Answer;
+use crate::inputs::Inputs;
+use crate::lines::{fault_line, long_line};
+use crate::planning::{Planned, plan_for};
+use clusters::cut;
+use columns::Columns;
+use entry_fns::FnList;
+use rdf_outside::Gate;
+use rdf_values::{EntryFault, Memory, Name};
+use snapshot_due::SnapshotStatus;
+use snapshot_entries::SnapJob;
+use snapshot_run::{SnapStop, run};
+use snapshot_words::SnapCommand;
+use std::alloc::Global;
+use std::thread::Threads;
+use table_csv::MarkedPieces;
+
+// The columns of a table over its clusters.
+fn columns_of<R: Threads + Sync>(
+    rt: &R,
+    alloc: Global,
+    marked: MarkedPieces,
+    command: &SnapCommand,
+) -> Result<Columns, Memory>
+    requires within { All (λ e. e < length marked.table.rows) marked.marks }
+    requires size { 1 ≤ command.now.cluster }
+    ensures { IfOk result (λ columns. columns ≡ columns_over marked command.now.cluster) }
+{
+    let entries = marked.table.entries();
+    let cuts = cut(alloc, entries, command.cluster, &marked.marks)?;
+    Columns::build_in_slots(rt, alloc, marked.table, cuts, command.slots)
+}
+
+// The answer where an entry faults.
+fn faulted(alloc: Global, node: &Name, entry: u32, kind: EntryFault) -> Result<Answer, Memory>
+    ensures { IfOk result (λ a. (a.status ≡ SnapshotStatus.LoopFault) × (a.text ≡ fault_line node.now (record { entry = entry; kind = kind }))) }
+{
+    let text = fault_line(alloc, node, entry, kind)?;
+    Ok(Answer {
+        status: SnapshotStatus::LoopFault,
+        text,
+    })
+}
+
+// The answer where the text is too long.
+fn too_long(alloc: Global) -> Result<Answer, Memory>
+    ensures { IfOk result (λ a. (a.status ≡ SnapshotStatus.TooLong) × (a.text ≡ long_line)) }
+{
+    let text = long_line(alloc)?;
+    Ok(Answer {
+        status: SnapshotStatus::TooLong,
+        text,
+    })
+}
+
+// The answer of a plan over a table.
+fn answer_run<R: Threads + Sync, G: Gate>(
+    rt: &R,
+    alloc: Global,
+    job: &SnapJob<'_>,
+    slots: u32,
+    gate: &G,
+) -> Result<Answer, Memory>
+    requires columns { (plan_of job.now).graph.header ≡ (data_of job.now).columns }
+    requires functions { (plan_of job.now).graph.names ≡ fn_names (data_of job.now).fns }
+    requires slots { (0 < slots) × (slots ≤ 16) }
+    ensures { IfOk result (Answers (IsRunDue (plan_of job.now) (data_of job.now))) }
+{
+    match run(rt, alloc, job, slots, gate) {
+        Ok(text) => Ok(Answer {
+            status: SnapshotStatus::Done,
+            text,
+        }),
+        Err(SnapStop::Fault { entry, kind }) => faulted(alloc, job.plan.node(), entry, kind),
+        Err(SnapStop::TooLong { bytes: _ }) => too_long(alloc),
+        Err(SnapStop::Memory) => Err(Memory),
+    }
+}
+
+/// The answer to a script over a table.
+pub(crate) fn answer_over<R: Threads + Sync, G: Gate>(
+    rt: &R,
+    alloc: Global,
+    inputs: Inputs,
+    command: &SnapCommand,
+    functions: &FnList,
+    gate: &G,
+) -> Result<Answer, Memory>
+    requires bookable { IsBookable inputs.script }
+    requires within { All (λ e. e < length inputs.table.table.rows) inputs.table.marks }
+    requires asked { IsAsked command.now }
+    ensures { IfOk result (Answers (IsDueOver (functions_in functions.now) command.now inputs.script inputs.table.table)) }
+{
+    let columns = columns_of(rt, alloc, inputs.table, command)?;
+    let plan = match plan_for(alloc, inputs.script, &columns, functions, command)? {
+        Planned::Plan(plan) => plan,
+        Planned::Refused(answer) => return Ok(answer),
+    };
+    let job = SnapJob {
+        plan: &plan,
+        columns: &columns,
+        functions,
+    };
+    let answer = answer_run(rt, alloc, &job, command.slots, gate);
+    let SnapJob {
+        plan: _,
+        columns: _,
+        functions: _,
+    } = job;
+    answer
+}

@@ -1,0 +1,52 @@
+// What the program answers to its words, before anything is written.
+ghost use Rattle.std.specs.Prelude.{◌≡◌, ◌≤◌, IfOk, OnOk, None};
+ghost use Rattle.entry_fns.specs.Lists.{functions_in};
+ghost use Rattle.snapshot_due.specs.Lines.{usage_line};
+ghost use Rattle.snapshot_words.specs.Asked.{asked_of};
+ghost use Rattle.snapshot_program.specs.Answers.{IsAnswer};
+ghost use Rattle.snapshot_program.specs.Top.{TurnsBesides};
+
+use crate::answer::Answer;
+use crate::inputs::{ReadInputs, read_inputs};
+use crate::lines::usage_line;
+use crate::over_table::answer_over;
+use entry_fns::FnList;
+use rdf_outside::{Gate, Shelf, WordList};
+use rdf_values::Memory;
+use snapshot_due::SnapshotStatus;
+use snapshot_words::{commands_are_plans, read_command};
+use std::alloc::Global;
+use std::thread::Threads;
+
+// The answer to words that aren't taken.
+fn untaken(alloc: Global) -> Result<Answer, Memory>
+    ensures { IfOk result (λ a. (a.status ≡ SnapshotStatus.Words) × (a.text ≡ usage_line)) }
+{
+    let text = usage_line(alloc)?;
+    Ok(Answer {
+        status: SnapshotStatus::Words,
+        text,
+    })
+}
+
+/// The answer to the command's words.
+pub(crate) fn answer_words<R: Threads + Sync, S: Shelf, G: Gate>(
+    rt: &R,
+    alloc: Global,
+    words: &WordList,
+    shelf: &mut S,
+    functions: &FnList,
+    gate: &G,
+) -> Result<Answer, Memory>
+    ensures answer { IfOk result (IsAnswer (functions_in functions.now) words.now (S.files shelf.old) (S.turns shelf.new) (S.faults shelf.old) (S.faults shelf.new)) }
+    ensures turns { OnOk result (TurnsBesides words.now (S.files shelf.old) (S.turns shelf.old) (S.turns shelf.new)) }
+{
+    let Some(command) = read_command(alloc, words)? else {
+        return untaken(alloc);
+    };
+    commands_are_plans();
+    match read_inputs(rt, alloc, shelf, &command)? {
+        ReadInputs::Both(inputs) => answer_over(rt, alloc, inputs, &command, functions, gate),
+        ReadInputs::Refused(answer) => Ok(answer),
+    }
+}

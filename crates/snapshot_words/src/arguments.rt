@@ -1,0 +1,38 @@
+// The arguments that the command takes.
+ghost use Rattle.std.specs.Prelude.{◌≡◌, IfOk, false};
+ghost use Rattle.clap.specs.Words.{app_of, rule_of};
+ghost use Rattle.command_words.specs.Arguments.{option, positional};
+ghost use Rattle.snapshot_words.specs.Asked.{snapshot_command};
+
+use clap::{Arg, ArgAction, Command};
+use std::alloc::{AllocError, Global};
+
+fn positional<'a>(alloc: Global, id: &'a str) -> Arg<'a>
+    ensures rule { rule_of result ≡ positional id.entry.now }
+    ensures local { result.global ≡ false }
+{
+    Arg::new(alloc, id).required(true)
+}
+
+fn option<'a>(alloc: Global, id: &'a str) -> Arg<'a>
+    ensures rule { rule_of result ≡ option id.entry.now }
+    ensures local { result.global ≡ false }
+{
+    Arg::new(alloc, id).long(id).action(ArgAction::Set)
+}
+
+/// The command, over the words after the program's name.
+// Values stay texts: clap's own integers would take a sign and leading zeros.
+pub(crate) fn arguments<'a>(alloc: Global) -> Result<Command<'a>, AllocError>
+    ensures { IfOk result (λ c. app_of c ≡ snapshot_command) }
+{
+    Command::new(alloc, "rdf_snapshot")
+        .no_binary_name(true)
+        .arg(positional(alloc, "SCRIPT"))?
+        .arg(positional(alloc, "TABLE"))?
+        .arg(positional(alloc, "NODE"))?
+        .arg(positional(alloc, "COLUMNS"))?
+        .arg(positional(alloc, "UNDER"))?
+        .arg(option(alloc, "slots"))?
+        .arg(option(alloc, "cluster"))
+}
