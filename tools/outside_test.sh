@@ -529,6 +529,8 @@ snapshots() {
         judge "rdf_snapshot: a table with vectors, read back, --slots $slots" 0 "$due"
     done
     rm -f back.csv
+    program=$snapshot
+    run_random snapshots 60
 }
 
 large_snapshots() {

@@ -6,14 +6,11 @@
 PROGRAM is RDF_SNAPSHOT_PROGRAM or crates/rdf_snapshot/out/rdf_snapshot where it isn't named, COUNT 500, SEED 1. Of the
 reference these laws are tried: what it writes reads as a table; a column of it is what a Take of that column at that
 node gives under the same variation (an int column) or has as many elements and the same sum (a vector), and a
-snapshot of what was written is that again. `--reference` tries the laws alone. `--show SEED/i` prints that case and
-what is due to it.
+snapshot of what was written is that again. Each table that was written is read again by rdf, which is RDF_PROGRAM or
+crates/rdf/out/rdf: it has the Count and the Sums that its columns have at the node.
+`--reference` tries the laws alone, rdf being the reference. `--show SEED/i` prints that case and what is due to it.
 """
-import argparse
-import collections
-import concurrent.futures
 import os
-import random
 import re
 import sys
 
@@ -23,33 +20,34 @@ from random_cases import Script, random_table, spoiled  # noqa: E402
 from reference import reference_run  # noqa: E402
 from run import program_run, usual_program  # noqa: E402
 from tables import read_table  # noqa: E402
+from trials import SCRIPT_PIECES, TABLE_PIECES, Trial, main  # noqa: E402
 
 
-class Broken(Exception):
-    """A law of the reference that doesn't hold, as text."""
-
-
-class Trial:
+class SnapshotTrial(Trial):
     """One script and table, of which several snapshots are taken."""
 
+    program = "rdf_snapshot"
+
     def __init__(self, seed):
-        self.chance = random.Random(seed)
+        super().__init__(seed)
         columns, table = random_table(self.chance)
         written = Script(self.chance, columns)
         script = written.written()
         if self.chance.random() < 0.05:
-            script = spoiled(self.chance, script, list('"(),.=[]{}#') + ["zz", "true"])
+            script = spoiled(self.chance, script, SCRIPT_PIECES)
         if self.chance.random() < 0.05:
-            table = spoiled(self.chance, table, list(',;"-0x\n') + [":int"])
+            table = spoiled(self.chance, table, TABLE_PIECES)
         self.nodes = written.nodes
         self.files = {"s.txt": script.encode(), "a.csv": table.encode()}
         self.variations = re.findall(r'Vary\((?:"(\w+)"|\[.*?\]), .*\[([^\[\]]*)\](?:, "(\w+)")?\)', script)
-        self.runs = []                  # (words, status, output)
 
     def tried(self):
         for _ in range(6):
             self.taken(self.random_words())
         return self.runs
+
+    def counted(self, words):
+        return "snapshots"
 
     def random_words(self):
         node = self.chance.choice(list(self.nodes))
@@ -70,8 +68,7 @@ class Trial:
         return ["s.txt", "a.csv", node, ",".join(columns), under] + options
 
     def taken(self, words):
-        status, output = reference_run(words, self.files, "rdf_snapshot")
-        self.runs.append((words, status, output))
+        status, output = self.run(*words)
         if status != 0:
             return
         table = read_table(output)
@@ -105,6 +102,12 @@ class Trial:
                  if re.search(r"\.(Define|Redefine|Alias|Filter|Vary)\(", each)]
         return "\n".join(nodes + lines) + "\n"
 
+    def wrong_with(self, run, output, program):
+        """What is wrong with an output that is due: `rdf` doesn't read it again as what it holds."""
+        words, _, status, _ = run
+        if status == 0 and not self.read_again(words, output, run_of_rdf(program)):
+            return "READ AGAIN AS ANOTHER"
+
     def read_again(self, words, output, run):
         """Whether a table that was written has the Count and the Sums that its columns have at the node, by `run` of rdf."""
         actions = ["Count()"] + ['Sum("%s")' % name for name in words[3].split(",")]
@@ -121,67 +124,12 @@ class Trial:
         due = "".join("%s = %s\n" % (name, results.get("%s[%s]" % (name, words[4]), results[name])) for name in names)
         return again == (0, due.encode())
 
-    def law(self, holds, text):
-        if not holds:
-            raise Broken("%s\n%s" % (text, self.shown(self.runs[-1])))
 
-    def shown(self, run):
-        words, status, output = run
-        parts = ["words: %s\n" % " ".join(words)]
-        parts += ["--- file %s\n%s" % (name, text.decode()) for name, text in self.files.items()]
-        return "".join(parts) + "--- status %d\n%s" % (status, output.decode())
-
-
-def main():
-    parser = argparse.ArgumentParser(usage=__doc__)
-    parser.add_argument("program", nargs="?")
-    parser.add_argument("count", nargs="?", type=int, default=500)
-    parser.add_argument("seed", nargs="?", default="1")
-    parser.add_argument("--show")
-    parser.add_argument("--reference", action="store_true")
-    asked = parser.parse_args()
-    if asked.show:
-        trial = Trial(asked.show)
-        for run in trial.tried():
-            print(trial.shown(run))
-        return 0
-    program = None if asked.reference else os.path.abspath(asked.program or usual_program("rdf_snapshot"))
+def run_of_rdf(program):
+    """How rdf is run: by the reference where no program is tried."""
     rdf = usual_program("rdf")
-    run_of_rdf = None
-    if program is None:
-        run_of_rdf = reference_run
-    elif os.access(rdf, os.X_OK):
-        run_of_rdf = lambda words, files: program_run(rdf, words, files)  # noqa: E731
-    else:
-        print("no rdf at %s: no table is read again" % rdf)
-    statuses = collections.Counter()
-
-    def attempt(number):
-        seed = "%s/%d" % (asked.seed, number)
-        trial = Trial(seed)
-        try:
-            trial.tried()
-        except Broken as broken:
-            return ["BROKEN seed %s: %s" % (seed, broken)]
-        found = []
-        for run in trial.runs:
-            statuses[run[1]] += 1
-            got = run[1:] if program is None else program_run(program, run[0], trial.files)
-            if got != run[1:]:
-                found.append("DIFFERS seed %s: %s\n--- got status %d\n%s" % (
-                    seed, trial.shown(run), got[0], got[1].decode(errors="backslashreplace")))
-            elif got[0] == 0 and run_of_rdf and not trial.read_again(run[0], got[1], run_of_rdf):
-                found.append("READ AGAIN AS ANOTHER seed %s: %s" % (seed, trial.shown(run)))
-        return found
-
-    with concurrent.futures.ThreadPoolExecutor(1 if program is None else os.cpu_count() or 1) as workers:
-        failures = [text for texts in workers.map(attempt, range(asked.count)) for text in texts]
-    for text in failures[:20]:
-        print(text)
-    told = ", ".join("%d of status %d" % (n, status) for status, n in sorted(statuses.items()))
-    print("%d cases from seed %s (%s), %d differ" % (asked.count, asked.seed, told, len(failures)))
-    return 1 if failures else 0
+    return reference_run if program is None else lambda words, files: program_run(rdf, words, files)
 
 
 if __name__ == "__main__":
-    sys.exit(main())
+    sys.exit(main(__doc__, SnapshotTrial))

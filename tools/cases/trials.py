@@ -42,6 +42,13 @@ class Trial:
         self.files[name] = content
         return name
 
+    def counted(self, words):
+        """What runs of these words are told as."""
+        return words[0]
+
+    def wrong_with(self, run, output, program):
+        """What is wrong with an output that is due to its run, as text, or None."""
+
     def law(self, holds, text):
         if not holds:
             raise Broken("%s\n%s" % (text, shown(self.runs[-1])))
@@ -86,13 +93,12 @@ def failures_of(trial, program, statuses):
     found = []
     for run in runs:
         words, files, status, output = run
-        statuses[words[0], status] += 1
-        if program is None:
-            continue
-        got = program_run(program, words, {name: text for name, text in files.items() if name in words})
-        if got != (status, output):
-            found.append("DIFFERS %s\n--- got status %d\n%s" % (
-                shown(run), got[0], got[1].decode(errors="backslashreplace")))
+        statuses[trial.counted(words), status] += 1
+        got = (status, output) if program is None else program_run(
+            program, words, {name: text for name, text in files.items() if name in words})
+        wrong = "DIFFERS" if got != (status, output) else trial.wrong_with(run, output, program)
+        if wrong:
+            found.append("%s %s\n--- got status %d\n%s" % (wrong, shown(run), got[0], got[1].decode(errors="backslashreplace")))
     return found
 
 
