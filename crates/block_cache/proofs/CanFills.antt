@@ -51,7 +51,7 @@ met_each j job entry u s c P met each = go _ _ (close.evaluate_close N (without 
 pub met_used : (j : JobView) (job : IsJob j) (entry : ℕ) (u : Option ℕ) (s c t : ℕ) (used : ℕ → Bool) → ArePlain j used → used s ≡ true → MeetsAt j entry u s c → IsSiteOf t (source_at j u c) → used t ≡ true
 met_used j job entry u s c t used plain has met site = in_source used t (source_at j u c) site ((plain_closed j job entry u used plain).each s c has met)
 
-ranked : (rank : ℕ → ℕ) (m t : ℕ) (x : Source) → IsSiteOf t x → IsRankedBelow rank m x → rank t < m
+pub ranked : (rank : ℕ → ℕ) (m t : ℕ) (x : Source) → IsSiteOf t x → IsRankedBelow rank m x → rank t < m
 ranked rank m t (from.Cell col) site h = elim site [ ]
 ranked rank m t (from.Site s) site h = subst (λ (n : ℕ). rank n < m) site h
 ranked rank m t (from.Element s k tags) site h = subst (λ (n : ℕ). rank n < m) site h

@@ -14,3 +14,4 @@ pub mod UnderwayLaws
 pub mod CanFills
 pub mod NotedNeeds
 pub mod PassedLaws
+pub mod LeadLaws

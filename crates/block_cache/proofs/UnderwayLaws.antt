@@ -59,12 +59,12 @@ pub fault_or : (f : ℕ → Option EntryFault) (sel : List ℕ) (found fault : O
 fault_or f sel None fault h i = i
 fault_or f sel (Some x) fault h i = h
 
-below_found : (found fault : Option PlaceFault) (p : ℕ) → is_below (found_or found fault) p ≡ true → is_below found p ≡ true
+pub below_found : (found fault : Option PlaceFault) (p : ℕ) → is_below (found_or found fault) p ≡ true → is_below found p ≡ true
 below_found None fault p h = refl
 below_found (Some x) fault p h = h
 
 -- a fault at a place below another is the lower one
-below_both : (f : ℕ → Option EntryFault) (group : List ℕ) (found fault : Option PlaceFault) (p : ℕ) → EachPlace group (λ q. is_below fault q ≡ true) → IsFaultOf f group found → is_below (found_or found fault) p ≡ true → is_below fault p ≡ true
+pub below_both : (f : ℕ → Option EntryFault) (group : List ℕ) (found fault : Option PlaceFault) (p : ℕ) → EachPlace group (λ q. is_below fault q ≡ true) → IsFaultOf f group found → is_below (found_or found fault) p ≡ true → is_below fault p ≡ true
 below_both f group None fault p low h below = below
 below_both f group (Some x) None p low h below = refl
 below_both f group (Some x) (Some y) p low h below =
@@ -72,7 +72,7 @@ below_both f group (Some x) (Some y) p low h below =
     let b : x.place < y.place = ltb-true x.place y.place (low x.place h.0) in
     lt-ltb p y.place (omega (arith, a, b))
 
-faults_of : (o : Outcome ⊥ Value) (k : EntryFault) → fault_in o ≡ Some k → o ≡ Faults k
+pub faults_of : (o : Outcome ⊥ Value) (k : EntryFault) → fault_in o ≡ Some k → o ≡ Faults k
 faults_of (Gives v) k h = cc h
 faults_of (Faults f) k h = let same : f ≡ k = (let i : ◌≡◌ {A = Option EntryFault} (Some f) (Some k) = h in cc i) in ap Faults same
 faults_of (Needs m) k h = elim m [ ]

@@ -37,7 +37,7 @@ fn needed_site(at: &Reading<'_>, version: u32) -> u32
 }
 
 /// The fault that was found, or the one before.
-fn lowered(fault: Option<PlaceFault>, found: Option<PlaceFault>) -> Option<PlaceFault>
+pub(crate) fn lowered(fault: Option<PlaceFault>, found: Option<PlaceFault>) -> Option<PlaceFault>
     ensures { result ≡ found_or found fault }
 {
     match found {

@@ -7,6 +7,7 @@ pub mod attempt;
 pub mod cells;
 pub mod faults;
 pub mod fill;
+pub mod leads;
 pub mod level;
 pub mod passing;
 mod view;
