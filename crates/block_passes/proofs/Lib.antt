@@ -1,4 +1,5 @@
 pub mod ClusterBlocks
+pub mod Counting
 pub mod Demanding
 pub mod FaultsOver
 pub mod Feeding

@@ -1,5 +1,6 @@
 pub mod Blocks
 pub mod Clusters
+pub mod Counting
 pub mod Demands
 pub mod Laws
 pub mod Parts

@@ -6,6 +6,7 @@
 pub mod found;
 pub mod kept;
 pub mod laws;
+mod noting;
 pub mod plan;
 mod select;
 pub mod steps;
