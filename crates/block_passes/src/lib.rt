@@ -4,10 +4,12 @@
 #![tactic(auto)]
 
 pub mod found;
+mod inputs;
 pub mod kept;
 pub mod laws;
 pub mod plan;
 mod select;
+mod sources;
 pub mod steps;
 pub mod stop;
 pub mod turn;
