@@ -2,6 +2,8 @@ pub mod Blocks
 pub mod Clusters
 pub mod Counting
 pub mod Demands
+pub mod Feeds
+pub mod Inputs
 pub mod Laws
 pub mod Parts
 pub mod Plans

@@ -4,11 +4,13 @@
 #![tactic(auto)]
 
 pub mod found;
+mod inputs;
 pub mod kept;
 pub mod laws;
 mod noting;
 pub mod plan;
 mod select;
+mod sources;
 pub mod steps;
 pub mod stop;
 pub mod turn;
