@@ -24,7 +24,6 @@ use Rattle.entry_cache.proofs.FillLaws.{there}
 use Rattle.entry_passes.specs.Entries.{facts_in, job_spans}
 use Rattle.entry_passes.specs.Plans.{covered_in}
 use Rattle.block_passes.specs.Counting.{AreCountable, IsAmid, IsOverAll, at_filter}
-use Rattle.block_passes.specs.Laws.{places_through}
 use Rattle.block_passes.specs.Plans.{IsLast, IsNamed, IsPlan, IsPlannedFilter, PlanView, through_chain}
 use Rattle.block_passes.specs.Selections.{AreKept, IsMade, chosen}
 use Rattle.block_passes.specs.Steps.{Chain}
@@ -34,26 +33,26 @@ use Rattle.entry_passes.proofs.Covered.{covered_count}
 use Rattle.block_passes.proofs.Feeding.{counts, uncovered_counts}
 
 module _ (j : JobView) (first count : ℕ) (s : BlockStage) (amid : IsAmid j first count s) where
-  -- the places of a chain that has these sites under nominal
-  module _ (chains : List Chain) (kept : List Kept) (are : AreKept j first chains count kept) (sites : List ℕ) (k : ℕ) (last : IsLast chains sites None k) (m : Kept) (at : slice_get kept k ≡ Some m) (whole : m.limit ≡ Some count) where
+  -- the places of a chain that has these sites under nominal or a variation
+  module _ (u : Option ℕ) (chains : List Chain) (kept : List Kept) (are : AreKept j first chains count kept) (sites : List ℕ) (k : ℕ) (last : IsLast chains sites u k) (m : Kept) (at : slice_get kept k ≡ Some m) (whole : m.limit ≡ Some count) where
     made : IsMade j first last.chain count count m.places
     made = are.each k count last.chain m last.its at whole
 
-    alike_by : (c : Chain) → c.sites ≡ sites → (c.sites ≡ []) ⊎ (c.under ≡ None) → (e : ℕ) → through_chain j e c ≡ through_sites (site_in j e None) sites
-    alike_by c same (inl none) e = ap (through_sites (site_in j e c.under)) none ∙ ap (through_sites (site_in j e None)) (sym none ∙ same)
-    alike_by c same (inr under) e = ap (λ (u : Option ℕ). through_sites (site_in j e u) c.sites) under ∙ ap (through_sites (site_in j e None)) same
+    alike_by : (c : Chain) → c.sites ≡ sites → (c.sites ≡ []) ⊎ (c.under ≡ u) → (e : ℕ) → through_chain j e c ≡ through_sites (site_in j e u) sites
+    alike_by c same (inl none) e = ap (through_sites (site_in j e c.under)) none ∙ ap (through_sites (site_in j e u)) (sym none ∙ same)
+    alike_by c same (inr under) e = ap (λ (v : Option ℕ). through_sites (site_in j e v) c.sites) under ∙ ap (through_sites (site_in j e u)) same
 
-    alike : (e : ℕ) → through_chain j e last.chain ≡ through_sites (site_in j e None) sites
+    alike : (e : ℕ) → through_chain j e last.chain ≡ through_sites (site_in j e u) sites
     alike = alike_by last.chain last.sites last.alike
 
-    pub its_places : m.places ≡ places_through j (amid.lo + s.entries) s.block sites
+    pub its_places : m.places ≡ filter (λ q. is_true (through_sites (site_in j (amid.lo + s.entries + q) u) sites)) (range_with_len 0 s.block)
     its_places =
         made.is ∙ (λ i. filter (λ p. is_true (alike (first + p) i)) (range_with_len 0 count))
-        ∙ (λ i. filter (λ p. is_true (through_sites (site_in j (amid.begins i + p) None) sites)) (range_with_len 0 (sym amid.block i)))
+        ∙ (λ i. filter (λ p. is_true (through_sites (site_in j (amid.begins i + p) u) sites)) (range_with_len 0 (sym amid.block i)))
 
-    pub its_clear : (q : ℕ) → q < s.block → fault_in (through_sites (site_in j (amid.lo + s.entries + q) None) sites) ≡ None
+    pub its_clear : (q : ℕ) → q < s.block → fault_in (through_sites (site_in j (amid.lo + s.entries + q) u) sites) ≡ None
     its_clear q low =
-        ap (λ (n : ℕ). fault_in (through_sites (site_in j (n + q) None) sites)) (sym amid.begins) ∙ sym (ap fault_in (alike (first + q))) ∙ made.clear q (subst (λ (n : ℕ). q < n) amid.block low)
+        ap (λ (n : ℕ). fault_in (through_sites (site_in j (n + q) u) sites)) (sym amid.begins) ∙ sym (ap fault_in (alike (first + q))) ∙ made.clear q (subst (λ (n : ℕ). q < n) amid.block low)
 
   module _ (job : IsJob j) (f : ℕ) (x : FilterAt) (here : slice_get (graph_filters (job_graph j)) f ≡ Some x) where
     pub counts_none : slice_get (covered_in j) f ≡ Some false → record { all = 0; pass = 0 } ≡ counted (block_reaches (facts_in j) s f)
@@ -65,10 +64,10 @@ module _ (j : JobView) (first count : ℕ) (s : BlockStage) (amid : IsAmid j fir
     counts_named chains kept are named h covered above own at_above whole_above at_own whole_own =
         let own_last : IsLast chains (h.up ++ h.site ∷ []) None named.own = subst (λ (l : List ℕ). IsLast chains l None named.own) h.sites h.own in
         (λ i. record {
-          all = length (its_places chains kept are h.up named.above h.above above at_above whole_above i);
-          pass = length (its_places chains kept are (h.up ++ h.site ∷ []) named.own own_last own at_own whole_own i);
+          all = length (its_places None chains kept are h.up named.above h.above above at_above whole_above i);
+          pass = length (its_places None chains kept are (h.up ++ h.site ∷ []) named.own own_last own at_own whole_own i);
         })
-        ∙ sym (counts j s amid.lo f x h.up h.site job amid.in_cluster here covered h.sites (its_clear chains kept are (h.up ++ h.site ∷ []) named.own own_last own at_own whole_own))
+        ∙ sym (counts j s amid.lo f x h.up h.site job amid.in_cluster here covered h.sites (its_clear None chains kept are (h.up ++ h.site ∷ []) named.own own_last own at_own whole_own))
 
 -- ---- by the plan
 
@@ -116,7 +115,7 @@ module _ (j : JobView) (first count : ℕ) where
   abbrev pub IsNotedTo : TallyView → ℕ → TallyView → Type 0
   IsNotedTo old n now = (watched : List ℕ) (s : BlockStage) → IsAmid j first count s → s.filters ≡ 0 → HoldsIn (facts_in j) watched s old → HoldsIn (facts_in j) watched (at_filter s n) now
 
-  amid_at : (s : BlockStage) (n : ℕ) → IsAmid j first count s → IsAmid j first count (at_filter s n)
+  pub amid_at : (s : BlockStage) (n : ℕ) → IsAmid j first count s → IsAmid j first count (at_filter s n)
   amid_at s n amid = (let c = amid.in_cluster in record {
     lo = amid.lo;
     in_cluster = record { span = c.span; its_span = c.its_span; begins = c.begins; within = c.within; inside = c.inside };
@@ -124,7 +123,7 @@ module _ (j : JobView) (first count : ℕ) where
     block = amid.block;
   })
 
-  block_within : (s : BlockStage) → IsAmid j first count s → IsWithin (facts_in j) s
+  pub block_within : (s : BlockStage) → IsAmid j first count s → IsWithin (facts_in j) s
   block_within s amid =
       let c = amid.in_cluster in
       let many = length-map j.dataset.rows (spreads_of j.dataset (passes_in j)) in

@@ -19,3 +19,5 @@ pub mod Spending
 pub mod StepCases
 pub mod StepLaws
 pub mod StepSelecting
+pub mod Unfed
+pub mod Fed

@@ -2,6 +2,7 @@ pub mod Blocks
 pub mod Clusters
 pub mod Counting
 pub mod Demands
+pub mod Fed
 pub mod Feeds
 pub mod Inputs
 pub mod Laws

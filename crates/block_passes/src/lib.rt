@@ -4,6 +4,7 @@
 #![tactic(auto)]
 
 pub mod found;
+mod feed;
 mod inputs;
 pub mod kept;
 pub mod laws;
@@ -11,6 +12,7 @@ mod noting;
 pub mod plan;
 mod select;
 mod sources;
+mod testing;
 pub mod steps;
 pub mod stop;
 pub mod turn;

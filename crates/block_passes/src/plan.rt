@@ -183,6 +183,14 @@ impl LoopPlan {
         *self.steps.at(step as usize)
     }
 
+    /// The last step of a pass.
+    pub(crate) fn last(&self, pass: u32) -> u32
+        requires { pass < length self.now.passes }
+        ensures { slice_get self.now.passes pass ≡ Some result }
+    {
+        *self.passes.at(pass as usize)
+    }
+
     /// The steps of a named filter, where a report covers it.
     pub(crate) fn named(&self, filter: u32) -> Option<NamedSteps>
         requires { filter < length self.now.filters }
