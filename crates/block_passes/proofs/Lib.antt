@@ -9,6 +9,8 @@ pub mod PlaceLists
 pub mod PlanSteps
 pub mod Searching
 pub mod Selecting
+pub mod Serving
+pub mod ServingInputs
 pub mod SitesThere
 pub mod Spending
 pub mod StepCases

@@ -1,6 +1,8 @@
 pub mod Blocks
 pub mod Clusters
 pub mod Demands
+pub mod Feeds
+pub mod Inputs
 pub mod Laws
 pub mod Parts
 pub mod Plans

@@ -4,6 +4,7 @@
 #![tactic(auto)]
 
 pub mod found;
+mod inputs;
 pub mod kept;
 pub mod laws;
 pub mod plan;
