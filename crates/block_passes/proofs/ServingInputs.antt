@@ -60,6 +60,10 @@ none_given (Gives v) X h x = x
 none_given (Faults k) X h x = cc h
 none_given (Needs m) X h x = elim m [ ]
 
+pub empty_list : (xs : List ℕ) → length xs ≡ 0 → xs ≡ []
+empty_list [] h = refl
+empty_list (x ∷ xs) h = absurd (omega (arith, h))
+
 -- none are read
 pub none_served : (j : JobView) (first count : ℕ) (u : Option ℕ) (pass : ℕ) (inputs : List ℕ) → inputs ≡ [] → (to : Kept) (lanes : List LaneView) (s : Found)
     → AreReady j first count lanes → to.limit ≡ Some s.limit → EachPlace to.places (λ p. p < s.limit) → ((p : ℕ) → p < s.limit → IsSettledAt lanes p)

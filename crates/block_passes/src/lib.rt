@@ -9,6 +9,7 @@ pub mod kept;
 pub mod laws;
 pub mod plan;
 mod select;
+mod sources;
 pub mod steps;
 pub mod stop;
 pub mod turn;

@@ -1,6 +1,6 @@
-use Rattle.std.proofs.Common.{◌≡◌, ◌<◌, ◌∙◌, ◌++◌, ℕ, List, Some, ap, arith, length, refl, rules, slice_get, subst, sym}
+use Rattle.std.proofs.Common.{◌≡◌, ◌<◌, ◌∙◌, ◌++◌, ℕ, List, Some, ap, arith, get_or, refl, rules, slice_get, subst, sym}
 use Rattle.std.specs.Prelude.{slice_set}
-use Rattle.std.proofs.lemmas.Option.{slice_get_read}
+use Rattle.std.proofs.lemmas.Option.{slice_get-get_or}
 use Rattle.std.proofs.lemmas.Result.{on_ok_weaker}
 use Rattle.entry_cache.specs.Jobs.{job_of}
 use Rattle.block_passes.specs.Selections.{IsNextSelected, IsReadyBelow}
@@ -15,20 +15,22 @@ returns-then-narrow-clause-selected g t c = λ p.
     let j = job_of c.args.at.now.job.now in
     let ready = c.requires.ready p in
     let lt = kept_inside j c.args.at.now.first c.args.work.now.found.limit p.chains c.args.at.now.plan.now.steps c.args.kept.now c.args.step p.steps ready.kept_are c.requires.step in
-    let there = slice_get_read c.args.kept.now (length c.args.kept.now) c.args.step c.index-kept-step.result refl lt c.index-kept-step.is in
+    let old = get_or c.args.kept.now c.args.step c.index-kept-step.result in
+    let there = slice_get-get_or c.args.kept.now c.args.step c.index-kept-step.result lt in
     let chain = chain_at p.chains c.args.at.now.plan.now.steps c.args.step p.steps c.requires.step in
-    let was = was_made c.index-kept-step.result c.narrow.new.self c.args.work.now.found.limit c.narrow.result c.narrow.ensures.none c.narrow.ensures.some c.if-narrow.true in
+    let was = was_made old c.narrow.new.self c.args.work.now.found.limit c.narrow.result c.narrow.ensures.none c.narrow.ensures.some c.if-narrow.true in
     narrowed_selected j c.args.at.now.first c.args.at.now.count p.chains c.args.at.now.pass c.args.step chain.0 chain.1 c.args.work.now.lanes.items c.args.kept.now (slice_set c.args.kept.now c.args.step c.narrow.new.self) c.args.work.now.found ready
-    c.index-kept-step.result c.narrow.new.self was.0 there was.1 was.2 refl
+    old c.narrow.new.self was.0 there was.1 was.2 refl
 
 pub select_step-requires : goal.select_step-requires
 select_step-requires g t c κs within =
     let j = job_of c.args.at.now.job.now in
     let plan = c.requires.plan in
     let lt = kept_inside j c.args.at.now.first c.args.work.now.found.limit plan.chains c.args.at.now.plan.now.steps c.args.kept.now c.args.step plan.steps (c.requires.ready plan).kept_are c.requires.step in
-    let there = slice_get_read c.args.kept.now (length c.args.kept.now) c.args.step c.index-kept-step.result refl lt c.index-kept-step.is in
-    let was = was_not c.index-kept-step.result c.narrow.new.self c.args.work.now.found.limit c.narrow.result c.narrow.ensures.none c.narrow.ensures.some c.if-narrow.false in
-    let same : slice_set c.args.kept.now c.args.step c.narrow.new.self ≡ c.args.kept.now = ap (slice_set c.args.kept.now c.args.step) was ∙ set_same c.args.kept.now c.args.step c.index-kept-step.result there in
+    let old = get_or c.args.kept.now c.args.step c.index-kept-step.result in
+    let there = slice_get-get_or c.args.kept.now c.args.step c.index-kept-step.result lt in
+    let was = was_not old c.narrow.new.self c.args.work.now.found.limit c.narrow.result c.narrow.ensures.none c.narrow.ensures.some c.if-narrow.false in
+    let same : slice_set c.args.kept.now c.args.step c.narrow.new.self ≡ c.args.kept.now = ap (slice_set c.args.kept.now c.args.step) was ∙ set_same c.args.kept.now c.args.step old there in
     let filter = plan.steps.each c.args.step (step.Filter c.in-Filter.parent c.in-Filter.site c.in-Filter.under) (c.step.ensures ∙ ap Some c.in-Filter.is) in
     let before = filter.before in
     let small = c.requires.step in
@@ -40,9 +42,10 @@ returns-in-Block-clause-selected g t c = λ p.
     let j = job_of c.args.at.now.job.now in
     let ready = c.requires.ready p in
     let lt = kept_inside j c.args.at.now.first c.args.work.now.found.limit p.chains c.args.at.now.plan.now.steps c.args.kept.now c.args.step p.steps ready.kept_are c.requires.step in
-    let there = slice_get_read c.args.kept.now (length c.args.kept.now) c.args.step c.index-kept-step.result refl lt c.index-kept-step.is in
-    let was = was_not c.index-kept-step.result c.narrow.new.self c.args.work.now.found.limit c.narrow.result c.narrow.ensures.none c.narrow.ensures.some c.if-narrow.false in
-    let same : slice_set c.args.kept.now c.args.step c.narrow.new.self ≡ c.args.kept.now = ap (slice_set c.args.kept.now c.args.step) was ∙ set_same c.args.kept.now c.args.step c.index-kept-step.result there in
+    let old = get_or c.args.kept.now c.args.step c.index-kept-step.result in
+    let there = slice_get-get_or c.args.kept.now c.args.step c.index-kept-step.result lt in
+    let was = was_not old c.narrow.new.self c.args.work.now.found.limit c.narrow.result c.narrow.ensures.none c.narrow.ensures.some c.if-narrow.false in
+    let same : slice_set c.args.kept.now c.args.step c.narrow.new.self ≡ c.args.kept.now = ap (slice_set c.args.kept.now c.args.step) was ∙ set_same c.args.kept.now c.args.step old there in
     let its = p.steps.each c.args.step step.Block (c.step.ensures ∙ ap Some c.in-Block.is) in
     whole_selected j c.args.at.now.first c.args.at.now.count p.chains c.args.at.now.pass c.args.step its c.args.work.now.lanes.items c.args.kept.now
     (slice_set (slice_set c.args.kept.now c.args.step c.narrow.new.self) c.args.step c.select_first.new.self) c.args.work.now.found ready
