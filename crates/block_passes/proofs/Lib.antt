@@ -3,6 +3,7 @@ pub mod Demanding
 pub mod FaultsOver
 pub mod Feeding
 pub mod FirstFaults
+pub mod GatheredLanes
 pub mod NextPlaces
 pub mod Parts
 pub mod PlaceLists
@@ -11,6 +12,7 @@ pub mod Searching
 pub mod Selecting
 pub mod Serving
 pub mod ServingInputs
+pub mod SiteLanes
 pub mod SitesThere
 pub mod Spending
 pub mod StepCases
