@@ -1,5 +1,5 @@
 -- The lanes that are gathered for an action suit it.
-use Rattle.std.proofs.Common.{◌≡◌, ◌<◌, ℕ, zero, suc, ℤ, List, [], ◌∷◌, length, Option, Some, None, sym, ◌∙◌, ap, subst, arith, get_or}
+use Rattle.std.proofs.Common.{◌≡◌, ◌<◌, ℕ, zero, suc, ℤ, List, [], ◌∷◌, length, Some, None, sym, ◌∙◌, ap, subst, arith, get_or}
 use Rattle.std.specs.List.{AllByRecursion}
 use Rattle.rdf_values.specs.Bookings.{columns_of}
 use Rattle.rdf_values.specs.declared.action.ActionKind.{ActionKind}

@@ -1,5 +1,5 @@
 -- Filling what a pass reads lowers the limit at its first fault.
-use Rattle.std.proofs.Common.{◌≡◌, ℕ, ◌+◌, ◌<◌, ◌≤◌, Bool, true, false, ◌&&◌, List, Option, None, Some, sym, ◌∙◌, ap, subst, arith, nat_lt, refl, ℤ, slice_get}
+use Rattle.std.proofs.Common.{◌≡◌, ℕ, ◌+◌, ◌<◌, ◌≤◌, Bool, true, false, ◌&&◌, List, Option, None, Some, sym, ◌∙◌, ap, subst, arith, nat_lt, refl, ℤ}
 use Rattle.std.specs.List.{filter}
 use Rattle.std.proofs.lemmas.Bool.Decides.{Decides-ltb}
 use Rattle.rdf_model.specs.Results.{fault_in}
@@ -10,10 +10,9 @@ use Rattle.expr_lanes.specs.Places.{AreRising, EachPlace, is_in}
 use Rattle.block_lanes.specs.Lanes.{LaneView}
 use Rattle.entry_cache.specs.Jobs.{JobView, job_graph}
 use Rattle.entry_cache.specs.Keys.{key}
-use Rattle.entry_cache.specs.Store.{source_at}
 use Rattle.entry_passes.specs.Turns.{HasAllDemands}
 use Rattle.block_cache.specs.Blocks.{AreReady, HasColumn}
-use Rattle.block_cache.specs.Fills.{IsFilledOver, IsSettled, IsSpentOver, below_fault, holds_at, site_fault}
+use Rattle.block_cache.specs.Fills.{IsFilledOver, IsSettled, IsSpentOver, holds_at, site_fault}
 use Rattle.block_cache.specs.declared.faults.PlaceFault.{PlaceFault}
 use Rattle.block_passes.specs.Demands.{Demands}
 use Rattle.block_passes.specs.Inputs.{DemandsSource, IsAtHand, IsServedTo, source_fault}

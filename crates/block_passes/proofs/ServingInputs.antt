@@ -1,8 +1,7 @@
 -- Filling what an action reads, one version after another.
-use Rattle.std.proofs.Common.{◌≡◌, ℕ, ◌+◌, ◌<◌, ◌≤◌, Bool, true, false, ◌&&◌, List, [], ◌∷◌, Option, None, Some, refl, sym, ◌∙◌, ap, subst, arith, nat_lt, if◌then◌else◌, ℤ, length}
+use Rattle.std.proofs.Common.{◌≡◌, ℕ, ◌+◌, ◌<◌, Bool, true, false, ◌&&◌, List, [], ◌∷◌, Option, None, Some, refl, sym, ◌∙◌, ap, subst, arith, nat_lt, if◌then◌else◌, ℤ, length}
 use Rattle.std.specs.List.{filter, AllByRecursion}
 use Rattle.std.proofs.lemmas.Bool.Decides.{Decides-ltb}
-use Rattle.rdf_values.specs.declared.fault.EntryFault.{EntryFault}
 use Rattle.rdf_values.specs.declared.value.ColType.{ColType}
 use Rattle.rdf_values.specs.declared.value.Value.{Value}
 use Rattle.rdf_model.specs.Evaluation.{Outcome, Gives, Faults, Needs}
@@ -11,7 +10,7 @@ use Rattle.graph_numbers.specs.Meets.{HasInputs, HasSourceIn, IfGiven}
 use Rattle.graph_numbers.specs.declared.source.Source.{Source}
 use Rattle.graph_numbers.specs.declared.source.Source.TheVariants as from
 use Rattle.expr_lanes.specs.Places.{EachPlace, is_in}
-use Rattle.block_lanes.specs.Lanes.{LaneView, kinds_of}
+use Rattle.block_lanes.specs.Lanes.{LaneView}
 use Rattle.entry_cache.specs.Jobs.{JobView, job_graph}
 use Rattle.entry_cache.specs.Keys.{key, key_count}
 use Rattle.entry_cache.specs.Store.{IsSourceIn, source_at, version_in}

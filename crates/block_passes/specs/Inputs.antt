@@ -1,5 +1,5 @@
 -- What the passes of a block read.
-use Rattle.std.specs.Prelude.{◌≡◌, ◌<◌, ◌≤◌, ◌+◌, ⊤, ℕ, ℤ, Bool, true, List, Option, None, Some, nat_lt, length, slice_get}
+use Rattle.std.specs.Prelude.{◌≡◌, ◌<◌, ◌+◌, ⊤, ℕ, ℤ, Bool, true, List, Option, Some, nat_lt, length, slice_get}
 use Rattle.std.specs.List.{filter, AllByRecursion}
 use Rattle.rdf_values.specs.declared.fault.EntryFault.{EntryFault}
 use Rattle.rdf_values.specs.declared.value.ColType.{ColType}
@@ -15,7 +15,6 @@ use Rattle.block_lanes.specs.Lanes.{LaneView}
 use Rattle.entry_cache.specs.Jobs.{JobView, job_graph}
 use Rattle.entry_cache.specs.Keys.{key}
 use Rattle.entry_cache.specs.Store.{IsSourceIn, row_of, site_in, source_at, version_in}
-use Rattle.entry_passes.specs.Turns.{HasAllDemands}
 use Rattle.block_cache.specs.Blocks.{AreReady, HasColumn}
 use Rattle.block_cache.specs.Fills.{CanFill, holds_at}
 use Rattle.block_passes.specs.Demands.{IsDemandedAt}

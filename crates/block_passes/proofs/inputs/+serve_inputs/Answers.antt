@@ -1,4 +1,4 @@
-use Rattle.std.proofs.Common.{◌≡◌, arith, length, rules, sym}
+use Rattle.std.proofs.Common.{arith, length, rules}
 use Rattle.std.proofs.lemmas.Result.{on_ok_weaker}
 use Rattle.expr_lanes.specs.Places.{EachPlace}
 use Rattle.block_lanes.specs.Lanes.{kinds_of}

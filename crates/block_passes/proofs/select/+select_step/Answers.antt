@@ -1,4 +1,4 @@
-use Rattle.std.proofs.Common.{◌≡◌, ◌<◌, ◌∙◌, ◌++◌, ℕ, List, Some, ap, arith, get_or, refl, rules, slice_get, subst, sym}
+use Rattle.std.proofs.Common.{◌≡◌, ◌∙◌, ◌++◌, List, Some, ap, arith, get_or, refl, rules, subst, sym}
 use Rattle.std.specs.Prelude.{slice_set}
 use Rattle.std.proofs.lemmas.Option.{slice_get-get_or}
 use Rattle.std.proofs.lemmas.Result.{on_ok_weaker}
@@ -33,9 +33,37 @@ select_step-requires g t c κs within =
     let same : slice_set c.args.kept.now c.args.step c.narrow.new.self ≡ c.args.kept.now = ap (slice_set c.args.kept.now c.args.step) was ∙ set_same c.args.kept.now c.args.step old there in
     let filter = plan.steps.each c.args.step (step.Filter c.in-Filter.parent c.in-Filter.site c.in-Filter.under) (c.step.ensures ∙ ap Some c.in-Filter.is) in
     let before = filter.before in
-    let small = c.requires.step in
-    (omega (arith, before, c.decreases), (search rules, (c.requires.job, (c.requires.rows, (c.requires.small, (c.requires.few, (c.requires.within, (plan, (c.requires.can, (omega (arith, before, small),
-    λ p. subst (λ (ks : List KeptView). IsReadyBelow j c.args.at.now.first c.args.at.now.count p.chains c.args.work.now.found.limit c.args.work.now.lanes.items ks) (sym same) (c.requires.ready p)))))))))))
+    let small = c.requires.step in (
+      omega (arith, before, c.decreases),
+      (
+        search rules,
+        (
+          c.requires.job,
+          (
+            c.requires.rows,
+            (
+              c.requires.small,
+              (
+                c.requires.few,
+                (
+                  c.requires.within,
+                  (
+                    plan,
+                    (
+                      c.requires.can,
+                      (
+                        omega (arith, before, small),
+                        λ p. subst (λ (ks : List KeptView). IsReadyBelow j c.args.at.now.first c.args.at.now.count p.chains c.args.work.now.found.limit c.args.work.now.lanes.items ks) (sym same) (c.requires.ready p),
+                      ),
+                    ),
+                  ),
+                ),
+              ),
+            ),
+          ),
+        ),
+      ),
+    )
 
 pub returns-in-Block-clause-selected : goal.returns-in-Block-clause-selected
 returns-in-Block-clause-selected g t c = λ p.
