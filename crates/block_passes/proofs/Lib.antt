@@ -18,3 +18,4 @@ pub mod Spending
 pub mod StepCases
 pub mod StepLaws
 pub mod StepSelecting
+pub mod Unfed

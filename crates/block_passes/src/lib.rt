@@ -12,6 +12,7 @@ mod select;
 mod sources;
 pub mod steps;
 pub mod stop;
+mod testing;
 pub mod turn;
 
 pub use crate::found::Found;
