@@ -19,3 +19,4 @@ pub mod StepCases
 pub mod StepLaws
 pub mod StepSelecting
 pub mod Unfed
+pub mod TriedAction

@@ -3,6 +3,7 @@
 //! tally and are counted. It stands on `block_cache`, which evaluates filters over a block, on `block_laws` and on `cluster_tally`.
 #![tactic(auto)]
 
+mod action;
 pub mod found;
 mod inputs;
 pub mod kept;
