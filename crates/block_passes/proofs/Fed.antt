@@ -27,12 +27,13 @@ use Rattle.entry_passes.specs.Entries.{facts_in, job_spans}
 use Rattle.entry_passes.specs.Turns.{actions_before}
 use Rattle.block_cache.proofs.Members.{filter_short}
 use Rattle.block_passes.specs.Counting.{IsAmid, IsOverAll}
-use Rattle.block_passes.specs.Fed.{IsFeedable, IsFeedableAt, IsReadOf}
+use Rattle.block_passes.specs.Fed.{IsFeedable, IsFeedableAt}
 use Rattle.block_passes.specs.Feeds.{AreLanesOf}
 use Rattle.block_passes.specs.Inputs.{AreAtHand}
 use Rattle.block_passes.specs.Parts.{feeding_fault}
 use Rattle.block_passes.specs.Plans.{IsActionOf, IsLast, IsPlan, PlanView}
 use Rattle.block_passes.specs.Selections.{AreKept}
+use Rattle.block_passes.specs.Tries.{IsReadOf}
 use Rattle.block_passes.specs.Steps.{Chain}
 use Rattle.block_passes.specs.declared.kept.Kept.{Kept}
 use Rattle.block_passes.proofs.Counting.{block_within, its_places}
@@ -54,7 +55,7 @@ module _ (j : JobView) (job : IsJob j) (first count : ℕ) (pass : ℕ) (k : Act
       pub last_led : IsLast p.chains own.result.filters u last
       last_led =
           let same : led.0 ≡ last = (let e : ◌≡◌ {A = Option ℕ} (Some led.0) (Some last) = sym led.1 ∙ at in cc e) in
-          subst (λ (v : Option ℕ). IsLast p.chains own.result.filters v last) own.under_is (subst (λ (n : ℕ). IsLast p.chains own.result.filters own.numbered.variation n) same led.2)
+          subst (λ (v : Option ℕ). IsLast p.chains own.result.filters v last) own.its_under (subst (λ (n : ℕ). IsLast p.chains own.result.filters own.numbered.variation n) same led.2)
 
       pub last_there : last < length kept
       last_there = let low = slice_get_within p.chains last last_led.chain last_led.its in let many = are.many in omega (arith, low, many)
@@ -101,13 +102,13 @@ module _ (j : JobView) (job : IsJob j) (first count : ℕ) (pass : ℕ) (k : Act
           its_items : batch_items k batch ≡ block_items (facts_in j) s (actions_before j pass)
           its_items =
               ap (flat_map (λ q. spread k (values_at batch.sources q))) (places ∙ sel_is)
-              ∙ (λ i. flat_map (λ q. spread k (values_at batch.sources q)) (filter (λ q. is_true (through_sites (site_in j (entry q) (sym own.under_is i)) own.result.filters)) (range_with_len 0 s.block)))
+              ∙ (λ i. flat_map (λ q. spread k (values_at batch.sources q)) (filter (λ q. is_true (through_sites (site_in j (entry q) (sym own.its_under i)) own.result.filters)) (range_with_len 0 s.block)))
               ∙ feeds j s amid.lo pass own.numbered own.result k (λ q. values_at batch.sources q) job amid.in_cluster own.action
-              (λ q low through. fed_at q (in_sel q low (ap (λ (v : Option ℕ). is_true (through_sites (site_in j (entry q) v) own.result.filters)) (sym own.under_is) ∙ through)))
+              (λ q low through. fed_at q (in_sel q low (ap (λ (v : Option ℕ). is_true (through_sites (site_in j (entry q) v) own.result.filters)) (sym own.its_under) ∙ through)))
             where
               fed_at : (q : ℕ) → is_in q sel.places ≡ true
                   → (for_all (version_in {M = ⊥} j (entry q) own.numbered.variation) own.result.inputs ≡ Gives (values_at batch.sources q)) × (feed_fault k (values_at batch.sources q) ≡ None)
-              fed_at q i = ((λ t. for_all (version_in {M = ⊥} j (sym (same_place q) t) (own.under_is t)) (own.inputs_are t)) ∙ (lanes_at q i).values, clear_at q i)
+              fed_at q i = ((λ t. for_all (version_in {M = ⊥} j (sym (same_place q) t) (own.its_under t)) (own.inputs_are t)) ∙ (lanes_at q i).values, clear_at q i)
 
           kind_here : slice_get (facts_in j).kinds (actions_before j pass) ≡ Some k
           kind_here = let c = amid.in_cluster in block_kind j s c.span c.its_span (let b = c.begins in let w = c.within in omega (arith, b, w)) c.inside job pass own.numbered own.result k own.action

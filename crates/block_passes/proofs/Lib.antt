@@ -21,3 +21,4 @@ pub mod StepLaws
 pub mod StepSelecting
 pub mod Unfed
 pub mod Fed
+pub mod TriedAction

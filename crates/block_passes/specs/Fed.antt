@@ -2,14 +2,11 @@
 use Rattle.std.specs.Prelude.{◌≡◌, ℕ, List, Option, None, Some, slice_get}
 use Rattle.rdf_values.specs.declared.action.ActionKind.{ActionKind}
 use Rattle.expr_lanes.specs.Places.{EachPlace}
-use Rattle.graph_numbers.specs.Results.{ResultAt}
-use Rattle.graph_numbers.specs.declared.pass.Pass.{Pass as NumberedPass}
 use Rattle.block_lanes.specs.Lanes.{LaneView}
 use Rattle.entry_cache.specs.Jobs.{JobView}
 use Rattle.block_passes.specs.Counting.{IsOverAll}
 use Rattle.block_passes.specs.Feeds.{unfed}
 use Rattle.block_passes.specs.Inputs.{AreAtHand}
-use Rattle.block_passes.specs.Plans.{IsActionOf}
 use Rattle.block_passes.specs.declared.kept.Kept.{Kept}
 
 -- all that an action reads is at hand at a place, and it can be fed with that
@@ -21,11 +18,3 @@ pub record IsFeedableAt (j : JobView) (first : ℕ) (lanes : List LaneView) (k :
 pub record IsFeedable (j : JobView) (first count : ℕ) (lanes : List LaneView) (kept : List Kept) (last : ℕ) (k : ActionKind) (inputs : List ℕ) (u : Option ℕ) : Type 0 where
   pub over_all : IsOverAll count kept last
   pub each : (s : Kept) → slice_get kept last ≡ Some s → EachPlace s.places (IsFeedableAt j first lanes k inputs u)
-
--- it is what the pass of that number reads
-pub record IsReadOf (j : JobView) (pass : ℕ) (k : ActionKind) (inputs : List ℕ) (u : Option ℕ) : Type 0 where
-  pub numbered : NumberedPass
-  pub result : ResultAt
-  pub action : IsActionOf j pass numbered result k
-  pub inputs_are : result.inputs ≡ inputs
-  pub under_is : numbered.variation ≡ u

@@ -12,3 +12,4 @@ pub mod Searches
 pub mod Selections
 pub mod Spends
 pub mod Steps
+pub mod Tries

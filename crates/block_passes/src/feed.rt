@@ -10,10 +10,11 @@ ghost use Rattle.entry_passes.specs.Entries.{facts_in};
 ghost use Rattle.entry_passes.specs.Turns.{actions_before};
 ghost use Rattle.block_cache.specs.Blocks.{AreReady};
 ghost use Rattle.block_passes.specs.Counting.{IsAmid};
-ghost use Rattle.block_passes.specs.Fed.{IsFeedable, IsReadOf};
+ghost use Rattle.block_passes.specs.Fed.{IsFeedable};
 ghost use Rattle.block_passes.specs.Feeds.{CanGather};
 ghost use Rattle.block_passes.specs.Plans.{IsPlan};
 ghost use Rattle.block_passes.specs.Selections.{AreKept};
+ghost use Rattle.block_passes.specs.Tries.{IsReadOf};
 
 use crate::kept::Kept;
 use crate::sources::gather;
@@ -56,7 +57,7 @@ pub(crate) fn feed_action(
         → OnOk result (HoldsIn (facts_in (job_of at.now.job.now)) watched (pass_done s) tally.new) }
     ensures memory { OnErr result (IsTake own.now.kind.now) }
 {
-    let last = at.plan.last(at.pass);
+    let last = at.plan.last_step(at.pass);
     let selection = &kept[last as usize].places;
     let batch = Batch {
         places: batch_places(selection),

@@ -3,8 +3,9 @@
 //! tally and are counted. It stands on `block_cache`, which evaluates filters over a block, on `block_laws` and on `cluster_tally`.
 #![tactic(auto)]
 
-pub mod found;
+mod action;
 mod feed;
+pub mod found;
 mod inputs;
 pub mod kept;
 pub mod laws;
@@ -12,9 +13,9 @@ mod noting;
 pub mod plan;
 mod select;
 mod sources;
-mod testing;
 pub mod steps;
 pub mod stop;
+mod testing;
 pub mod turn;
 
 pub use crate::found::Found;

@@ -184,7 +184,7 @@ impl LoopPlan {
     }
 
     /// The last step of a pass.
-    pub(crate) fn last(&self, pass: u32) -> u32
+    pub(crate) fn last_step(&self, pass: u32) -> u32
         requires { pass < length self.now.passes }
         ensures { slice_get self.now.passes pass ≡ Some result }
     {
