@@ -2,6 +2,7 @@
 use Rattle.std.proofs.Common.{◌≡◌, ℕ, ◌+◌, ◌<◌, Bool, true, false, ◌&&◌, List, [], ◌∷◌, Option, None, Some, refl, sym, ◌∙◌, ap, subst, arith, nat_lt, if◌then◌else◌, ℤ, length}
 use Rattle.std.specs.List.{filter, AllByRecursion}
 use Rattle.std.proofs.lemmas.Bool.Decides.{Decides-ltb}
+use Rattle.rdf_values.specs.declared.fault.EntryFault.{EntryFault}
 use Rattle.rdf_values.specs.declared.value.ColType.{ColType}
 use Rattle.rdf_values.specs.declared.value.Value.{Value}
 use Rattle.rdf_model.specs.Evaluation.{Outcome, Gives, Faults, Needs}
@@ -58,6 +59,11 @@ none_given : (o : Outcome ⊥ Value) (X : Type 0) → fault_in o ≡ None → If
 none_given (Gives v) X h x = x
 none_given (Faults k) X h x = cc h
 none_given (Needs m) X h x = elim m [ ]
+
+-- the places that are left are below the limit
+pub served_inside : (j : JobView) (first count : ℕ) (part : ℕ → Option EntryFault) (pass : ℕ) (sel : List ℕ) (to : Kept) (lanes : List LaneView) (old new : Found) → IsServedTo j first count part pass sel to lanes old new → EachPlace to.places (λ q. q < new.limit)
+served_inside j first count part pass sel to lanes old new h q i =
+    (Decides-ltb q new.limit).0 (both_true (is_in q sel) (nat_lt q new.limit) (sym (ap (is_in q) h.left ∙ in_filtered (λ x. nat_lt x new.limit) q sel) ∙ i)).1
 
 pub empty_list : (xs : List ℕ) → length xs ≡ 0 → xs ≡ []
 empty_list [] h = refl

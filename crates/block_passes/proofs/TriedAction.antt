@@ -1,11 +1,12 @@
 -- An action's pass, tried part by part.
-use Rattle.std.proofs.Common.{◌≡◌, ◌⊎◌, inl, inr, ℕ, ◌+◌, ◌<◌, ◌≤◌, Bool, true, false, List, [], length, Option, None, Some, refl, sym, ◌∙◌, ap, subst, arith, slice_get, nat_lt, if◌then◌else◌}
+use Rattle.std.proofs.Common.{◌≡◌, ◌⊎◌, inl, inr, ℕ, ◌+◌, ◌<◌, ◌≤◌, ℤ, Bool, true, false, List, [], length, Option, None, Some, refl, sym, ◌∙◌, ap, subst, arith, slice_get, nat_lt, if◌then◌else◌}
 use Rattle.std.specs.Prelude.{slice_set}
-use Rattle.std.specs.List.{filter, range_with_len}
+use Rattle.std.specs.List.{filter, range_with_len, AllByRecursion}
 use Rattle.std.proofs.lemmas.Option.{slice_get_within}
 use Rattle.rdf_values.specs.Bookings.{Booking}
 use Rattle.rdf_values.specs.declared.action.ActionKind.{ActionKind}
 use Rattle.rdf_values.specs.declared.fault.EntryFault.{EntryFault}
+use Rattle.rdf_values.specs.declared.value.ColType.{ColType}
 use Rattle.rdf_model.specs.Evaluation.{Outcome, Gives, Faults, Needs}
 use Rattle.rdf_model.specs.Results.{fault_in, is_true}
 use Rattle.graph_numbers.specs.Graphs.{graph_filters, graph_results}
@@ -17,11 +18,13 @@ use Rattle.expr_lanes.specs.Places.{EachPlace, is_in}
 use Rattle.block_lanes.specs.Lanes.{LaneView}
 use Rattle.entry_cache.specs.Jobs.{IsJob, JobView, job_graph}
 use Rattle.entry_cache.specs.Store.{site_in, version_in}
+use Rattle.entry_cache.specs.Passes.{IsActionAt}
+use Rattle.entry_cache.proofs.ActionLaws.{can_act}
 use Rattle.entry_cache.proofs.PassTies.{pass_answer}
 use Rattle.entry_cache.proofs.TableLaws.{row_there}
 use Rattle.entry_passes.specs.Turns.{HasAllDemands, pass_fault}
-use Rattle.block_passes.specs.Feeds.{unfed}
-use Rattle.block_passes.specs.Inputs.{AreAtHand, DemandsInputs, IsServedTo, inputs_fault}
+use Rattle.block_passes.specs.Feeds.{CanGather, unfed}
+use Rattle.block_passes.specs.Inputs.{AreAtHand, CanServe, DemandsInputs, IsServedTo, inputs_fault}
 use Rattle.block_passes.specs.Parts.{where_passed}
 use Rattle.block_passes.specs.Plans.{IsActionOf, IsLast, IsPlan, PlanView, through_chain}
 use Rattle.block_passes.specs.Searches.{Lowers, where_in}
@@ -55,6 +58,19 @@ module _ (j : JobView) (job : IsJob j) (first count pass : ℕ) (plan : PlanView
 
   abbrev r : ResultAt
   r = own.result
+
+  action_at : IsActionAt j m.result k r.filters inputs
+  action_at = record { result = r; there_is = own.action.its_result; at = own.action.at; kind = own.action.booking; filters = refl; inputs = own.inputs_are }
+
+  -- its lanes can be gathered
+  pub gathers : 0 < count → (kinds : List ColType) (cells : List (List ℤ)) (scratch levels : ℕ) → AllByRecursion (CanServe j first u count kinds cells scratch levels) inputs → CanGather j first count kinds cells k inputs u
+  gathers some kinds cells scratch levels can = record {
+    scratch = scratch;
+    levels = levels;
+    can = can;
+    many = (can_act j job first (omega (arith, some, within)) m.result k r.filters inputs action_at u).count;
+    fits = λ q vs lt e. (can_act j job (first + q) (omega (arith, lt, within)) m.result k r.filters inputs action_at u).fits vs e;
+  }
 
   -- its last step
   pub has_step : pass < length plan.passes
