@@ -22,3 +22,4 @@ pub mod StepSelecting
 pub mod Unfed
 pub mod Fed
 pub mod TriedAction
+pub mod FedPasses

@@ -28,7 +28,7 @@ use Rattle.block_passes.specs.Inputs.{AreAtHand, CanServe, DemandsInputs, IsServ
 use Rattle.block_passes.specs.Parts.{where_passed}
 use Rattle.block_passes.specs.Plans.{IsActionOf, IsLast, IsPlan, PlanView, through_chain}
 use Rattle.block_passes.specs.Searches.{Lowers, where_in}
-use Rattle.block_passes.specs.Selections.{IsMade, IsReadyBelow, IsSelectedTo, chosen}
+use Rattle.block_passes.specs.Selections.{AreKept, IsMade, IsReadyBelow, IsSelectedTo, chosen}
 use Rattle.block_passes.specs.Steps.{Chain}
 use Rattle.block_passes.specs.Tries.{IsPassTried, IsReadBelow, IsReadOf}
 use Rattle.block_passes.specs.declared.found.Found.{Found}
@@ -51,6 +51,10 @@ if_passed (Needs m) X h x = elim m [ ]
 or_else_twice : (a b c : Option EntryFault) → or_else (or_else a b) c ≡ or_else a (or_else b c)
 or_else_twice None b c = refl
 or_else_twice (Some k) b c = refl
+
+last_none : (a b : Option EntryFault) → or_else a b ≡ None → b ≡ None
+last_none None b h = h
+last_none (Some k) b h = cc h
 
 module _ (j : JobView) (job : IsJob j) (first count pass : ℕ) (plan : PlanView) (p : IsPlan j plan) (within : first + count ≤ length j.dataset.rows) (k : ActionKind) (inputs : List ℕ) (u : Option ℕ) (own : IsReadOf j pass k inputs u) where
   abbrev m : NumberedPass
@@ -107,6 +111,18 @@ module _ (j : JobView) (job : IsJob j) (first count pass : ℕ) (plan : PlanView
         ∙ sym (action_fault (site_in j (first + q) m.variation) (version_in j (first + q) m.variation) k r)
         ∙ sym (ap (fault_in) (pass_answer j job (first + q) row.0 row.1 pass m a.its_pass r a.its_result
         ∙ ap (booking_numbers (site_in {M = ⊥} j (first + q) None) (site_in j (first + q) m.variation) (version_in j (first + q) m.variation) (graph_filters (job_graph j)) r) a.booking))
+
+    -- what no pass faults at can be fed
+    pub unfed_none : (q : ℕ) → q < count → is_true (through_sites (site_in {M = ⊥} j (first + q) m.variation) r.filters) ≡ true → pass_fault j (first + q) pass ≡ None → unfed j first k inputs u q ≡ None
+    unfed_none q lt passed none = (λ i. if (sym passed ∙ sym (ap is_true (through_is (first + q)))) i then unfed j first k inputs u q else None) ∙ last_none _ _ (whole_fault q lt ∙ none)
+
+    -- the places of its last step, where that was selected over all of the block
+    pub placed : (kept : List Kept) → AreKept j first p.chains count kept → (s : Kept) → slice_get kept last ≡ Some s → s.limit ≡ Some count → (q : ℕ) → is_in q s.places ≡ true
+        → (q < count) × (is_true (through_sites (site_in {M = ⊥} j (first + q) m.variation) r.filters) ≡ true)
+    placed kept are s at over q i =
+        let made = are.each last count is_last.chain s is_last.its at over in
+        let low = chosen_below passes_at q count (sym (ap (is_in q) made.is) ∙ i) in
+        (low, sym (ap is_true (through_is (first + q))) ∙ sym (in_chosen passes_at q count low) ∙ sym (ap (is_in q) made.is) ∙ i)
 
     -- ---- its selection
 

@@ -29,3 +29,7 @@ pub record AreCountable (j : JobView) (first count : ℕ) (chains : List Chain) 
   pub kept_are : AreKept j first chains count kept
   pub above : (f : ℕ) (s : NamedSteps) → slice_get p.filters f ≡ Some (Some s) → IsOverAll count kept s.above
   pub own : (f : ℕ) (s : NamedSteps) → slice_get p.filters f ≡ Some (Some s) → IsOverAll count kept s.own
+
+-- so many action passes have taken it in
+abbrev pub at_pass : BlockStage → ℕ → BlockStage
+at_pass s n = record { done = s.done; cluster = s.cluster; entries = s.entries; block = s.block; passes = n; filters = s.filters }

@@ -1,4 +1,5 @@
 pub mod Blocks
+pub mod Clear
 pub mod Clusters
 pub mod Counting
 pub mod Demands
