@@ -1,5 +1,5 @@
 -- An evaluation of a site at the places of a group that wanted memory.
-use Rattle.std.proofs.Common.{◌≡◌, ◌<◌, ◌≤◌, ◌+◌, ◌||◌, ◌⊎◌, inl, inr, not, ℕ, Bool, true, false, List, length, set, Option, arith, refl, sym, ◌∙◌, ap, subst, slice_get}
+use Rattle.std.proofs.Common.{◌≡◌, ◌<◌, ◌≤◌, ◌+◌, ◌||◌, ◌⊎◌, inl, inr, not, ℕ, Bool, true, false, List, length, set, Option, arith, refl, sym, ◌∙◌, ap, subst}
 use Rattle.std.specs.Prelude.{count_by}
 use Rattle.std.proofs.lemmas.Bool.{cases_eq}
 use Rattle.std.proofs.lemmas.Option.{slice_get_within}
@@ -9,7 +9,7 @@ use Rattle.entry_cache.specs.Jobs.{JobView, job_graph}
 use Rattle.entry_cache.specs.Keys.{key, key_count}
 use Rattle.entry_cache.specs.Store.{held_in}
 use Rattle.block_cache.specs.Blocks.{IsBegunOver, cells_at, held_at, held_value}
-use Rattle.block_cache.specs.Fills.{IsGrownOver, IsOnlyCalled, IsSameAt, begun_at, begun_count, holds_at, lane_begun}
+use Rattle.block_cache.specs.Fills.{IsGrownOver, IsOnlyCalled, IsSameAt, begun_at, begun_count, lane_begun}
 use Rattle.block_cache.specs.Turns.{IsBrokenOff}
 use Rattle.block_cache.proofs.BlockLaws.{held_of_lane, lane_held}
 use Rattle.block_cache.proofs.Knowns.{count_set, kinds_set, other_same, own_same, rooms_set}

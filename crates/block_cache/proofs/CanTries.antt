@@ -1,22 +1,16 @@
 -- A site that can be filled can be tried.
-use Rattle.std.proofs.Common.{◌≡◌, ◌<◌, ◌≤◌, ◌+◌, ℕ, ℤ, zero, suc, Bool, true, false, not, List, [], ◌∷◌, ◌++◌, length, map, take, All, get_or, Option, Some, None, refl, sym, ◌∙◌, ap, subst, arith, nat_eq, slice_get, if◌then◌else◌}
-use Rattle.std.specs.Prelude.{filter, option_map, unwrap_or}
+use Rattle.std.proofs.Common.{◌≡◌, ◌<◌, ◌≤◌, ℕ, ℤ, zero, suc, Bool, true, false, not, List, [], ◌∷◌, length, map, take, All, get_or, Option, Some, None, refl, sym, ◌∙◌, ap, subst, arith, nat_eq, slice_get, if◌then◌else◌}
+use Rattle.std.specs.Prelude.{filter, option_map}
 use Rattle.std.proofs.lemmas.Option.{get_or_from_slice_get}
 use Rattle.rdf_values.specs.Depends.{columns_in}
 use Rattle.rdf_values.specs.Path.{history}
-use Rattle.rdf_values.specs.Tables.{AreColumns, FitsKind, FitsRow, IsStored, kind_at}
 use Rattle.rdf_values.specs.Tree.{NumTree}
-use Rattle.rdf_values.specs.declared.column.Column.{Column}
 use Rattle.rdf_values.specs.declared.value.ColType.{ColType}
-use Rattle.rdf_values.specs.declared.value.ColType.TheVariants as kind
-use Rattle.rdf_values.specs.declared.value.Value.{Value}
-use Rattle.rdf_values.specs.declared.value.Value.TheVariants as val
-use Rattle.rdf_model.specs.Laws.{FitsOutcome}
-use Rattle.expr_check.specs.NumKinds.{CheckedExpr, distinct, is_vector}
+use Rattle.expr_check.specs.NumKinds.{CheckedExpr, distinct}
 use Rattle.expr_lanes.specs.Depths.{depth}
-use Rattle.graph_numbers.specs.Graphs.{IsSiteExpr, graph_kinds, graph_sites, graph_under}
+use Rattle.graph_numbers.specs.Graphs.{IsSiteExpr, graph_sites, graph_under}
 use Rattle.graph_numbers.specs.Sites.{SiteAt}
-use Rattle.graph_numbers.specs.Sources.{IsBelow, cell_value}
+use Rattle.graph_numbers.specs.Sources.{IsBelow}
 use Rattle.graph_numbers.specs.Versions.{version_count}
 use Rattle.graph_numbers.specs.declared.source.Source.{Source}
 use Rattle.graph_numbers.specs.declared.source.Source.TheVariants as from
@@ -26,17 +20,13 @@ use Rattle.graph_numbers.proofs.Meeting.{In, here, there as further}
 use Rattle.block_lanes.specs.Lanes.{LaneView, kinds_of}
 use Rattle.entry_cache.specs.Jobs.{JobView, IsJob, job_graph}
 use Rattle.entry_cache.specs.Keys.{key, key_count}
-use Rattle.entry_cache.specs.Plain.{IsPlainVersion, is_vector_at}
-use Rattle.entry_cache.specs.Store.{CanLook, looked_source, source_at}
-use Rattle.entry_cache.proofs.ColumnLaws.{can_evaluate, fits_at}
+use Rattle.entry_cache.specs.Store.{source_at}
 use Rattle.entry_cache.proofs.EvaluateLaws.{accepted_of}
 use Rattle.entry_cache.proofs.FillLaws.{there}
-use Rattle.entry_cache.proofs.PlainLaws.{plain_expr}
 use Rattle.entry_cache.proofs.RowLaws.{key_small}
 use Rattle.block_cache.specs.Blocks.{AreReady, CanTry, HasLane, HasSource, IsTriable}
 use Rattle.block_cache.specs.Fills.{CanFill, IsLoaded}
 use Rattle.block_cache.proofs.Attempts.{get_take, key_lower}
-use Rattle.block_cache.proofs.BlockLaws.{cells_long}
 
 -- ---- the columns of an expression
 

@@ -1,13 +1,13 @@
 -- What is read of a version, at one place and at all.
-use Rattle.std.proofs.Common.{◌≡◌, ◌<◌, ◌+◌, ◌⊎◌, inl, inr, not, ℕ, zero, suc, ℤ, Bool, true, false, List, [], ◌∷◌, length, map, All, get_or, Option, Some, refl, sym, ◌∙◌, ap, subst, arith, if◌then◌else◌, slice_get}
+use Rattle.std.proofs.Common.{◌≡◌, ◌<◌, ◌+◌, ◌⊎◌, inl, inr, ℕ, zero, suc, ℤ, Bool, true, false, List, [], ◌∷◌, length, map, All, get_or, Option, Some, refl, sym, ◌∙◌, ap, subst, arith, if◌then◌else◌, slice_get}
 use Rattle.std.proofs.lemmas.Bool.{cases_eq}
 use Rattle.std.proofs.lemmas.List.{length-map}
-use Rattle.std.proofs.lemmas.Option.{get_or_from_slice_get, slice_get-get_or, slice_get_within}
+use Rattle.std.proofs.lemmas.Option.{slice_get-get_or, slice_get_within}
 use Rattle.rdf_values.specs.Tables.{kind_at}
 use Rattle.rdf_values.specs.declared.value.ColType.{ColType}
 use Rattle.rdf_values.specs.declared.value.ColType.TheVariants as kind
 use Rattle.rdf_values.specs.declared.value.Value.{Value}
-use Rattle.rdf_model.specs.Evaluation.{Outcome, Gives, Needs}
+use Rattle.rdf_model.specs.Evaluation.{Gives, Needs}
 use Rattle.expr_check.specs.NumKinds.{is_vector}
 use Rattle.graph_numbers.specs.Graphs.{graph_sites}
 use Rattle.graph_numbers.specs.Sources.{IsBelow}
@@ -17,10 +17,9 @@ use Rattle.block_lanes.specs.Lanes.{LaneView, is_held, value_of}
 use Rattle.entry_cache.specs.Jobs.{JobView, job_graph}
 use Rattle.entry_cache.specs.Keys.{key, key_under, place_of}
 use Rattle.entry_cache.specs.Store.{held_in, held_or_need, source_at}
-use Rattle.entry_cache.specs.declared.rows.Place.{Place}
 use Rattle.entry_cache.specs.declared.rows.Place.TheVariants as stands
 use Rattle.entry_cache.specs.declared.held.Held.TheVariants as held
-use Rattle.block_cache.specs.Blocks.{CanRead, CanReadWhole, HasLane, HasNumbers, HasSource, cells_at, held_value}
+use Rattle.block_cache.specs.Blocks.{CanRead, CanReadWhole, HasColumn, HasLane, HasNumbers, HasSource, cells_at, held_value}
 use Rattle.block_cache.proofs.BlockLaws.{held_of_lane, lane_held, value_told}
 
 -- what is held of a key at a place, as an evaluation is told of it
@@ -63,6 +62,15 @@ module _ (j : JobView) (first : ℕ) (u : Option ℕ) (count : ℕ) (lanes : Lis
     where
       go : (x : Source) → IsBelow (length j.dataset.columns) (length (graph_sites (job_graph j))) x → place_of (key_under (job_graph j) u) x ≡ stands.Cell col → col < length j.dataset.columns
       go (from.Cell n) h e = let same : n ≡ col = cc e in omega (arith, h, same)
+      go (from.Site s) h e = cc e
+      go (from.Element s a b) h e = cc e
+
+  -- a column of numbers was loaded
+  pub column_loaded : (col : ℕ) → place_of (key_under (job_graph j) u) (source_at j u c) ≡ stands.Cell col → kind_at j.dataset.columns col ≡ Some kind.Int → HasColumn j first count cells col
+  column_loaded col stood numbers = go (source_at j u c) can.source stood
+    where
+      go : (x : Source) → HasSource j first u count lanes cells x → place_of (key_under (job_graph j) u) x ≡ stands.Cell col → HasColumn j first count cells col
+      go (from.Cell n) h e = let same : n ≡ col = cc e in subst (HasColumn j first count cells) same (h (ap (kind_at j.dataset.columns) same ∙ numbers))
       go (from.Site s) h e = cc e
       go (from.Element s a b) h e = cc e
 

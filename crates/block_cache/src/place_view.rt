@@ -1,5 +1,8 @@
 // The columns of an evaluation at one place of a block, by what is held.
-ghost use Rattle.std.specs.Prelude.{◌≡◌, ◌<◌, ◌≤◌, ◌+◌, ℕ, Some, length, slice_get};
+ghost use Rattle.std.specs.Prelude.{◌≡◌, ◌<◌, ◌≤◌, ◌+◌, ℕ, ℤ, List, Some, length, slice_get};
+ghost use Rattle.rdf_values.specs.Tables.{kind_at};
+ghost use Rattle.rdf_values.specs.declared.value.ColType.TheVariants as kind;
+ghost use Rattle.expr_lanes.specs.Places.{at_place};
 ghost use Rattle.rdf_values.specs.declared.value.Value.{Value};
 ghost use Rattle.rdf_model.specs.ColumnValues.{tag_element};
 ghost use Rattle.expr_eval.specs.Inputs.{input_outcome};
@@ -8,11 +11,11 @@ ghost use Rattle.block_lanes.specs.Lanes.{LaneView};
 ghost use Rattle.entry_cache.specs.Jobs.{Fits, job_graph, job_of};
 ghost use Rattle.entry_cache.specs.Keys.{IsRow, key_count};
 ghost use Rattle.entry_cache.specs.Store.{held_in, held_or_need, look_at, row_in};
-ghost use Rattle.block_cache.specs.Blocks.{CanRead, cells_at, element_of};
+ghost use Rattle.block_cache.specs.Blocks.{CanRead, HasColumn, cells_at, element_of};
 
 use crate::attempt::Block;
+use crate::cells::CellLane;
 use block_lanes::Lane;
-use columns::Columns;
 use entry_cache::reading::place as place_of;
 use entry_cache::rows::Place;
 use expr_eval::{Input, Inputs};
@@ -39,12 +42,7 @@ impl<'a> Inputs for PlaceView<'a> {
 }
 
 /// What is known of a version.
-fn look<'a: 's, 's>(
-    block: &Block<'a>,
-    lanes: &'s [Lane],
-    place: u32,
-    version: u32,
-) -> Input<'s>
+fn look<'a: 's, 's>(block: &Block<'a>, lanes: &'s [Lane], place: u32, version: u32) -> Input<'s>
     requires job { Fits block.now.at.now.job.now }
     requires row { IsRow (job_graph (job_of block.now.at.now.job.now)) block.now.at.now.under block.now.at.now.row.now }
     requires place { place < block.now.count }
@@ -53,7 +51,7 @@ fn look<'a: 's, 's>(
     ensures { input_outcome version result ≡ look_at (job_of block.now.at.now.job.now) (block.now.at.now.entry + place) block.now.at.now.under (cells_at (key_count (job_graph (job_of block.now.at.now.job.now))) lanes.now place) version }
 {
     match place_of(block.at, version) {
-        Place::Cell { col } => cell(block.at.job.columns, block.at.entry + place, col),
+        Place::Cell { col } => cell(block, place, col),
         Place::Key { key } => known(lanes, key, place),
         Place::Element {
             key,
@@ -63,17 +61,30 @@ fn look<'a: 's, 's>(
     }
 }
 
-/// The value of an entry's column.
-fn cell(columns: &Columns, entry: u32, col: u32) -> Input<'_>
-    requires entry { entry < length columns.now.table.rows }
-    requires column { col < length columns.now.table.columns }
-    ensures { (c : ℕ) → input_outcome c result ≡ cell_value (slice_get (row_in columns.now.table.rows entry) col) }
+/// The value of a column at a place: a number as it was loaded, or the elements where the table has them.
+fn cell<'a>(block: &Block<'a>, place: u32, col: u32) -> Input<'a>
+    requires job { Fits block.now.at.now.job.now }
+    requires place { place < block.now.count }
+    requires within { block.now.at.now.entry + block.now.count ≤ length block.now.at.now.job.now.columns.now.table.rows }
+    requires column { col < length block.now.at.now.job.now.columns.now.table.columns }
+    requires loaded { kind_at block.now.at.now.job.now.columns.now.table.columns col ≡ Some kind.Int → HasColumn (job_of block.now.at.now.job.now) block.now.at.now.entry block.now.count block.now.cells.now col }
+    ensures { (c : ℕ) → input_outcome c result ≡ cell_value (slice_get (row_in block.now.at.now.job.now.columns.now.table.rows (block.now.at.now.entry + place)) col) }
 {
+    let columns = block.at.job.columns;
     match columns.columns()[col as usize].kind {
-        ColType::Int => Input::Int(columns.int_at(entry, col)),
-        ColType::Vect => Input::Vect(columns.vec_at(entry, col)),
+        ColType::Int => Input::Int(number(block.cells, place, col)),
+        ColType::Vect => Input::Vect(columns.vec_at(block.at.entry + place, col)),
         ColType::Bool => unreachable!(),
     }
+}
+
+/// The number of a column at a place.
+fn number(cells: &[CellLane], place: u32, col: u32) -> i64
+    requires column { col < length cells.now }
+    requires place { (numbers : List ℤ) → slice_get cells.now col ≡ Some numbers → place < length numbers }
+    ensures { (numbers : List ℤ) → slice_get cells.now col ≡ Some numbers → result ≡ at_place numbers place }
+{
+    cells[col as usize].as_slice()[place as usize]
 }
 
 /// What is held of a key at a place.

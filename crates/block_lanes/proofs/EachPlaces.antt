@@ -1,14 +1,12 @@
 -- One place after another.
-use Rattle.std.proofs.Common.{◌≡◌, ◌<◌, ◌≤◌, ◌+◌, ◌++◌, ◌⊎◌, inl, inr, not, ℕ, ℤ, pos, Bool, true, false, List, [], ◌∷◌, length, length-set, get_or, set, take, ◌∙◌, refl, ap, sym, subst, arith, append_assoc, nat_eq, cond, get_or-set_same, get_or-set_other}
+use Rattle.std.proofs.Common.{◌≡◌, ◌<◌, ◌≤◌, ◌+◌, ◌++◌, ◌⊎◌, inl, inr, not, ℕ, ℤ, Bool, true, false, List, [], ◌∷◌, length, get_or, take, ◌∙◌, refl, ap, sym, subst, arith, append_assoc, cond}
 use Rattle.std.specs.List.{filter}
-use Rattle.std.proofs.lemmas.Bool.{cases_eq}
 use Rattle.std.proofs.lemmas.List.{take_more, length-append, append-nil}
 use Rattle.rdf_values.specs.Tables.{FitsKind}
 use Rattle.rdf_values.specs.declared.value.ColType.{ColType}
 use Rattle.rdf_values.specs.declared.value.ColType.TheVariants as kind
 use Rattle.rdf_values.specs.declared.value.Value.{Value}
 use Rattle.rdf_values.specs.declared.value.Value.TheVariants as val
-use Rattle.rdf_values.specs.declared.fault.EntryFault.{EntryFault}
 use Rattle.rdf_model.specs.Evaluation.{Outcome, Gives, Faults, Needs, is_set, mark}
 use Rattle.expr_check.specs.NumKinds.{is_vector}
 use Rattle.expr_lanes.specs.Marks.{lane_number}

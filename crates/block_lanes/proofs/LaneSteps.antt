@@ -1,7 +1,7 @@
 -- A lane before and after an evaluation.
-use Rattle.std.proofs.Common.{◌≡◌, ◌<◌, ◌≤◌, ◌+◌, ◌||◌, ◌++◌, not, ℕ, ℤ, suc, zero, Bool, true, false, inl, inr, List, [], ◌∷◌, length, take, drop, ◌∙◌, refl, ap, sym, subst, cond, arith}
+use Rattle.std.proofs.Common.{◌≡◌, ◌<◌, ◌≤◌, ◌+◌, ◌||◌, ◌++◌, not, ℕ, ℤ, Bool, true, false, inl, inr, List, [], ◌∷◌, length, take, drop, ◌∙◌, refl, ap, sym, subst, cond, arith}
 use Rattle.std.specs.Prelude.{count_by}
-use Rattle.std.specs.List.{filter, range_with_len}
+use Rattle.std.specs.List.{filter}
 use Rattle.std.proofs.Math.Seq.{take-append_seam}
 use Rattle.rdf_values.specs.declared.value.ColType.{ColType}
 use Rattle.rdf_values.specs.declared.value.Value.{Value}

@@ -1,9 +1,9 @@
 -- How far an evaluation at one place after another has come.
-use Rattle.std.specs.Prelude.{◌≡◌, ◌≤◌, ◌+◌, ◌++◌, ℕ, ℤ, Bool, true, false, not, List, [], length}
+use Rattle.std.specs.Prelude.{◌≡◌, ◌≤◌, ◌+◌, ◌++◌, ℕ, ℤ, Bool, true, not, List, [], length}
 use Rattle.rdf_values.specs.declared.value.ColType.{ColType}
 use Rattle.rdf_values.specs.declared.value.Value.{Value}
 use Rattle.rdf_model.specs.Evaluation.{Outcome}
-use Rattle.expr_lanes.specs.Places.{EachPlace, at_place, is_given, is_in, is_marked, stops_in, with_stop}
+use Rattle.expr_lanes.specs.Places.{EachPlace, at_place, is_given, is_marked, stops_in, with_stop}
 use Rattle.expr_lanes.specs.declared.stopped.Stopped.{Stopped}
 use Rattle.block_lanes.specs.Values.{AreKept, HasNumber}
 

@@ -7,8 +7,8 @@ use Rattle.rdf_values.specs.declared.value.Value.{Value}
 use Rattle.rdf_values.specs.declared.value.Value.TheVariants as val
 use Rattle.rdf_model.specs.Evaluation.{Outcome, Gives, is_set, mark}
 use Rattle.expr_eval.specs.declared.stop.EvalStop.{EvalStop}
-use Rattle.expr_eval.specs.declared.stop.EvalStop.TheVariants.{Fault, Need, Memory}
-use Rattle.expr_lanes.specs.Places.{EachPlace, at_place, is_in}
+use Rattle.expr_eval.specs.declared.stop.EvalStop.TheVariants.{Memory}
+use Rattle.expr_lanes.specs.Places.{at_place, is_in}
 use Rattle.block_lanes.specs.declared.vectors.Cells.{Cells}
 
 -- the cells of one vector among those of all

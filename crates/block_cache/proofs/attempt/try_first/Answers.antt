@@ -1,4 +1,4 @@
-use Rattle.std.proofs.Common.{◌<◌, ◌++◌, refl, sym, subst, ℕ, length, get_or, arith}
+use Rattle.std.proofs.Common.{◌<◌, ◌++◌, refl, sym, length, get_or, arith}
 use Rattle.entry_cache.specs.Jobs.{job_graph, job_of}
 use Rattle.entry_cache.specs.Keys.{key as key_of}
 use Rattle.entry_cache.proofs.RowLaws.{key_small}

@@ -1,4 +1,4 @@
-use Rattle.std.proofs.Common.{◌≡◌, ◌<◌, ◌+◌, arith, get_or, length}
+use Rattle.std.proofs.Common.{◌≡◌, ◌<◌, arith, get_or, length}
 use Rattle.std.proofs.lemmas.List.{get_or_default}
 use Rattle.expr_lanes.proofs.Selected.{is_in_at}
 use Rattle.block_lanes.proofs.EachPlaces.{turned_more, written_of, written_on}

@@ -1,8 +1,7 @@
 use Rattle.std.proofs.Common.{◌≡◌, ◌<◌, ◌∙◌, ℕ, ap, sym, subst, arith, refl, length, false}
 use Rattle.expr_check.specs.NumKinds.{is_vector}
 use Rattle.expr_lanes.specs.Places.{is_marked, EachPlace}
-use Rattle.rdf_values.specs.declared.value.ColType.{ColType}
-use Rattle.block_lanes.specs.Lanes.{LaneView, IsEvaluated}
+use Rattle.block_lanes.specs.Lanes.{LaneView}
 use Rattle.block_lanes.proofs.LaneSteps.{come_as, either_held, evaluated_after, in_given, lane_after, marks_as, newly_as, written}
 use Rattle.block_lanes.proofs.lane.Lane.evaluate.Goals as goal
 

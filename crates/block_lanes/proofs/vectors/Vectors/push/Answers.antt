@@ -1,4 +1,4 @@
-use Rattle.std.proofs.Common.{◌≡◌, ◌++◌, ◌∷◌, [], ◌∙◌, ap, arith, length, map}
+use Rattle.std.proofs.Common.{◌++◌, ◌∷◌, [], ◌∙◌, ap, arith, length, map}
 use Rattle.block_lanes.specs.Values.{cells_in}
 use Rattle.block_lanes.proofs.VectorLists.{grown, kept_all, kept_more, pushed}
 use Rattle.block_lanes.proofs.vectors.Vectors.push.Goals as goal
