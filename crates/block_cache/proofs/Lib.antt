@@ -5,6 +5,7 @@ pub mod BrokenOff
 pub mod CanFills
 pub mod CanTries
 pub mod ColumnCells
+pub mod FoldCalls
 pub mod GrownLaws
 pub mod Knowns
 pub mod LeastFaults

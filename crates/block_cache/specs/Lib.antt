@@ -1,4 +1,5 @@
 pub mod Blocks
 pub mod Faults
 pub mod Fills
+pub mod Folds
 pub mod Turns

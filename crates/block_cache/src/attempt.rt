@@ -16,6 +16,8 @@ ghost use Rattle.block_lanes.specs.Lanes.{IsBegun, IsEvaluated, LaneView, is_hel
 ghost use Rattle.block_cache.specs.Blocks.{AreReady, CanRead, CanTry, IsBegunOver, IsTriedOver, cells_at};
 
 use crate::cells::CellLane;
+use crate::fold_values::FoldValues;
+use crate::folds::fold_call;
 use crate::site_values::SiteValues;
 use crate::view::BlockView;
 use crate::whole::is_whole;
@@ -34,6 +36,54 @@ pub struct Block<'a> {
     pub at: &'a Reading<'a>,
     pub count: usize,
     pub cells: &'a [CellLane],
+}
+
+/// Evaluates an expression at one selected place after another into the lane of its key, over the lanes of the keys below.
+fn each_own<L: Ledger>(
+    block: &Block<'_>,
+    below: &[Lane],
+    own: &mut Lane,
+    expr: &Checked,
+    selection: &mut Selection,
+    stops: &mut ArrayVec<Stopped, MAX_PLACES>,
+    steps: &mut Steps<L>,
+) -> Result<(), Memory>
+    requires job { Fits block.now.at.now.job.now }
+    requires row { IsRow (job_graph (job_of block.now.at.now.job.now)) block.now.at.now.under block.now.at.now.row.now }
+    requires within { block.now.at.now.entry + block.now.count ≤ length block.now.at.now.job.now.columns.now.table.rows }
+    requires kind { expr.now.kind ≡ own.old.kind }
+    requires can { All (λ c. CanRead (job_of block.now.at.now.job.now) block.now.at.now.entry block.now.at.now.under block.now.count below.now block.now.cells.now c.0) expr.now.kinds }
+    requires fit { (p : ℕ) → p < block.now.count → All (λ c. FitsOutcome c.1 (look_at (job_of block.now.at.now.job.now) (block.now.at.now.entry + p) block.now.at.now.under (cells_at (key_count (job_graph (job_of block.now.at.now.job.now))) below.now p) c.0)) expr.now.kinds }
+    requires calls { CallsFit (fn_names (functions_in block.now.at.now.job.now.functions.now)) expr.now.tree }
+    requires block { block.now.count ≡ own.old.count }
+    requires selected { IsSelected block.now.count selection.old stops.old.items }
+    requires unknown { EachPlace selection.old (λ p. is_held own.old p ≡ false) }
+    ensures evaluated { OnOk result (IsEvaluated (λ p. evaluate (look_at (job_of block.now.at.now.job.now) (block.now.at.now.entry + p) block.now.at.now.under (cells_at (key_count (job_graph (job_of block.now.at.now.job.now))) below.now p)) (call_outcome (functions_in block.now.at.now.job.now.functions.now)) expr.now.tree) selection.old selection.new own.old own.new stops.old.items stops.new.items) }
+    ensures begun { OnErr result (IsBegun selection.old own.old own.new) }
+    ensures steps { OnOk result (steps.new ≡ steps.old + length selection.old) }
+    ensures few { steps.new ≤ steps.old + length selection.old }
+    ensures plain { is_plain expr.now.kinds expr.now.tree ≡ true → OnErr result ⊥ }
+{
+    match fold_call(expr) {
+        Some(call) => {
+            let evaluation = FoldValues {
+                block,
+                lanes: below,
+                expr,
+                call,
+            };
+            own.evaluate_each(&evaluation, selection, stops, steps)
+        }
+        None => {
+            let evaluation = SiteValues {
+                alloc: own.alloc(),
+                block,
+                lanes: below,
+                expr,
+            };
+            own.evaluate_each(&evaluation, selection, stops, steps)
+        }
+    }
 }
 
 /// Evaluates an expression at the selected places into the lane of its key, over the lanes of the keys below: at all places at once
@@ -66,13 +116,7 @@ fn try_own<L: Ledger>(
     ensures plain { is_plain expr.now.kinds expr.now.tree ≡ true → OnErr result ⊥ }
 {
     if !is_whole(block, below, expr) {
-        let evaluation = SiteValues {
-            alloc: own.alloc(),
-            block,
-            lanes: below,
-            expr,
-        };
-        return own.evaluate_each(&evaluation, selection, stops, steps);
+        return each_own(block, below, own, expr, selection, stops, steps);
     }
     let view = BlockView {
         at: block.at,
@@ -124,8 +168,8 @@ fn try_first<L: Ledger>(
 }
 
 /// Evaluates a site at the selected places of a block, of which nothing is held, over what is held of the sites below. The places
-/// that come to a value stay selected; each other one becomes a stop, with its fault or a version that has to be filled before. Only with vectors memory may be
-/// wanted: then what is held stays.
+/// that come to a value stay selected; each other one becomes a stop, with its fault or a version that has to be filled before. Only
+/// with vectors memory may be wanted: then what is held stays.
 pub fn try_lane<L: Ledger>(
     block: &Block<'_>,
     lanes: &mut [Lane],

@@ -7,6 +7,8 @@ pub mod attempt;
 pub mod cells;
 pub mod faults;
 pub mod fill;
+mod fold_values;
+pub mod folds;
 pub mod level;
 pub mod passing;
 mod place_view;
