@@ -18,7 +18,7 @@ use Rattle.graph_numbers.specs.declared.source.Source.{Source}
 use Rattle.graph_numbers.specs.declared.source.Source.TheVariants as from
 use Rattle.entry_cache.specs.Jobs.{JobView, IsJob, job_graph}
 use Rattle.entry_cache.specs.Plain.{ArePlain}
-use Rattle.entry_cache.specs.Store.{IsSiteOf, IsSound, MeetsAt, site_in, source_at, version_in}
+use Rattle.entry_cache.specs.Store.{IsSiteOf, IsSound, IsSourceIn, MeetsAt, site_in, source_at, version_in}
 use Rattle.entry_cache.proofs.EvaluateLaws.{accepted_of, whole}
 use Rattle.entry_cache.proofs.FillLaws.{in_source}
 use Rattle.entry_cache.proofs.PlainLaws.{plain_closed}
@@ -61,8 +61,7 @@ pub can_below : (j : JobView) (job : IsJob j) (first : ℕ) (u : Option ℕ) (co
     → CanFill j first u count kinds cells scratch fewer t
 can_below j job first u count s c t p kinds cells scratch levels fewer can met site less = record {
   used = can.used;
-  plain = can.plain;
-  has = met_used j job (first + p) u s c t can.used can.plain can.has met site;
+  has = in_source can.used t (source_at j u c) site (met_each j job (first + p) u s c (λ d. IsSourceIn can.used (source_at j u d)) met (can.each s met.0 can.has met.1).closed);
   kinds_are = can.kinds_are;
   rank = can.rank;
   each = can.each;

@@ -1,5 +1,5 @@
 -- The places of a selection that pass a filter.
-use Rattle.std.proofs.Common.{◌≡◌, ◌<◌, ◌+◌, ℕ, ℤ, true, List, [], length, get_or, Option, Some, sym, ◌∙◌, ap, subst, slice_get}
+use Rattle.std.proofs.Common.{◌≡◌, ◌<◌, ◌+◌, ℕ, ℤ, true, false, List, [], length, get_or, Option, Some, sym, ◌∙◌, ap, subst, slice_get}
 use Rattle.std.proofs.lemmas.Option.{slice_get-get_or}
 use Rattle.std.specs.List.{filter}
 use Rattle.rdf_values.specs.declared.value.ColType.{ColType}
@@ -7,10 +7,11 @@ use Rattle.rdf_values.specs.declared.value.ColType.TheVariants as kind
 use Rattle.rdf_model.specs.EntryOutcomes.{truth_of}
 use Rattle.rdf_model.specs.Evaluation.{Gives, ◌>>=◌, is_set}
 use Rattle.rdf_model.specs.Results.{is_true}
-use Rattle.expr_lanes.specs.Marks.{lane_value}
+use Rattle.expr_check.specs.NumKinds.{is_vector}
 use Rattle.expr_lanes.specs.Places.{EachPlace, IsSelected, at_place, is_in}
 use Rattle.graph_numbers.specs.Graphs.{graph_sites}
 use Rattle.block_lanes.specs.Lanes.{LaneView, is_held, kinds_of, value_of}
+use Rattle.block_lanes.specs.Values.{value_for}
 use Rattle.entry_cache.specs.Jobs.{JobView, job_graph}
 use Rattle.entry_cache.specs.Keys.{key, key_count}
 use Rattle.entry_cache.specs.Known.{truth_in}
@@ -39,7 +40,7 @@ module _ (j : JobView) (first : ℕ) (u : Option ℕ) (count s : ℕ) (inside : 
 
   true_where : (p : ℕ) → p < count → holds_at lanes (key (job_graph j) s u) p ≡ true → is_set (at_place l.numbers p) ≡ is_true (truth_in j (first + p) u s)
   true_where p low holds =
-      sym (ap is_true (ap (λ o. o >>= truth_of) (gives_value p low (ap (λ o. lane_holds o p) (sym at) ∙ holds)) ∙ ap (λ k. truth_of {M = ⊥} (lane_value k (at_place l.numbers p))) is_bool))
+      sym (ap is_true (ap (λ o. o >>= truth_of) (gives_value p low (ap (λ o. lane_holds o p) (sym at) ∙ holds)) ∙ ap (λ k. truth_of {M = ⊥} (value_for k l.vectors (at_place l.numbers p))) is_bool))
 
   pub passed_over : (sel between left : List ℕ) (before : List LaneView) (fault : Option PlaceFault) (start end : ℕ) → IsFilledOver j first u count s sel between before lanes fault start end → IsSettled lanes between → EachPlace between (λ p. p < count) → left ≡ filter (λ p. is_set (at_place l.numbers p)) between
       → IsPassedOver j first u count s sel left before lanes fault start end
@@ -63,3 +64,10 @@ passed_with j first u count s inside sel between left before lanes fault start e
     let at : slice_get lanes (key (job_graph j) s u) ≡ Some (get_or lanes k d) = ap (slice_get lanes) (sym same) ∙ slice_get-get_or lanes k d among in
     passed_over j first u count s inside lanes filled.ready (get_or lanes k d) at (ap (λ (l : List ColType). slice_get l (key (job_graph j) s u)) spent.grown.kinds ∙ truth) sel between left before fault start end filled settled
     (filled_inside j first u count s sel between before lanes fault start end filled selected) (left_is ∙ ap (λ (l : List ℤ). filter (λ p. is_set (at_place l p)) between) are)
+
+-- the lane of a key with truths has no vectors
+pub truth_scalar : (lanes after : List LaneView) (own k : ℕ) (d : LaneView) → k ≡ own → k < length after → kinds_of after ≡ kinds_of lanes → slice_get (kinds_of lanes) own ≡ Some kind.Bool → is_vector (get_or after k d).kind ≡ false
+truth_scalar lanes after own k d same inside kinds truth =
+    let at : slice_get (kinds_of after) k ≡ Some (get_or after k d).kind = got_kind after k (get_or after k d) (slice_get-get_or after k d inside) in
+    let is : (get_or after k d).kind ≡ kind.Bool = kind_of (get_or after k d).kind kind.Bool (sym at ∙ ap (λ (l : List ColType). slice_get l k) kinds ∙ ap (slice_get (kinds_of lanes)) same ∙ truth) in
+    ap is_vector is

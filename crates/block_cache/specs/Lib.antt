@@ -2,4 +2,5 @@ pub mod Blocks
 pub mod Faults
 pub mod Fills
 pub mod Leads
+pub mod Folds
 pub mod Turns

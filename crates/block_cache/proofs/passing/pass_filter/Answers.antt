@@ -1,6 +1,6 @@
 use Rattle.std.proofs.Common.{◌≡◌, arith, get_or}
 use Rattle.entry_cache.specs.Jobs.{job_of}
-use Rattle.block_cache.proofs.PassedLaws.{filled_inside, passed_with}
+use Rattle.block_cache.proofs.PassedLaws.{filled_inside, passed_with, truth_scalar}
 use Rattle.block_cache.proofs.passing.pass_filter.Goals as goal
 
 pub returns-in_err-fault-clause-plain : goal.returns-in_err-fault-clause-plain
@@ -19,3 +19,8 @@ returns-clause-passed g c =
     let many = c.in_ok-fault.ensures.filled.ready.many in
     passed_with (job_of c.args.block.now.at.now.job.now) c.args.block.now.at.now.entry c.args.block.now.at.now.under c.args.block.now.count c.args.site c.requires.site c.args.selection.now c.fill.new.selection c.keep_set.new.self c.args.lanes.now c.fill.new.lanes c.in_ok-fault.fault c.args.steps.now c.fill.new.steps c.in_ok-fault.ensures.filled c.fill.ensures.spent c.in_ok-fault.ensures.settled
     c.requires.selected c.requires.truth c.key.result c.index-lanes-key.result c.column.result.numbers.now c.key.ensures.key (omega (arith, c.key.ensures.small, many)) c.column.ensures.numbers c.keep_set.ensures
+
+pub column-requires : goal.column-requires
+column-requires g c =
+    let many = c.in_ok-fault.ensures.filled.ready.many in
+    truth_scalar c.args.lanes.now c.fill.new.lanes _ c.key.result c.index-lanes-key.result c.key.ensures.key (omega (arith, c.key.ensures.small, many)) c.fill.ensures.spent.grown.kinds c.requires.truth
