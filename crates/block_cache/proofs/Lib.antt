@@ -6,6 +6,7 @@ pub mod CanFills
 pub mod CanTries
 pub mod ColumnCells
 pub mod FoldCalls
+pub mod Fulls
 pub mod GrownLaws
 pub mod Knowns
 pub mod LeastFaults

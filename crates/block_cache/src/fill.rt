@@ -248,6 +248,9 @@ pub fn fill<L: Ledger>(
     ensures settled { OnOk result (IsSettled lanes.new selection.new) }
     ensures plain { (used : ℕ → Bool) → ArePlain (job_of block.now.at.now.job.now) used → used site ≡ true → OnErr result ⊥ }
 {
+    if lanes[key(block.at, site)].is_full() {
+        return Ok(None);
+    }
     match levels.split_first_mut() {
         Some((level, deeper)) => fill_site(
             block, lanes, site, selection, level, deeper, scratch, steps,

@@ -42,7 +42,12 @@ impl<'a> Inputs for PlaceView<'a> {
 }
 
 /// What is known of a version.
-pub(crate) fn look<'a: 's, 's>(block: &Block<'a>, lanes: &'s [Lane], place: u32, version: u32) -> Input<'s>
+pub(crate) fn look<'a: 's, 's>(
+    block: &Block<'a>,
+    lanes: &'s [Lane],
+    place: u32,
+    version: u32,
+) -> Input<'s>
     requires job { Fits block.now.at.now.job.now }
     requires row { IsRow (job_graph (job_of block.now.at.now.job.now)) block.now.at.now.under block.now.at.now.row.now }
     requires place { place < block.now.count }

@@ -124,6 +124,13 @@ impl Lane {
         self.alloc
     }
 
+    /// Whether each place of the block is known to hold a value.
+    pub fn is_full(&self) -> bool
+        ensures { result ≡ true → (p : ℕ) → p < self.now.count → is_held self.now p ≡ true }
+    {
+        matches!(self.extent, Extent::All)
+    }
+
     /// What is known of the key at a place.
     pub fn input(&self, place: u32) -> Input<'_>
         requires { place < self.now.count }
