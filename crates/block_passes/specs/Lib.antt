@@ -1,6 +1,8 @@
 pub mod Blocks
 pub mod Clusters
 pub mod Demands
+pub mod Feeds
+pub mod Inputs
 pub mod Laws
 pub mod Parts
 pub mod Plans
@@ -8,3 +10,4 @@ pub mod Searches
 pub mod Selections
 pub mod Spends
 pub mod Steps
+pub mod Tries

@@ -3,13 +3,17 @@
 //! tally and are counted. It stands on `block_cache`, which evaluates filters over a block, on `block_laws` and on `cluster_tally`.
 #![tactic(auto)]
 
+mod action;
 pub mod found;
+mod inputs;
 pub mod kept;
 pub mod laws;
 pub mod plan;
 mod select;
+mod sources;
 pub mod steps;
 pub mod stop;
+mod testing;
 pub mod turn;
 
 pub use crate::found::Found;

@@ -182,4 +182,12 @@ impl LoopPlan {
     {
         *self.steps.at(step as usize)
     }
+
+    /// The last step of a pass.
+    pub(crate) fn last_step(&self, pass: u32) -> u32
+        requires { pass < length self.now.passes }
+        ensures { slice_get self.now.passes pass ≡ Some result }
+    {
+        *self.passes.at(pass as usize)
+    }
 }
