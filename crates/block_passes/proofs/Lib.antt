@@ -20,3 +20,5 @@ pub mod StepLaws
 pub mod StepSelecting
 pub mod Unfed
 pub mod TriedAction
+pub mod TriedFilters
+pub mod SearchedPasses

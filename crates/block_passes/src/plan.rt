@@ -190,4 +190,12 @@ impl LoopPlan {
     {
         *self.passes.at(pass as usize)
     }
+
+    /// The steps of a named filter, where a report covers it.
+    pub(crate) fn named(&self, filter: u32) -> Option<NamedSteps>
+        requires { filter < length self.now.filters }
+        ensures { slice_get self.now.filters filter ≡ Some result }
+    {
+        *self.filters.at(filter as usize)
+    }
 }
