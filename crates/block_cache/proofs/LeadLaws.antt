@@ -27,8 +27,9 @@ use Rattle.block_lanes.specs.Lanes.{LaneView}
 use Rattle.entry_cache.specs.Jobs.{JobView, IsJob, job_graph}
 use Rattle.entry_cache.specs.Keys.{key, key_count}
 use Rattle.entry_cache.specs.Plain.{ArePlain}
-use Rattle.entry_cache.specs.Store.{IsSiteOf, MeetsAt, site_in, source_at, version_in}
+use Rattle.entry_cache.specs.Store.{IsSiteOf, IsSourceIn, MeetsAt, site_in, source_at, version_in}
 use Rattle.entry_cache.proofs.EvaluateLaws.{accepted_of}
+use Rattle.entry_cache.proofs.FillLaws.{in_source}
 use Rattle.block_cache.specs.Blocks.{AreReady}
 use Rattle.block_cache.specs.Fills.{CanFill, IsFilledOver, IsGrownOver, IsOnlyCalled, IsRankedBelow, IsSameAt, IsSettled, IsSpentOver, below_fault, fault_over, holds_at, is_below, site_fault}
 use Rattle.block_cache.specs.Leads.{IsFilledTo, IsLead, first_read, first_read_in, or_behind}
@@ -133,8 +134,7 @@ module _ (j : JobView) (job : IsJob j) (u : Option ℕ) (s t : ℕ) (lead : IsLe
   pub can_lead : (first count : ℕ) (kinds : List ColType) (cells : List (List ℤ)) (scratch levels : ℕ) → CanFill j first u count kinds cells scratch levels s → CanFill j first u count kinds cells scratch levels t
   can_lead first count kinds cells scratch levels can = record {
     used = can.used;
-    plain = can.plain;
-    has = met_used j job first u s lead.version t can.used can.plain can.has (lead.met first) lead.source;
+    has = (let met = lead.met first in in_source can.used t (source_at j u lead.version) lead.source (met_each j job first u s lead.version (λ d. IsSourceIn can.used (source_at j u d)) met (can.each s met.0 can.has met.1).closed));
     kinds_are = can.kinds_are;
     rank = can.rank;
     each = can.each;

@@ -23,3 +23,5 @@ pub mod Unfed
 pub mod Fed
 pub mod TriedAction
 pub mod FedPasses
+pub mod TriedFilters
+pub mod SearchedPasses

@@ -1,9 +1,8 @@
 -- An action's pass, tried part by part.
 use Rattle.std.proofs.Common.{◌≡◌, ◌⊎◌, inl, inr, ℕ, ◌+◌, ◌<◌, ◌≤◌, ℤ, Bool, true, false, List, [], length, Option, None, Some, refl, sym, ◌∙◌, ap, subst, arith, slice_get, nat_lt, if◌then◌else◌}
 use Rattle.std.specs.Prelude.{slice_set}
-use Rattle.std.specs.List.{filter, range_with_len, AllByRecursion}
+use Rattle.std.specs.List.{filter, AllByRecursion}
 use Rattle.std.proofs.lemmas.Option.{slice_get_within}
-use Rattle.rdf_values.specs.Bookings.{Booking}
 use Rattle.rdf_values.specs.declared.action.ActionKind.{ActionKind}
 use Rattle.rdf_values.specs.declared.fault.EntryFault.{EntryFault}
 use Rattle.rdf_values.specs.declared.value.ColType.{ColType}
@@ -26,10 +25,9 @@ use Rattle.entry_passes.specs.Turns.{HasAllDemands, pass_fault}
 use Rattle.block_passes.specs.Feeds.{CanGather, unfed}
 use Rattle.block_passes.specs.Inputs.{AreAtHand, CanServe, DemandsInputs, IsServedTo, inputs_fault}
 use Rattle.block_passes.specs.Parts.{where_passed}
-use Rattle.block_passes.specs.Plans.{IsActionOf, IsLast, IsPlan, PlanView, through_chain}
+use Rattle.block_passes.specs.Plans.{IsLast, IsPlan, PlanView, through_chain}
 use Rattle.block_passes.specs.Searches.{Lowers, where_in}
 use Rattle.block_passes.specs.Selections.{AreKept, IsMade, IsReadyBelow, IsSelectedTo, chosen}
-use Rattle.block_passes.specs.Steps.{Chain}
 use Rattle.block_passes.specs.Tries.{IsPassTried, IsReadBelow, IsReadOf}
 use Rattle.block_passes.specs.declared.found.Found.{Found}
 use Rattle.block_passes.specs.declared.kept.Kept.{Kept}

@@ -1,17 +1,21 @@
 -- What trying a pass over a block does.
-use Rattle.std.specs.Prelude.{◌≡◌, ◌<◌, ◌+◌, ℕ, true, List, Option}
+use Rattle.std.specs.Prelude.{◌≡◌, ◌<◌, ◌+◌, ℕ, ℤ, true, List, None, Option, slice_get}
+use Rattle.std.specs.List.{AllByRecursion}
 use Rattle.rdf_values.specs.declared.action.ActionKind.{ActionKind}
-use Rattle.rdf_model.specs.Results.{is_true}
-use Rattle.graph_numbers.specs.Outcomes.{through_sites}
+use Rattle.rdf_values.specs.declared.fault.EntryFault.{EntryFault}
+use Rattle.rdf_values.specs.declared.value.ColType.{ColType}
+use Rattle.rdf_model.specs.Results.{fault_in, is_true}
+use Rattle.graph_numbers.specs.Graphs.{graph_filters}
+use Rattle.graph_numbers.specs.Outcomes.{report_numbers, through_filter, through_sites}
 use Rattle.graph_numbers.specs.Results.{ResultAt}
 use Rattle.graph_numbers.specs.declared.pass.Pass.{Pass as NumberedPass}
 use Rattle.block_lanes.specs.Lanes.{LaneView}
-use Rattle.entry_cache.specs.Jobs.{JobView}
+use Rattle.entry_cache.specs.Jobs.{JobView, job_graph}
 use Rattle.entry_cache.specs.Store.{site_in}
 use Rattle.entry_passes.specs.Turns.{pass_fault}
-use Rattle.block_passes.specs.Inputs.{AreAtHand}
+use Rattle.block_passes.specs.Inputs.{AreAtHand, CanServe}
 use Rattle.block_passes.specs.Plans.{IsActionOf}
-use Rattle.block_passes.specs.Searches.{Lowers}
+use Rattle.block_passes.specs.Searches.{IsSearched, Lowers}
 use Rattle.block_passes.specs.Selections.{IsReadyBelow}
 use Rattle.block_passes.specs.Steps.{Chain}
 use Rattle.block_passes.specs.declared.found.Found.{Found}
@@ -36,3 +40,30 @@ pub record IsPassTried (j : JobView) (first count : ℕ) (chains : List Chain) (
   pub ready : IsReadyBelow j first count chains new.limit lanes kept
   pub lowers : Lowers (λ p. pass_fault j (first + p) pass) first pass old new
   pub read : IsReadBelow j first lanes new.limit pass
+
+-- ---- reports
+
+-- the fault of a named filter, with those above it, at a place of a block that begins at this entry; and of several in order
+abbrev pub filter_fault : JobView → ℕ → ℕ → ℕ → Option EntryFault
+filter_fault j first f p = fault_in (through_filter (site_in {M = ⊥} j (first + p) None) (slice_get (graph_filters (job_graph j)) f))
+
+abbrev pub filters_fault : JobView → ℕ → List ℕ → ℕ → Option EntryFault
+filters_fault j first fs p = fault_in (report_numbers (site_in {M = ⊥} j (first + p) None) (graph_filters (job_graph j)) fs)
+
+-- a part of a pass was tried at the places below the limit, which its first fault lowered; below the new limit all is as before
+pub record IsTriedTo (j : JobView) (first count : ℕ) (chains : List Chain) (part : ℕ → Option EntryFault) (pass : ℕ) (lanes : List LaneView) (kept : List Kept) (old new : Found) : Type 0 where
+  pub ready : IsReadyBelow j first count chains new.limit lanes kept
+  pub lowers : Lowers part first pass old new
+
+-- ---- all passes
+
+-- all that the actions of a loop read can be served
+abbrev pub CanServeAll : JobView → ℕ → ℕ → List ColType → List (List ℤ) → ℕ → ℕ → Type 0
+CanServeAll j first count kinds cells scratch levels =
+    (n : ℕ) (k : ActionKind) (inputs : List ℕ) (u : Option ℕ) → IsReadOf j n k inputs u → AllByRecursion (CanServe j first u count kinds cells scratch levels) inputs
+
+-- so many passes were tried over a block: what is known of it, the search so far, and what the actions among them read is at hand
+pub record IsSearchedTo (j : JobView) (first count : ℕ) (chains : List Chain) (passes : ℕ) (lanes : List LaneView) (kept : List Kept) (s : Found) : Type 0 where
+  pub ready : IsReadyBelow j first count chains s.limit lanes kept
+  pub searched : IsSearched (λ q n. pass_fault j (first + q) n) first count passes s
+  pub read : (n : ℕ) → n < passes → IsReadBelow j first lanes s.limit n

@@ -1,5 +1,5 @@
 // Feeding what the passes of a block give.
-ghost use Rattle.std.specs.Prelude.{◌≡◌, ◌<◌, ◌≤◌, ◌+◌, ℕ, All, List, IfOk, IfSome, OnErr, OnOk, length, slice_get, None, Some};
+ghost use Rattle.std.specs.Prelude.{◌≡◌, ◌<◌, ◌≤◌, ◌+◌, ℕ, All, List, IfOk, OnErr, OnOk, length, slice_get, Some};
 ghost use Rattle.rdf_model.specs.LoopFacts.{kinds_in};
 ghost use Rattle.expr_lanes.specs.declared.TheConstants.{MAX_PLACES};
 ghost use Rattle.block_lanes.specs.Lanes.{kinds_of};
@@ -9,17 +9,18 @@ ghost use Rattle.entry_cache.specs.Caches.{numbered_in};
 ghost use Rattle.entry_cache.specs.Jobs.{Fits, job_graph, job_of, passes_in};
 ghost use Rattle.entry_cache.specs.Keys.{AreKeys};
 ghost use Rattle.entry_passes.specs.Entries.{IsNoTake, facts_in};
-ghost use Rattle.entry_passes.specs.Turns.{IsReportPass, actions_before};
+ghost use Rattle.entry_passes.specs.Turns.{actions_before};
 ghost use Rattle.block_cache.specs.Blocks.{AreReady};
-ghost use Rattle.block_passes.specs.Clear.{CanServePasses, IsClear};
+ghost use Rattle.block_passes.specs.Clear.{IsClear};
 ghost use Rattle.block_passes.specs.Counting.{IsAmid, at_pass};
 ghost use Rattle.block_passes.specs.Fed.{IsFeedable};
 ghost use Rattle.block_passes.specs.Feeds.{CanGather};
 ghost use Rattle.block_passes.specs.Plans.{IsPlan};
 ghost use Rattle.block_passes.specs.Selections.{AreKept};
-ghost use Rattle.block_passes.specs.Tries.{IsReadOf};
+ghost use Rattle.block_passes.specs.Tries.{CanServeAll, IsReadOf};
 
 use crate::kept::Kept;
+use crate::passes::action_read;
 use crate::plan::loop_passes;
 use crate::sources::gather;
 use crate::testing::batch_places;
@@ -27,7 +28,7 @@ use crate::turn::{ActionRead, Turn};
 use actions::Batch;
 use block_lanes::Lane;
 use cluster_tally::Tally;
-use graph_numbers::{Pass, ResultKind};
+use graph_numbers::Pass;
 use rdf_values::Memory;
 
 /// Where a pass is fed: its place among the loop's actions, and the cluster.
@@ -71,23 +72,6 @@ pub(crate) fn feed_action(
     tally.feed_batch(to.place, to.cluster, &batch)
 }
 
-/// What the action of a pass reads; a report reads nothing.
-pub(crate) fn action_read<'a>(at: &Turn<'a>, own: Pass) -> Option<ActionRead<'a>>
-    requires job { Fits at.now.job.now }
-    requires own { numbered_in (job_of at.now.job.now) at.now.pass ≡ Some own }
-    ensures some { IfSome result (λ r. IsReadOf (job_of at.now.job.now) at.now.pass r.kind.now r.inputs.now r.under) }
-    ensures none { result ≡ None → IsReportPass (job_of at.now.job.now) at.now.pass own.result }
-{
-    match at.job.graph.kind(own.result) {
-        ResultKind::Action(kind) => Some(ActionRead {
-            kind,
-            inputs: at.job.graph.inputs(own.result),
-            under: own.variation,
-        }),
-        ResultKind::Report => None,
-    }
-}
-
 /// Feeds a pass, before which there are so many of actions, and says how many there are behind it.
 fn feed_pass(
     at: &Turn<'_>,
@@ -101,7 +85,7 @@ fn feed_pass(
     requires rows { AreKeys (job_graph (job_of at.now.job.now)) at.now.rows.now }
     requires plan { IsPlan (job_of at.now.job.now) at.now.plan.now }
     requires small { at.now.count ≤ MAX_PLACES }
-    requires serve { (scratch levels : ℕ) × CanServePasses (job_of at.now.job.now) at.now.first at.now.count (kinds_of lanes.now) at.now.cells.now scratch levels }
+    requires serve { (scratch levels : ℕ) × CanServeAll (job_of at.now.job.now) at.now.first at.now.count (kinds_of lanes.now) at.now.cells.now scratch levels }
     requires clear { (p : IsPlan (job_of at.now.job.now) at.now.plan.now) → IsClear (job_of at.now.job.now) at.now.first at.now.count p.chains at.now.plan.now lanes.now kept.now }
     requires own { numbered_in (job_of at.now.job.now) at.now.pass ≡ Some own }
     requires few { at.now.pass < 4294967295 }
@@ -112,7 +96,7 @@ fn feed_pass(
         → HoldsIn (facts_in (job_of at.now.job.now)) watched (at_pass s next) tally.new) }
     ensures memory { All IsNoTake (kinds_in (passes_in (job_of at.now.job.now))) → OnErr result ⊥ }
 {
-    let Some(read) = action_read(at, own) else {
+    let Some(read) = action_read(at.job, own, at.pass) else {
         return Ok(to.place);
     };
     feed_action(at, lanes, kept, tally, &read, to)?;
@@ -131,7 +115,7 @@ pub(crate) fn feed_passes(
     requires rows { AreKeys (job_graph (job_of at.now.job.now)) at.now.rows.now }
     requires plan { IsPlan (job_of at.now.job.now) at.now.plan.now }
     requires small { at.now.count ≤ MAX_PLACES }
-    requires serve { (scratch levels : ℕ) × CanServePasses (job_of at.now.job.now) at.now.first at.now.count (kinds_of lanes.now) at.now.cells.now scratch levels }
+    requires serve { (scratch levels : ℕ) × CanServeAll (job_of at.now.job.now) at.now.first at.now.count (kinds_of lanes.now) at.now.cells.now scratch levels }
     requires clear { (p : IsPlan (job_of at.now.job.now) at.now.plan.now) → IsClear (job_of at.now.job.now) at.now.first at.now.count p.chains at.now.plan.now lanes.now kept.now }
     requires begin { (watched : List ℕ) × (s : BlockStage) × IsAmid (job_of at.now.job.now) at.now.first at.now.count s × (s.cluster ≡ cluster) × (s.passes ≡ 0) × HoldsIn (facts_in (job_of at.now.job.now)) watched s tally.old }
     ensures holds { (watched : List ℕ) (s : BlockStage) → IsAmid (job_of at.now.job.now) at.now.first at.now.count s → s.cluster ≡ cluster → s.passes ≡ 0 → HoldsIn (facts_in (job_of at.now.job.now)) watched s tally.old
