@@ -19,7 +19,7 @@ use crate::level::Level;
 use block_lanes::Lane;
 use entry_cache::reading::{Reading, expression, key, source_of};
 use expr_eval::Steps;
-use expr_lanes::{Known, Scratch, Selection};
+use expr_lanes::{Scratch, Selection};
 use graph_numbers::Source;
 use rdf_values::{Memory, NumArgs, NumNode};
 use std::sync::ledger::Ledger;
@@ -79,9 +79,10 @@ fn lead_of(block: &Block<'_>, lanes: &[Lane], site: u32) -> Option<u32>
 {
     let version = first_read(&expression(block.at, site).tree().node)?;
     let lead = site_of(block.at, version)?;
-    match lanes[key(block.at, lead)].column().known {
-        Known::Everywhere => None,
-        Known::Marked(_) => Some(lead),
+    if lanes[key(block.at, lead)].is_full() {
+        None
+    } else {
+        Some(lead)
     }
 }
 

@@ -16,7 +16,7 @@ key-requires-clause-site g c =
     let low = lead_lower (job_of c.args.block.now.at.now.job.now) c.requires.job.job c.args.block.now.at.now.under c.args.site c.in_ok-lead.lead lead in
     omega (arith, low, c.requires.site)
 
-pub returns-in-Marked : goal.returns-in-Marked
-returns-in-Marked g c =
+pub returns-else-is_full : goal.returns-else-is_full
+returns-else-is_full g c =
     lead_is (job_of c.args.block.now.at.now.job.now) c.args.block.now.at.now.under c.args.site c.in_ok-lead.lead _ c.tree.result.now c.in_ok-version.version refl (c.expression.ensures.tree ∙ ap Some (sym c.tree.ensures.tree))
     (sym c.in_ok-version.was ∙ c.first_read.ensures ∙ ap first_read c.behind-expression.view_is) c.in_ok-lead.ensures
