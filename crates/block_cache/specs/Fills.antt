@@ -144,9 +144,8 @@ pub record IsFilledOver (j : JobView) (first : ℕ) (u : Option ℕ) (count s : 
   pub paid : end + 2 * begun_count before + count_by (λ p. not (holds_at before (key (job_graph j) s u) p)) sel ≤ start + 2 * begun_count after
 
 -- the first fault among the places; left are those below it at which the filter is true; and below it all is settled as before
-pub record IsPassedOver (j : JobView) (first : ℕ) (u : Option ℕ) (count s : ℕ) (sel left : List ℕ) (before after : List LaneView) (found : Option PlaceFault) (start end : ℕ) : Type 0 where
+pub record IsPassedOver (j : JobView) (first : ℕ) (u : Option ℕ) (count s : ℕ) (sel left : List ℕ) (after : List LaneView) (found : Option PlaceFault) : Type 0 where
   pub fault : found ≡ fault_over (site_fault j first u s) sel
   pub left_is : left ≡ filter (λ p. is_true (truth_in j (first + p) u s)) (below_fault found sel)
   pub ready : AreReady j first count after
   pub settled : IsSettled after (below_fault found sel)
-  pub paid : end + 2 * begun_count before + count_by (λ p. not (holds_at before (key (job_graph j) s u) p)) sel ≤ start + 2 * begun_count after

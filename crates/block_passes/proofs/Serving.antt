@@ -12,7 +12,8 @@ use Rattle.entry_cache.specs.Jobs.{JobView, job_graph}
 use Rattle.entry_cache.specs.Keys.{key}
 use Rattle.entry_passes.specs.Turns.{HasAllDemands}
 use Rattle.block_cache.specs.Blocks.{AreReady, HasColumn}
-use Rattle.block_cache.specs.Fills.{IsFilledOver, IsSettled, IsSpentOver, holds_at, site_fault}
+use Rattle.block_cache.specs.Leads.{IsFilledTo}
+use Rattle.block_cache.specs.Fills.{IsSettled, IsSpentOver, holds_at, site_fault}
 use Rattle.block_cache.specs.declared.faults.PlaceFault.{PlaceFault}
 use Rattle.block_passes.specs.Demands.{Demands}
 use Rattle.block_passes.specs.Inputs.{DemandsSource, IsAtHand, IsServedTo, source_fault}
@@ -27,7 +28,7 @@ use Rattle.block_passes.proofs.Spending.{settled_outside, spends_filled}
 -- ---- one site
 
 module _ (j : JobView) (first count : ℕ) (u : Option ℕ) (s pass : ℕ) (sel left : List ℕ) (before after : List LaneView) (start end : ℕ) (old new : Found) (fault : Option PlaceFault)
-    (spent : IsSpentOver j first u s sel before after start end) (filled : IsFilledOver j first u count s sel left before after fault start end) (all_settled : IsSettled after left)
+    (spent : IsSpentOver j first u s sel before after start end) (filled : IsFilledTo j first u count s sel left after fault) (all_settled : IsSettled after left)
     (rising : AreRising sel) (inside : EachPlace sel (λ p. p < old.limit)) (known : (p : ℕ) → p < old.limit → IsSettledAt before p) (now : new ≡ noted first pass old fault) where
   left_is : left ≡ filter (λ p. nat_lt p new.limit) sel
   left_is = filled.left_is ∙ left_below (site_fault j first u s) sel first pass old fault inside ∙ ap (λ (x : Found). filter (λ p. nat_lt p x.limit) sel) (sym now)

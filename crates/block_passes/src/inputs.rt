@@ -17,7 +17,7 @@ ghost use Rattle.block_passes.specs.Spends.{IsSettledAt, Spends};
 use crate::kept::Kept;
 use crate::turn::{Turn, Work};
 use block_cache::attempt::Block;
-use block_cache::fill::fill;
+use block_cache::leads::fill_led;
 use entry_cache::reading::{Reading, source_of};
 use entry_cache::rows::row_at;
 use expr_eval::Steps;
@@ -63,7 +63,7 @@ fn serve_site<L: Ledger>(
         count: at.count as usize,
         cells: at.cells,
     };
-    match fill(
+    match fill_led(
         &block,
         &mut work.lanes,
         site,
