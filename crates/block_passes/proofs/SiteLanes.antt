@@ -6,7 +6,7 @@ use Rattle.rdf_values.specs.declared.value.ColType.TheVariants as kind
 use Rattle.rdf_values.specs.declared.value.Value.TheVariants as val
 use Rattle.rdf_model.specs.Evaluation.{Gives, is_set}
 use Rattle.expr_check.specs.NumKinds.{CheckedExpr}
-use Rattle.expr_lanes.specs.Marks.{lane_value}
+use Rattle.block_lanes.specs.Values.{value_for}
 use Rattle.expr_lanes.specs.Places.{at_place}
 use Rattle.graph_numbers.specs.Graphs.{IsSiteExpr, graph_sites}
 use Rattle.actions.specs.Batches.{truth_of}
@@ -43,11 +43,11 @@ module _ (j : JobView) (first count : ℕ) (u : Option ℕ) (s : ℕ) (inside : 
 
   pub int_gives : e.kind ≡ kind.Int → (p : ℕ) → p < count → holds_at lanes (key (job_graph j) s u) p ≡ true → site_in {M = ⊥} j (first + p) u s ≡ Gives (val.Int (at_place numbers p))
   int_gives is p low holds =
-      gives_value p low holds ∙ ap (λ t. Gives (lane_value t (at_place l.numbers p))) (its_kind kind.Int is) ∙ ap (λ (zs : List ℤ). Gives (val.Int (at_place zs p))) (sym are)
+      gives_value p low holds ∙ ap (λ t. Gives (value_for t l.vectors (at_place l.numbers p))) (its_kind kind.Int is) ∙ ap (λ (zs : List ℤ). Gives (val.Int (at_place zs p))) (sym are)
 
   pub bool_gives : e.kind ≡ kind.Bool → (p : ℕ) → p < count → holds_at lanes (key (job_graph j) s u) p ≡ true → site_in {M = ⊥} j (first + p) u s ≡ Gives (val.Bool (truth_of (at_place numbers p)))
   bool_gives is p low holds =
-      gives_value p low holds ∙ ap (λ t. Gives (lane_value t (at_place l.numbers p))) (its_kind kind.Bool is) ∙ ap (λ (zs : List ℤ). Gives (val.Bool (is_set (at_place zs p)))) (sym are)
+      gives_value p low holds ∙ ap (λ t. Gives (value_for t l.vectors (at_place l.numbers p))) (its_kind kind.Bool is) ∙ ap (λ (zs : List ℤ). Gives (val.Bool (is_set (at_place zs p)))) (sym are)
       ∙ ap (λ b. Gives (val.Bool b)) (same_truth (at_place numbers p))
 
   -- it has that place
