@@ -62,7 +62,8 @@ impl Model for Lane {
 }
 
 impl Lane {
-    /// The lane of a key, with all the memory that it takes for blocks of so many places. Of no block is anything known yet.
+    /// The lane of a key, with all the memory that it takes for blocks of so many places, but for vectors. Of no block is anything
+    /// known yet.
     pub fn new(alloc: Global, kind: ColType, room: usize) -> Result<Lane, Memory>
         requires { room ≤ MAX_PLACES }
         ensures kind { IfOk result (λ l. l.kind ≡ kind) }
