@@ -22,3 +22,4 @@ pub mod Unfed
 pub mod TriedAction
 pub mod TriedFilters
 pub mod SearchedPasses
+pub mod Remaking
