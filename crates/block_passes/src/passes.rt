@@ -1,5 +1,6 @@
 // Trying the passes of a loop over a block.
-ghost use Rattle.std.specs.Prelude.{◌≡◌, ◌<◌, ◌≤◌, ℕ, ◌+◌, IfSome, None, OnOk, Some, length};
+ghost use Rattle.std.specs.Prelude.{◌≡◌, ◌<◌, ◌≤◌, ℕ, ◌+◌, IfSome, None, OnOk, Some, length, slice_range};
+ghost use Rattle.rdf_model.specs.Results.{first_fault_from};
 ghost use Rattle.expr_lanes.specs.declared.TheConstants.{MAX_PLACES};
 ghost use Rattle.block_lanes.specs.Lanes.{kinds_of};
 ghost use Rattle.entry_cache.specs.Caches.{numbered_in};
@@ -91,6 +92,7 @@ pub(crate) fn try_passes<L: Ledger>(
     ensures spends { Spends (job_of at.now.job.now) at.now.first at.now.count work.old.lanes.items work.new.lanes.items steps.old steps.new }
     ensures searched { (p : IsPlan (job_of at.now.job.now) at.now.plan.now)
         → OnOk result (IsSearchedTo (job_of at.now.job.now) at.now.first at.now.count p.chains (length (passes_in (job_of at.now.job.now))) work.new.lanes.items kept.new work.new.found) }
+    ensures fault { OnOk result (first_fault_from (job_of at.now.job.now).dataset at.now.first (slice_range (job_of at.now.job.now).dataset.rows at.now.first (at.now.first + at.now.count)) (passes_in (job_of at.now.job.now)) ≡ work.new.found.best) }
     ensures made { OnOk result ((n : ℕ) → n < length (passes_in (job_of at.now.job.now)) → IsPassMade (job_of at.now.job.now) at.now.count at.now.plan.now kept.new n) }
     ensures scratch { length work.new.scratch.items ≡ length work.old.scratch.items }
     ensures levels { length work.new.levels.items ≡ length work.old.levels.items }
