@@ -23,3 +23,4 @@ pub mod TriedAction
 pub mod TriedFilters
 pub mod SearchedPasses
 pub mod Remaking
+pub mod PlanMade

@@ -7,7 +7,7 @@ use Rattle.rdf_values.specs.declared.value.ColType.{ColType}
 use Rattle.rdf_model.specs.Results.{fault_in, is_true}
 use Rattle.graph_numbers.specs.Graphs.{graph_filters}
 use Rattle.graph_numbers.specs.Outcomes.{report_numbers, through_filter, through_sites}
-use Rattle.graph_numbers.specs.Results.{ResultAt}
+use Rattle.graph_numbers.specs.Results.{FilterAt, ResultAt}
 use Rattle.graph_numbers.specs.declared.pass.Pass.{Pass as NumberedPass}
 use Rattle.block_lanes.specs.Lanes.{LaneView}
 use Rattle.entry_cache.specs.Jobs.{JobView, job_graph}
@@ -77,3 +77,8 @@ pub record IsSearchedTo (j : JobView) (first count : ℕ) (chains : List Chain) 
   pub ready : IsReadyBelow j first count chains s.limit lanes kept
   pub searched : IsSearched (λ q n. pass_fault j (first + q) n) first count passes s
   pub read : (n : ℕ) → n < passes → IsReadBelow j first lanes s.limit n
+
+-- the selections that the passes of a loop take were made: the last step's of each action, and both of each named filter that is covered
+pub record IsPlanMade (j : JobView) (count : ℕ) (plan : PlanView) (kept : List Kept) : Type 0 where
+  pub actions : (n : ℕ) (k : ActionKind) (inputs : List ℕ) (u : Option ℕ) → IsReadOf j n k inputs u → (last : ℕ) → slice_get plan.passes n ≡ Some last → IsMadeAt count kept last
+  pub filters : (f : ℕ) (x : FilterAt) → slice_get (graph_filters (job_graph j)) f ≡ Some x → IsNamedMade count plan kept f

@@ -10,7 +10,7 @@ ghost use Rattle.entry_passes.specs.Turns.{IsReportPass};
 ghost use Rattle.block_passes.specs.Plans.{IsPlan};
 ghost use Rattle.block_passes.specs.Selections.{AreRemade, CanSelect, IsReadyBelow};
 ghost use Rattle.block_passes.specs.Spends.{Spends};
-ghost use Rattle.block_passes.specs.Tries.{CanServeAll, IsPassMade, IsPassTried, IsReadOf, IsSearchedTo};
+ghost use Rattle.block_passes.specs.Tries.{CanServeAll, IsPassMade, IsPassTried, IsPlanMade, IsReadOf, IsSearchedTo};
 
 use crate::action::try_action;
 use crate::kept::Kept;
@@ -93,7 +93,7 @@ pub(crate) fn try_passes<L: Ledger>(
     ensures searched { (p : IsPlan (job_of at.now.job.now) at.now.plan.now)
         → OnOk result (IsSearchedTo (job_of at.now.job.now) at.now.first at.now.count p.chains (length (passes_in (job_of at.now.job.now))) work.new.lanes.items kept.new work.new.found) }
     ensures fault { OnOk result (first_fault_from (job_of at.now.job.now).dataset at.now.first (slice_range (job_of at.now.job.now).dataset.rows at.now.first (at.now.first + at.now.count)) (passes_in (job_of at.now.job.now)) ≡ work.new.found.best) }
-    ensures made { OnOk result ((n : ℕ) → n < length (passes_in (job_of at.now.job.now)) → IsPassMade (job_of at.now.job.now) at.now.count at.now.plan.now kept.new n) }
+    ensures made { OnOk result (IsPlanMade (job_of at.now.job.now) at.now.count at.now.plan.now kept.new) }
     ensures scratch { length work.new.scratch.items ≡ length work.old.scratch.items }
     ensures levels { length work.new.levels.items ≡ length work.old.levels.items }
 {

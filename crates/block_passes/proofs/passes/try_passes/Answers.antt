@@ -6,6 +6,7 @@ use Rattle.entry_passes.specs.Turns.{pass_fault}
 use Rattle.block_passes.specs.Searches.{IsSearched}
 use Rattle.entry_passes.proofs.EntryLaws.{read_pass}
 use Rattle.block_passes.specs.Tries.{CanServeAll, IsPassMade}
+use Rattle.block_passes.proofs.PlanMade.{plan_made}
 use Rattle.block_passes.proofs.Remaking.{pass_stays}
 use Rattle.block_passes.proofs.SearchedPasses.{first_searched, next_searched}
 use Rattle.block_passes.proofs.Spending.{spends_then}
@@ -41,3 +42,9 @@ returns-clause-fault g c =
     let e : c.loop-pass.pass ≡ length (passes_in j) = (let f = c.loop-pass-test.false in let l = c.loop-pass.auto.pass-end in let n = c.loop_passes-passes.ensures.count in omega (arith, f, l, n)) in
     first_searched j c.args.at.now.first c.args.at.now.count c.loop-pass.work.found c.requires.within
     (subst (λ (n : ℕ). IsSearched (λ q i. pass_fault j (c.args.at.now.first + q) i) c.args.at.now.first c.args.at.now.count n c.loop-pass.work.found) e (c.loop-pass.invariant.searched c.requires.plan).searched)
+
+pub returns-clause-made : goal.returns-clause-made
+returns-clause-made g c =
+    let j = job_of c.args.at.now.job.now in
+    plan_made j c.requires.job.job c.args.at.now.count c.args.at.now.plan.now c.requires.plan c.loop-pass.kept
+    (λ n lt. c.loop-pass.invariant.made n (let f = c.loop-pass-test.false in let l = c.loop-pass.auto.pass-end in let m = c.loop_passes-passes.ensures.count in omega (arith, f, l, m, lt)))
