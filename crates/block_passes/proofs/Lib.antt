@@ -25,3 +25,5 @@ pub mod TriedAction
 pub mod FedPasses
 pub mod TriedFilters
 pub mod SearchedPasses
+pub mod Remaking
+pub mod PlanMade

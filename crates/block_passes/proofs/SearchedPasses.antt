@@ -1,8 +1,13 @@
 -- One pass after another over a block.
-use Rattle.std.proofs.Common.{◌≡◌, ◌⊎◌, inl, inr, ℕ, ◌+◌, ◌<◌, ◌≤◌, List, [], ◌∷◌, Option, None, Some, refl, sym, subst, arith}
+use Rattle.std.proofs.Common.{◌∙◌, length, slice_get, ◌-◌, ◌≡◌, ◌⊎◌, inl, inr, ℕ, ◌+◌, ◌<◌, ◌≤◌, List, [], ◌∷◌, Option, None, Some, refl, sym, ap, subst, arith}
+use Rattle.std.specs.Prelude.{slice_range}
+use Rattle.rdf_values.specs.Bookings.{Pass}
 use Rattle.rdf_values.specs.declared.fault.EntryFault.{EntryFault}
+use Rattle.rdf_values.specs.declared.value.Value.{Value}
+use Rattle.rdf_model.specs.Results.{fault_in, first_fault_from}
 use Rattle.block_lanes.specs.Lanes.{LaneView}
-use Rattle.entry_cache.specs.Jobs.{JobView}
+use Rattle.entry_cache.specs.Jobs.{JobView, outcome_of, passes_in}
+use Rattle.loop_pieces.proofs.Places.{range_length}
 use Rattle.entry_cache.specs.Store.{source_at}
 use Rattle.entry_passes.specs.Turns.{pass_fault}
 use Rattle.block_passes.specs.Inputs.{AreAtHand}
@@ -12,6 +17,8 @@ use Rattle.block_passes.specs.Steps.{Chain}
 use Rattle.block_passes.specs.Tries.{IsPassTried, IsReadBelow, IsSearchedTo}
 use Rattle.block_passes.specs.declared.found.Found.{Found}
 use Rattle.block_passes.specs.declared.kept.Kept.{Kept}
+use Rattle.block_passes.specs.Searches.{IsSearched, fault_of}
+use Rattle.block_passes.proofs.FirstFaults.{row_in_block, searched, searched_as}
 use Rattle.block_passes.proofs.Searching.{or_else, part_tried, pass_begins, pass_ends, search_begins}
 use Rattle.block_passes.proofs.ServingInputs.{still_at_hand}
 
@@ -51,3 +58,21 @@ module _ (j : JobView) (first count : ℕ) (before after : List LaneView) (start
       at : (m : ℕ) → (m < n) ⊎ (m ≡ n) → IsReadBelow j first after t.limit m
       at m (inl l) = still_read s.limit t.limit m k.lowers.falls (h.read m l)
       at m (inr e) = subst (λ (i : ℕ). IsReadBelow j first after t.limit i) (sym e) k.read
+
+-- ---- the block's first fault
+
+same_fault : (j : JobView) (row : Option (List Value)) (p : Option Pass) → fault_in (outcome_of j row p) ≡ fault_of j.dataset row p
+same_fault j None p = refl
+same_fault j (Some row) None = refl
+same_fault j (Some row) (Some p) = refl
+
+-- where all passes were tried, the best fault is the first one of the block's rows
+pub first_searched : (j : JobView) (first count : ℕ) (s : Found) → first + count ≤ length j.dataset.rows → IsSearched (λ q n. pass_fault j (first + q) n) first count (length (passes_in j)) s
+    → first_fault_from j.dataset first (slice_range j.dataset.rows first (first + count)) (passes_in j) ≡ s.best
+first_searched j first count s within h =
+    let long : length (slice_range j.dataset.rows first (first + count)) ≡ count = range_length j.dataset.rows first (first + count) (omega arith) within ∙ (let e : first + count - first ≡ count = omega arith in e) in
+    searched j.dataset (passes_in j) (slice_range j.dataset.rows first (first + count)) first s
+    (subst (λ (n : ℕ). IsSearched (λ p i. fault_of j.dataset (slice_get (slice_range j.dataset.rows first (first + count)) p) (slice_get (passes_in j) i)) first n (length (passes_in j)) s) (sym long)
+    (searched_as (λ q n. pass_fault j (first + q) n) (λ p i. fault_of j.dataset (slice_get (slice_range j.dataset.rows first (first + count)) p) (slice_get (passes_in j) i)) first count (length (passes_in j)) s
+    (λ q n lt. same_fault j (slice_get j.dataset.rows (first + q)) (slice_get (passes_in j) n) ∙ ap (λ o. fault_of j.dataset o (slice_get (passes_in j) n)) (sym (row_in_block j.dataset.rows first (first + count) q (omega (arith, lt)))))
+    h))

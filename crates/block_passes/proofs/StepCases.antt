@@ -21,7 +21,7 @@ use Rattle.block_passes.proofs.StepSelecting.{narrowed_made, own_fault, whole_ma
 
 -- ---- a selection that is written
 
-set_other : {A : Type 0} (xs : List A) (k : ℕ) (y : A) (i : ℕ) (x : A) → slice_get (slice_set xs k y) i ≡ Some x → (slice_get xs i ≡ Some x) ⊎ ((i ≡ k) × (x ≡ y))
+pub set_other : {A : Type 0} (xs : List A) (k : ℕ) (y : A) (i : ℕ) (x : A) → slice_get (slice_set xs k y) i ≡ Some x → (slice_get xs i ≡ Some x) ⊎ ((i ≡ k) × (x ≡ y))
 set_other [] k y i x h = inl h
 set_other (z ∷ xs) zero y zero x h = inr (refl, cc h)
 set_other (z ∷ xs) zero y (suc i) x h = inl h
@@ -32,7 +32,7 @@ set_other (z ∷ xs) (suc k) y (suc i) x h = go (set_other xs k y i x h)
     go (inl q) = inl q
     go (inr q) = inr (ap (λ n. suc n) q.0, q.1)
 
-set_here : {A : Type 0} (xs : List A) (k : ℕ) (y : A) → k < length xs → slice_get (slice_set xs k y) k ≡ Some y
+pub set_here : {A : Type 0} (xs : List A) (k : ℕ) (y : A) → k < length xs → slice_get (slice_set xs k y) k ≡ Some y
 set_here [] k y h = absurd (omega (arith, h))
 set_here (z ∷ xs) zero y h = refl
 set_here (z ∷ xs) (suc k) y h = set_here xs k y (omega (arith, h))

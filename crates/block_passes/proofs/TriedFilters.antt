@@ -138,6 +138,21 @@ filters_tried j first count chains pass filters fs f e lanes after kept now a b 
 
 -- ---- a report
 
+-- its pass is not an action's
+pub no_action : (j : JobView) (pass own : ℕ) (rep : IsReportPass j pass own) (m : NumberedPass) (r : ResultAt) (k : ActionKind) → IsActionOf j pass m r k → ⊥
+no_action j pass own rep m r k of =
+    let e1 : rep.numbered ≡ m = same_step rep.numbered m (sym rep.its_pass ∙ of.its_pass) in
+    let e2 : rep.result ≡ r = same_step rep.result r (sym rep.there_is ∙ ap (slice_get (graph_results (job_graph j))) (sym rep.its_result) ∙ ap (λ (n : NumberedPass). slice_get (graph_results (job_graph j)) n.result) e1 ∙ of.its_result) in
+    let bad : ReportOn rep.filters ≡ ActionAt k of.at = sym rep.report ∙ ap (λ (x : ResultAt). x.booked.booking) e2 ∙ of.booking in
+    cc bad
+
+-- it is one report's
+pub same_report : (j : JobView) (pass own other : ℕ) (rep : IsReportPass j pass own) (rep2 : IsReportPass j pass other) → rep.result ≡ rep2.result
+same_report j pass own other rep rep2 =
+    let e1 : rep.numbered ≡ rep2.numbered = same_step rep.numbered rep2.numbered (sym rep.its_pass ∙ rep2.its_pass) in
+    same_step rep.result rep2.result
+    (sym rep.there_is ∙ ap (slice_get (graph_results (job_graph j))) (sym rep.its_result) ∙ ap (λ (n : NumberedPass). slice_get (graph_results (job_graph j)) n.result) e1 ∙ ap (slice_get (graph_results (job_graph j))) rep2.its_result ∙ rep2.there_is)
+
 -- its pass was tried
 pub report_tried : (j : JobView) (job : IsJob j) (first count : ℕ) (chains : List Chain) (pass own : ℕ) (rep : IsReportPass j pass own) (ns : List ℕ) → rep.result.covers ≡ ns → first + count ≤ length j.dataset.rows
     → (lanes : List LaneView) (kept : List Kept) (a b : Found) → a.limit ≤ count → IsTriedTo j first count chains (filters_fault j first ns) pass lanes kept a b → IsPassTried j first count chains pass lanes kept a b
@@ -145,12 +160,5 @@ report_tried j job first count chains pass own rep ns e within lanes kept a b lo
   ready = t.ready;
   lowers = lowers_as (filters_fault j first ns) (λ q. pass_fault j (first + q) pass) first pass a b
       (λ q lt. (let row = row_there j.dataset.rows (first + q) (omega (arith, lt, low, within)) in sym (its_fault j job (first + q) row.0 row.1 pass own rep ns e))) t.lowers;
-  read = λ m r k of q lt passed. absurd (no_action m r k of);
+  read = λ m r k of q lt passed. absurd (no_action j pass own rep m r k of);
 }
-  where
-    no_action : (m : NumberedPass) (r : ResultAt) (k : ActionKind) → IsActionOf j pass m r k → ⊥
-    no_action m r k of =
-        let e1 : rep.numbered ≡ m = same_step rep.numbered m (sym rep.its_pass ∙ of.its_pass) in
-        let e2 : rep.result ≡ r = same_step rep.result r (sym rep.there_is ∙ ap (slice_get (graph_results (job_graph j))) (sym rep.its_result) ∙ ap (λ (n : NumberedPass). slice_get (graph_results (job_graph j)) n.result) e1 ∙ of.its_result) in
-        let bad : ReportOn rep.filters ≡ ActionAt k of.at = sym rep.report ∙ ap (λ (x : ResultAt). x.booked.booking) e2 ∙ of.booking in
-        cc bad

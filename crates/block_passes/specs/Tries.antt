@@ -1,5 +1,5 @@
 -- What trying a pass over a block does.
-use Rattle.std.specs.Prelude.{◌≡◌, ◌<◌, ◌+◌, ℕ, ℤ, true, List, None, Option, slice_get}
+use Rattle.std.specs.Prelude.{◌≡◌, ◌<◌, ◌+◌, ℕ, ℤ, true, List, None, Option, Some, slice_get}
 use Rattle.std.specs.List.{AllByRecursion}
 use Rattle.rdf_values.specs.declared.action.ActionKind.{ActionKind}
 use Rattle.rdf_values.specs.declared.fault.EntryFault.{EntryFault}
@@ -7,19 +7,20 @@ use Rattle.rdf_values.specs.declared.value.ColType.{ColType}
 use Rattle.rdf_model.specs.Results.{fault_in, is_true}
 use Rattle.graph_numbers.specs.Graphs.{graph_filters}
 use Rattle.graph_numbers.specs.Outcomes.{report_numbers, through_filter, through_sites}
-use Rattle.graph_numbers.specs.Results.{ResultAt}
+use Rattle.graph_numbers.specs.Results.{FilterAt, ResultAt}
 use Rattle.graph_numbers.specs.declared.pass.Pass.{Pass as NumberedPass}
 use Rattle.block_lanes.specs.Lanes.{LaneView}
 use Rattle.entry_cache.specs.Jobs.{JobView, job_graph}
 use Rattle.entry_cache.specs.Store.{site_in}
-use Rattle.entry_passes.specs.Turns.{pass_fault}
+use Rattle.entry_passes.specs.Turns.{IsReportPass, pass_fault}
 use Rattle.block_passes.specs.Inputs.{AreAtHand, CanServe}
-use Rattle.block_passes.specs.Plans.{IsActionOf}
+use Rattle.block_passes.specs.Plans.{IsActionOf, PlanView}
 use Rattle.block_passes.specs.Searches.{IsSearched, Lowers}
-use Rattle.block_passes.specs.Selections.{IsReadyBelow}
+use Rattle.block_passes.specs.Selections.{IsMadeAt, IsReadyBelow}
 use Rattle.block_passes.specs.Steps.{Chain}
 use Rattle.block_passes.specs.declared.found.Found.{Found}
 use Rattle.block_passes.specs.declared.kept.Kept.{Kept}
+use Rattle.block_passes.specs.declared.plan.NamedSteps.{NamedSteps}
 
 -- the pass of that number is of an action of this kind, which reads these versions
 pub record IsReadOf (j : JobView) (pass : ℕ) (k : ActionKind) (inputs : List ℕ) (u : Option ℕ) : Type 0 where
@@ -55,7 +56,16 @@ pub record IsTriedTo (j : JobView) (first count : ℕ) (chains : List Chain) (pa
   pub ready : IsReadyBelow j first count chains new.limit lanes kept
   pub lowers : Lowers part first pass old new
 
+-- the selections of a named filter's steps were made
+abbrev pub IsNamedMade : ℕ → PlanView → List Kept → ℕ → Type 0
+IsNamedMade count plan kept f = (s : NamedSteps) → slice_get plan.filters f ≡ Some (Some s) → IsMadeAt count kept s.above × IsMadeAt count kept s.own
+
 -- ---- all passes
+
+-- the selections that a pass takes were made
+pub record IsPassMade (j : JobView) (count : ℕ) (plan : PlanView) (kept : List Kept) (pass : ℕ) : Type 0 where
+  pub action : (k : ActionKind) (inputs : List ℕ) (u : Option ℕ) → IsReadOf j pass k inputs u → (last : ℕ) → slice_get plan.passes pass ≡ Some last → IsMadeAt count kept last
+  pub report : (own : ℕ) (rep : IsReportPass j pass own) → AllByRecursion (IsNamedMade count plan kept) rep.result.covers
 
 -- all that the actions of a loop read can be served
 abbrev pub CanServeAll : JobView → ℕ → ℕ → List ColType → List (List ℤ) → ℕ → ℕ → Type 0
@@ -67,3 +77,8 @@ pub record IsSearchedTo (j : JobView) (first count : ℕ) (chains : List Chain) 
   pub ready : IsReadyBelow j first count chains s.limit lanes kept
   pub searched : IsSearched (λ q n. pass_fault j (first + q) n) first count passes s
   pub read : (n : ℕ) → n < passes → IsReadBelow j first lanes s.limit n
+
+-- the selections that the passes of a loop take were made: the last step's of each action, and both of each named filter that is covered
+pub record IsPlanMade (j : JobView) (count : ℕ) (plan : PlanView) (kept : List Kept) : Type 0 where
+  pub actions : (n : ℕ) (k : ActionKind) (inputs : List ℕ) (u : Option ℕ) → IsReadOf j n k inputs u → (last : ℕ) → slice_get plan.passes n ≡ Some last → IsMadeAt count kept last
+  pub filters : (f : ℕ) (x : FilterAt) → slice_get (graph_filters (job_graph j)) f ≡ Some x → IsNamedMade count plan kept f

@@ -1,5 +1,5 @@
 // Trying an action's pass over a block.
-ghost use Rattle.std.specs.Prelude.{◌≡◌, ◌<◌, ◌≤◌, ◌+◌, OnOk, Some, length, slice_get};
+ghost use Rattle.std.specs.Prelude.{◌≡◌, ◌<◌, ◌≤◌, ◌+◌, ℕ, OnOk, Some, length, slice_get};
 ghost use Rattle.std.specs.List.{AllByRecursion};
 ghost use Rattle.expr_lanes.specs.declared.TheConstants.{MAX_PLACES};
 ghost use Rattle.block_lanes.specs.Lanes.{kinds_of};
@@ -7,7 +7,7 @@ ghost use Rattle.entry_cache.specs.Jobs.{Fits, job_graph, job_of};
 ghost use Rattle.entry_cache.specs.Keys.{AreKeys};
 ghost use Rattle.block_passes.specs.Inputs.{CanServe};
 ghost use Rattle.block_passes.specs.Plans.{IsPlan};
-ghost use Rattle.block_passes.specs.Selections.{CanSelect, IsReadyBelow};
+ghost use Rattle.block_passes.specs.Selections.{AreRemade, CanSelect, IsMadeAt, IsReadyBelow};
 ghost use Rattle.block_passes.specs.Spends.{Spends};
 ghost use Rattle.block_passes.specs.Tries.{IsPassTried, IsReadOf};
 
@@ -41,6 +41,8 @@ pub(crate) fn try_action<L: Ledger>(
     ensures spends { Spends (job_of at.now.job.now) at.now.first at.now.count work.old.lanes.items work.new.lanes.items steps.old steps.new }
     ensures tried { (p : IsPlan (job_of at.now.job.now) at.now.plan.now)
         → OnOk result (IsPassTried (job_of at.now.job.now) at.now.first at.now.count p.chains at.now.pass work.new.lanes.items kept.new work.old.found work.new.found) }
+    ensures remade { OnOk result (AreRemade at.now.count kept.old kept.new) }
+    ensures made { OnOk result ((last : ℕ) → slice_get at.now.plan.now.passes at.now.pass ≡ Some last → IsMadeAt at.now.count kept.new last) }
     ensures scratch { length work.new.scratch.items ≡ length work.old.scratch.items }
     ensures levels { length work.new.levels.items ≡ length work.old.levels.items }
 {

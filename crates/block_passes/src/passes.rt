@@ -1,5 +1,6 @@
 // Trying the passes of a loop over a block.
-ghost use Rattle.std.specs.Prelude.{◌≡◌, ◌≤◌, ◌+◌, IfSome, None, OnOk, Some, length};
+ghost use Rattle.std.specs.Prelude.{◌≡◌, ◌<◌, ◌≤◌, ℕ, ◌+◌, IfSome, None, OnOk, Some, length, slice_range};
+ghost use Rattle.rdf_model.specs.Results.{first_fault_from};
 ghost use Rattle.expr_lanes.specs.declared.TheConstants.{MAX_PLACES};
 ghost use Rattle.block_lanes.specs.Lanes.{kinds_of};
 ghost use Rattle.entry_cache.specs.Caches.{numbered_in};
@@ -7,9 +8,9 @@ ghost use Rattle.entry_cache.specs.Jobs.{Fits, job_graph, job_of, passes_in};
 ghost use Rattle.entry_cache.specs.Keys.{AreKeys};
 ghost use Rattle.entry_passes.specs.Turns.{IsReportPass};
 ghost use Rattle.block_passes.specs.Plans.{IsPlan};
-ghost use Rattle.block_passes.specs.Selections.{CanSelect, IsReadyBelow};
+ghost use Rattle.block_passes.specs.Selections.{AreRemade, CanSelect, IsReadyBelow};
 ghost use Rattle.block_passes.specs.Spends.{Spends};
-ghost use Rattle.block_passes.specs.Tries.{CanServeAll, IsPassTried, IsReadOf, IsSearchedTo};
+ghost use Rattle.block_passes.specs.Tries.{CanServeAll, IsPassMade, IsPassTried, IsPlanMade, IsReadOf, IsSearchedTo};
 
 use crate::action::try_action;
 use crate::kept::Kept;
@@ -60,6 +61,8 @@ pub(crate) fn try_pass<L: Ledger>(
     ensures spends { Spends (job_of at.now.job.now) at.now.first at.now.count work.old.lanes.items work.new.lanes.items steps.old steps.new }
     ensures tried { (p : IsPlan (job_of at.now.job.now) at.now.plan.now)
         → OnOk result (IsPassTried (job_of at.now.job.now) at.now.first at.now.count p.chains at.now.pass work.new.lanes.items kept.new work.old.found work.new.found) }
+    ensures remade { OnOk result (AreRemade at.now.count kept.old kept.new) }
+    ensures made { OnOk result (IsPassMade (job_of at.now.job.now) at.now.count at.now.plan.now kept.new at.now.pass) }
     ensures scratch { length work.new.scratch.items ≡ length work.old.scratch.items }
     ensures levels { length work.new.levels.items ≡ length work.old.levels.items }
 {
@@ -89,6 +92,8 @@ pub(crate) fn try_passes<L: Ledger>(
     ensures spends { Spends (job_of at.now.job.now) at.now.first at.now.count work.old.lanes.items work.new.lanes.items steps.old steps.new }
     ensures searched { (p : IsPlan (job_of at.now.job.now) at.now.plan.now)
         → OnOk result (IsSearchedTo (job_of at.now.job.now) at.now.first at.now.count p.chains (length (passes_in (job_of at.now.job.now))) work.new.lanes.items kept.new work.new.found) }
+    ensures fault { OnOk result (first_fault_from (job_of at.now.job.now).dataset at.now.first (slice_range (job_of at.now.job.now).dataset.rows at.now.first (at.now.first + at.now.count)) (passes_in (job_of at.now.job.now)) ≡ work.new.found.best) }
+    ensures made { OnOk result (IsPlanMade (job_of at.now.job.now) at.now.count at.now.plan.now kept.new) }
     ensures scratch { length work.new.scratch.items ≡ length work.old.scratch.items }
     ensures levels { length work.new.levels.items ≡ length work.old.levels.items }
 {

@@ -7,9 +7,9 @@ ghost use Rattle.entry_cache.specs.Caches.{IsCovered};
 ghost use Rattle.entry_cache.specs.Jobs.{Fits, job_graph, job_of};
 ghost use Rattle.entry_cache.specs.Keys.{AreKeys};
 ghost use Rattle.block_passes.specs.Plans.{IsPlan};
-ghost use Rattle.block_passes.specs.Selections.{CanSelect, IsReadyBelow};
+ghost use Rattle.block_passes.specs.Selections.{AreRemade, CanSelect, IsReadyBelow};
 ghost use Rattle.block_passes.specs.Spends.{Spends};
-ghost use Rattle.block_passes.specs.Tries.{IsTriedTo, filter_fault, filters_fault};
+ghost use Rattle.block_passes.specs.Tries.{IsNamedMade, IsTriedTo, filter_fault, filters_fault};
 
 use crate::kept::Kept;
 use crate::select::select_step;
@@ -38,6 +38,8 @@ fn try_filter<L: Ledger>(
     ensures spends { Spends (job_of at.now.job.now) at.now.first at.now.count work.old.lanes.items work.new.lanes.items steps.old steps.new }
     ensures tried { (p : IsPlan (job_of at.now.job.now) at.now.plan.now)
         → OnOk result (IsTriedTo (job_of at.now.job.now) at.now.first at.now.count p.chains (filter_fault (job_of at.now.job.now) at.now.first filter) at.now.pass work.new.lanes.items kept.new work.old.found work.new.found) }
+    ensures remade { OnOk result (AreRemade at.now.count kept.old kept.new) }
+    ensures made { OnOk result (IsNamedMade at.now.count at.now.plan.now kept.new filter) }
     ensures scratch { length work.new.scratch.items ≡ length work.old.scratch.items }
     ensures levels { length work.new.levels.items ≡ length work.old.levels.items }
 {
@@ -70,6 +72,8 @@ pub(crate) fn try_filters<L: Ledger>(
     ensures spends { Spends (job_of at.now.job.now) at.now.first at.now.count work.old.lanes.items work.new.lanes.items steps.old steps.new }
     ensures tried { (p : IsPlan (job_of at.now.job.now) at.now.plan.now)
         → OnOk result (IsTriedTo (job_of at.now.job.now) at.now.first at.now.count p.chains (filters_fault (job_of at.now.job.now) at.now.first filters.now) at.now.pass work.new.lanes.items kept.new work.old.found work.new.found) }
+    ensures remade { OnOk result (AreRemade at.now.count kept.old kept.new) }
+    ensures made { OnOk result (AllByRecursion (IsNamedMade at.now.count at.now.plan.now kept.new) filters.now) }
     ensures scratch { length work.new.scratch.items ≡ length work.old.scratch.items }
     ensures levels { length work.new.levels.items ≡ length work.old.levels.items }
 {

@@ -10,7 +10,7 @@ ghost use Rattle.entry_cache.specs.Keys.{AreKeys, key};
 ghost use Rattle.block_cache.specs.Blocks.{AreReady};
 ghost use Rattle.block_cache.specs.Fills.{CanFill, IsSpentOver};
 ghost use Rattle.block_passes.specs.Plans.{IsPlan};
-ghost use Rattle.block_passes.specs.Selections.{CanSelect, IsFilteredTo, IsNextSelected, IsReadyBelow, IsSelectedTo};
+ghost use Rattle.block_passes.specs.Selections.{AreRemade, CanSelect, IsFilteredTo, IsNextSelected, IsReadyBelow, IsSelectedTo};
 ghost use Rattle.block_passes.specs.Spends.{IsSettledAt, Spends};
 ghost use Rattle.block_passes.specs.declared.kept.Kept.{Kept as KeptView};
 
@@ -106,6 +106,7 @@ pub(crate) fn next_places<L: Ledger>(
     ensures spends { Spends (job_of at.now.job.now) at.now.first at.now.count work.old.lanes.items work.new.lanes.items steps.old steps.new }
     ensures selected { (p : IsPlan (job_of at.now.job.now) at.now.plan.now)
         → OnOk result (IsNextSelected (job_of at.now.job.now) at.now.first at.now.count p.chains at.now.pass next.step next.parent next.filter.site next.filter.under work.new.lanes.items (above.now ++ own.new) work.old.found work.new.found) }
+    ensures remade { OnOk result (AreRemade at.now.count (above.now ++ own.old) (above.now ++ own.new)) }
     ensures scratch { length work.new.scratch.items ≡ length work.old.scratch.items }
     ensures levels { length work.new.levels.items ≡ length work.old.levels.items }
 {
@@ -139,6 +140,7 @@ pub(crate) fn select_step<L: Ledger>(
     ensures spends { Spends (job_of at.now.job.now) at.now.first at.now.count work.old.lanes.items work.new.lanes.items steps.old steps.new }
     ensures selected { (p : IsPlan (job_of at.now.job.now) at.now.plan.now)
         → OnOk result (IsSelectedTo (job_of at.now.job.now) at.now.first at.now.count p.chains at.now.pass step work.new.lanes.items kept.new work.old.found work.new.found) }
+    ensures remade { OnOk result (AreRemade at.now.count kept.old kept.new) }
     ensures scratch { length work.new.scratch.items ≡ length work.old.scratch.items }
     ensures levels { length work.new.levels.items ≡ length work.old.levels.items }
 {

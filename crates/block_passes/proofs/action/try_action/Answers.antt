@@ -1,4 +1,4 @@
-use Rattle.std.proofs.Common.{◌∙◌, List, get_or, length, refl, subst, sym}
+use Rattle.std.proofs.Common.{◌≡◌, ◌∙◌, ℕ, arith, List, get_or, length, refl, subst, sym}
 use Rattle.std.specs.Prelude.{slice_set}
 use Rattle.std.specs.List.{AllByRecursion}
 use Rattle.std.proofs.lemmas.Option.{slice_get-get_or}
@@ -6,11 +6,14 @@ use Rattle.rdf_values.specs.declared.value.ColType.{ColType}
 use Rattle.block_lanes.specs.Lanes.{LaneView, kinds_of}
 use Rattle.entry_cache.specs.Jobs.{job_of}
 use Rattle.block_passes.specs.Inputs.{CanServe}
+use Rattle.block_passes.specs.Selections.{IsMadeAt}
 use Rattle.block_passes.specs.Spends.{Spends}
 use Rattle.block_passes.specs.Tries.{IsPassTried}
+use Rattle.block_passes.proofs.Remaking.{made_set, remade_set, remade_then}
 use Rattle.block_passes.proofs.ServingInputs.{served_inside}
 use Rattle.block_passes.proofs.Spending.{spends_then}
 use Rattle.block_passes.proofs.StepCases.{kept_inside}
+use Rattle.block_passes.proofs.StepLaws.{same_step}
 use Rattle.block_passes.proofs.TriedAction.{action_tried, gathers, has_step, last_there, to_demanded, to_inside, to_limit}
 use Rattle.block_passes.proofs.action.try_action.Goals as goal
 
@@ -71,3 +74,23 @@ returns-clause-tried g c = λ p.
     subst (λ (ls : List LaneView). IsPassTried (job_of c.args.at.now.job.now) c.args.at.now.first c.args.at.now.count p.chains c.args.at.now.pass ls (slice_set c.select_step.new.kept c.last_step-last.result c.test_feeding.new.to) c.args.work.now.found c.test_feeding.new.work.found) (sym c.test_feeding.ensures.lanes)
     (action_tried (job_of c.args.at.now.job.now) c.requires.job.job c.args.at.now.first c.args.at.now.count c.args.at.now.pass c.args.at.now.plan.now p c.requires.within c.args.own.now.kind.now c.args.own.now.inputs.now c.args.own.now.under c.requires.action c.last_step-last.result c.last_step-last.ensures c.select_step.new.kept c.select_step.new.work.lanes.items c.args.work.now.found c.select_step.new.work.found (c.in-Ok.ensures.selected p) to there (c.requires.ready p).within c.serve_inputs.new.to c.test_feeding.new.to c.serve_inputs.new.work.lanes.items c.serve_inputs.new.work.found c.test_feeding.new.work.found
     c.in-Ok-serve_inputs.ensures.served c.in-Ok-serve_inputs.ensures.held c.test_feeding.ensures.tested (slice_set c.select_step.new.kept c.last_step-last.result c.test_feeding.new.to) refl)
+
+pub returns-clause-remade : goal.returns-clause-remade
+returns-clause-remade g c =
+    let a = c.test_feeding.ensures.tested.lowers.falls in
+    let b = c.in-Ok-serve_inputs.ensures.served.lowers.falls in
+    let within = (c.in-Ok.ensures.selected c.requires.plan).ready.within in
+    remade_then c.args.at.now.count c.args.kept.now c.select_step.new.kept (slice_set c.select_step.new.kept c.last_step-last.result c.test_feeding.new.to) c.in-Ok.ensures.remade
+    (remade_set c.args.at.now.count c.select_step.new.kept c.last_step-last.result c.test_feeding.new.to (slice_set c.select_step.new.kept c.last_step-last.result c.test_feeding.new.to) refl (c.test_feeding.new.work.found.limit, c.test_feeding.ensures.tested.its_limit, omega (arith, a, b, within)))
+
+pub returns-clause-made : goal.returns-clause-made
+returns-clause-made g c = λ l its.
+    let lt = kept_inside (job_of c.args.at.now.job.now) c.args.at.now.first c.select_step.new.work.found.limit c.requires.plan.chains c.args.at.now.plan.now.steps c.select_step.new.kept c.last_step-last.result c.requires.plan.steps (c.in-Ok.ensures.selected c.requires.plan).ready.kept_are (last_there (job_of c.args.at.now.job.now) c.requires.job.job c.args.at.now.first c.args.at.now.count c.args.at.now.pass c.args.at.now.plan.now c.requires.plan c.requires.within c.args.own.now.kind.now c.args.own.now.inputs.now c.args.own.now.under c.requires.action c.last_step-last.result c.last_step-last.ensures) in
+    let to = get_or c.select_step.new.kept c.last_step-last.result c.index-kept-last.result in
+    let there = slice_get-get_or c.select_step.new.kept c.last_step-last.result c.index-kept-last.result lt in
+    let a = c.test_feeding.ensures.tested.lowers.falls in
+    let b = c.in-Ok-serve_inputs.ensures.served.lowers.falls in
+    let within = (c.in-Ok.ensures.selected c.requires.plan).ready.within in
+    let same : c.last_step-last.result ≡ l = same_step c.last_step-last.result l (sym c.last_step-last.ensures ∙ its) in
+    subst (λ (n : ℕ). IsMadeAt c.args.at.now.count (slice_set c.select_step.new.kept c.last_step-last.result c.test_feeding.new.to) n) same
+    (made_set c.args.at.now.count c.select_step.new.kept c.last_step-last.result c.test_feeding.new.to lt (c.test_feeding.new.work.found.limit, c.test_feeding.ensures.tested.its_limit, omega (arith, a, b, within)))
