@@ -1,5 +1,5 @@
 -- The sites that a site meets can be filled where it can.
-use Rattle.std.proofs.Common.{◌≡◌, ◌<◌, ◌+◌, ℕ, ℤ, Bool, true, false, List, [], length, Option, Some, refl, sym, ◌∙◌, ap, subst, arith, nat_eq, slice_get, if◌then◌else◌}
+use Rattle.std.proofs.Common.{◌≡◌, ◌<◌, ◌≤◌, ◌+◌, ℕ, ℤ, Bool, true, false, List, [], length, Option, Some, refl, sym, ◌∙◌, ap, subst, arith, nat_eq, slice_get, if◌then◌else◌}
 use Rattle.std.proofs.lemmas.Bool.Decides.{Decides-eqb}
 use Rattle.rdf_values.specs.EachColumn.{EachColumn}
 use Rattle.rdf_values.specs.Path.{history}
@@ -18,11 +18,12 @@ use Rattle.graph_numbers.specs.declared.source.Source.{Source}
 use Rattle.graph_numbers.specs.declared.source.Source.TheVariants as from
 use Rattle.entry_cache.specs.Jobs.{JobView, IsJob, job_graph}
 use Rattle.entry_cache.specs.Plain.{ArePlain}
-use Rattle.entry_cache.specs.Store.{IsSiteOf, IsSound, MeetsAt, site_in, source_at, version_in}
+use Rattle.entry_cache.specs.Store.{IsSiteOf, IsSound, IsSourceIn, MeetsAt, site_in, source_at, version_in}
 use Rattle.entry_cache.proofs.EvaluateLaws.{accepted_of, whole}
 use Rattle.entry_cache.proofs.FillLaws.{in_source}
 use Rattle.entry_cache.proofs.PlainLaws.{plain_closed}
-use Rattle.block_cache.specs.Fills.{CanFill, IsRankedBelow}
+use Rattle.expr_lanes.specs.Depths.{depth}
+use Rattle.block_cache.specs.Fills.{AreSiteKinds, CanFill, IsLoaded, IsRankedBelow}
 
 known_never : (o : Outcome ⊥ Value) → is_need (with_needs {M = ℕ} o) ≡ true → ⊥
 known_never (Gives v) e = cc e
@@ -51,7 +52,7 @@ met_each j job entry u s c P met each = go _ _ (close.evaluate_close N (without 
 pub met_used : (j : JobView) (job : IsJob j) (entry : ℕ) (u : Option ℕ) (s c t : ℕ) (used : ℕ → Bool) → ArePlain j used → used s ≡ true → MeetsAt j entry u s c → IsSiteOf t (source_at j u c) → used t ≡ true
 met_used j job entry u s c t used plain has met site = in_source used t (source_at j u c) site ((plain_closed j job entry u used plain).each s c has met)
 
-ranked : (rank : ℕ → ℕ) (m t : ℕ) (x : Source) → IsSiteOf t x → IsRankedBelow rank m x → rank t < m
+pub ranked : (rank : ℕ → ℕ) (m t : ℕ) (x : Source) → IsSiteOf t x → IsRankedBelow rank m x → rank t < m
 ranked rank m t (from.Cell col) site h = elim site [ ]
 ranked rank m t (from.Site s) site h = subst (λ (n : ℕ). rank n < m) site h
 ranked rank m t (from.Element s k tags) site h = subst (λ (n : ℕ). rank n < m) site h
@@ -61,8 +62,7 @@ pub can_below : (j : JobView) (job : IsJob j) (first : ℕ) (u : Option ℕ) (co
     → CanFill j first u count kinds cells scratch fewer t
 can_below j job first u count s c t p kinds cells scratch levels fewer can met site less = record {
   used = can.used;
-  plain = can.plain;
-  has = met_used j job (first + p) u s c t can.used can.plain can.has met site;
+  has = in_source can.used t (source_at j u c) site (met_each j job (first + p) u s c (λ d. IsSourceIn can.used (source_at j u d)) met (can.each s met.0 can.has met.1).closed);
   kinds_are = can.kinds_are;
   rank = can.rank;
   each = can.each;
@@ -91,3 +91,26 @@ falls_by_number j job u s x at =
     lower (from.Cell col) below = tt
     lower (from.Site t) below = below
     lower (from.Element t k tags) below = below
+
+in_all : (x : Source) → IsSourceIn (λ t. true) x
+in_all (from.Cell col) = tt
+in_all (from.Site t) = refl
+in_all (from.Element t k tags) = refl
+
+-- each site can be filled, with vectors or without, where the levels of scratch are enough for each expression, the columns are there, and
+-- there is a level for each site
+pub can_fill_site : (j : JobView) (job : IsJob j) (first : ℕ) (u : Option ℕ) (count s : ℕ) (kinds : List ColType) (cells : List (List ℤ)) (scratch levels : ℕ) → AreSiteKinds (job_graph j) kinds
+    → ((t : ℕ) (x : SiteAt) → slice_get (graph_sites (job_graph j)) t ≡ Some x → (depth x.tree ≤ scratch) × EachColumn (λ c. IsLoaded j first count cells (source_at j u c)) x.tree) → s < levels → CanFill j first u count kinds cells scratch levels s
+can_fill_site j job first u count s kinds cells scratch levels kinds_are each room = record {
+  used = λ t. true;
+  has = refl;
+  kinds_are = kinds_are;
+  rank = λ n. n;
+  each = λ t x has at. record {
+    deep = (each t x at).0;
+    loaded = (each t x at).1;
+    closed = each_weaker (λ c. IsLoaded j first count cells (source_at j u c)) _ (λ c loaded. in_all (source_at j u c)) x.tree (each t x at).1;
+    falls = falls_by_number j job u t x at;
+  };
+  room = room;
+}

@@ -1,22 +1,16 @@
 -- A site that can be filled can be tried.
-use Rattle.std.proofs.Common.{◌≡◌, ◌<◌, ◌≤◌, ◌+◌, ℕ, ℤ, zero, suc, Bool, true, false, not, List, [], ◌∷◌, ◌++◌, length, map, take, All, get_or, Option, Some, None, refl, sym, ◌∙◌, ap, subst, arith, nat_eq, slice_get, if◌then◌else◌}
-use Rattle.std.specs.Prelude.{filter, option_map, unwrap_or}
+use Rattle.std.proofs.Common.{◌≡◌, ◌<◌, ◌≤◌, ℕ, ℤ, zero, suc, Bool, true, false, not, List, [], ◌∷◌, length, map, take, All, get_or, Option, Some, None, refl, sym, ◌∙◌, ap, subst, arith, nat_eq, slice_get, if◌then◌else◌}
+use Rattle.std.specs.Prelude.{filter, option_map}
 use Rattle.std.proofs.lemmas.Option.{get_or_from_slice_get}
 use Rattle.rdf_values.specs.Depends.{columns_in}
 use Rattle.rdf_values.specs.Path.{history}
-use Rattle.rdf_values.specs.Tables.{AreColumns, FitsKind, FitsRow, IsStored, kind_at}
 use Rattle.rdf_values.specs.Tree.{NumTree}
-use Rattle.rdf_values.specs.declared.column.Column.{Column}
 use Rattle.rdf_values.specs.declared.value.ColType.{ColType}
-use Rattle.rdf_values.specs.declared.value.ColType.TheVariants as kind
-use Rattle.rdf_values.specs.declared.value.Value.{Value}
-use Rattle.rdf_values.specs.declared.value.Value.TheVariants as val
-use Rattle.rdf_model.specs.Laws.{FitsOutcome}
-use Rattle.expr_check.specs.NumKinds.{CheckedExpr, distinct, is_vector}
+use Rattle.expr_check.specs.NumKinds.{CheckedExpr, distinct}
 use Rattle.expr_lanes.specs.Depths.{depth}
-use Rattle.graph_numbers.specs.Graphs.{IsSiteExpr, graph_kinds, graph_sites, graph_under}
+use Rattle.graph_numbers.specs.Graphs.{IsSiteExpr, graph_sites, graph_under}
 use Rattle.graph_numbers.specs.Sites.{SiteAt}
-use Rattle.graph_numbers.specs.Sources.{IsBelow, cell_value}
+use Rattle.graph_numbers.specs.Sources.{IsBelow}
 use Rattle.graph_numbers.specs.Versions.{version_count}
 use Rattle.graph_numbers.specs.declared.source.Source.{Source}
 use Rattle.graph_numbers.specs.declared.source.Source.TheVariants as from
@@ -26,17 +20,13 @@ use Rattle.graph_numbers.proofs.Meeting.{In, here, there as further}
 use Rattle.block_lanes.specs.Lanes.{LaneView, kinds_of}
 use Rattle.entry_cache.specs.Jobs.{JobView, IsJob, job_graph}
 use Rattle.entry_cache.specs.Keys.{key, key_count}
-use Rattle.entry_cache.specs.Plain.{IsPlainVersion, is_vector_at}
-use Rattle.entry_cache.specs.Store.{CanLook, looked_source, source_at}
-use Rattle.entry_cache.proofs.ColumnLaws.{can_evaluate, fits_at}
+use Rattle.entry_cache.specs.Store.{source_at}
 use Rattle.entry_cache.proofs.EvaluateLaws.{accepted_of}
 use Rattle.entry_cache.proofs.FillLaws.{there}
-use Rattle.entry_cache.proofs.PlainLaws.{plain_expr}
 use Rattle.entry_cache.proofs.RowLaws.{key_small}
-use Rattle.block_cache.specs.Blocks.{AreReady, CanTry, HasSource, IsPlainOver, cells_at}
+use Rattle.block_cache.specs.Blocks.{AreReady, CanTry, HasLane, HasSource, IsTriable}
 use Rattle.block_cache.specs.Fills.{CanFill, IsLoaded}
 use Rattle.block_cache.proofs.Attempts.{get_take, key_lower}
-use Rattle.block_cache.proofs.BlockLaws.{cells_long}
 
 -- ---- the columns of an expression
 
@@ -63,32 +53,12 @@ in_at [] k d low = absurd (omega (arith, low))
 in_at (x ∷ xs) zero d low = here
 in_at (x ∷ xs) (suc k) d low = further (in_at xs k d (omega (arith, low)))
 
--- ---- a column that is no vector is one of numbers
-
-kind_is : (k c : ColType) (v : Value) → FitsKind k v → FitsKind c v → IsStored k → is_vector c ≡ false → k ≡ kind.Int
-kind_is kind.Int c v f g stored scalar = refl
-kind_is kind.Bool c v f g stored scalar = elim stored [ ]
-kind_is kind.Vect kind.Int (val.Int z) f g stored scalar = elim f [ ]
-kind_is kind.Vect kind.Int (val.Bool b) f g stored scalar = elim f [ ]
-kind_is kind.Vect kind.Int (val.Vect zs) f g stored scalar = elim g [ ]
-kind_is kind.Vect kind.Bool (val.Int z) f g stored scalar = elim f [ ]
-kind_is kind.Vect kind.Bool (val.Bool b) f g stored scalar = elim f [ ]
-kind_is kind.Vect kind.Bool (val.Vect zs) f g stored scalar = elim g [ ]
-kind_is kind.Vect kind.Vect v f g stored scalar = cc scalar
-
-numbers_at : (cs : List Column) (row : List Value) (col : ℕ) (seen : List Column) (c : ColType) → FitsRow cs row → AreColumns seen cs → col < length cs → is_vector c ≡ false → FitsOutcome {M = ℕ} c (cell_value (slice_get row col)) → kind_at cs col ≡ Some kind.Int
-numbers_at [] row col seen c fit header low scalar fits = absurd (omega (arith, low))
-numbers_at (x ∷ cs) [] col seen c fit header low scalar fits = elim fit [ ]
-numbers_at (x ∷ cs) (v ∷ row) zero seen c fit header low scalar fits = ap Some (kind_is x.kind c v fit.0.0 fits header.1 scalar)
-numbers_at (x ∷ cs) (v ∷ row) (suc col) seen c fit header low scalar fits = numbers_at cs row col (seen ++ x ∷ []) c fit.1 header.2 (omega (arith, low)) scalar fits
+-- ---- a site
 
 pub got_kind : (lanes : List LaneView) (k : ℕ) (l : LaneView) → slice_get lanes k ≡ Some l → slice_get (kinds_of lanes) k ≡ Some l.kind
 got_kind [] k l at = cc at
 got_kind (x ∷ lanes) zero l at = let e : x ≡ l = cc at in ap (λ (y : LaneView). Some y.kind) e
 got_kind (x ∷ lanes) (suc k) l at = got_kind lanes k l at
-
-scalar_of : (kinds : List ColType) (c : ℕ) (k : ColType) → slice_get kinds c ≡ Some k → is_vector_at kinds c ≡ false → is_vector k ≡ false
-scalar_of kinds c k at scalar = ap (λ (o : Option ColType). is_vector (unwrap_or o kind.Int)) (sym at) ∙ scalar
 
 module _
     (j : JobView) (job : IsJob j) (first : ℕ) (u : Option ℕ) (count s : ℕ) (inside : s < length (graph_sites (job_graph j))) (lanes : List LaneView) (ready : AreReady j first count lanes) (cells : List (List ℤ)) (scratch levels : ℕ)
@@ -107,38 +77,33 @@ module _
         go None q k = cc k
         go (Some x) q k = (x, q, cc k)
 
-    looks : CanLook j (first + 0) (cells_at keys lanes 0)
-    looks = record { sized = cells_long keys lanes 0 (omega (arith, ready.many)); within = omega (arith, ready.within, ready.some) }
+    counted : (l : LaneView) (k : ℕ) → slice_get lanes k ≡ Some l → k < length lanes → l.count ≡ count
+    counted l k at among = ap (λ (y : LaneView). y.count) (sym (get_or_from_slice_get lanes k l l at)) ∙ ready.counts k l among
 
-    source_of : (c : ℕ × ColType) (src : Source) → IsLoaded j first count cells src → IsBelow (length j.dataset.columns) s src → is_vector c.1 ≡ false → FitsOutcome c.1 (looked_source j (first + 0) u (cells_at keys lanes 0) c.0 src)
-        → HasSource j first u count (take (key (job_graph j) s u) lanes) cells src
-    source_of c (from.Cell col) loaded below scalar fits =
-        loaded (numbers_at j.dataset.columns _ col [] c.1 (fits_at j.dataset.columns j.dataset.rows (first + 0) job.table.fit looks.within) job.table.header.distinct below scalar fits)
-    source_of c (from.Site t) loaded below scalar fits =
+    lane_below : (t : ℕ) → t < s → HasLane count (take (key (job_graph j) s u) lanes) (key (job_graph j) t u)
+    lane_below t below =
         let lower = key_lower (job_graph j) t s u u below inside in
         let small = key_small (job_graph j) s u inside in
         let among : key (job_graph j) t u < length lanes = omega (arith, lower, small, ready.many) in
         let l = there lanes (key (job_graph j) t u) among in
         (l.0, get_take lanes (key (job_graph j) s u) (key (job_graph j) t u) lower ∙ l.1, counted l.0 (key (job_graph j) t u) l.1 among)
-      where
-        counted : (l : LaneView) (k : ℕ) → slice_get lanes k ≡ Some l → k < length lanes → l.count ≡ count
-        counted l k at among = ap (λ (y : LaneView). y.count) (sym (get_or_from_slice_get lanes k l l at)) ∙ ready.counts k l among
-    source_of c (from.Element t k tags) loaded below scalar fits = elim loaded [ ]
+
+    source_of : (src : Source) → IsLoaded j first count cells src → IsBelow (length j.dataset.columns) s src → HasSource j first u count (take (key (job_graph j) s u) lanes) cells src
+    source_of (from.Cell col) loaded below = loaded
+    source_of (from.Site t) loaded below = lane_below t below
+    source_of (from.Element t k tags) loaded below = lane_below t below
 
     sources : All (λ (c : ℕ × ColType). HasSource j first u count (take (key (job_graph j) s u) lanes) cells (source_at j u c.0)) e.kinds
     sources k d low =
         let c = get_or e.kinds k d in
         let standing = subst (λ (v : NumTree). In c.0 (columns_in v)) (sym tree_of.2) (of_distinct (columns_in e.tree) (subst (In c.0) its.typed.columns (in_map (λ (c : ℕ × ColType). c.0) e.kinds (in_at e.kinds k d low)))) in
         let each = can.each s tree_of.0 can.has tree_of.1 in
-        let plain = each_at (IsPlainVersion (job_graph j) can.used) tree_of.0.tree (can.plain s tree_of.0 can.has tree_of.1).columns c.0 standing in
-        source_of c (source_at j u c.0) (each_at (λ c. IsLoaded j first count cells (source_at j u c)) tree_of.0.tree each.loaded c.0 standing)
+        source_of (source_at j u c.0) (each_at (λ c. IsLoaded j first count cells (source_at j u c)) tree_of.0.tree each.loaded c.0 standing)
         (each_at (λ d. (d < version_count j.dataset.columns (history j.script)) × IsBelow (length j.dataset.columns) s (source_at j u d)) tree_of.0.tree
         (columns_below j.dataset.fns j.dataset.columns (graph_under (job_graph j) u) (history j.script) (accepted_of j job) s tree_of.0 tree_of.1) c.0 standing).1
-        (scalar_of (graph_kinds (job_graph j)) c.0 c.1 (its.kinds k d low) plain.0) ((can_evaluate j job (first + 0) u (cells_at keys lanes 0) looks (ready.sound 0 ready.some) s e its).fit k d low)
 
-    pub plain_over : IsPlainOver j first u count lanes cells scratch s e
-    plain_over = record {
-      plain = plain_expr j can.used s e can.plain can.has its;
+    pub triable : IsTriable j first u count lanes cells scratch s e
+    triable = record {
       kind = λ l at. can.kinds_are s u e l.kind its (got_kind lanes (key (job_graph j) s u) l at);
       deep = subst (λ (t : NumTree). depth t ≤ scratch) tree_of.2 (can.each s tree_of.0 can.has tree_of.1).deep;
       sources = sources;
@@ -146,4 +111,4 @@ module _
 
 pub can_try : (j : JobView) (job : IsJob j) (first : ℕ) (u : Option ℕ) (count s : ℕ) → s < length (graph_sites (job_graph j)) → (lanes : List LaneView) → AreReady j first count lanes → (cells : List (List ℤ)) (scratch levels : ℕ) → CanFill j first u count (kinds_of lanes) cells scratch levels s
     → CanTry j first u count lanes cells scratch s
-can_try j job first u count s inside lanes ready cells scratch levels can e its = plain_over j job first u count s inside lanes ready cells scratch levels can e its
+can_try j job first u count s inside lanes ready cells scratch levels can e its = triable j job first u count s inside lanes ready cells scratch levels can e its

@@ -71,7 +71,7 @@ below_short (Some f) sel = filter_short (λ q. nat_lt q f.place) sel
 
 -- ---- the first fault
 
-no_fault_over : (sel : List ℕ) (f : ℕ → Option EntryFault) → EachPlace sel (λ p. f p ≡ None) → fault_over f sel ≡ None
+pub no_fault_over : (sel : List ℕ) (f : ℕ → Option EntryFault) → EachPlace sel (λ p. f p ≡ None) → fault_over f sel ≡ None
 no_fault_over [] f none = refl
 no_fault_over (p ∷ sel) f none = ap (λ o. fault_before p o (fault_over f sel)) (none p (first_in p sel)) ∙ no_fault_over sel f (λ q i. none q (rest_in q p sel i))
 

@@ -13,7 +13,7 @@ use Rattle.expr_check.specs.NumKinds.{CheckedExpr}
 use Rattle.expr_lanes.specs.Places.{EachPlace, is_in}
 use Rattle.expr_lanes.specs.declared.stopped.Stopped.{Stopped}
 use Rattle.graph_numbers.specs.Graphs.{IsSiteExpr, graph_sites}
-use Rattle.block_lanes.specs.Lanes.{IsEvaluated, LaneView, is_held, value_of}
+use Rattle.block_lanes.specs.Lanes.{IsBegun, IsEvaluated, LaneView, is_held, value_of}
 use Rattle.entry_cache.specs.Jobs.{JobView, IsJob, job_graph}
 use Rattle.entry_cache.specs.Keys.{key, key_count}
 use Rattle.entry_cache.specs.Store.{CanEvaluate, CanLook, IsFilled, IsRight, IsSound, held_count, held_in, look_at, site_in, source_at}
@@ -23,7 +23,7 @@ use Rattle.block_lanes.proofs.LaneSteps.{in_given}
 use Rattle.entry_cache.proofs.ColumnLaws.{can_evaluate}
 use Rattle.entry_cache.proofs.FillLaws.{written}
 use Rattle.entry_cache.proofs.RowLaws.{key_small}
-use Rattle.block_cache.specs.Blocks.{AreReady, CanRead, HasSource, IsTelling, IsTriedOver, cells_at, held_at, held_value}
+use Rattle.block_cache.specs.Blocks.{AreReady, CanRead, HasSource, IsBegunOver, IsTelling, IsTriedOver, cells_at, held_at, held_value}
 use Rattle.block_cache.proofs.BlockLaws.{cells_long, given_right, held_of_lane, lane_held, sound_alike, sound_below, tells, value_held}
 
 -- ---- a lane that is written
@@ -72,7 +72,7 @@ written_part lanes below rest k l parts long =
 pub held_true : (l : LaneView) (p : ℕ) → is_held l p ≡ true → held_at l p ≡ held_value (value_of l p)
 held_true l p h = ap (λ b. if b then held_value (value_of l p) else held.Nothing) h
 
-held_false : (l : LaneView) (p : ℕ) → is_held l p ≡ false → held_at l p ≡ held.Nothing
+pub held_false : (l : LaneView) (p : ℕ) → is_held l p ≡ false → held_at l p ≡ held.Nothing
 held_false l p h = ap (λ b. if b then held_value (value_of l p) else held.Nothing) h
 
 -- a place that came to no value holds what it held
@@ -85,7 +85,7 @@ same_held f sel left own lane stops more ev unknown p not_left = by (is_held own
     by : (b : Bool) → is_held own p ≡ b → (s : Bool) → is_in p sel ≡ s → held_at own p ≡ held_at lane p
     by false was s _ = held_false own p was ∙ sym (held_false lane p (as_was ∙ was))
     by true was true among = absurd (cc (was, unknown p among))
-    by true was false outside = held_true own p was ∙ ap held_value (sym (ev.others p outside)) ∙ sym (held_true lane p (as_was ∙ was))
+    by true was false outside = held_true own p was ∙ ap held_value (sym (ev.kept p outside was)) ∙ sym (held_true lane p (as_was ∙ was))
 
 module _
     (j : JobView) (job : IsJob j) (first : ℕ) (u : Option ℕ) (count s : ℕ) (inside : s < length (graph_sites (job_graph j))) (e : CheckedExpr) (its : IsSiteExpr (job_graph j) s e) (lanes : List LaneView) (ready : AreReady j first count lanes)
@@ -225,3 +225,8 @@ module _
 
       pub tried_parts : (below rest new : List LaneView) → lanes ≡ below ++ rest → length below ≡ place → new ≡ below ++ set rest 0 lane → IsTriedOver j first u count s sel left lanes new stops more
       tried_parts below rest new parts long is = tried_over new (is ∙ sym (written_part lanes below rest place lane parts long))
+
+-- likewise where memory was wanted
+pub begun_parts : (j : JobView) (u : Option ℕ) (s : ℕ) (sel : List ℕ) (own lane : LaneView) (below rest new : List LaneView) → slice_get (below ++ rest) (key (job_graph j) s u) ≡ Some own → IsBegun sel own lane → length below ≡ key (job_graph j) s u → new ≡ below ++ set rest 0 lane
+    → IsBegunOver j u s sel (below ++ rest) new
+begun_parts j u s sel own lane below rest new at begun long is = record { own = own; is_own = at; lane = lane; written = is ∙ sym (written_part (below ++ rest) below rest (key (job_graph j) s u) lane refl long); begun = begun }

@@ -1,5 +1,5 @@
 -- The places of a selection that pass a filter.
-use Rattle.std.proofs.Common.{◌≡◌, ◌<◌, ◌+◌, ℕ, ℤ, true, List, [], length, get_or, Option, Some, sym, ◌∙◌, ap, subst, slice_get}
+use Rattle.std.proofs.Common.{◌≡◌, ◌<◌, ◌+◌, ℕ, ℤ, true, false, List, [], length, get_or, Option, Some, sym, ◌∙◌, ap, subst, slice_get}
 use Rattle.std.proofs.lemmas.Option.{slice_get-get_or}
 use Rattle.std.specs.List.{filter}
 use Rattle.rdf_values.specs.declared.value.ColType.{ColType}
@@ -7,17 +7,19 @@ use Rattle.rdf_values.specs.declared.value.ColType.TheVariants as kind
 use Rattle.rdf_model.specs.EntryOutcomes.{truth_of}
 use Rattle.rdf_model.specs.Evaluation.{Gives, ◌>>=◌, is_set}
 use Rattle.rdf_model.specs.Results.{is_true}
-use Rattle.expr_lanes.specs.Marks.{lane_value}
+use Rattle.expr_check.specs.NumKinds.{is_vector}
 use Rattle.expr_lanes.specs.Places.{EachPlace, IsSelected, at_place, is_in}
 use Rattle.graph_numbers.specs.Graphs.{graph_sites}
 use Rattle.block_lanes.specs.Lanes.{LaneView, is_held, kinds_of, value_of}
+use Rattle.block_lanes.specs.Values.{value_for}
 use Rattle.entry_cache.specs.Jobs.{JobView, job_graph}
 use Rattle.entry_cache.specs.Keys.{key, key_count}
 use Rattle.entry_cache.specs.Known.{truth_in}
 use Rattle.entry_cache.specs.Store.{IsRight, held_in, site_in}
 use Rattle.entry_cache.specs.declared.held.Held.{Held}
 use Rattle.block_cache.specs.Blocks.{AreReady, cells_at}
-use Rattle.block_cache.specs.Fills.{IsFilledOver, IsPassedOver, IsSettled, IsSpentOver, holds_at, lane_holds}
+use Rattle.block_cache.specs.Fills.{IsPassedOver, IsSettled, IsSpentOver, holds_at, lane_holds}
+use Rattle.block_cache.specs.Leads.{IsFilledTo}
 use Rattle.block_cache.specs.declared.faults.PlaceFault.{PlaceFault}
 use Rattle.block_cache.proofs.BlockLaws.{held_of_lane, lane_held, right_value}
 use Rattle.block_cache.proofs.CanTries.{got_kind}
@@ -39,27 +41,33 @@ module _ (j : JobView) (first : ℕ) (u : Option ℕ) (count s : ℕ) (inside : 
 
   true_where : (p : ℕ) → p < count → holds_at lanes (key (job_graph j) s u) p ≡ true → is_set (at_place l.numbers p) ≡ is_true (truth_in j (first + p) u s)
   true_where p low holds =
-      sym (ap is_true (ap (λ o. o >>= truth_of) (gives_value p low (ap (λ o. lane_holds o p) (sym at) ∙ holds)) ∙ ap (λ k. truth_of {M = ⊥} (lane_value k (at_place l.numbers p))) is_bool))
+      sym (ap is_true (ap (λ o. o >>= truth_of) (gives_value p low (ap (λ o. lane_holds o p) (sym at) ∙ holds)) ∙ ap (λ k. truth_of {M = ⊥} (value_for k l.vectors (at_place l.numbers p))) is_bool))
 
-  pub passed_over : (sel between left : List ℕ) (before : List LaneView) (fault : Option PlaceFault) (start end : ℕ) → IsFilledOver j first u count s sel between before lanes fault start end → IsSettled lanes between → EachPlace between (λ p. p < count) → left ≡ filter (λ p. is_set (at_place l.numbers p)) between
-      → IsPassedOver j first u count s sel left before lanes fault start end
-  passed_over sel between left before fault start end filled settled low left_is = record {
+  pub passed_over : (sel between left : List ℕ) (fault : Option PlaceFault) → IsFilledTo j first u count s sel between lanes fault → IsSettled lanes between → EachPlace between (λ p. p < count) → left ≡ filter (λ p. is_set (at_place l.numbers p)) between
+      → IsPassedOver j first u count s sel left lanes fault
+  passed_over sel between left fault filled settled low left_is = record {
     fault = filled.fault;
     left_is = left_is ∙ filter_same between (λ p. is_set (at_place l.numbers p)) (λ p. is_true (truth_in j (first + p) u s)) (λ p i. true_where p (low p i) (filled.held p i)) ∙ ap (filter (λ p. is_true (truth_in j (first + p) u s))) filled.left_is;
     ready = filled.ready;
     settled = subst (λ (l : List ℕ). IsSettled lanes l) filled.left_is settled;
-    paid = filled.paid;
   }
 
 -- what was filled is of the block
-pub filled_inside : (j : JobView) (first : ℕ) (u : Option ℕ) (count s : ℕ) (sel left : List ℕ) (before after : List LaneView) (fault : Option PlaceFault) (start end : ℕ) → IsFilledOver j first u count s sel left before after fault start end → IsSelected count sel [] → EachPlace left (λ p. p < count)
-filled_inside j first u count s sel left before after fault start end filled selected p i = selected.inside p (below_among fault sel p (subst (λ (l : List ℕ). is_in p l ≡ true) filled.left_is i))
+pub filled_inside : (j : JobView) (first : ℕ) (u : Option ℕ) (count s : ℕ) (sel left : List ℕ) (after : List LaneView) (fault : Option PlaceFault) → IsFilledTo j first u count s sel left after fault → IsSelected count sel [] → EachPlace left (λ p. p < count)
+filled_inside j first u count s sel left after fault filled selected p i = selected.inside p (below_among fault sel p (subst (λ (l : List ℕ). is_in p l ≡ true) filled.left_is i))
 
 -- by the numbers of the lane
-pub passed_with : (j : JobView) (first : ℕ) (u : Option ℕ) (count s : ℕ) → s < length (graph_sites (job_graph j)) → (sel between left : List ℕ) (before lanes : List LaneView) (fault : Option PlaceFault) (start end : ℕ) → IsFilledOver j first u count s sel between before lanes fault start end
+pub passed_with : (j : JobView) (first : ℕ) (u : Option ℕ) (count s : ℕ) → s < length (graph_sites (job_graph j)) → (sel between left : List ℕ) (before lanes : List LaneView) (fault : Option PlaceFault) (start end : ℕ) → IsFilledTo j first u count s sel between lanes fault
     → IsSpentOver j first u s sel before lanes start end → IsSettled lanes between → IsSelected count sel [] → slice_get (kinds_of before) (key (job_graph j) s u) ≡ Some kind.Bool → (k : ℕ) (d : LaneView) (numbers : List ℤ) → k ≡ key (job_graph j) s u → k < length lanes → numbers ≡ (get_or lanes k d).numbers
-    → left ≡ filter (λ p. is_set (at_place numbers p)) between → IsPassedOver j first u count s sel left before lanes fault start end
+    → left ≡ filter (λ p. is_set (at_place numbers p)) between → IsPassedOver j first u count s sel left lanes fault
 passed_with j first u count s inside sel between left before lanes fault start end filled spent settled selected truth k d numbers same among are left_is =
     let at : slice_get lanes (key (job_graph j) s u) ≡ Some (get_or lanes k d) = ap (slice_get lanes) (sym same) ∙ slice_get-get_or lanes k d among in
-    passed_over j first u count s inside lanes filled.ready (get_or lanes k d) at (ap (λ (l : List ColType). slice_get l (key (job_graph j) s u)) spent.grown.kinds ∙ truth) sel between left before fault start end filled settled
-    (filled_inside j first u count s sel between before lanes fault start end filled selected) (left_is ∙ ap (λ (l : List ℤ). filter (λ p. is_set (at_place l p)) between) are)
+    passed_over j first u count s inside lanes filled.ready (get_or lanes k d) at (ap (λ (l : List ColType). slice_get l (key (job_graph j) s u)) spent.grown.kinds ∙ truth) sel between left fault filled settled
+    (filled_inside j first u count s sel between lanes fault filled selected) (left_is ∙ ap (λ (l : List ℤ). filter (λ p. is_set (at_place l p)) between) are)
+
+-- the lane of a key with truths has no vectors
+pub truth_scalar : (lanes after : List LaneView) (own k : ℕ) (d : LaneView) → k ≡ own → k < length after → kinds_of after ≡ kinds_of lanes → slice_get (kinds_of lanes) own ≡ Some kind.Bool → is_vector (get_or after k d).kind ≡ false
+truth_scalar lanes after own k d same inside kinds truth =
+    let at : slice_get (kinds_of after) k ≡ Some (get_or after k d).kind = got_kind after k (get_or after k d) (slice_get-get_or after k d inside) in
+    let is : (get_or after k d).kind ≡ kind.Bool = kind_of (get_or after k d).kind kind.Bool (sym at ∙ ap (λ (l : List ColType). slice_get l k) kinds ∙ ap (slice_get (kinds_of lanes)) same ∙ truth) in
+    ap is_vector is

@@ -21,7 +21,7 @@ use Rattle.entry_cache.specs.Keys.{key, key_count}
 use Rattle.entry_cache.specs.Store.{IsSiteOf, MeetsAt, site_in, source_at}
 use Rattle.block_cache.specs.Blocks.{AreReady}
 use Rattle.block_cache.specs.Fills.{IsFilledOver, IsGrownOver, IsSameAt, IsSettled, IsSpentOver, below_fault, begun_at, holds_at, is_below, site_fault}
-use Rattle.block_cache.specs.Turns.{IsFaultOf, IsResumedOver, IsSettledTo, IsUnderway, IsWaiting, found_or, left_to_begin, need_at}
+use Rattle.block_cache.specs.Turns.{IsBrokenOff, IsFaultOf, IsResumedOver, IsSettledTo, IsUnderway, IsWaiting, found_or, left_to_begin, need_at}
 use Rattle.block_cache.specs.declared.faults.PlaceFault.{PlaceFault}
 use Rattle.block_cache.proofs.Attempts.{key_lower}
 use Rattle.block_cache.proofs.GrownLaws.{grown_below, grown_on, later_keys, other_places, settled_all}
@@ -59,12 +59,12 @@ pub fault_or : (f : ℕ → Option EntryFault) (sel : List ℕ) (found fault : O
 fault_or f sel None fault h i = i
 fault_or f sel (Some x) fault h i = h
 
-below_found : (found fault : Option PlaceFault) (p : ℕ) → is_below (found_or found fault) p ≡ true → is_below found p ≡ true
+pub below_found : (found fault : Option PlaceFault) (p : ℕ) → is_below (found_or found fault) p ≡ true → is_below found p ≡ true
 below_found None fault p h = refl
 below_found (Some x) fault p h = h
 
 -- a fault at a place below another is the lower one
-below_both : (f : ℕ → Option EntryFault) (group : List ℕ) (found fault : Option PlaceFault) (p : ℕ) → EachPlace group (λ q. is_below fault q ≡ true) → IsFaultOf f group found → is_below (found_or found fault) p ≡ true → is_below fault p ≡ true
+pub below_both : (f : ℕ → Option EntryFault) (group : List ℕ) (found fault : Option PlaceFault) (p : ℕ) → EachPlace group (λ q. is_below fault q ≡ true) → IsFaultOf f group found → is_below (found_or found fault) p ≡ true → is_below fault p ≡ true
 below_both f group None fault p low h below = below
 below_both f group (Some x) None p low h below = refl
 below_both f group (Some x) (Some y) p low h below =
@@ -72,7 +72,7 @@ below_both f group (Some x) (Some y) p low h below =
     let b : x.place < y.place = ltb-true x.place y.place (low x.place h.0) in
     lt-ltb p y.place (omega (arith, a, b))
 
-faults_of : (o : Outcome ⊥ Value) (k : EntryFault) → fault_in o ≡ Some k → o ≡ Faults k
+pub faults_of : (o : Outcome ⊥ Value) (k : EntryFault) → fault_in o ≡ Some k → o ≡ Faults k
 faults_of (Gives v) k h = cc h
 faults_of (Faults f) k h = let same : f ≡ k = (let i : ◌≡◌ {A = Option EntryFault} (Some f) (Some k) = h in cc i) in ap Faults same
 faults_of (Needs m) k h = elim m [ ]
@@ -172,6 +172,17 @@ module _ (j : JobView) (job : IsJob j) (first : ℕ) (u : Option ℕ) (count s :
           lacking_lacks : (p : ℕ) → is_in p lacking ≡ true → holds_at new own p ≡ false
           lacking_lacks p h = not_true (holds_at new own p) (filter_passes sel (lacks_in new) p (below_among least (filter (lacks_in new) sel) p (seen p h)))
 
+      -- memory was wanted
+      pub began_broken : (new : List LaneView) (start now : ℕ) → IsBrokenOff j first u s group before new start now → IsSpentOver j first u s sel before new start now
+      began_broken new start now b = record {
+        grown = b.grown sel group_in;
+        cost =
+            (let many = count_all group (λ p. not (begun_at before own p)) not_begun in
+            let newly = b.newly in
+            let few = b.few in
+            omega (arith, many, newly, few));
+      }
+
   -- ---- a turn
 
   module _
@@ -244,6 +255,21 @@ module _ (j : JobView) (job : IsJob j) (first : ℕ) (u : Option ℕ) (count s :
 
             pub left_lacks : EachPlace left (λ p. holds_at mid own p ≡ false)
             left_lacks p i = same_holds n lanes mid own p (later_keys j first u t group lanes mid spent.grown s p turn_lower inside) ∙ h.lacks p (group_open p (left_group p i))
+
+            -- memory was wanted in the site itself
+            pub turn_broken : (new : List LaneView) (last : ℕ) → IsBrokenOff j first u s left mid new then' last → IsSpentOver j first u s sel before new start last
+            turn_broken new last b = record {
+              grown = grown_on j first u s sel before lanes new h.grown (grown_on j first u s sel lanes mid new (grown_below j first u s sel lanes mid group t turn_lower turn_in meets_t spent.grown) (b.grown sel (λ p i. turn_in p (left_group p i))));
+              cost =
+                  (let many = count_all group (λ p. not (holds_at lanes (at t) p)) (λ p i. true_not (holds_at lanes (at t) p) (lacks_t p i)) in
+                  let e = ap (λ (l : List ℕ). length l) filled.left_is in
+                  let short = below_short under group in
+                  let newly = b.newly in
+                  let few = b.few in
+                  let paid = filled.paid in
+                  let so_far = h.paid in
+                  omega (arith, many, e, short, newly, few, paid, so_far));
+            }
 
             under_t : IsFaultOf (site_fault j first u t) group under
             under_t = subst (λ (o : Option PlaceFault). IsFaultOf (site_fault j first u t) group o) (sym filled.fault) (over_first group (site_fault j first u t))

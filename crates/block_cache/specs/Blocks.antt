@@ -1,17 +1,20 @@
 -- What is held of the entries of a block.
-use Rattle.std.specs.Prelude.{◌≡◌, ◌<◌, ◌≤◌, ◌+◌, ◌-◌, ◌++◌, ℕ, ℤ, true, List, length, map, take, replicate, All, Option, Some, if◌then◌else◌, slice_get, slice_set}
+use Rattle.std.specs.Prelude.{◌≡◌, ◌<◌, ◌≤◌, ◌+◌, ◌-◌, ◌++◌, ℕ, ℤ, false, List, length, map, take, replicate, All, Option, Some, if◌then◌else◌, slice_get, slice_set}
+use Rattle.rdf_values.specs.Tables.{kind_at}
 use Rattle.rdf_values.specs.declared.value.ColType.{ColType}
+use Rattle.rdf_values.specs.declared.value.ColType.TheVariants as kind
 use Rattle.rdf_values.specs.declared.value.Value.{Value}
 use Rattle.rdf_values.specs.declared.value.Value.TheVariants as val
-use Rattle.rdf_model.specs.Evaluation.{Outcome, Gives, Faults, Needs}
-use Rattle.expr_check.specs.NumKinds.{CheckedExpr, is_plain}
+use Rattle.rdf_model.specs.ColumnValues.{tag_element}
+use Rattle.rdf_model.specs.Evaluation.{Outcome, Gives, Faults, Needs, ◌>>=◌}
+use Rattle.expr_check.specs.NumKinds.{CheckedExpr, is_vector}
 use Rattle.expr_lanes.specs.Depths.{depth}
 use Rattle.expr_lanes.specs.declared.stopped.Stopped.{Stopped}
 use Rattle.graph_numbers.specs.Graphs.{IsSiteExpr}
 use Rattle.graph_numbers.specs.declared.source.Source.{Source}
 use Rattle.graph_numbers.specs.declared.source.Source.TheVariants as from
 use Rattle.expr_lanes.specs.Places.{at_place}
-use Rattle.block_lanes.specs.Lanes.{IsEvaluated, LaneView, is_held, value_of}
+use Rattle.block_lanes.specs.Lanes.{IsBegun, IsEvaluated, LaneView, is_held, value_of}
 use Rattle.entry_cache.specs.Jobs.{JobView, job_graph}
 use Rattle.entry_cache.specs.Keys.{key, key_count}
 use Rattle.entry_cache.specs.Store.{IsMissing, IsReadable, IsSound, MeetsAt, row_in, site_in, source_at}
@@ -49,16 +52,35 @@ HasColumn j first count cells col = (numbers : List ℤ) × (slice_get cells col
 abbrev pub HasLane : ℕ → List LaneView → ℕ → Type 0
 HasLane count lanes k = (l : LaneView) × (slice_get lanes k ≡ Some l) × (l.count ≡ count)
 
--- the source is a column of numbers, or a site with a lane
+-- a column of numbers is there, and a site has a lane
 abbrev pub HasSource : JobView → ℕ → Option ℕ → ℕ → List LaneView → List (List ℤ) → Source → Type 0
-HasSource j first u count lanes cells (from.Cell col) = HasColumn j first count cells col
+HasSource j first u count lanes cells (from.Cell col) = kind_at j.dataset.columns col ≡ Some kind.Int → HasColumn j first count cells col
 HasSource j first u count lanes cells (from.Site s) = HasLane count lanes (key (job_graph j) s u)
-HasSource j first u count lanes cells (from.Element s k tags) = ⊥
+HasSource j first u count lanes cells (from.Element s k tags) = HasLane count lanes (key (job_graph j) s u)
+
+-- the lane is there, and has no vectors
+abbrev pub HasNumberLane : ℕ → List LaneView → ℕ → Type 0
+HasNumberLane count lanes k = (l : LaneView) × (slice_get lanes k ≡ Some l) × (l.count ≡ count) × (is_vector l.kind ≡ false)
+
+-- the source can be read at all places at once: a column of numbers, or a site with a lane without vectors
+abbrev pub HasNumbers : JobView → ℕ → Option ℕ → ℕ → List LaneView → List (List ℤ) → Source → Type 0
+HasNumbers j first u count lanes cells (from.Cell col) = HasColumn j first count cells col
+HasNumbers j first u count lanes cells (from.Site s) = HasNumberLane count lanes (key (job_graph j) s u)
+HasNumbers j first u count lanes cells (from.Element s k tags) = ⊥
 
 -- the version can be read over the block
 pub record CanRead (j : JobView) (first : ℕ) (u : Option ℕ) (count : ℕ) (lanes : List LaneView) (cells : List (List ℤ)) (c : ℕ) : Type 0 where
   pub readable : IsReadable j u c
   pub source : HasSource j first u count lanes cells (source_at j u c)
+
+-- and at all places at once
+pub record CanReadWhole (j : JobView) (first : ℕ) (u : Option ℕ) (count : ℕ) (lanes : List LaneView) (cells : List (List ℤ)) (c : ℕ) : Type 0 where
+  pub readable : IsReadable j u c
+  pub source : HasNumbers j first u count lanes cells (source_at j u c)
+
+-- the element of what a version with a vector comes to, at the place of a tag among so many
+abbrev pub element_of : Outcome ℕ Value → ℕ → ℕ → Outcome ℕ Value
+element_of o k tags = o >>= tag_element tags k
 
 -- ---- one evaluation of a site over a block
 
@@ -70,17 +92,16 @@ pub record AreReady (j : JobView) (first count : ℕ) (lanes : List LaneView) : 
   pub within : first + count ≤ length j.dataset.rows
   pub sound : (p : ℕ) → p < count → IsSound j (first + p) (cells_at (key_count (job_graph j)) lanes p)
 
--- the site's expression has no vector, its lane is of its kind, the levels are enough for it, and each version that it reads is a column
--- of numbers or has a lane below
-pub record IsPlainOver (j : JobView) (first : ℕ) (u : Option ℕ) (count : ℕ) (lanes : List LaneView) (cells : List (List ℤ)) (levels s : ℕ) (e : CheckedExpr) : Type 0 where
-  pub plain : is_plain e.kinds e.tree ≡ true
+-- the site's lane is of its expression's kind, the levels are enough for it, and each version that it reads is a column of the table or has
+-- a lane below
+pub record IsTriable (j : JobView) (first : ℕ) (u : Option ℕ) (count : ℕ) (lanes : List LaneView) (cells : List (List ℤ)) (levels s : ℕ) (e : CheckedExpr) : Type 0 where
   pub kind : (l : LaneView) → slice_get lanes (key (job_graph j) s u) ≡ Some l → e.kind ≡ l.kind
   pub deep : depth e.tree ≤ levels
   pub sources : All (λ (c : ℕ × ColType). HasSource j first u count (take (key (job_graph j) s u) lanes) cells (source_at j u c.0)) e.kinds
 
 -- so much for the site of that number
 abbrev pub CanTry : JobView → ℕ → Option ℕ → ℕ → List LaneView → List (List ℤ) → ℕ → ℕ → Type 0
-CanTry j first u count lanes cells levels s = (e : CheckedExpr) → IsSiteExpr (job_graph j) s e → IsPlainOver j first u count lanes cells levels s e
+CanTry j first u count lanes cells levels s = (e : CheckedExpr) → IsSiteExpr (job_graph j) s e → IsTriable j first u count lanes cells levels s e
 
 -- an evaluation over what is held tells what the site comes to, or a version that it meets and that is missing
 abbrev pub IsTelling : JobView → ℕ → Option ℕ → List Held → ℕ → Outcome ℕ Value → Type 0
@@ -99,3 +120,11 @@ pub record IsTriedOver (j : JobView) (first : ℕ) (u : Option ℕ) (count s : �
   pub telling : (p : ℕ) → p < count → IsTelling j (first + p) u (cells_at (key_count (job_graph j)) (take (key (job_graph j) s u) before) p) s (told p)
   pub evaluated : IsEvaluated told sel left own lane stops more
   pub ready : AreReady j first count after
+
+-- the site's lane where memory was wanted in the midst of that; the other lanes are as they were
+pub record IsBegunOver (j : JobView) (u : Option ℕ) (s : ℕ) (sel : List ℕ) (before after : List LaneView) : Type 0 where
+  pub own : LaneView
+  pub is_own : slice_get before (key (job_graph j) s u) ≡ Some own
+  pub lane : LaneView
+  pub written : after ≡ slice_set before (key (job_graph j) s u) lane
+  pub begun : IsBegun sel own lane

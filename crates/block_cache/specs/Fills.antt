@@ -18,8 +18,7 @@ use Rattle.block_lanes.specs.Lanes.{LaneView, is_held, is_tried, kinds_of, rooms
 use Rattle.entry_cache.specs.Jobs.{JobView, job_graph}
 use Rattle.entry_cache.specs.Keys.{key, key_count}
 use Rattle.entry_cache.specs.Known.{truth_in}
-use Rattle.entry_cache.specs.Plain.{ArePlain}
-use Rattle.entry_cache.specs.Store.{Grows, IsClosed, held_in, site_in, source_at}
+use Rattle.entry_cache.specs.Store.{Grows, IsClosed, IsSourceIn, held_in, site_in, source_at}
 use Rattle.block_cache.specs.Blocks.{AreReady, HasColumn, cells_at}
 use Rattle.block_cache.specs.Faults.{fault_at}
 use Rattle.block_cache.specs.declared.faults.PlaceFault.{PlaceFault}
@@ -86,11 +85,11 @@ site_fault j first u s p = fault_in (site_in j (first + p) u s)
 abbrev pub AreSiteKinds : GraphView → List ColType → Type 0
 AreSiteKinds g kinds = (t : ℕ) (w : Option ℕ) (e : CheckedExpr) (k : ColType) → IsSiteExpr g t e → slice_get kinds (key g t w) ≡ Some k → e.kind ≡ k
 
--- a column of numbers is there; no source is an element of a vector
+-- a column of numbers is there
 abbrev pub IsLoaded : JobView → ℕ → ℕ → List (List ℤ) → Source → Type 0
 IsLoaded j first count cells (from.Cell col) = kind_at j.dataset.columns col ≡ Some kind.Int → HasColumn j first count cells col
 IsLoaded j first count cells (from.Site t) = ⊤
-IsLoaded j first count cells (from.Element t k tags) = ⊥
+IsLoaded j first count cells (from.Element t k tags) = ⊤
 
 -- the source is no site, or one of a lower rank
 abbrev pub IsRankedBelow : (ℕ → ℕ) → ℕ → Source → Type 0
@@ -98,20 +97,20 @@ IsRankedBelow rank n (from.Cell col) = ⊤
 IsRankedBelow rank n (from.Site t) = rank t < n
 IsRankedBelow rank n (from.Element t k tags) = rank t < n
 
--- the levels of scratch are enough for the site's expression; the columns that it reads are there; and its sites are of lower ranks
-pub record IsFillable (j : JobView) (first : ℕ) (u : Option ℕ) (count : ℕ) (cells : List (List ℤ)) (scratch : ℕ) (rank : ℕ → ℕ) (s : ℕ) (x : SiteAt) : Type 0 where
+-- the levels of scratch are enough for the site's expression; the columns that it reads are there; and its sites are of the set, of lower ranks
+pub record IsFillable (j : JobView) (first : ℕ) (u : Option ℕ) (count : ℕ) (cells : List (List ℤ)) (scratch : ℕ) (used : ℕ → Bool) (rank : ℕ → ℕ) (s : ℕ) (x : SiteAt) : Type 0 where
   pub deep : depth x.tree ≤ scratch
   pub loaded : EachColumn (λ c. IsLoaded j first count cells (source_at j u c)) x.tree
+  pub closed : EachColumn (λ c. IsSourceIn used (source_at j u c)) x.tree
   pub falls : EachColumn (λ c. IsRankedBelow rank (rank s) (source_at j u c)) x.tree
 
--- the site is one of a set without vectors, each of which can be filled, and there are levels for it and those below it
+-- the site is one of a set, each of which can be filled, and there are levels for it and those below it
 pub record CanFill (j : JobView) (first : ℕ) (u : Option ℕ) (count : ℕ) (kinds : List ColType) (cells : List (List ℤ)) (scratch levels s : ℕ) : Type 0 where
   pub used : ℕ → Bool
-  pub plain : ArePlain j used
   pub has : used s ≡ true
   pub kinds_are : AreSiteKinds (job_graph j) kinds
   pub rank : ℕ → ℕ
-  pub each : (t : ℕ) (x : SiteAt) → used t ≡ true → slice_get (graph_sites (job_graph j)) t ≡ Some x → IsFillable j first u count cells scratch rank t x
+  pub each : (t : ℕ) (x : SiteAt) → used t ≡ true → slice_get (graph_sites (job_graph j)) t ≡ Some x → IsFillable j first u count cells scratch used rank t x
   pub room : rank s < levels
 
 -- ---- filling
@@ -145,9 +144,8 @@ pub record IsFilledOver (j : JobView) (first : ℕ) (u : Option ℕ) (count s : 
   pub paid : end + 2 * begun_count before + count_by (λ p. not (holds_at before (key (job_graph j) s u) p)) sel ≤ start + 2 * begun_count after
 
 -- the first fault among the places; left are those below it at which the filter is true; and below it all is settled as before
-pub record IsPassedOver (j : JobView) (first : ℕ) (u : Option ℕ) (count s : ℕ) (sel left : List ℕ) (before after : List LaneView) (found : Option PlaceFault) (start end : ℕ) : Type 0 where
+pub record IsPassedOver (j : JobView) (first : ℕ) (u : Option ℕ) (count s : ℕ) (sel left : List ℕ) (after : List LaneView) (found : Option PlaceFault) : Type 0 where
   pub fault : found ≡ fault_over (site_fault j first u s) sel
   pub left_is : left ≡ filter (λ p. is_true (truth_in j (first + p) u s)) (below_fault found sel)
   pub ready : AreReady j first count after
   pub settled : IsSettled after (below_fault found sel)
-  pub paid : end + 2 * begun_count before + count_by (λ p. not (holds_at before (key (job_graph j) s u) p)) sel ≤ start + 2 * begun_count after

@@ -1,4 +1,6 @@
 pub mod Blocks
 pub mod Faults
 pub mod Fills
+pub mod Leads
+pub mod Folds
 pub mod Turns

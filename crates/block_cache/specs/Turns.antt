@@ -51,6 +51,12 @@ pub record IsAttemptedOver (j : JobView) (first : ℕ) (u : Option ℕ) (count s
   pub others : (p : ℕ) → is_in p group ≡ false → need_at more p ≡ need_at needs p
   pub newly : begun_count after ≡ begun_count before + count_by (λ p. not (begun_at before (key (job_graph j) s u) p)) group
 
+-- memory was wanted while site s was evaluated at the places of a group: the evaluation counts as begun at each of them
+pub record IsBrokenOff (j : JobView) (first : ℕ) (u : Option ℕ) (s : ℕ) (group : List ℕ) (before after : List LaneView) (start end : ℕ) : Type 0 where
+  pub grown : (sel : List ℕ) → EachPlace group (λ p. is_in p sel ≡ true) → IsGrownOver j first u s sel before after
+  pub newly : begun_count after ≡ begun_count before + count_by (λ p. not (begun_at before (key (job_graph j) s u) p)) group
+  pub few : end ≤ start + length group
+
 -- the filling of site s has come so far: below the least fault so far each place holds the site's value or is open, and then waits for a
 -- version; and what was spent is paid
 pub record IsUnderway (j : JobView) (first : ℕ) (u : Option ℕ) (count s : ℕ) (sel : List ℕ) (before : List LaneView) (start : ℕ) (lanes : List LaneView) (fault : Option PlaceFault) (open_places needs : List ℕ) (now : ℕ) : Type 0 where

@@ -10,7 +10,7 @@ ghost use Rattle.entry_cache.specs.Plain.{ArePlain};
 ghost use Rattle.entry_cache.specs.Store.{IsSiteOf, source_at};
 ghost use Rattle.block_cache.specs.Blocks.{AreReady, CanTry};
 ghost use Rattle.block_cache.specs.Fills.{CanFill, IsFilledOver, IsSettled, IsSpentOver, begun_at, below_fault, holds_at};
-ghost use Rattle.block_cache.specs.Turns.{IsAttemptedOver, IsResumedOver, IsSettledTo, IsUnderway, found_or};
+ghost use Rattle.block_cache.specs.Turns.{IsAttemptedOver, IsBrokenOff, IsResumedOver, IsSettledTo, IsUnderway, found_or};
 
 use crate::attempt::{Block, try_lane};
 use crate::faults::{PlaceFault, least_fault};
@@ -37,7 +37,7 @@ fn needed_site(at: &Reading<'_>, version: u32) -> u32
 }
 
 /// The fault that was found, or the one before.
-fn lowered(fault: Option<PlaceFault>, found: Option<PlaceFault>) -> Option<PlaceFault>
+pub(crate) fn lowered(fault: Option<PlaceFault>, found: Option<PlaceFault>) -> Option<PlaceFault>
     ensures { result ≡ found_or found fault }
 {
     match found {
@@ -65,7 +65,7 @@ fn attempt<L: Ledger>(
     level: &mut Level,
     scratch: &mut [Scratch],
     steps: &mut Steps<L>,
-) -> Option<PlaceFault>
+) -> Result<Option<PlaceFault>, Memory>
     requires job { Fits block.now.at.now.job.now }
     requires row { IsRow (job_graph (job_of block.now.at.now.job.now)) block.now.at.now.under block.now.at.now.row.now }
     requires site { site < length (graph_sites (job_graph (job_of block.now.at.now.job.now))) }
@@ -73,9 +73,11 @@ fn attempt<L: Ledger>(
     requires can { CanTry (job_of block.now.at.now.job.now) block.now.at.now.entry block.now.at.now.under block.now.count lanes.old block.now.cells.now (length scratch.old) site }
     requires selected { IsSelected block.now.count level.old.group [] }
     requires lacks { EachPlace level.old.group (λ p. holds_at lanes.old (key_of (job_graph (job_of block.now.at.now.job.now)) site block.now.at.now.under) p ≡ false) }
-    ensures attempted { IsAttemptedOver (job_of block.now.at.now.job.now) block.now.at.now.entry block.now.at.now.under block.now.count site level.old.group lanes.old lanes.new level.old.needs level.new.needs result }
+    ensures attempted { IfOk result (λ found. IsAttemptedOver (job_of block.now.at.now.job.now) block.now.at.now.entry block.now.at.now.under block.now.count site level.old.group lanes.old lanes.new level.old.needs level.new.needs found) }
+    ensures broken { OnErr result (IsBrokenOff (job_of block.now.at.now.job.now) block.now.at.now.entry block.now.at.now.under site level.old.group lanes.old lanes.new steps.old steps.new) }
     ensures lacking { level.new.lacking ≡ level.old.lacking }
-    ensures steps { steps.new ≡ steps.old + length level.old.group }
+    ensures steps { OnOk result (steps.new ≡ steps.old + length level.old.group) }
+    ensures plain { (used : ℕ → Bool) → ArePlain (job_of block.now.at.now.job.now) used → used site ≡ true → OnErr result ⊥ }
 {
     level.stops.clear();
     try_lane(
@@ -86,9 +88,9 @@ fn attempt<L: Ledger>(
         &mut level.stops,
         scratch,
         steps,
-    );
+    )?;
     note_needs(level.stops.as_slice(), &mut level.needs);
-    least_fault(level.stops.as_slice())
+    Ok(least_fault(level.stops.as_slice()))
 }
 
 /// Leaves the places open below the fault at which the site isn't held.
@@ -119,7 +121,7 @@ fn resume<L: Ledger>(
     level: &mut Level,
     scratch: &mut [Scratch],
     steps: &mut Steps<L>,
-) -> Option<PlaceFault>
+) -> Result<Option<PlaceFault>, Memory>
     requires job { Fits block.now.at.now.job.now }
     requires row { IsRow (job_graph (job_of block.now.at.now.job.now)) block.now.at.now.under block.now.at.now.row.now }
     requires site { site < length (graph_sites (job_graph (job_of block.now.at.now.job.now))) }
@@ -128,13 +130,15 @@ fn resume<L: Ledger>(
     requires selected { IsSelected block.now.count level.old.group [] }
     requires inside { EachPlace level.old.lacking (λ p. p < block.now.count) }
     requires lacks { EachPlace level.old.group (λ p. holds_at lanes.old (key_of (job_graph (job_of block.now.at.now.job.now)) site block.now.at.now.under) p ≡ false) }
-    ensures resumed { IsResumedOver (job_of block.now.at.now.job.now) block.now.at.now.entry block.now.at.now.under block.now.count site fault level.old.group level.old.lacking lanes.old lanes.new level.old.needs level.new.needs level.new.lacking result }
-    ensures steps { steps.new ≡ steps.old + length level.old.group }
+    ensures resumed { IfOk result (λ least. IsResumedOver (job_of block.now.at.now.job.now) block.now.at.now.entry block.now.at.now.under block.now.count site fault level.old.group level.old.lacking lanes.old lanes.new level.old.needs level.new.needs level.new.lacking least) }
+    ensures broken { OnErr result (IsBrokenOff (job_of block.now.at.now.job.now) block.now.at.now.entry block.now.at.now.under site level.old.group lanes.old lanes.new steps.old steps.new) }
+    ensures steps { OnOk result (steps.new ≡ steps.old + length level.old.group) }
+    ensures plain { (used : ℕ → Bool) → ArePlain (job_of block.now.at.now.job.now) used → used site ≡ true → OnErr result ⊥ }
 {
-    let found = attempt(block, lanes, site, level, scratch, steps);
+    let found = attempt(block, lanes, site, level, scratch, steps)?;
     let least = lowered(fault, found);
     narrow(block, lanes, site, least, level);
-    least
+    Ok(least)
 }
 
 /// Evaluates a site at the places of the selection at which it isn't held.
@@ -146,7 +150,7 @@ fn begin<L: Ledger>(
     level: &mut Level,
     scratch: &mut [Scratch],
     steps: &mut Steps<L>,
-) -> Option<PlaceFault>
+) -> Result<Option<PlaceFault>, Memory>
     requires job { Fits block.now.at.now.job.now }
     requires row { IsRow (job_graph (job_of block.now.at.now.job.now)) block.now.at.now.under block.now.at.now.row.now }
     requires site { site < length (graph_sites (job_graph (job_of block.now.at.now.job.now))) }
@@ -154,7 +158,9 @@ fn begin<L: Ledger>(
     requires can { CanTry (job_of block.now.at.now.job.now) block.now.at.now.entry block.now.at.now.under block.now.count lanes.old block.now.cells.now (length scratch.old) site }
     requires selected { IsSelected block.now.count selection.now [] }
     requires settled { IsSettledTo (job_of block.now.at.now.job.now) block.now.at.now.under site lanes.old selection.now }
-    ensures underway { IsUnderway (job_of block.now.at.now.job.now) block.now.at.now.entry block.now.at.now.under block.now.count site selection.now lanes.old steps.old lanes.new result level.new.lacking level.new.needs steps.new }
+    ensures underway { IfOk result (λ fault. IsUnderway (job_of block.now.at.now.job.now) block.now.at.now.entry block.now.at.now.under block.now.count site selection.now lanes.old steps.old lanes.new fault level.new.lacking level.new.needs steps.new) }
+    ensures spent { OnErr result (IsSpentOver (job_of block.now.at.now.job.now) block.now.at.now.entry block.now.at.now.under site selection.now lanes.old lanes.new steps.old steps.new) }
+    ensures plain { (used : ℕ → Bool) → ArePlain (job_of block.now.at.now.job.now) used → used site ≡ true → OnErr result ⊥ }
     ensures rising { AreRising selection.now }
 {
     let _places = selection.as_slice();
@@ -189,7 +195,7 @@ fn fill_site<L: Ledger>(
     ensures begun { OnOk result (EachPlace selection.old (λ p. holds_at lanes.old (key_of (job_graph (job_of block.now.at.now.job.now)) site block.now.at.now.under) p ≡ false → begun_at lanes.new (key_of (job_graph (job_of block.now.at.now.job.now)) site block.now.at.now.under) p ≡ true)) }
     ensures plain { (used : ℕ → Bool) → ArePlain (job_of block.now.at.now.job.now) used → used site ≡ true → OnErr result ⊥ }
 {
-    let mut fault = begin(block, lanes, site, selection, level, scratch, steps);
+    let mut fault = begin(block, lanes, site, selection, level, scratch, steps)?;
     while level.lacking.len() > 0 {
         let needed = needed_site(block.at, level.next_group());
         let below = match deeper.split_first_mut() {
@@ -213,7 +219,7 @@ fn fill_site<L: Ledger>(
             level,
             scratch,
             steps,
-        );
+        )?;
     }
     keep_below(selection, fault);
     Ok(fault)
@@ -242,6 +248,9 @@ pub fn fill<L: Ledger>(
     ensures settled { OnOk result (IsSettled lanes.new selection.new) }
     ensures plain { (used : ℕ → Bool) → ArePlain (job_of block.now.at.now.job.now) used → used site ≡ true → OnErr result ⊥ }
 {
+    if lanes[key(block.at, site)].is_full() {
+        return Ok(None);
+    }
     match levels.split_first_mut() {
         Some((level, deeper)) => fill_site(
             block, lanes, site, selection, level, deeper, scratch, steps,

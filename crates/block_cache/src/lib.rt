@@ -1,5 +1,5 @@
 //! What the passes of an event loop share of a block of entries: an expression is evaluated over all entries that call for it at once,
-//! and once for all variations under which it comes to the same. It stands on `block_lanes`, which keeps what is known, and on
+//! and once for all variations under which it comes to the same: at all places at once, or place by place where vectors are met. It stands on `block_lanes`, which keeps what is known, and on
 //! `entry_cache` for the numbers of keys and for what is known of one entry.
 #![tactic(auto)]
 
@@ -7,6 +7,12 @@ pub mod attempt;
 pub mod cells;
 pub mod faults;
 pub mod fill;
+pub mod leads;
+mod fold_values;
+pub mod folds;
 pub mod level;
 pub mod passing;
+mod place_view;
+mod site_values;
 mod view;
+mod whole;

@@ -12,7 +12,7 @@ ghost use Rattle.block_cache.specs.Fills.{CanFill, IsPassedOver, IsSettled, IsSp
 
 use crate::attempt::Block;
 use crate::faults::PlaceFault;
-use crate::fill::fill;
+use crate::leads::fill_led;
 use crate::level::Level;
 use block_lanes::Lane;
 use entry_cache::reading::key;
@@ -41,10 +41,10 @@ pub fn pass_filter<L: Ledger>(
     requires selected { IsSelected block.now.count selection.old [] }
     requires settled { IsSettled lanes.old selection.old }
     ensures spent { IsSpentOver (job_of block.now.at.now.job.now) block.now.at.now.entry block.now.at.now.under site selection.old lanes.old lanes.new steps.old steps.new }
-    ensures passed { IfOk result (λ fault. IsPassedOver (job_of block.now.at.now.job.now) block.now.at.now.entry block.now.at.now.under block.now.count site selection.old selection.new lanes.old lanes.new fault steps.old steps.new) }
+    ensures passed { IfOk result (IsPassedOver (job_of block.now.at.now.job.now) block.now.at.now.entry block.now.at.now.under block.now.count site selection.old selection.new lanes.new) }
     ensures plain { (used : ℕ → Bool) → ArePlain (job_of block.now.at.now.job.now) used → used site ≡ true → OnErr result ⊥ }
 {
-    let fault = fill(block, lanes, site, selection, levels, scratch, steps)?;
+    let fault = fill_led(block, lanes, site, selection, levels, scratch, steps)?;
     selection.keep_set(lanes[key(block.at, site)].column().numbers);
     Ok(fault)
 }

@@ -1,9 +1,9 @@
-// The columns of an evaluation over a block, by what is held.
+// The columns of an evaluation over a block, by what is held, where none has to do with vectors.
 ghost use Rattle.std.specs.Prelude.{◌+◌, length};
 ghost use Rattle.entry_cache.specs.Jobs.{Fits, job_graph, job_of};
 ghost use Rattle.entry_cache.specs.Keys.{IsRow, key_count};
 ghost use Rattle.entry_cache.specs.Store.{look_at};
-ghost use Rattle.block_cache.specs.Blocks.{CanRead, cells_at};
+ghost use Rattle.block_cache.specs.Blocks.{CanReadWhole, cells_at};
 
 use crate::cells::CellLane;
 use block_lanes::Lane;
@@ -26,7 +26,7 @@ impl<'a> LaneInputs for BlockView<'a> {
     ghost size = { λ v. v.count };
 
     ghost can = { λ v c. Fits v.at.now.job.now × IsRow (job_graph (job_of v.at.now.job.now)) v.at.now.under v.at.now.row.now
-        × CanRead (job_of v.at.now.job.now) v.at.now.entry v.at.now.under v.count v.lanes.now v.cells.now c };
+        × CanReadWhole (job_of v.at.now.job.now) v.at.now.entry v.at.now.under v.count v.lanes.now v.cells.now c };
 
     ghost look = { λ v p c. look_at (job_of v.at.now.job.now) (v.at.now.entry + p) v.at.now.under (cells_at (key_count (job_graph (job_of v.at.now.job.now))) v.lanes.now p) c };
 

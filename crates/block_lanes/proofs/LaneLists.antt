@@ -1,5 +1,5 @@
 -- The lanes of all keys, one after another.
-use Rattle.std.proofs.Common.{◌≡◌, ◌<◌, ◌≤◌, ◌+◌, ◌++◌, ℕ, suc, zero, List, [], ◌∷◌, length, get_or, take, set, map, ◌∙◌, refl, ap, sym, subst, arith, length-set}
+use Rattle.std.proofs.Common.{◌≡◌, ◌<◌, ◌≤◌, ◌+◌, ◌++◌, ℕ, suc, zero, List, [], ◌∷◌, length, get_or, take, set, ◌∙◌, refl, ap, sym, arith, length-set}
 use Rattle.std.specs.List.{All, AllWithin}
 use Rattle.std.proofs.lemmas.List.{take_more}
 use Rattle.std.proofs.lemmas.List.Elements.{All-set, All-from_all_within, AllWithin-more_set, AllWithin-push, AllWithin-from_all}

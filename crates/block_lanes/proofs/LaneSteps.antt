@@ -1,11 +1,13 @@
 -- A lane before and after an evaluation.
-use Rattle.std.proofs.Common.{◌≡◌, ◌<◌, ◌≤◌, ◌+◌, ◌||◌, ◌++◌, not, ℕ, ℤ, suc, zero, Bool, true, false, inl, inr, List, [], ◌∷◌, length, take, drop, ◌∙◌, refl, ap, sym, subst, cond, arith}
+use Rattle.std.proofs.Common.{◌≡◌, ◌<◌, ◌≤◌, ◌+◌, ◌||◌, ◌++◌, not, ℕ, ℤ, Bool, true, false, inl, inr, List, [], ◌∷◌, length, take, drop, ◌∙◌, refl, ap, sym, subst, cond, arith}
 use Rattle.std.specs.Prelude.{count_by}
-use Rattle.std.specs.List.{filter, range_with_len}
+use Rattle.std.specs.List.{filter}
 use Rattle.std.proofs.Math.Seq.{take-append_seam}
 use Rattle.rdf_values.specs.declared.value.ColType.{ColType}
 use Rattle.rdf_values.specs.declared.value.Value.{Value}
 use Rattle.rdf_model.specs.Evaluation.{Outcome, Gives}
+use Rattle.rdf_values.specs.declared.value.ColType.TheVariants as kinds
+use Rattle.expr_check.specs.NumKinds.{is_vector}
 use Rattle.expr_lanes.specs.Marks.{lane_number, lane_outcome, lane_value}
 use Rattle.expr_lanes.specs.Places.{at_place, is_given, is_in, is_marked, EachPlace}
 use Rattle.expr_lanes.specs.Values.{HasValues}
@@ -15,6 +17,7 @@ use Rattle.std.proofs.lemmas.Bool.{cases_lt}
 use Rattle.block_lanes.proofs.Marking.{count_none}
 use Rattle.expr_lanes.specs.declared.TheConstants.{MAX_PLACES}
 use Rattle.block_lanes.specs.Lanes.{LaneView, IsEvaluated, IsLane, IsUnknown, room_of}
+use Rattle.block_lanes.specs.Values.{HasNumbered, value_for}
 
 -- ---- a filter by what holds of each place
 
@@ -48,36 +51,47 @@ newly_as places sel old seen new same_places same_marks newly =
 
 -- ---- an evaluation
 
+-- a value that is no vector
+pub scalar_value : (k : ColType) (vectors : List (List ℤ)) (z : ℤ) → is_vector k ≡ false → value_for k vectors z ≡ lane_value k z
+scalar_value kinds.Int vectors z scalar = refl
+scalar_value kinds.Bool vectors z scalar = refl
+scalar_value kinds.Vect vectors z scalar = cc scalar
+
+scalar_there : (k : ColType) (vectors : List (List ℤ)) (z : ℤ) → is_vector k ≡ false → HasNumbered k vectors z
+scalar_there kinds.Int vectors z scalar = tt
+scalar_there kinds.Bool vectors z scalar = tt
+scalar_there kinds.Vect vectors z scalar = cc scalar
+
 number_is : (y z : ℤ) → ◌≡◌ {A = Outcome ℕ ℤ} (Gives y) (Gives z) → y ≡ z
 number_is y z e = cc e
 
-first_false : (a b : Bool) → (a || b) ≡ false → a ≡ false
+pub first_false : (a b : Bool) → (a || b) ≡ false → a ≡ false
 first_false true b h = h
 first_false false b h = refl
 
-last_false : (a b : Bool) → (a || b) ≡ false → b ≡ false
+pub last_false : (a b : Bool) → (a || b) ≡ false → b ≡ false
 last_false true b h = absurd (cc h)
 last_false false b h = h
 
-neither : (a b : Bool) → a ≡ false → b ≡ false → (a || b) ≡ false
+pub neither : (a b : Bool) → a ≡ false → b ≡ false → (a || b) ≡ false
 neither a b h k = ap (λ c. c || b) h ∙ k
 
 pub either_held : (a b : Bool) → a ≡ true → (a || b) ≡ true
 either_held a b h = ap (λ c. c || b) h
 
-outside : (a : Bool) → (a ≡ true → ⊥) → a ≡ false
+pub outside : (a : Bool) → (a ≡ true → ⊥) → a ≡ false
 outside true h = absurd (h refl)
 outside false h = refl
 
 module _
-    (f : ℕ → Outcome ℕ Value) (sel left : List ℕ) (kind : ColType) (count : ℕ) (numbers0 numbers : List ℤ) (tried0 tried held0 held : List Bool)
+    (f : ℕ → Outcome ℕ Value) (sel left : List ℕ) (kind : ColType) (count : ℕ) (numbers0 numbers : List ℤ) (vectors : List (List ℤ)) (scalar : is_vector kind ≡ false) (tried0 tried held0 held : List Bool)
     (tried_at : (p : ℕ) → is_marked tried p ≡ (is_in p sel || is_marked tried0 p)) (held_at : (p : ℕ) → is_marked held p ≡ (is_in p left || is_marked held0 p))
   where
     abbrev before : LaneView
-    before = record { kind = kind; count = count; numbers = numbers0; tried = tried0; held = held0 }
+    before = record { kind = kind; count = count; numbers = numbers0; vectors = vectors; tried = tried0; held = held0 }
 
     abbrev after : LaneView
-    after = record { kind = kind; count = count; numbers = numbers; tried = tried; held = held }
+    after = record { kind = kind; count = count; numbers = numbers; vectors = vectors; tried = tried; held = held }
 
     -- the lane is one still
     pub lane_after : (stops more : List Stopped) → IsLane before → EachPlace sel (λ p. p < count) → EachPlace sel (λ p. is_marked held0 p ≡ false) → HasValues kind f sel left numbers0 numbers stops more → length numbers ≡ length numbers0
@@ -91,7 +105,8 @@ module _
       begun = λ p none.
           let no : (is_in p sel || is_marked tried0 p) ≡ false = sym (tried_at p) ∙ none in
           held_at p ∙ neither (is_in p left) (is_marked held0 p) (ap (λ l. is_in p l) come.left_in ∙ filtered_out (λ p. is_given (f p)) p sel (first_false (is_in p sel) (is_marked tried0 p) no)) (lane.begun p (last_false (is_in p sel) (is_marked tried0 p) no));
-      exact = λ p is. exact_at p (is_in p left) refl (is_in p sel) refl (sym (held_at p) ∙ is);
+      exact = λ _ p is. ap lane_number (scalar_value kind vectors (at_place numbers p) scalar) ∙ exact_at p (is_in p left) refl (is_in p sel) refl (sym (held_at p) ∙ is);
+      there = λ p is. scalar_there kind vectors (at_place numbers p) scalar;
     }
       where
         exact_at : (p : ℕ) (b : Bool) → is_in p left ≡ b → (s : Bool) → is_in p sel ≡ s → (is_in p left || is_marked held0 p) ≡ true → lane_number (lane_value kind (at_place numbers p)) ≡ at_place numbers p
@@ -103,7 +118,7 @@ module _
         exact_at p false not_left false outside_sel is =
             let was : is_marked held0 p ≡ true = sym (ap (λ b. b || is_marked held0 p) not_left) ∙ is in
             let same : at_place numbers p ≡ at_place numbers0 p = come.others p outside_sel in
-            ap (λ z. lane_number (lane_value kind z)) same ∙ lane.exact p was ∙ sym same
+            ap (λ z. lane_number (lane_value kind z)) same ∙ ap lane_number (sym (scalar_value kind vectors (at_place numbers0 p) scalar)) ∙ lane.exact scalar p was ∙ sym same
 
     -- and the key was evaluated
     pub evaluated_after : (stops more : List Stopped) → HasValues kind f sel left numbers0 numbers stops more → length numbers ≡ length numbers0 → count_by (λ b. b) tried ≡ count_by (λ b. b) tried0 + count_by (λ p. not (is_marked tried0 p)) sel
@@ -114,8 +129,8 @@ module _
       left_in = come.left_in;
       tried = tried_at;
       held = held_at;
-      values = come.values;
-      others = λ p h. ap (lane_value kind) (come.others p h);
+      values = λ p h. come.values p h ∙ ap Gives (sym (scalar_value kind vectors (at_place numbers p) scalar));
+      kept = λ p h was. ap (value_for kind vectors) (come.others p h);
       newly = newly;
       joined = come.joined;
     }
@@ -132,10 +147,10 @@ come_as kind own f sel left numbers0 seen numbers stops more same_kind same_numb
 
 -- ---- a block that begins
 
-pub unknown_after : (kind : ColType) (last size : ℕ) (numbers : List ℤ) (tried0 tried held0 held : List Bool) → IsLane (record { kind = kind; count = last; numbers = numbers; tried = tried0; held = held0 }) → ((p : ℕ) → p < last → is_marked tried p ≡ false)
+pub unknown_after : (kind : ColType) (last size : ℕ) (numbers : List ℤ) (vectors0 vectors : List (List ℤ)) (tried0 tried held0 held : List Bool) → IsLane (record { kind = kind; count = last; numbers = numbers; vectors = vectors0; tried = tried0; held = held0 }) → ((p : ℕ) → p < last → is_marked tried p ≡ false)
     → ((p : ℕ) → last ≤ p → is_marked tried p ≡ is_marked tried0 p) → ((p : ℕ) → p < last → is_marked held p ≡ false) → ((p : ℕ) → last ≤ p → is_marked held p ≡ is_marked held0 p)
-    → IsUnknown size (record { kind = kind; count = size; numbers = numbers; tried = tried; held = held })
-unknown_after kind last size numbers tried0 tried held0 held lane tried_first tried_rest held_first held_rest = record { count = refl; tried = no_tried; held = no_held; none = count_none tried no_tried }
+    → IsUnknown size (record { kind = kind; count = size; numbers = numbers; vectors = vectors; tried = tried; held = held })
+unknown_after kind last size numbers vectors0 vectors tried0 tried held0 held lane tried_first tried_rest held_first held_rest = record { count = refl; tried = no_tried; held = no_held; none = count_none tried no_tried }
   where
     no_tried : (p : ℕ) → is_marked tried p ≡ false
     no_tried p = elim (cases_lt p last) [ inl low ↦ tried_first p low | inr high ↦ tried_rest p high ∙ lane.behind p high ]
@@ -152,5 +167,6 @@ unknown_lane l size small long_tried long_held within unknown = record {
   within = within;
   behind = λ p far. unknown.tried p;
   begun = λ p none. unknown.held p;
-  exact = λ p is. absurd (cc (is, unknown.held p));
+  exact = λ scalar p is. absurd (cc (is, unknown.held p));
+  there = λ p is. absurd (cc (is, unknown.held p));
 }

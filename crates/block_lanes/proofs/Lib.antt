@@ -1,3 +1,6 @@
+pub mod EachLanes
+pub mod EachPlaces
 pub mod LaneLists
 pub mod LaneSteps
 pub mod Marking
+pub mod VectorLists

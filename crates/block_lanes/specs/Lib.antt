@@ -1,2 +1,4 @@
 pub mod Lanes
 pub mod Sizes
+pub mod Turns
+pub mod Values

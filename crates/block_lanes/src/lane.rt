@@ -1,21 +1,26 @@
 // What is known of one key over a block.
-ghost use Rattle.std.specs.Prelude.{◌≡◌, ◌<◌, ◌≤◌, ◌+◌, ℕ, true, false, not, length, All, IfOk};
+ghost use Rattle.std.specs.Prelude.{◌≡◌, ◌<◌, ◌≤◌, ◌+◌, ℕ, true, false, not, length, All, IfOk, OnOk, OnErr, if◌then◌else◌};
 ghost use Rattle.std.specs.List.{filter};
 ghost use Rattle.rdf_values.specs.Functions.{fn_names};
-ghost use Rattle.rdf_model.specs.Evaluation.{evaluate as evaluate_at, call_outcome};
+ghost use Rattle.rdf_model.specs.Evaluation.{Gives, Needs, evaluate as evaluate_at, call_outcome};
 ghost use Rattle.rdf_model.specs.Laws.{FitsOutcome};
 ghost use Rattle.entry_fns.specs.Lists.{functions_in};
-ghost use Rattle.expr_check.specs.NumKinds.{is_plain, CallsFit};
+ghost use Rattle.expr_check.specs.NumKinds.{is_plain, is_vector, CallsFit};
+ghost use Rattle.expr_eval.specs.Inputs.{input_outcome};
 ghost use Rattle.expr_lanes.specs.Depths.{depth};
 ghost use Rattle.expr_lanes.specs.LaneInputs.{is_known, HasMarks};
 ghost use Rattle.expr_lanes.specs.Places.{EachPlace, IsSelected};
-ghost use Rattle.block_lanes.specs.Lanes.{is_held, room_of, IsEvaluated, IsExact, IsExtent, IsSameLane, IsUnknown, LaneView};
+ghost use Rattle.block_lanes.specs.Lanes.{is_held, room_of, value_of, AreNumbers, IsBegun, IsEvaluated, IsExtent, IsSameLane, IsUnknown, LaneView};
 
+use crate::each_place::each_place;
 use crate::marks::{clear_first, mark};
+use crate::place_values::PlaceValues;
+use crate::values::Values;
+use crate::vectors::Vectors;
 use arrayvec::ArrayVec;
 use entry_fns::FnList;
 use expr_check::Checked;
-use expr_eval::Steps;
+use expr_eval::{Input, Steps};
 use expr_lanes::{
     Known, LaneColumn, LaneInputs, MAX_PLACES, Scratch, Selection, Stopped, eval_lane,
 };
@@ -32,13 +37,14 @@ pub enum Extent {
     All,
 }
 
-/// A key over a block: at each place its number, whether its evaluation was begun, and whether it came to a value. Places that are
-/// marked keep their numbers until the next block begins.
+/// A key over a block: at each place its value, whether its evaluation was begun, and whether it came to that value. Places that are
+/// marked keep their values until the next block begins.
 #[derive(Drop)]
 pub struct Lane {
+    alloc: Global,
     kind: ColType,
     count: usize,
-    numbers: Vec<i64>,
+    values: Values,
     tried: Vec<bool>,
     held: Vec<bool>,
     extent: Extent,
@@ -49,14 +55,15 @@ impl Model for Lane {
 
     ghost Value = { LaneView };
 
-    ghost view = { λ l. record { kind = l.kind; count = l.count; numbers = l.numbers.items; tried = l.tried.items; held = l.held.items } };
+    ghost view = { λ l. record { kind = l.kind; count = l.count; numbers = l.values.numbers.items; vectors = l.values.vectors; tried = l.tried.items; held = l.held.items } };
 
-    ghost invariant = { λ l. IsLane (record { kind = l.kind; count = l.count; numbers = l.numbers.items; tried = l.tried.items; held = l.held.items })
-        × IsExtent l.extent (record { kind = l.kind; count = l.count; numbers = l.numbers.items; tried = l.tried.items; held = l.held.items }) };
+    ghost invariant = { λ l. IsLane (record { kind = l.kind; count = l.count; numbers = l.values.numbers.items; vectors = l.values.vectors; tried = l.tried.items; held = l.held.items })
+        × IsExtent l.extent (record { kind = l.kind; count = l.count; numbers = l.values.numbers.items; vectors = l.values.vectors; tried = l.tried.items; held = l.held.items }) };
 }
 
 impl Lane {
-    /// The lane of a key, with all the memory that it takes for blocks of so many places. Of no block is anything known yet.
+    /// The lane of a key, with all the memory that it takes for blocks of so many places, but for vectors. Of no block is anything
+    /// known yet.
     pub fn new(alloc: Global, kind: ColType, room: usize) -> Result<Lane, Memory>
         requires { room ≤ MAX_PLACES }
         ensures kind { IfOk result (λ l. l.kind ≡ kind) }
@@ -67,9 +74,13 @@ impl Lane {
         let tried = vec![in alloc; false; room]?;
         let held = vec![in alloc; false; room]?;
         Ok(Lane {
+            alloc,
             kind,
             count: 0,
-            numbers,
+            values: Values {
+                numbers,
+                vectors: Vectors::new(alloc),
+            },
             tried,
             held,
             extent: Extent::Nothing,
@@ -85,6 +96,7 @@ impl Lane {
         let last = self.count;
         clear_first(&mut self.tried, last);
         clear_first(&mut self.held, last);
+        self.values.vectors.clear();
         self.count = count;
         self.extent = Extent::Nothing;
     }
@@ -101,15 +113,47 @@ impl Lane {
         }
     }
 
-    /// What is known of the key, as an evaluation reads it.
+    /// Of which kind the key's values are.
+    pub fn kind(&self) -> ColType
+        ensures { result ≡ self.now.kind }
+    {
+        self.kind
+    }
+
+    /// What the key's vectors take memory from.
+    pub fn alloc(&self) -> Global {
+        self.alloc
+    }
+
+    /// Whether each place of the block is known to hold a value.
+    pub fn is_full(&self) -> bool
+        ensures { result ≡ true → (p : ℕ) → p < self.now.count → is_held self.now p ≡ true }
+    {
+        matches!(self.extent, Extent::All)
+    }
+
+    /// What is known of the key at a place.
+    pub fn input(&self, place: u32) -> Input<'_>
+        requires { place < self.now.count }
+        ensures { (c : ℕ) → input_outcome c result ≡ (if is_held self.now place then Gives (value_of self.now place) else Needs c) }
+    {
+        if self.held[place as usize] {
+            self.values.input(self.kind, place)
+        } else {
+            Input::Missing
+        }
+    }
+
+    /// What is known of the key, as an evaluation without vectors reads it.
     pub fn column(&self) -> LaneColumn<'_>
+        requires { is_vector self.now.kind ≡ false }
         ensures numbers { result.numbers.now ≡ self.now.numbers }
-        ensures exact { IsExact self.now }
+        ensures exact { AreNumbers self.now }
         ensures long { self.now.count ≤ length result.numbers.now }
         ensures marks { HasMarks self.now.count result.known }
         ensures known { (p : ℕ) → p < self.now.count → is_known result.known p ≡ is_held self.now p }
     {
-        let numbers = self.numbers.as_slice();
+        let numbers = self.values.numbers.as_slice();
         let known = match self.extent {
             Extent::All => Known::Everywhere,
             Extent::Nothing | Extent::Some => Known::Marked(self.held.as_slice()),
@@ -131,6 +175,7 @@ impl Lane {
     )
         requires kind { expr.now.kind ≡ self.old.kind }
         requires plain { is_plain expr.now.kinds expr.now.tree ≡ true }
+        requires scalar { is_vector self.old.kind ≡ false }
         requires can { All (λ c. I.can inputs.now c.0) expr.now.kinds }
         requires fit { (p : ℕ) → p < I.size inputs.now → All (λ c. FitsOutcome c.1 (I.look inputs.now p c.0)) expr.now.kinds }
         requires calls { CallsFit (fn_names (functions_in functions.now)) expr.now.tree }
@@ -147,13 +192,48 @@ impl Lane {
             inputs,
             functions,
             selection,
-            &mut self.numbers,
+            &mut self.values.numbers,
             stops,
             scratch,
             steps,
         );
         mark(selection, &mut self.held);
         self.extent = extent_after(selection, self.count);
+    }
+
+    /// Evaluates the key at one selected place after another, of which nothing is held, in a step each. Where it comes to a value the place stays
+    /// selected, and the lane holds the value; each other place becomes a stop. Where memory is wanted, what is held stays.
+    pub fn evaluate_each<E: PlaceValues, L: Ledger>(
+        &mut self,
+        evaluation: &E,
+        selection: &mut Selection,
+        stops: &mut ArrayVec<Stopped, MAX_PLACES>,
+        steps: &mut Steps<L>,
+    ) -> Result<(), Memory>
+        requires can { EachPlace selection.old (λ p. E.can evaluation.now p) }
+        requires kind { E.kind evaluation.now ≡ self.old.kind }
+        requires selected { IsSelected self.old.count selection.old stops.old.items }
+        requires unknown { EachPlace selection.old (λ p. is_held self.old p ≡ false) }
+        ensures evaluated { OnOk result (IsEvaluated (E.gives evaluation.now) selection.old selection.new self.old self.new stops.old.items stops.new.items) }
+        ensures begun { OnErr result (IsBegun selection.old self.old self.new) }
+        ensures steps { OnOk result (steps.new ≡ steps.old + length selection.old) }
+        ensures few { steps.new ≤ steps.old + length selection.old }
+        ensures plain { E.plain evaluation.now → OnErr result ⊥ }
+    {
+        let mut stopped = [false; MAX_PLACES];
+        mark(selection, &mut self.tried);
+        each_place(
+            evaluation,
+            selection.as_slice(),
+            &mut self.values,
+            &mut stopped,
+            stops,
+            steps,
+        )?;
+        selection.keep_unmarked(&stopped);
+        mark(selection, &mut self.held);
+        self.extent = extent_after(selection, self.count);
+        Ok(())
     }
 }
 

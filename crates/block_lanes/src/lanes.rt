@@ -7,7 +7,7 @@ use expr_lanes::MAX_PLACES;
 use rdf_values::{ColType, Memory};
 use std::alloc::Global;
 
-/// A lane for each key with values of these kinds, with all the memory that they take for blocks of so many places.
+/// A lane for each key with values of these kinds, with all the memory that they take for blocks of so many places, but for vectors.
 pub fn new_lanes(alloc: Global, kinds: &[ColType], room: usize) -> Result<Vec<Lane>, Memory>
     requires { room ≤ MAX_PLACES }
     ensures kinds { IfOk result (λ ls. kinds_of ls.items ≡ kinds.now) }

@@ -95,7 +95,7 @@ module _ (f : ℕ → Option EntryFault) where
           none q (inl i) lt = ap f i ∙ e
           none q (inr i) lt = h.2 q i lt
 
-  selected_or_none : (sel : List ℕ) (p : ℕ) → (is_in p sel ≡ true → f p ≡ None) → where_in f sel p ≡ None
+  pub selected_or_none : (sel : List ℕ) (p : ℕ) → (is_in p sel ≡ true → f p ≡ None) → where_in f sel p ≡ None
   selected_or_none sel p h = go (is_in p sel) refl
     where
       go : (b : Bool) → is_in p sel ≡ b → (if b then f p else None) ≡ None

@@ -121,6 +121,10 @@ module _ (j : JobView) (s : BlockStage) (span : Span) (its : slice_get (job_span
     there_is : slice_get (passes_in j) n ≡ Some its_pass
     there_is = pass_of j n m of.its_pass r of.its_result
 
+    -- the pass is the next one of the loop's actions
+    pub block_kind : slice_get (facts_in j).kinds (actions_before j n) ≡ Some k
+    block_kind = (at_place j.dataset (row_of j (entry_at 0)) n (passes_in j) its_pass k of.at there_is of.booking).0
+
     -- whether the place passes the filters
     abbrev pub passes : ℕ → Bool
     passes q = is_true (through_sites (site_in j (entry_at q) m.variation) r.filters)

@@ -24,7 +24,7 @@ use Rattle.block_passes.proofs.StepSelecting.{kept_lower, step_made, step_spends
 -- ---- lists in two parts
 
 -- an element of two lists, of which the first of the latter was written
-set_behind : {A : Type 0} (xs ys : List A) (y : A) (k : ℕ) (x : A) → slice_get (xs ++ slice_set ys 0 y) k ≡ Some x → (slice_get (xs ++ ys) k ≡ Some x) ⊎ ((k ≡ length xs) × (x ≡ y))
+pub set_behind : {A : Type 0} (xs ys : List A) (y : A) (k : ℕ) (x : A) → slice_get (xs ++ slice_set ys 0 y) k ≡ Some x → (slice_get (xs ++ ys) k ≡ Some x) ⊎ ((k ≡ length xs) × (x ≡ y))
 set_behind [] [] y k x h = inl h
 set_behind [] (z ∷ ys) y zero x h = inr (refl, cc h)
 set_behind [] (z ∷ ys) y (suc k) x h = inl h

@@ -29,7 +29,7 @@ selected count sel limit n small le inside many few = record {
 }
 
 module _ (j : JobView) (first count : ℕ) (u : Option ℕ) (s pass : ℕ) (sel left : List ℕ) (before after : List LaneView) (start end : ℕ) (old new : Found) (fault : Option PlaceFault)
-    (spent : IsSpentOver j first u s sel before after start end) (passed : IsPassedOver j first u count s sel left before after fault start end)
+    (spent : IsSpentOver j first u s sel before after start end) (passed : IsPassedOver j first u count s sel left after fault)
     (rising : AreRising sel) (inside : EachPlace sel (λ p. p < old.limit)) (known : (p : ℕ) → p < old.limit → IsSettledAt before p) (now : new ≡ noted first pass old fault) where
   -- the fault of a filter's truth is its site's
   its_fault : fault ≡ fault_over (λ p. fault_in (truth_in j (first + p) u s)) sel

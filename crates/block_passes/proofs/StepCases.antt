@@ -1,8 +1,8 @@
 -- A step's selection: one that is there, all places, or one more filter.
-use Rattle.std.proofs.Common.{◌≡◌, ◌⊎◌, inl, inr, ℕ, zero, suc, ◌+◌, ◌<◌, Bool, true, false, List, [], ◌∷◌, length, Option, None, Some, refl, sym, ◌∙◌, ap, subst, arith, slice_get}
+use Rattle.std.proofs.Common.{◌≡◌, ◌⊎◌, inl, inr, ℕ, zero, suc, ◌+◌, ◌<◌, Bool, true, false, List, [], ◌∷◌, length, Option, None, Some, refl, sym, ◌∙◌, ap, subst, arith, slice_get, get_or}
 use Rattle.std.specs.Prelude.{slice_set}
 use Rattle.std.specs.List.{range_with_len}
-use Rattle.std.proofs.lemmas.Option.{slice_get_within}
+use Rattle.std.proofs.lemmas.Option.{slice_get_within, slice_get-get_or}
 use Rattle.rdf_model.specs.Results.{fault_in}
 use Rattle.block_lanes.specs.Lanes.{LaneView}
 use Rattle.entry_cache.specs.Jobs.{JobView}
@@ -21,7 +21,7 @@ use Rattle.block_passes.proofs.StepSelecting.{narrowed_made, own_fault, whole_ma
 
 -- ---- a selection that is written
 
-set_other : {A : Type 0} (xs : List A) (k : ℕ) (y : A) (i : ℕ) (x : A) → slice_get (slice_set xs k y) i ≡ Some x → (slice_get xs i ≡ Some x) ⊎ ((i ≡ k) × (x ≡ y))
+pub set_other : {A : Type 0} (xs : List A) (k : ℕ) (y : A) (i : ℕ) (x : A) → slice_get (slice_set xs k y) i ≡ Some x → (slice_get xs i ≡ Some x) ⊎ ((i ≡ k) × (x ≡ y))
 set_other [] k y i x h = inl h
 set_other (z ∷ xs) zero y zero x h = inr (refl, cc h)
 set_other (z ∷ xs) zero y (suc i) x h = inl h
@@ -32,7 +32,7 @@ set_other (z ∷ xs) (suc k) y (suc i) x h = go (set_other xs k y i x h)
     go (inl q) = inl q
     go (inr q) = inr (ap (λ n. suc n) q.0, q.1)
 
-set_here : {A : Type 0} (xs : List A) (k : ℕ) (y : A) → k < length xs → slice_get (slice_set xs k y) k ≡ Some y
+pub set_here : {A : Type 0} (xs : List A) (k : ℕ) (y : A) → k < length xs → slice_get (slice_set xs k y) k ≡ Some y
 set_here [] k y h = absurd (omega (arith, h))
 set_here (z ∷ xs) zero y h = refl
 set_here (z ∷ xs) (suc k) y h = set_here xs k y (omega (arith, h))
@@ -98,6 +98,11 @@ filter_selected j first count chains pass k parent site u step mid after between
 }
 
 -- ---- whether it was there
+
+pub chain_at : (chains : List Chain) (steps : List Step) (k : ℕ) → AreSteps chains steps → k < length steps → (c : Chain) × (slice_get chains k ≡ Some c)
+chain_at chains steps k are lt =
+    let none : Chain = record { sites = []; under = None } in
+    (get_or chains k none, slice_get-get_or chains k none (let m = are.many in omega (arith, m, lt)))
 
 pub kept_inside : (j : JobView) (first limit : ℕ) (chains : List Chain) (steps : List Step) (kept : List Kept) (k : ℕ) → AreSteps chains steps → AreKept j first chains limit kept → k < length steps → k < length kept
 kept_inside j first limit chains steps kept k are h lt = let a = are.many in let b = h.many in omega (arith, a, b, lt)

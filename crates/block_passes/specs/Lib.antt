@@ -1,6 +1,11 @@
 pub mod Blocks
+pub mod Clear
 pub mod Clusters
+pub mod Counting
 pub mod Demands
+pub mod Fed
+pub mod Feeds
+pub mod Inputs
 pub mod Laws
 pub mod Parts
 pub mod Plans
@@ -8,3 +13,4 @@ pub mod Searches
 pub mod Selections
 pub mod Spends
 pub mod Steps
+pub mod Tries

@@ -46,6 +46,18 @@ pub record IsReadyBelow (j : JobView) (first count : ℕ) (chains : List Chain) 
 abbrev pub IsNarrowed : ℕ → ℕ → Kept → Kept → Type 0
 IsNarrowed limit made old new = ((made ≤ limit) × (new ≡ old)) ⊎ ((limit < made) × (new.limit ≡ Some limit) × (new.places ≡ filter (λ p. nat_lt p limit) old.places))
 
+-- a selection was made, below a limit of so many places at most
+abbrev pub IsMadeBelow : ℕ → Kept → Type 0
+IsMadeBelow count m = (limit : ℕ) × (m.limit ≡ Some limit) × (limit ≤ count)
+
+-- each selection is as it was, or was made
+abbrev pub AreRemade : ℕ → List Kept → List Kept → Type 0
+AreRemade count old new = (k : ℕ) (m : Kept) → slice_get new k ≡ Some m → (slice_get old k ≡ Some m) ⊎ IsMadeBelow count m
+
+-- the selection of a step was made
+abbrev pub IsMadeAt : ℕ → List Kept → ℕ → Type 0
+IsMadeAt count kept k = (m : Kept) → slice_get kept k ≡ Some m → IsMadeBelow count m
+
 -- ---- one filter
 
 -- left of a selection are the places that pass the filter of a site, below the first that faults in it, which lowers the limit; below it

@@ -3,13 +3,21 @@
 //! tally and are counted. It stands on `block_cache`, which evaluates filters over a block, on `block_laws` and on `cluster_tally`.
 #![tactic(auto)]
 
+mod action;
+mod feed;
 pub mod found;
+mod inputs;
 pub mod kept;
 pub mod laws;
+mod noting;
+mod passes;
 pub mod plan;
+mod reports;
 mod select;
+mod sources;
 pub mod steps;
 pub mod stop;
+mod testing;
 pub mod turn;
 
 pub use crate::found::Found;

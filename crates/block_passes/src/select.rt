@@ -10,7 +10,7 @@ ghost use Rattle.entry_cache.specs.Keys.{AreKeys, key};
 ghost use Rattle.block_cache.specs.Blocks.{AreReady};
 ghost use Rattle.block_cache.specs.Fills.{CanFill, IsSpentOver};
 ghost use Rattle.block_passes.specs.Plans.{IsPlan};
-ghost use Rattle.block_passes.specs.Selections.{CanSelect, IsFilteredTo, IsNextSelected, IsReadyBelow};
+ghost use Rattle.block_passes.specs.Selections.{AreRemade, CanSelect, IsFilteredTo, IsNextSelected, IsReadyBelow, IsSelectedTo};
 ghost use Rattle.block_passes.specs.Spends.{IsSettledAt, Spends};
 ghost use Rattle.block_passes.specs.declared.kept.Kept.{Kept as KeptView};
 
@@ -106,6 +106,7 @@ pub(crate) fn next_places<L: Ledger>(
     ensures spends { Spends (job_of at.now.job.now) at.now.first at.now.count work.old.lanes.items work.new.lanes.items steps.old steps.new }
     ensures selected { (p : IsPlan (job_of at.now.job.now) at.now.plan.now)
         → OnOk result (IsNextSelected (job_of at.now.job.now) at.now.first at.now.count p.chains at.now.pass next.step next.parent next.filter.site next.filter.under work.new.lanes.items (above.now ++ own.new) work.old.found work.new.found) }
+    ensures remade { OnOk result (AreRemade at.now.count (above.now ++ own.old) (above.now ++ own.new)) }
     ensures scratch { length work.new.scratch.items ≡ length work.old.scratch.items }
     ensures levels { length work.new.levels.items ≡ length work.old.levels.items }
 {
@@ -117,4 +118,57 @@ pub(crate) fn next_places<L: Ledger>(
         next.filter,
         steps,
     )
+}
+
+/// Selects the places of a step below the limit, and first those of the steps above it, unless they are selected.
+pub(crate) fn select_step<L: Ledger>(
+    at: &Turn<'_>,
+    work: &mut Work,
+    kept: &mut [Kept],
+    step: u32,
+    steps: &mut Steps<L>,
+) -> Result<(), Memory>
+    requires job { Fits at.now.job.now }
+    requires rows { AreKeys (job_graph (job_of at.now.job.now)) at.now.rows.now }
+    requires small { at.now.count ≤ MAX_PLACES }
+    requires few { at.now.first + at.now.count ≤ 1000000 }
+    requires within { at.now.first + at.now.count ≤ length at.now.job.now.columns.now.table.rows }
+    requires plan { IsPlan (job_of at.now.job.now) at.now.plan.now }
+    requires can { CanSelect (job_of at.now.job.now) at.now.first at.now.count at.now.plan.now (kinds_of work.old.lanes.items) at.now.cells.now (length work.old.scratch.items) (length work.old.levels.items) }
+    requires step { step < length at.now.plan.now.steps }
+    requires ready { (p : IsPlan (job_of at.now.job.now) at.now.plan.now) → IsReadyBelow (job_of at.now.job.now) at.now.first at.now.count p.chains work.old.found.limit work.old.lanes.items kept.old }
+    ensures spends { Spends (job_of at.now.job.now) at.now.first at.now.count work.old.lanes.items work.new.lanes.items steps.old steps.new }
+    ensures selected { (p : IsPlan (job_of at.now.job.now) at.now.plan.now)
+        → OnOk result (IsSelectedTo (job_of at.now.job.now) at.now.first at.now.count p.chains at.now.pass step work.new.lanes.items kept.new work.old.found work.new.found) }
+    ensures remade { OnOk result (AreRemade at.now.count kept.old kept.new) }
+    ensures scratch { length work.new.scratch.items ≡ length work.old.scratch.items }
+    ensures levels { length work.new.levels.items ≡ length work.old.levels.items }
+{
+    let limit = work.found.limit;
+    if kept[step as usize].narrow(limit) {
+        return Ok(());
+    }
+    match at.plan.step(step) {
+        Step::Block => {
+            kept[step as usize].select_first(limit);
+            Ok(())
+        }
+        Step::Filter {
+            parent,
+            site,
+            under,
+        } => {
+            match select_step(at, work, kept, parent, steps) {
+                Ok(()) => {}
+                Err(Memory) => return Err(Memory),
+            }
+            let (above, own) = kept.split_at_mut(step as usize);
+            let next = NextStep {
+                step,
+                parent,
+                filter: SiteFilter { site, under },
+            };
+            next_places(at, work, above, own, next, steps)
+        }
+    }
 }

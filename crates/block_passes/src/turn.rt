@@ -7,6 +7,7 @@ use block_lanes::Lane;
 use entry_cache::Job;
 use entry_cache::rows::Row;
 use expr_lanes::Scratch;
+use rdf_values::ActionKind;
 
 /// A pass of a loop, and the entries of a block over which it is tried.
 #[derive(Clone, Copy)]
@@ -42,4 +43,12 @@ pub(crate) struct NextStep {
     pub(crate) step: u32,
     pub(crate) parent: u32,
     pub(crate) filter: SiteFilter,
+}
+
+/// What an action reads, under nominal or a variation.
+#[derive(Clone, Copy)]
+pub(crate) struct ActionRead<'a> {
+    pub(crate) kind: &'a ActionKind,
+    pub(crate) inputs: &'a [u32],
+    pub(crate) under: Option<u32>,
 }

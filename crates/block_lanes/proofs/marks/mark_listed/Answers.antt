@@ -1,4 +1,4 @@
-use Rattle.std.proofs.Common.{◌≡◌, ◌<◌, arith, refl, get_or, length, take}
+use Rattle.std.proofs.Common.{◌<◌, arith, refl, get_or, length}
 use Rattle.std.proofs.lemmas.List.{take_all}
 use Rattle.block_lanes.proofs.Marking.{mark_one, marked_all, marked_to_none, newly_all}
 use Rattle.expr_lanes.proofs.Selected.{is_in_at}

@@ -6,6 +6,7 @@ use Rattle.block_passes.specs.Selections.{IsFilteredTo}
 use Rattle.block_passes.specs.Steps.{longer}
 use Rattle.block_passes.specs.declared.steps.Step.TheVariants as step
 use Rattle.block_passes.proofs.NextPlaces.{from_inside, next_selected, next_spends}
+use Rattle.block_passes.proofs.Remaking.{remade_behind}
 use Rattle.block_passes.proofs.SitesThere.{site_there}
 use Rattle.block_passes.proofs.StepLaws.{get_kept}
 use Rattle.block_passes.proofs.select.next_places.Goals as goal
@@ -68,4 +69,12 @@ returns-clause-selected g c = λ p.
     c.requires.within c.args.above.now c.args.own.now c.index-above-next.result here c.requires.above c.args.work.now.lanes.items c.args.work.now.found (c.requires.ready p)
     (c.requires.made c.index-above-next.result (get_kept c.args.above.now c.args.own.now c.args.next.parent c.index-above-next.result here))
     c.filter_places.new.to _ c.filter_places.new.work.lanes.items c.filter_places.new.work.found h refl c.requires.own)
+    c.filter_places.ensures.filtered
+
+pub returns-clause-remade : goal.returns-clause-remade
+returns-clause-remade g c =
+    on_ok_weaker c.filter_places.result
+    (λ (h : IsFilteredTo (job_of c.args.at.now.job.now) c.args.at.now.first c.args.at.now.count c.args.next.filter.under c.args.next.filter.site c.args.at.now.pass c.index-above-next.result.places c.filter_places.new.to c.filter_places.new.work.lanes.items c.args.work.now.found c.filter_places.new.work.found).
+    remade_behind c.args.at.now.count c.args.above.now c.args.own.now c.filter_places.new.to _ refl
+    (c.filter_places.new.work.found.limit, h.its_limit, (let falls = h.lowers.falls in let within = (c.requires.ready c.requires.plan).within in omega (arith, falls, within))))
     c.filter_places.ensures.filtered

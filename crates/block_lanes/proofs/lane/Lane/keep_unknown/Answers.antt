@@ -1,4 +1,4 @@
-use Rattle.std.proofs.Common.{◌≡◌, ◌<◌, ◌∙◌, ℕ, not, ap, sym, subst, arith}
+use Rattle.std.proofs.Common.{◌<◌, ◌∙◌, ℕ, not, ap, sym, subst}
 use Rattle.block_lanes.specs.Lanes.{LaneView, is_held}
 use Rattle.block_lanes.proofs.LaneSteps.{filter_all, filter_none}
 use Rattle.block_lanes.proofs.lane.Lane.keep_unknown.Goals as goal

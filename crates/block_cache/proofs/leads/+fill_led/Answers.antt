@@ -1,0 +1,38 @@
+use Rattle.std.proofs.Common.{◌<◌, arith, length, rules}
+use Rattle.block_lanes.specs.Lanes.{kinds_of}
+use Rattle.graph_numbers.specs.Graphs.{graph_sites}
+use Rattle.entry_cache.specs.Jobs.{job_graph, job_of}
+use Rattle.block_cache.proofs.CanFills.{can_moved}
+use Rattle.block_cache.proofs.LeadLaws.{can_lead, filled_alone, lead_lower, lead_used, led_begun, led_filled, led_selected, led_spent}
+use Rattle.block_cache.proofs.leads.+fill_led.Goals as goal
+
+pub fill_led-requires : goal.fill_led-requires
+fill_led-requires g t c κs within =
+    let lower = lead_lower (job_of c.args.block.now.at.now.job.now) c.requires.job.job c.args.block.now.at.now.under c.args.site c.in-Some.lead c.in-Some.ensures in
+    let can = can_lead (job_of c.args.block.now.at.now.job.now) c.requires.job.job c.args.block.now.at.now.under c.args.site c.in-Some.lead c.in-Some.ensures c.args.block.now.at.now.entry c.args.block.now.count (kinds_of c.args.lanes.now) c.args.block.now.cells.now (length c.args.scratch.now) (length c.args.levels.now) c.requires.can in
+    let inside : c.in-Some.lead < length (graph_sites (job_graph (job_of c.args.block.now.at.now.job.now))) = omega (arith, lower, c.requires.site) in
+    (omega (arith, lower, c.decreases), (search rules, (c.requires.job, (c.requires.row, (inside, (c.requires.ready, (can, (c.requires.selected, c.requires.settled))))))))
+
+pub returns-in_err-under-clause-spent : goal.returns-in_err-under-clause-spent
+returns-in_err-under-clause-spent g t c = led_begun (job_of c.args.block.now.at.now.job.now) c.requires.job.job c.args.block.now.at.now.entry c.args.block.now.at.now.under c.args.block.now.count c.args.site c.in-Some.lead c.requires.site c.in-Some.ensures c.args.selection.now c.args.lanes.now c.fill_led.new.lanes c.args.steps.now c.fill_led.new.steps c.in_err-under.ensures.spent
+
+pub returns-in_err-under-clause-plain : goal.returns-in_err-under-clause-plain
+returns-in_err-under-clause-plain g t c = λ used p q. absurd (c.in_err-under.ensures.plain used p (lead_used (job_of c.args.block.now.at.now.job.now) c.requires.job.job c.args.block.now.at.now.under c.args.site c.in-Some.lead c.in-Some.ensures used p q))
+
+pub fill-requires-2-clause-selected : goal.fill-requires-2-clause-selected
+fill-requires-2-clause-selected g t c = led_selected (job_of c.args.block.now.at.now.job.now) c.requires.job.job c.args.block.now.at.now.entry c.args.block.now.at.now.under c.args.block.now.count c.args.site c.in-Some.lead c.requires.site c.in-Some.ensures c.args.selection.now c.args.lanes.now c.fill_led.new.lanes c.args.steps.now c.fill_led.new.steps c.in_ok-under.ensures.spent c.fill_led.new.selection c.in_ok-under.under c.in_ok-under.ensures.filled c.requires.selected
+
+pub returns-in_err-found-clause-spent : goal.returns-in_err-found-clause-spent
+returns-in_err-found-clause-spent g t c = led_spent (job_of c.args.block.now.at.now.job.now) c.requires.job.job c.args.block.now.at.now.entry c.args.block.now.at.now.under c.args.block.now.count c.args.site c.in-Some.lead c.requires.site c.in-Some.ensures c.args.selection.now c.args.lanes.now c.fill_led.new.lanes c.args.steps.now c.fill_led.new.steps c.in_ok-under.ensures.spent c.fill_led.new.selection c.in_ok-under.under c.in_ok-under.ensures.filled c.fill-2.new.lanes c.fill-2.new.steps c.in_err-found.ensures.spent
+
+pub returns-in_err-found-clause-plain : goal.returns-in_err-found-clause-plain
+returns-in_err-found-clause-plain g t c = λ used p q. absurd (c.in_err-found.ensures.plain used p q)
+
+pub returns-clause-spent : goal.returns-clause-spent
+returns-clause-spent g t c = led_spent (job_of c.args.block.now.at.now.job.now) c.requires.job.job c.args.block.now.at.now.entry c.args.block.now.at.now.under c.args.block.now.count c.args.site c.in-Some.lead c.requires.site c.in-Some.ensures c.args.selection.now c.args.lanes.now c.fill_led.new.lanes c.args.steps.now c.fill_led.new.steps c.in_ok-under.ensures.spent c.fill_led.new.selection c.in_ok-under.under c.in_ok-under.ensures.filled c.fill-2.new.lanes c.fill-2.new.steps c.in_ok-found.ensures.spent
+
+pub returns-clause-filled : goal.returns-clause-filled
+returns-clause-filled g t c =
+    rw c.lowered.ensures
+    (led_filled (job_of c.args.block.now.at.now.job.now) c.requires.job.job c.args.block.now.at.now.entry c.args.block.now.at.now.under c.args.block.now.count c.args.site c.in-Some.lead c.requires.site c.in-Some.ensures c.args.selection.now c.args.lanes.now c.fill_led.new.lanes c.args.steps.now c.fill_led.new.steps c.in_ok-under.ensures.spent c.fill_led.new.selection c.in_ok-under.under c.in_ok-under.ensures.filled c.fill-2.new.lanes c.fill-2.new.steps c.in_ok-found.ensures.spent
+    c.as_slice-rising.ensures.rising c.requires.selected c.fill-2.new.selection c.in_ok-found.found c.in_ok-found.ensures.filled)

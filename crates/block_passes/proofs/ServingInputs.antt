@@ -1,0 +1,171 @@
+-- Filling what an action reads, one version after another.
+use Rattle.std.proofs.Common.{◌≡◌, ℕ, ◌+◌, ◌<◌, Bool, true, false, ◌&&◌, List, [], ◌∷◌, Option, None, Some, refl, sym, ◌∙◌, ap, subst, arith, nat_lt, if◌then◌else◌, ℤ, length}
+use Rattle.std.specs.List.{filter, AllByRecursion}
+use Rattle.std.proofs.lemmas.Bool.Decides.{Decides-ltb}
+use Rattle.rdf_values.specs.declared.fault.EntryFault.{EntryFault}
+use Rattle.rdf_values.specs.declared.value.ColType.{ColType}
+use Rattle.rdf_values.specs.declared.value.Value.{Value}
+use Rattle.rdf_model.specs.Evaluation.{Outcome, Gives, Faults, Needs}
+use Rattle.rdf_model.specs.Results.{fault_in}
+use Rattle.graph_numbers.specs.Meets.{HasInputs, HasSourceIn, IfGiven}
+use Rattle.graph_numbers.specs.declared.source.Source.{Source}
+use Rattle.graph_numbers.specs.declared.source.Source.TheVariants as from
+use Rattle.expr_lanes.specs.Places.{EachPlace, is_in}
+use Rattle.block_lanes.specs.Lanes.{LaneView}
+use Rattle.entry_cache.specs.Jobs.{JobView, job_graph}
+use Rattle.entry_cache.specs.Keys.{key, key_count}
+use Rattle.entry_cache.specs.Store.{IsSourceIn, source_at, version_in}
+use Rattle.entry_cache.specs.Store.{is_held as is_known}
+use Rattle.entry_passes.specs.Turns.{HasAllDemands}
+use Rattle.block_cache.specs.Blocks.{AreReady}
+use Rattle.block_cache.specs.Fills.{holds_at}
+use Rattle.block_passes.specs.Inputs.{AreAtHand, CanServe, DemandsInputs, DemandsSource, IsAtHand, IsServedTo, inputs_fault, source_fault}
+use Rattle.block_passes.specs.Searches.{Lowers, where_in}
+use Rattle.block_passes.specs.Spends.{IsSettledAt, Spends}
+use Rattle.block_passes.specs.declared.found.Found.{Found}
+use Rattle.block_passes.specs.declared.kept.Kept.{Kept}
+use Rattle.block_passes.proofs.FaultsOver.{in_filtered, kept_whole, selected_or_none}
+use Rattle.block_passes.proofs.Parts.{inputs_fault as all_fault}
+use Rattle.block_passes.proofs.PlaceLists.{filter_twice}
+use Rattle.block_passes.proofs.Searching.{both_lower, lowers_as, none_lowers, or_else}
+use Rattle.block_passes.proofs.Spending.{known_is}
+
+and_true : (b : Bool) → (b && true) ≡ b
+and_true true = refl
+and_true false = refl
+
+both_true : (a b : Bool) → (a && b) ≡ true → (a ≡ true) × (b ≡ true)
+both_true true b h = (refl, h)
+both_true false b h = cc h
+
+-- what is held stays so
+pub still_held : (j : JobView) (first count : ℕ) (before after : List LaneView) (start end : ℕ) → Spends j first count before after start end → (k p : ℕ) → holds_at before k p ≡ true → holds_at after k p ≡ true
+still_held j first count before after start end spends k p h =
+    let keys = key_count (job_graph j) in
+    let same = spends.grows p k (known_is keys before k p ∙ h) in
+    sym (known_is keys after k p) ∙ ap is_known same ∙ known_is keys before k p ∙ h
+
+pub still_at_hand : (j : JobView) (first count : ℕ) (before after : List LaneView) (start end : ℕ) → Spends j first count before after start end → (u : Option ℕ) (p : ℕ) (x : Source) → IsAtHand j before u p x → IsAtHand j after u p x
+still_at_hand j first count before after start end spends u p (from.Cell col) h = tt
+still_at_hand j first count before after start end spends u p (from.Site s) h = still_held j first count before after start end spends (key (job_graph j) s u) p h
+still_at_hand j first count before after start end spends u p (from.Element s k tags) h = elim h [ ]
+
+of_set : (D : ℕ → Bool) (x : Source) → HasSourceIn (λ s. D s ≡ true) x → IsSourceIn D x
+of_set D (from.Cell col) h = tt
+of_set D (from.Site s) h = h
+of_set D (from.Element s k tags) h = h
+
+none_given : (o : Outcome ⊥ Value) (X : Type 0) → fault_in o ≡ None → IfGiven o X → X
+none_given (Gives v) X h x = x
+none_given (Faults k) X h x = cc h
+none_given (Needs m) X h x = elim m [ ]
+
+-- the places that are left are below the limit
+pub served_inside : (j : JobView) (first count : ℕ) (part : ℕ → Option EntryFault) (pass : ℕ) (sel : List ℕ) (to : Kept) (lanes : List LaneView) (old new : Found) → IsServedTo j first count part pass sel to lanes old new → EachPlace to.places (λ q. q < new.limit)
+served_inside j first count part pass sel to lanes old new h q i =
+    (Decides-ltb q new.limit).0 (both_true (is_in q sel) (nat_lt q new.limit) (sym (ap (is_in q) h.left ∙ in_filtered (λ x. nat_lt x new.limit) q sel) ∙ i)).1
+
+pub empty_list : (xs : List ℕ) → length xs ≡ 0 → xs ≡ []
+empty_list [] h = refl
+empty_list (x ∷ xs) h = absurd (omega (arith, h))
+
+-- none are read
+pub none_served : (j : JobView) (first count : ℕ) (u : Option ℕ) (pass : ℕ) (inputs : List ℕ) → inputs ≡ [] → (to : Kept) (lanes : List LaneView) (s : Found)
+    → AreReady j first count lanes → to.limit ≡ Some s.limit → EachPlace to.places (λ p. p < s.limit) → ((p : ℕ) → p < s.limit → IsSettledAt lanes p)
+    → IsServedTo j first count (inputs_fault j first u inputs) pass to.places to lanes s s
+none_served j first count u pass inputs e to lanes s ready made inside settled = record {
+  ready = ready;
+  settled = settled;
+  lowers = none_lowers (where_in (inputs_fault j first u inputs) to.places) first pass s (λ p lt. selected_or_none (inputs_fault j first u inputs) to.places p (λ i. ap (λ l. inputs_fault j first u l p) e));
+  its_limit = made;
+  left = sym (kept_whole (λ p. nat_lt p s.limit) to.places (λ p i. (Decides-ltb p s.limit).1 (inside p i)));
+}
+
+pub none_held : (j : JobView) (lanes : List LaneView) (u : Option ℕ) (inputs : List ℕ) → inputs ≡ [] → (sel : List ℕ) → EachPlace sel (AreAtHand j lanes u inputs)
+none_held j lanes u inputs e sel p i = subst (λ (l : List ℕ). AreAtHand j lanes u l p) (sym e) tt
+
+module _ (j : JobView) (first : ℕ) (u : Option ℕ) (inputs cs : List ℕ) (c : ℕ) (e : inputs ≡ c ∷ cs) where
+  -- ---- what is asked
+
+  pub first_can : (count : ℕ) (kinds : List ColType) (cells : List (List ℤ)) (scratch levels : ℕ) → AllByRecursion (CanServe j first u count kinds cells scratch levels) inputs → CanServe j first u count kinds cells scratch levels c
+  first_can count kinds cells scratch levels h = (subst (λ (l : List ℕ). AllByRecursion (CanServe j first u count kinds cells scratch levels) l) e h).0
+
+  pub rest_can : (count : ℕ) (kinds more : List ColType) (cells : List (List ℤ)) (scratch levels scratch2 levels2 : ℕ) → more ≡ kinds → scratch2 ≡ scratch → levels2 ≡ levels
+      → AllByRecursion (CanServe j first u count kinds cells scratch levels) inputs → AllByRecursion (CanServe j first u count more cells scratch2 levels2) cs
+  rest_can count kinds more cells scratch levels scratch2 levels2 same_kinds same_scratch same_levels h =
+      subst (λ (ks : List ColType). AllByRecursion (CanServe j first u count ks cells scratch2 levels2) cs) (sym same_kinds)
+      (subst (λ (n : ℕ). AllByRecursion (CanServe j first u count kinds cells n levels2) cs) (sym same_scratch)
+      (subst (λ (n : ℕ). AllByRecursion (CanServe j first u count kinds cells scratch n) cs) (sym same_levels)
+      (subst (λ (l : List ℕ). AllByRecursion (CanServe j first u count kinds cells scratch levels) l) e h).1))
+
+  pub first_demanded : (entry : ℕ) (T : ℕ → Bool) → DemandsInputs j entry u T inputs → DemandsSource j entry u T (source_at j u c)
+  first_demanded entry T d =
+      let w = subst (λ (l : List ℕ). DemandsInputs j entry u T l) e d in
+      (w.0, w.1, of_set w.0 (source_at j u c) w.2.0)
+
+  -- ---- one after another
+
+  module _ (count pass : ℕ) (sel : List ℕ) (mid : Kept) (before between : List LaneView) (f0 f1 : Found) (h : IsServedTo j first count (source_fault j first u (source_at j u c)) pass sel mid between f0 f1) where
+    mid_in : (p : ℕ) → is_in p mid.places ≡ (is_in p sel && nat_lt p f1.limit)
+    mid_in p = ap (is_in p) h.left ∙ in_filtered (λ q. nat_lt q f1.limit) p sel
+
+    was_in : (p : ℕ) → is_in p mid.places ≡ true → (is_in p sel ≡ true) × (nat_lt p f1.limit ≡ true)
+    was_in p i = both_true (is_in p sel) (nat_lt p f1.limit) (sym (mid_in p) ∙ i)
+
+    pub rest_inside : EachPlace mid.places (λ p. p < f1.limit)
+    rest_inside p i = (Decides-ltb p f1.limit).0 (was_in p i).1
+
+    pub rest_demanded : ((p : ℕ) (T : ℕ → Bool) → is_in p sel ≡ true → HasAllDemands j (first + p) T → DemandsInputs j (first + p) u T inputs)
+        → (p : ℕ) (T : ℕ → Bool) → is_in p mid.places ≡ true → HasAllDemands j (first + p) T → DemandsInputs j (first + p) u T cs
+    rest_demanded demanded p T i all =
+        let was = was_in p i in
+        let w = subst (λ (l : List ℕ). DemandsInputs j (first + p) u T l) e (demanded p T was.0 all) in
+        let clear : source_fault j first u (source_at j u c) p ≡ None =
+        sym (ap (λ b. if b then source_fault j first u (source_at j u c) p else None) was.0) ∙ h.lowers.clear p (rest_inside p i) in
+        (w.0, w.1, none_given (version_in j (first + p) u c) (HasInputs (λ s. w.0 s ≡ true) (source_at j u) (version_in j (first + p) u) cs) clear w.2.1)
+
+    module _ (to : Kept) (lanes : List LaneView) (f2 : Found) (k : IsServedTo j first count (inputs_fault j first u cs) pass mid.places to lanes f1 f2) where
+      same_below : (p : ℕ) → p < f1.limit → where_in (inputs_fault j first u cs) mid.places p ≡ where_in (inputs_fault j first u cs) sel p
+      same_below p lt =
+          ap (λ b. if b then inputs_fault j first u cs p else None) (mid_in p ∙ ap (λ b. is_in p sel && b) ((Decides-ltb p f1.limit).1 lt) ∙ and_true (is_in p sel))
+
+      split : (p : ℕ) → or_else (where_in (source_fault j first u (source_at j u c)) sel p) (where_in (inputs_fault j first u cs) sel p) ≡ where_in (inputs_fault j first u (c ∷ cs)) sel p
+      split p = go (is_in p sel)
+        where
+          go : (b : Bool) → or_else (if b then source_fault j first u (source_at j u c) p else None) (if b then inputs_fault j first u cs p else None) ≡ (if b then inputs_fault j first u (c ∷ cs) p else None)
+          go true = sym (all_fault (version_in j (first + p) u) c cs)
+          go false = refl
+
+      both : Lowers (where_in (inputs_fault j first u (c ∷ cs)) sel) first pass f0 f2
+      both =
+          lowers_as (λ p. or_else (where_in (source_fault j first u (source_at j u c)) sel p) (where_in (inputs_fault j first u cs) sel p)) (where_in (inputs_fault j first u (c ∷ cs)) sel) first pass f0 f2
+          (λ p lt. split p)
+          (both_lower (where_in (source_fault j first u (source_at j u c)) sel) (where_in (inputs_fault j first u cs) sel) first pass f0 f1 f2 h.lowers
+          (lowers_as (where_in (inputs_fault j first u cs) mid.places) (where_in (inputs_fault j first u cs) sel) first pass f1 f2 same_below k.lowers))
+
+      below : (x : ℕ) → (nat_lt x f1.limit && nat_lt x f2.limit) ≡ nat_lt x f2.limit
+      below x = go (nat_lt x f2.limit) refl
+        where
+          go : (b : Bool) → nat_lt x f2.limit ≡ b → (nat_lt x f1.limit && b) ≡ b
+          go true q = and_true (nat_lt x f1.limit) ∙ (let l = (Decides-ltb x f2.limit).0 q in let f = k.lowers.falls in (Decides-ltb x f1.limit).1 (omega (arith, l, f)))
+          go false q = none (nat_lt x f1.limit)
+            where
+              none : (b : Bool) → (b && false) ≡ false
+              none true = refl
+              none false = refl
+
+      left_both : to.places ≡ filter (λ p. nat_lt p f2.limit) sel
+      left_both =
+          k.left ∙ ap (filter (λ p. nat_lt p f2.limit)) h.left ∙ filter_twice (λ p. nat_lt p f1.limit) (λ p. nat_lt p f2.limit) sel
+          ∙ (λ i. filter (λ x. below x i) sel)
+
+      pub inputs_served : IsServedTo j first count (inputs_fault j first u inputs) pass sel to lanes f0 f2
+      inputs_served =
+          subst (λ (l : List ℕ). IsServedTo j first count (inputs_fault j first u l) pass sel to lanes f0 f2) (sym e)
+          (record { ready = k.ready; settled = k.settled; lowers = both; its_limit = k.its_limit; left = left_both })
+
+      pub inputs_held : (start end : ℕ) → Spends j first count between lanes start end → EachPlace mid.places (λ p. IsAtHand j between u p (source_at j u c)) → EachPlace to.places (AreAtHand j lanes u cs) → EachPlace to.places (AreAtHand j lanes u inputs)
+      inputs_held start end spends one rest p i =
+          let was = both_true (is_in p mid.places) (nat_lt p f2.limit) (sym (ap (is_in p) k.left ∙ in_filtered (λ q. nat_lt q f2.limit) p mid.places) ∙ i) in
+          subst (λ (l : List ℕ). AreAtHand j lanes u l p) (sym e)
+          (still_at_hand j first count between lanes start end spends u p (source_at j u c) (one p was.0), rest p i)

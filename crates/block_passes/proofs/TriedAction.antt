@@ -1,0 +1,204 @@
+-- An action's pass, tried part by part.
+use Rattle.std.proofs.Common.{◌≡◌, ◌⊎◌, inl, inr, ℕ, ◌+◌, ◌<◌, ◌≤◌, ℤ, Bool, true, false, List, [], length, Option, None, Some, refl, sym, ◌∙◌, ap, subst, arith, slice_get, nat_lt, if◌then◌else◌}
+use Rattle.std.specs.Prelude.{slice_set}
+use Rattle.std.specs.List.{filter, AllByRecursion}
+use Rattle.std.proofs.lemmas.Option.{slice_get_within}
+use Rattle.rdf_values.specs.declared.action.ActionKind.{ActionKind}
+use Rattle.rdf_values.specs.declared.fault.EntryFault.{EntryFault}
+use Rattle.rdf_values.specs.declared.value.ColType.{ColType}
+use Rattle.rdf_model.specs.Evaluation.{Outcome, Gives, Faults, Needs}
+use Rattle.rdf_model.specs.Results.{fault_in, is_true}
+use Rattle.graph_numbers.specs.Graphs.{graph_filters, graph_results}
+use Rattle.graph_numbers.specs.Meets.{IfPassed}
+use Rattle.graph_numbers.specs.Outcomes.{booking_numbers, through_sites}
+use Rattle.graph_numbers.specs.Results.{ResultAt}
+use Rattle.graph_numbers.specs.declared.pass.Pass.{Pass as NumberedPass}
+use Rattle.expr_lanes.specs.Places.{EachPlace, is_in}
+use Rattle.block_lanes.specs.Lanes.{LaneView}
+use Rattle.entry_cache.specs.Jobs.{IsJob, JobView, job_graph}
+use Rattle.entry_cache.specs.Store.{site_in, version_in}
+use Rattle.entry_cache.specs.Passes.{IsActionAt}
+use Rattle.entry_cache.proofs.ActionLaws.{can_act}
+use Rattle.entry_cache.proofs.PassTies.{pass_answer}
+use Rattle.entry_cache.proofs.TableLaws.{row_there}
+use Rattle.entry_passes.specs.Turns.{HasAllDemands, pass_fault}
+use Rattle.block_passes.specs.Feeds.{CanGather, unfed}
+use Rattle.block_passes.specs.Inputs.{AreAtHand, CanServe, DemandsInputs, IsServedTo, inputs_fault}
+use Rattle.block_passes.specs.Parts.{where_passed}
+use Rattle.block_passes.specs.Plans.{IsLast, IsPlan, PlanView, through_chain}
+use Rattle.block_passes.specs.Searches.{Lowers, where_in}
+use Rattle.block_passes.specs.Selections.{AreKept, IsMade, IsReadyBelow, IsSelectedTo, chosen}
+use Rattle.block_passes.specs.Tries.{IsPassTried, IsReadBelow, IsReadOf}
+use Rattle.block_passes.specs.declared.found.Found.{Found}
+use Rattle.block_passes.specs.declared.kept.Kept.{Kept}
+use Rattle.block_passes.proofs.Demanding.{pass_set}
+use Rattle.block_passes.proofs.FaultsOver.{chosen_below, in_chosen}
+use Rattle.block_passes.proofs.Parts.{action_fault, where_split}
+use Rattle.block_passes.proofs.PlaceLists.{narrowed}
+use Rattle.block_passes.proofs.Searching.{both_lower, lowers_as, or_else}
+use Rattle.block_passes.proofs.StepCases.{written_selected}
+use Rattle.block_passes.proofs.StepLaws.{same_step}
+use Rattle.block_passes.proofs.StepSelecting.{kept_lower}
+
+if_passed : (o : Outcome ⊥ Bool) (X : Type 0) → is_true o ≡ true → IfPassed o X → X
+if_passed (Gives true) X h x = x
+if_passed (Gives false) X h x = cc h
+if_passed (Faults k) X h x = cc h
+if_passed (Needs m) X h x = elim m [ ]
+
+or_else_twice : (a b c : Option EntryFault) → or_else (or_else a b) c ≡ or_else a (or_else b c)
+or_else_twice None b c = refl
+or_else_twice (Some k) b c = refl
+
+last_none : (a b : Option EntryFault) → or_else a b ≡ None → b ≡ None
+last_none None b h = h
+last_none (Some k) b h = cc h
+
+module _ (j : JobView) (job : IsJob j) (first count pass : ℕ) (plan : PlanView) (p : IsPlan j plan) (within : first + count ≤ length j.dataset.rows) (k : ActionKind) (inputs : List ℕ) (u : Option ℕ) (own : IsReadOf j pass k inputs u) where
+  abbrev m : NumberedPass
+  m = own.numbered
+
+  abbrev r : ResultAt
+  r = own.result
+
+  action_at : IsActionAt j m.result k r.filters inputs
+  action_at = record { result = r; there_is = own.action.its_result; at = own.action.at; kind = own.action.booking; filters = refl; inputs = own.inputs_are }
+
+  -- its lanes can be gathered
+  pub gathers : 0 < count → (kinds : List ColType) (cells : List (List ℤ)) (scratch levels : ℕ) → AllByRecursion (CanServe j first u count kinds cells scratch levels) inputs → CanGather j first count kinds cells k inputs u
+  gathers some kinds cells scratch levels can = record {
+    scratch = scratch;
+    levels = levels;
+    can = can;
+    many = (can_act j job first (omega (arith, some, within)) m.result k r.filters inputs action_at u).count;
+    fits = λ q vs lt e. (can_act j job (first + q) (omega (arith, lt, within)) m.result k r.filters inputs action_at u).fits vs e;
+  }
+
+  -- its last step
+  pub has_step : pass < length plan.passes
+  has_step = let w = p.passes pass m r k own.action in slice_get_within plan.passes pass w.0 w.1
+
+  module _ (last : ℕ) (its : slice_get plan.passes pass ≡ Some last) where
+    is_last : IsLast p.chains r.filters m.variation last
+    is_last = let w = p.passes pass m r k own.action in subst (λ (n : ℕ). IsLast p.chains r.filters m.variation n) (same_step w.0 last (sym w.1 ∙ its)) w.2
+
+    pub last_there : last < length plan.steps
+    last_there = let l = slice_get_within p.chains last is_last.chain is_last.its in let e = p.steps.many in omega (arith, l, e)
+
+    through_is : (e : ℕ) → through_chain j e is_last.chain ≡ through_sites (site_in {M = ⊥} j e m.variation) r.filters
+    through_is e = go is_last.alike
+      where
+        go : (is_last.chain.sites ≡ []) ⊎ (is_last.chain.under ≡ m.variation) → through_chain j e is_last.chain ≡ through_sites (site_in {M = ⊥} j e m.variation) r.filters
+        go (inl q) = ap (through_sites (site_in {M = ⊥} j e is_last.chain.under)) q ∙ sym (ap (through_sites (site_in {M = ⊥} j e m.variation)) (sym is_last.sites ∙ q))
+        go (inr q) = (λ i. through_sites (site_in {M = ⊥} j e (q i)) (is_last.sites i))
+
+    abbrev passes_at : ℕ → Bool
+    passes_at q = is_true (through_chain j (first + q) is_last.chain)
+
+    -- the fault of the pass
+    whole_fault : (q : ℕ) → q < count → or_else (or_else (fault_in (through_chain j (first + q) is_last.chain)) (where_passed (through_chain j (first + q) is_last.chain) (inputs_fault j first u inputs q))) (where_passed (through_chain j (first + q) is_last.chain) (unfed j first k inputs u q))
+        ≡ pass_fault j (first + q) pass
+    whole_fault q lt =
+        let row = row_there j.dataset.rows (first + q) (omega (arith, lt, within)) in
+        let a = own.action in
+        let iu = sym own.its_under in
+        let ii = sym own.inputs_are in
+        or_else_twice (fault_in (through_chain j (first + q) is_last.chain)) (where_passed (through_chain j (first + q) is_last.chain) (inputs_fault j first u inputs q)) (where_passed (through_chain j (first + q) is_last.chain) (unfed j first k inputs u q))
+        ∙ ap (or_else (fault_in (through_chain j (first + q) is_last.chain))) (sym (where_split (through_chain j (first + q) is_last.chain) (inputs_fault j first u inputs q) (unfed j first k inputs u q)))
+        ∙ (λ i. or_else (fault_in (through_is (first + q) i)) (where_passed (through_is (first + q) i) (or_else (inputs_fault j first (iu i) (ii i) q) (unfed j first k (ii i) (iu i) q))))
+        ∙ sym (action_fault (site_in j (first + q) m.variation) (version_in j (first + q) m.variation) k r)
+        ∙ sym (ap (fault_in) (pass_answer j job (first + q) row.0 row.1 pass m a.its_pass r a.its_result
+        ∙ ap (booking_numbers (site_in {M = ⊥} j (first + q) None) (site_in j (first + q) m.variation) (version_in j (first + q) m.variation) (graph_filters (job_graph j)) r) a.booking))
+
+    -- what no pass faults at can be fed
+    pub unfed_none : (q : ℕ) → q < count → is_true (through_sites (site_in {M = ⊥} j (first + q) m.variation) r.filters) ≡ true → pass_fault j (first + q) pass ≡ None → unfed j first k inputs u q ≡ None
+    unfed_none q lt passed none = (λ i. if (sym passed ∙ sym (ap is_true (through_is (first + q)))) i then unfed j first k inputs u q else None) ∙ last_none _ _ (whole_fault q lt ∙ none)
+
+    -- the places of its last step, where that was selected over all of the block
+    pub placed : (kept : List Kept) → AreKept j first p.chains count kept → (s : Kept) → slice_get kept last ≡ Some s → s.limit ≡ Some count → (q : ℕ) → is_in q s.places ≡ true
+        → (q < count) × (is_true (through_sites (site_in {M = ⊥} j (first + q) m.variation) r.filters) ≡ true)
+    placed kept are s at over q i =
+        let made = are.each last count is_last.chain s is_last.its at over in
+        let low = chosen_below passes_at q count (sym (ap (is_in q) made.is) ∙ i) in
+        (low, sym (ap is_true (through_is (first + q))) ∙ sym (in_chosen passes_at q count low) ∙ sym (ap (is_in q) made.is) ∙ i)
+
+    -- ---- its selection
+
+    module _ (kept : List Kept) (lanes1 : List LaneView) (f0 f1 : Found) (h : IsSelectedTo j first count p.chains pass last lanes1 kept f0 f1) (to : Kept) (there : slice_get kept last ≡ Some to) where
+      pub to_limit : to.limit ≡ Some f1.limit
+      to_limit = h.made to there
+
+      made : IsMade j first is_last.chain f1.limit f1.limit to.places
+      made = h.ready.kept_are.each last f1.limit is_last.chain to is_last.its there to_limit
+
+      pub to_inside : EachPlace to.places (λ q. q < f1.limit)
+      to_inside q i = chosen_below passes_at q f1.limit (sym (ap (is_in q) made.is) ∙ i)
+
+      pub to_demanded : (q : ℕ) (T : ℕ → Bool) → is_in q to.places ≡ true → HasAllDemands j (first + q) T → DemandsInputs j (first + q) u T inputs
+      to_demanded q T i all =
+          let lt = to_inside q i in
+          let le = h.ready.within in
+          let passed : is_true (through_chain j (first + q) is_last.chain) ≡ true = sym (in_chosen passes_at q f1.limit lt) ∙ sym (ap (is_in q) made.is) ∙ i in
+          let row = row_there j.dataset.rows (first + q) (omega (arith, lt, le, within)) in
+          let set = pass_set j job (first + q) row.0 row.1 T all pass m r k own.action in
+          subst (λ (v : Option ℕ). DemandsInputs j (first + q) v T inputs) own.its_under
+          (subst (λ (cs : List ℕ). DemandsInputs j (first + q) m.variation T cs) own.inputs_are
+          (set.0, set.1, if_passed (through_sites (site_in {M = ⊥} j (first + q) m.variation) r.filters) _ (sym (ap is_true (through_is (first + q))) ∙ passed) set.2.1))
+
+      -- ---- what it reads, and whether it can be fed that
+
+      module _ (low : f0.limit ≤ count) (to2 to3 : Kept) (lanes2 : List LaneView) (f2 f3 : Found) (s : IsServedTo j first count (inputs_fault j first u inputs) pass to.places to2 lanes2 f1 f2)
+          (held : EachPlace to2.places (AreAtHand j lanes2 u inputs)) (t : IsServedTo j first count (unfed j first k inputs u) pass to2.places to3 lanes2 f2 f3) where
+        is_second : to2.places ≡ chosen j first is_last.chain f2.limit
+        is_second = s.left ∙ ap (filter (λ q. nat_lt q f2.limit)) made.is ∙ narrowed passes_at f2.limit f1.limit s.lowers.falls
+
+        is_third : to3.places ≡ chosen j first is_last.chain f3.limit
+        is_third = t.left ∙ ap (filter (λ q. nat_lt q f3.limit)) is_second ∙ narrowed passes_at f3.limit f2.limit t.lowers.falls
+
+        read_part : Lowers (λ q. where_passed (through_chain j (first + q) is_last.chain) (inputs_fault j first u inputs q)) first pass f1 f2
+        read_part =
+            lowers_as (where_in (inputs_fault j first u inputs) to.places) (λ q. where_passed (through_chain j (first + q) is_last.chain) (inputs_fault j first u inputs q)) first pass f1 f2
+            (λ q lt. ap (λ b. if b then inputs_fault j first u inputs q else None) (ap (is_in q) made.is ∙ in_chosen passes_at q f1.limit lt)) s.lowers
+
+        fed_part : Lowers (λ q. where_passed (through_chain j (first + q) is_last.chain) (unfed j first k inputs u q)) first pass f2 f3
+        fed_part =
+            lowers_as (where_in (unfed j first k inputs u) to2.places) (λ q. where_passed (through_chain j (first + q) is_last.chain) (unfed j first k inputs u q)) first pass f2 f3
+            (λ q lt. ap (λ b. if b then unfed j first k inputs u q else None) (ap (is_in q) is_second ∙ in_chosen passes_at q f2.limit lt)) t.lowers
+
+        all_lower : Lowers (λ q. pass_fault j (first + q) pass) first pass f0 f3
+        all_lower =
+            lowers_as (λ q. or_else (or_else (fault_in (through_chain j (first + q) is_last.chain)) (where_passed (through_chain j (first + q) is_last.chain) (inputs_fault j first u inputs q))) (where_passed (through_chain j (first + q) is_last.chain) (unfed j first k inputs u q)))
+            (λ q. pass_fault j (first + q) pass) first pass f0 f3
+            (λ q lt. whole_fault q (omega (arith, lt, low)))
+            (both_lower (λ q. or_else (fault_in (through_chain j (first + q) is_last.chain)) (where_passed (through_chain j (first + q) is_last.chain) (inputs_fault j first u inputs q))) (λ q. where_passed (through_chain j (first + q) is_last.chain) (unfed j first k inputs u q)) first pass f0 f2 f3
+            (both_lower (λ q. fault_in (through_chain j (first + q) is_last.chain)) (λ q. where_passed (through_chain j (first + q) is_last.chain) (inputs_fault j first u inputs q)) first pass f0 f1 f2 (h.lowers is_last.chain is_last.its) read_part)
+            fed_part)
+
+        lower : f3.limit ≤ f1.limit
+        lower = let a = s.lowers.falls in let b = t.lowers.falls in omega (arith, a, b)
+
+        third_made : IsMade j first is_last.chain f3.limit f3.limit to3.places
+        third_made = record { under = omega arith; is = is_third; clear = λ q lt. (let a = lower in made.clear q (omega (arith, lt, a))) }
+
+        base : IsReadyBelow j first count p.chains f3.limit lanes2 kept
+        base = record { ready = t.ready; settled = t.settled; kept_are = kept_lower j first p.chains f1.limit f3.limit kept lower h.ready.kept_are; within = (let a = lower in let b = h.ready.within in omega (arith, a, b)) }
+
+        all_read : IsReadBelow j first lanes2 f3.limit pass
+        all_read m2 r2 k2 of2 q lt passed =
+            let falls = t.lowers.falls in
+            let below : q < f2.limit = omega (arith, lt, falls) in
+            let e1 : m ≡ m2 = same_step m m2 (sym own.action.its_pass ∙ of2.its_pass) in
+            let e2 : r ≡ r2 = same_step r r2 (sym own.action.its_result ∙ ap (λ (n : NumberedPass). slice_get (graph_results (job_graph j)) n.result) e1 ∙ of2.its_result) in
+            let passed_own : is_true (through_sites (site_in {M = ⊥} j (first + q) m.variation) r.filters) ≡ true = (λ i. is_true (through_sites (site_in {M = ⊥} j (first + q) (e1 i).variation) (e2 i).filters)) ∙ passed in
+            let inside : is_in q to2.places ≡ true = ap (is_in q) is_second ∙ in_chosen passes_at q f2.limit below ∙ ap is_true (through_is (first + q)) ∙ passed_own in
+            subst (λ (n : NumberedPass). AreAtHand j lanes2 n.variation r2.inputs q) e1
+            (subst (λ (x : ResultAt). AreAtHand j lanes2 m.variation x.inputs q) e2
+            (subst (λ (v : Option ℕ). AreAtHand j lanes2 v r.inputs q) (sym own.its_under)
+            (subst (λ (cs : List ℕ). AreAtHand j lanes2 u cs q) (sym own.inputs_are) (held q inside))))
+
+        pub action_tried : (now : List Kept) → now ≡ slice_set kept last to3 → IsPassTried j first count p.chains pass lanes2 now f0 f3
+        action_tried now e = record {
+          ready = (written_selected j first count p.chains pass last is_last.chain is_last.its lanes2 kept now f3 base to3 t.its_limit third_made e).ready;
+          lowers = all_lower;
+          read = all_read;
+        }

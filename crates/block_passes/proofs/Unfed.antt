@@ -1,0 +1,107 @@
+-- The first place at which an action can't be fed what it reads.
+use Rattle.std.proofs.Common.{◌≡◌, inl, inr, ℕ, ◌<◌, Bool, true, false, ◌||◌, List, [], ◌∷◌, length, Option, None, Some, refl, sym, ◌∙◌, ap, subst, arith, nat_eq, nat_lt}
+use Rattle.std.specs.Prelude.{All}
+use Rattle.std.specs.List.{filter, range_with_len}
+use Rattle.std.proofs.lemmas.Bool.Decides.{Decides-eqb, Decides-ltb}
+use Rattle.std.proofs.lemmas.List.Elements.{All-cons, All-nil}
+use Rattle.std.proofs.lemmas.List.FromFn.{length-range_with_len}
+use Rattle.rdf_values.specs.Spread.{feed_fault}
+use Rattle.rdf_values.specs.declared.action.ActionKind.{ActionKind}
+use Rattle.rdf_values.specs.declared.fault.EntryFault.{EntryFault}
+use Rattle.rdf_values.specs.declared.value.Value.{Value}
+use Rattle.rdf_model.specs.Evaluation.{Outcome}
+use Rattle.actions.specs.Batches.{HasValues, SuitsAt, fault_or_later, first_fault_in, values_at}
+use Rattle.actions.specs.declared.batch.PlaceFault.{PlaceFault as BatchFault}
+use Rattle.actions.specs.declared.batch.Sources.{Sources}
+use Rattle.expr_lanes.specs.Places.{AreRising, EachPlace, is_in}
+use Rattle.block_lanes.specs.Lanes.{LaneView}
+use Rattle.entry_cache.specs.Jobs.{JobView}
+use Rattle.block_cache.specs.Blocks.{AreReady}
+use Rattle.block_cache.specs.Fills.{fault_before, fault_over}
+use Rattle.block_cache.specs.declared.faults.PlaceFault.{PlaceFault}
+use Rattle.block_passes.specs.Feeds.{AreLanesOf}
+use Rattle.block_passes.specs.Inputs.{IsServedTo}
+use Rattle.block_passes.specs.Parts.{feeding_fault}
+use Rattle.block_passes.specs.Searches.{Lowers, noted, where_in}
+use Rattle.block_passes.specs.Selections.{IsNarrowed}
+use Rattle.block_passes.specs.Spends.{IsSettledAt}
+use Rattle.block_passes.specs.declared.found.Found.{Found}
+use Rattle.block_passes.specs.declared.kept.Kept.{Kept}
+use Rattle.block_passes.proofs.FaultsOver.{kept_whole, over_lowers}
+
+-- ---- places
+
+-- the first places of a block, by their number
+pub dense_places : (sel : List ℕ) (n m : ℕ) → sel ≡ range_with_len 0 m → n ≡ length sel → range_with_len 0 n ≡ sel
+dense_places sel n m e h = ap (range_with_len 0) (h ∙ ap length e ∙ length-range_with_len 0 m) ∙ sym e
+
+pub all_places : (P : ℕ → Type 0) (sel : List ℕ) → EachPlace sel P → All P sel
+all_places P [] h = All-nil P
+all_places P (p ∷ sel) h =
+    All-cons P p sel (h p (ap (λ b. b || is_in p sel) ((Decides-eqb p p).1 refl)))
+    (all_places P sel (λ q i. h q (ap (λ b. nat_eq q p || b) i ∙ or_true (nat_eq q p))))
+  where
+    or_true : (b : Bool) → (b || true) ≡ true
+    or_true true = refl
+    or_true false = refl
+
+-- ---- the first fault
+
+-- a fault of a batch as one of a place
+abbrev pub of_batch : Option BatchFault → Option PlaceFault
+of_batch None = None
+of_batch (Some x) = Some (record { place = x.place; kind = x.kind })
+
+before_later : (p : ℕ) (o : Option EntryFault) (r : Option BatchFault) → of_batch (fault_or_later p o r) ≡ fault_before p o (of_batch r)
+before_later p (Some k) r = refl
+before_later p None r = refl
+
+pub unfed_over : (k : ActionKind) (s : Sources) (f : ℕ → Option EntryFault) (sel : List ℕ) → EachPlace sel (λ p. feed_fault k (values_at s p) ≡ f p) → of_batch (first_fault_in k s sel) ≡ fault_over f sel
+unfed_over k s f [] h = refl
+unfed_over k s f (p ∷ sel) h =
+    before_later p (feed_fault k (values_at s p)) (first_fault_in k s sel)
+    ∙ ap (λ o. fault_before p o (of_batch (first_fault_in k s sel))) (h p (ap (λ b. b || is_in p sel) ((Decides-eqb p p).1 refl)))
+    ∙ ap (fault_before p (f p)) (unfed_over k s f sel (λ q i. h q (ap (λ b. nat_eq q p || b) i ∙ or_true (nat_eq q p))))
+  where
+    or_true : (b : Bool) → (b || true) ≡ true
+    or_true true = refl
+    or_true false = refl
+
+-- ---- it lowers the limit
+
+module _ (j : JobView) (first count : ℕ) (f : ℕ → Option EntryFault) (pass : ℕ) (to now : Kept) (lanes : List LaneView) (old new : Found) (o : Option PlaceFault)
+    (ready : AreReady j first count lanes) (settled : (p : ℕ) → p < old.limit → IsSettledAt lanes p) (rising : AreRising to.places) (inside : EachPlace to.places (λ p. p < old.limit))
+    (is : o ≡ fault_over f to.places) (noted_is : new ≡ noted first pass old o) where
+  lowered : Lowers (where_in f to.places) first pass old new
+  lowered = subst (λ (x : Found). Lowers (where_in f to.places) first pass old x) (sym noted_is) (over_lowers f to.places first pass old o rising inside is)
+
+  left_of : to.limit ≡ Some old.limit → IsNarrowed new.limit old.limit to now → (now.limit ≡ Some new.limit) × (now.places ≡ filter (λ p. nat_lt p new.limit) to.places)
+  left_of made (inl n) =
+      let le = n.0 in
+      let falls = lowered.falls in
+      let same : old.limit ≡ new.limit = omega (arith, le, falls) in (
+        ap (λ (x : Kept). x.limit) n.1 ∙ made ∙ ap Some same,
+        ap (λ (x : Kept). x.places) n.1 ∙ sym (kept_whole (λ p. nat_lt p new.limit) to.places (λ p i. (Decides-ltb p new.limit).1 (let l = inside p i in omega (arith, l, same)))),
+      )
+  left_of made (inr n) = (n.1, n.2)
+
+  pub part_served : to.limit ≡ Some old.limit → IsNarrowed new.limit old.limit to now → IsServedTo j first count f pass to.places now lanes old new
+  part_served made narrowed = record {
+    ready = ready;
+    settled = λ p lt. (let falls = lowered.falls in settled p (omega (arith, lt, falls)));
+    lowers = lowered;
+    its_limit = (left_of made narrowed).0;
+    left = (left_of made narrowed).1;
+  }
+
+-- ---- a batch
+
+module _ (k : ActionKind) (s : Sources) (o : ℕ → Outcome ⊥ (List Value)) (sel ps : List ℕ) (e : ps ≡ sel) (are : EachPlace sel (λ p. AreLanesOf (o p) k s p)) where
+  pub lanes_there : All (HasValues s) ps
+  lanes_there = subst (λ (l : List ℕ). All (HasValues s) l) (sym e) (all_places (HasValues s) sel (λ p i. (are p i).there))
+
+  pub lanes_suit : All (SuitsAt k s) ps
+  lanes_suit = subst (λ (l : List ℕ). All (SuitsAt k s) l) (sym e) (all_places (SuitsAt k s) sel (λ p i. (are p i).suits))
+
+  pub first_is : (r : Option BatchFault) → r ≡ first_fault_in k s ps → of_batch r ≡ fault_over (λ p. feeding_fault k (o p)) sel
+  first_is r h = ap of_batch (h ∙ ap (first_fault_in k s) e) ∙ unfed_over k s (λ p. feeding_fault k (o p)) sel (λ p i. sym (ap (feeding_fault k) (are p i).values))

@@ -1,0 +1,11 @@
+use Rattle.std.proofs.Common.{◌≡◌}
+use Rattle.entry_cache.specs.Jobs.{job_of}
+use Rattle.entry_passes.specs.Turns.{actions_before}
+use Rattle.block_passes.proofs.FedPasses.{IsFedTo}
+use Rattle.block_passes.proofs.feed.feed_passes.Given as goal
+
+abbrev pub invariant-loop-pass : goal.invariant-loop-pass
+invariant-loop-pass g l = record {
+  place : l.place ≡ actions_before (job_of l.at.job.now) l.pass;
+  taken : IsFedTo (job_of l.at.job.now) l.at.first l.at.count l.cluster l.fn.tally l.place l.tally;
+}

@@ -1,0 +1,54 @@
+use Rattle.std.proofs.Common.{arith, length, rules}
+use Rattle.std.proofs.lemmas.Result.{on_ok_weaker}
+use Rattle.expr_lanes.specs.Places.{EachPlace}
+use Rattle.block_lanes.specs.Lanes.{kinds_of}
+use Rattle.entry_cache.specs.Jobs.{job_of}
+use Rattle.block_passes.specs.Inputs.{AreAtHand, IsServedTo, inputs_fault}
+use Rattle.block_passes.proofs.ServingInputs.{empty_list, first_demanded, inputs_held, inputs_served, none_served, rest_can, rest_demanded, rest_inside}
+use Rattle.block_passes.proofs.Spending.{spends_then}
+use Rattle.block_passes.proofs.inputs.+serve_inputs.Goals as goal
+
+pub returns-in_default-clause-served : goal.returns-in_default-clause-served
+returns-in_default-clause-served g t c =
+    none_served (job_of c.args.at.now.job.now) c.args.at.now.first c.args.at.now.count c.args.under c.args.at.now.pass c.args.inputs.now (empty_list c.args.inputs.now c.in_default.ensures.cases) c.args.to.now c.args.work.now.lanes.items c.args.work.now.found
+    c.requires.ready c.requires.made c.requires.inside c.requires.settled
+
+pub serve_version-requires-clause-demanded : goal.serve_version-requires-clause-demanded
+serve_version-requires-clause-demanded g t c = λ p T i all.
+    first_demanded (job_of c.args.at.now.job.now) c.args.at.now.first c.args.under c.args.inputs.now c.in-Some.rest.now c.in-Some.version.now c.in-Some.ensures.cases.0 _ T (c.requires.demanded p T i all)
+
+pub serve_inputs-requires : goal.serve_inputs-requires
+serve_inputs-requires g t c κs within =
+    let j = job_of c.args.at.now.job.now in
+    let h = c.in-Ok.ensures.served in
+    let falls = h.lowers.falls in
+    let limit = c.requires.limit in
+    let can = rest_can j c.args.at.now.first c.args.under c.args.inputs.now c.in-Some.rest.now c.in-Some.version.now c.in-Some.ensures.cases.0 c.args.at.now.count (kinds_of c.args.work.now.lanes.items) (kinds_of c.serve_version.new.work.lanes.items) c.args.at.now.cells.now
+    (length c.args.work.now.scratch.items) (length c.args.work.now.levels.items) (length c.serve_version.new.work.scratch.items) (length c.serve_version.new.work.levels.items) c.serve_version.ensures.spends.kinds c.serve_version.ensures.scratch c.serve_version.ensures.levels c.requires.can in
+    let inside = rest_inside j c.args.at.now.first c.args.under c.args.inputs.now c.in-Some.rest.now c.in-Some.version.now c.in-Some.ensures.cases.0 c.args.at.now.count c.args.at.now.pass c.args.to.now.places c.serve_version.new.to c.args.work.now.lanes.items c.serve_version.new.work.lanes.items c.args.work.now.found c.serve_version.new.work.found h in
+    let demanded = rest_demanded j c.args.at.now.first c.args.under c.args.inputs.now c.in-Some.rest.now c.in-Some.version.now c.in-Some.ensures.cases.0 c.args.at.now.count c.args.at.now.pass c.args.to.now.places c.serve_version.new.to c.args.work.now.lanes.items c.serve_version.new.work.lanes.items c.args.work.now.found c.serve_version.new.work.found h c.requires.demanded in
+    (search rules, (search rules, (c.requires.job, (c.requires.rows, (h.ready, (can, (c.requires.small, (c.requires.few, (omega (arith, falls, limit), (h.its_limit, (inside, (h.settled, demanded))))))))))))
+
+pub returns-in-Ok-clause-spends : goal.returns-in-Ok-clause-spends
+returns-in-Ok-clause-spends g t c =
+    spends_then (job_of c.args.at.now.job.now) c.args.at.now.first c.args.at.now.count c.args.work.now.lanes.items c.serve_version.new.work.lanes.items c.serve_inputs.new.work.lanes.items c.args.steps.now c.serve_version.new.steps c.serve_inputs.new.steps
+    c.serve_version.ensures.spends c.serve_inputs.ensures.spends
+
+pub returns-in-Ok-clause-served : goal.returns-in-Ok-clause-served
+returns-in-Ok-clause-served g t c =
+    let j = job_of c.args.at.now.job.now in
+    on_ok_weaker c.serve_inputs.result
+    (λ (k : IsServedTo j c.args.at.now.first c.args.at.now.count (inputs_fault j c.args.at.now.first c.args.under c.in-Some.rest.now) c.args.at.now.pass c.serve_version.new.to.places c.serve_inputs.new.to c.serve_inputs.new.work.lanes.items c.serve_version.new.work.found c.serve_inputs.new.work.found).
+    inputs_served j c.args.at.now.first c.args.under c.args.inputs.now c.in-Some.rest.now c.in-Some.version.now c.in-Some.ensures.cases.0 c.args.at.now.count c.args.at.now.pass c.args.to.now.places c.serve_version.new.to c.args.work.now.lanes.items c.serve_version.new.work.lanes.items c.args.work.now.found c.serve_version.new.work.found c.in-Ok.ensures.served
+    c.serve_inputs.new.to c.serve_inputs.new.work.lanes.items c.serve_inputs.new.work.found k)
+    c.serve_inputs.ensures.served
+
+pub returns-in-Ok-clause-held : goal.returns-in-Ok-clause-held
+returns-in-Ok-clause-held g t c =
+    let j = job_of c.args.at.now.job.now in
+    on_ok_weaker c.serve_inputs.result
+    (λ (w : IsServedTo j c.args.at.now.first c.args.at.now.count (inputs_fault j c.args.at.now.first c.args.under c.in-Some.rest.now) c.args.at.now.pass c.serve_version.new.to.places c.serve_inputs.new.to c.serve_inputs.new.work.lanes.items c.serve_version.new.work.found c.serve_inputs.new.work.found
+    × EachPlace c.serve_inputs.new.to.places (AreAtHand j c.serve_inputs.new.work.lanes.items c.args.under c.in-Some.rest.now)).
+    inputs_held j c.args.at.now.first c.args.under c.args.inputs.now c.in-Some.rest.now c.in-Some.version.now c.in-Some.ensures.cases.0 c.args.at.now.count c.args.at.now.pass c.args.to.now.places c.serve_version.new.to c.args.work.now.lanes.items c.serve_version.new.work.lanes.items c.args.work.now.found c.serve_version.new.work.found c.in-Ok.ensures.served
+    c.serve_inputs.new.to c.serve_inputs.new.work.lanes.items c.serve_inputs.new.work.found w.0 c.serve_version.new.steps c.serve_inputs.new.steps c.serve_inputs.ensures.spends c.in-Ok.ensures.held w.1)
+    (search rules)

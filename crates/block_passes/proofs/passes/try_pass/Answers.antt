@@ -1,0 +1,49 @@
+use Rattle.std.proofs.Common.{◌≡◌, ◌∙◌, List, Some, ap, option_map, slice_get, subst, sym, ℕ}
+use Rattle.std.specs.List.{AllByRecursion}
+use Rattle.std.proofs.lemmas.Result.{on_ok_weaker}
+use Rattle.graph_numbers.specs.Graphs.{GraphView, graph_results}
+use Rattle.graph_numbers.specs.Results.{ResultAt}
+use Rattle.entry_cache.specs.Jobs.{job_of}
+use Rattle.entry_passes.proofs.EntryLaws.{own_covers}
+use Rattle.block_passes.specs.Selections.{IsMadeAt}
+use Rattle.block_passes.specs.Tries.{IsNamedMade, IsTriedTo, filters_fault}
+use Rattle.block_passes.proofs.TriedFilters.{no_action, report_tried, same_report}
+use Rattle.block_passes.proofs.passes.try_pass.Goals as goal
+
+pub returns-in-None-clause-tried : goal.returns-in-None-clause-tried
+returns-in-None-clause-tried g c = λ p.
+    let j = job_of c.args.at.now.job.now in
+    let rep = c.action_read.ensures.report c.in-None.is in
+    let covers = own_covers j c.args.at.now.pass c.args.own.result rep c.covered.result.now
+    (ap (λ (v : GraphView). option_map (λ (x : ResultAt). x.covers) (slice_get (graph_results v) c.args.own.result)) (sym c.requires.job.graph) ∙ c.covered.ensures) in
+    on_ok_weaker c.try_filters.result
+    (λ (t : IsTriedTo j c.args.at.now.first c.args.at.now.count p.chains (filters_fault j c.args.at.now.first c.covered.result.now) c.args.at.now.pass c.try_filters.new.work.lanes.items c.try_filters.new.kept c.args.work.now.found c.try_filters.new.work.found).
+    report_tried j c.requires.job.job c.args.at.now.first c.args.at.now.count p.chains c.args.at.now.pass c.args.own.result rep c.covered.result.now covers c.requires.within c.try_filters.new.work.lanes.items c.try_filters.new.kept c.args.work.now.found c.try_filters.new.work.found
+    (c.requires.ready p).within t)
+    (c.try_filters.ensures.tried p)
+
+pub returns-in-Some-clause-made : goal.returns-in-Some-clause-made
+returns-in-Some-clause-made g c =
+    let j = job_of c.args.at.now.job.now in
+    on_ok_weaker c.try_action.result
+    (λ (h : (last : ℕ) → slice_get c.args.at.now.plan.now.passes c.args.at.now.pass ≡ Some last → IsMadeAt c.args.at.now.count c.try_action.new.kept last).
+    record {
+      action = λ k inputs u own last its. h last its;
+      report = λ own rep. absurd (let a = c.in-Some.ensures.action in no_action j c.args.at.now.pass own rep a.numbered a.result _ a.action);
+    })
+    c.try_action.ensures.made
+
+pub returns-in-None-clause-made : goal.returns-in-None-clause-made
+returns-in-None-clause-made g c =
+    let j = job_of c.args.at.now.job.now in
+    let rep = c.action_read.ensures.report c.in-None.is in
+    let covers = own_covers j c.args.at.now.pass c.args.own.result rep c.covered.result.now
+    (ap (λ (v : GraphView). option_map (λ (x : ResultAt). x.covers) (slice_get (graph_results v) c.args.own.result)) (sym c.requires.job.graph) ∙ c.covered.ensures) in
+    on_ok_weaker c.try_filters.result
+    (λ (h : AllByRecursion (IsNamedMade c.args.at.now.count c.args.at.now.plan.now c.try_filters.new.kept) c.covered.result.now).
+    record {
+      action = λ k inputs u own last its. absurd (no_action j c.args.at.now.pass c.args.own.result rep own.numbered own.result k own.action);
+      report = λ own rep2. subst (λ (l : List ℕ). AllByRecursion (IsNamedMade c.args.at.now.count c.args.at.now.plan.now c.try_filters.new.kept) l)
+          (sym covers ∙ ap (λ (x : ResultAt). x.covers) (same_report j c.args.at.now.pass c.args.own.result own rep rep2)) h;
+    })
+    c.try_filters.ensures.made

@@ -1,0 +1,50 @@
+use Rattle.std.proofs.Common.{arith, ◌≡◌, ◌+◌, below_more, ◌∙◌, List, None, length, subst, sym, ℕ}
+use Rattle.rdf_values.specs.declared.value.ColType.{ColType}
+use Rattle.block_lanes.specs.Lanes.{kinds_of}
+use Rattle.entry_cache.specs.Jobs.{job_of, passes_in}
+use Rattle.entry_passes.specs.Turns.{pass_fault}
+use Rattle.block_passes.specs.Searches.{IsSearched}
+use Rattle.entry_passes.proofs.EntryLaws.{read_pass}
+use Rattle.block_passes.specs.Tries.{CanServeAll, IsPassMade}
+use Rattle.block_passes.proofs.PlanMade.{plan_made}
+use Rattle.block_passes.proofs.Remaking.{pass_stays}
+use Rattle.block_passes.proofs.SearchedPasses.{first_searched, next_searched}
+use Rattle.block_passes.proofs.Spending.{spends_then}
+use Rattle.block_passes.proofs.passes.try_passes.Goals as goal
+
+pub try_pass-requires-clause-serve : goal.try_pass-requires-clause-serve
+try_pass-requires-clause-serve g c =
+    subst (λ (ks : List ColType). CanServeAll (job_of c.args.at.now.job.now) c.args.at.now.first c.args.at.now.count ks c.args.at.now.cells.now (length c.loop-pass.work.scratch.items) (length c.loop-pass.work.levels.items)) (sym c.loop-pass.invariant.spends.kinds)
+    (subst (λ (n : ℕ). CanServeAll (job_of c.args.at.now.job.now) c.args.at.now.first c.args.at.now.count (kinds_of c.args.work.now.lanes.items) c.args.at.now.cells.now n (length c.loop-pass.work.levels.items)) (sym c.loop-pass.invariant.scratch)
+    (subst (λ (n : ℕ). CanServeAll (job_of c.args.at.now.job.now) c.args.at.now.first c.args.at.now.count (kinds_of c.args.work.now.lanes.items) c.args.at.now.cells.now (length c.args.work.now.scratch.items) n) (sym c.loop-pass.invariant.levels) c.requires.serve))
+
+pub try_pass-requires-clause-own : goal.try_pass-requires-clause-own
+try_pass-requires-clause-own g c =
+    read_pass (job_of c.args.at.now.job.now) c.loop_passes-passes.result.now c.loop_passes-passes.ensures.passes c.loop-pass.pass c.loop-pass-test.true (record { result = 0; variation = None })
+
+pub returns-in-Err-clause-spends : goal.returns-in-Err-clause-spends
+returns-in-Err-clause-spends g c = spends_then (job_of c.args.at.now.job.now) c.args.at.now.first c.args.at.now.count c.args.work.now.lanes.items c.loop-pass.work.lanes.items c.try_pass.new.work.lanes.items c.args.steps.now c.loop-pass.steps c.try_pass.new.steps c.loop-pass.invariant.spends c.try_pass.ensures.spends
+
+pub loop-pass-preserved : goal.loop-pass-preserved
+loop-pass-preserved g c = record {
+  spends = spends_then (job_of c.args.at.now.job.now) c.args.at.now.first c.args.at.now.count c.args.work.now.lanes.items c.loop-pass.work.lanes.items c.try_pass.new.work.lanes.items c.args.steps.now c.loop-pass.steps c.try_pass.new.steps c.loop-pass.invariant.spends c.try_pass.ensures.spends;
+  scratch = c.try_pass.ensures.scratch ∙ c.loop-pass.invariant.scratch;
+  levels = c.try_pass.ensures.levels ∙ c.loop-pass.invariant.levels;
+  searched = λ p. next_searched (job_of c.args.at.now.job.now) c.args.at.now.first c.args.at.now.count c.loop-pass.work.lanes.items c.try_pass.new.work.lanes.items c.loop-pass.steps c.try_pass.new.steps c.try_pass.ensures.spends p.chains c.loop-pass.pass c.loop-pass.kept c.try_pass.new.kept c.loop-pass.work.found c.try_pass.new.work.found
+      (c.loop-pass.invariant.searched p) (c.in-Ok.ensures.tried p);
+  made = below_more (IsPassMade (job_of c.args.at.now.job.now) c.args.at.now.count c.args.at.now.plan.now c.try_pass.new.kept) c.loop-pass.pass
+      (λ n lt. pass_stays (job_of c.args.at.now.job.now) c.args.at.now.count c.args.at.now.plan.now c.loop-pass.kept c.try_pass.new.kept n c.in-Ok.ensures.remade (c.loop-pass.invariant.made n lt)) c.in-Ok.ensures.made;
+}
+
+pub returns-clause-fault : goal.returns-clause-fault
+returns-clause-fault g c =
+    let j = job_of c.args.at.now.job.now in
+    let e : c.loop-pass.pass ≡ length (passes_in j) = (let f = c.loop-pass-test.false in let l = c.loop-pass.auto.pass-end in let n = c.loop_passes-passes.ensures.count in omega (arith, f, l, n)) in
+    first_searched j c.args.at.now.first c.args.at.now.count c.loop-pass.work.found c.requires.within
+    (subst (λ (n : ℕ). IsSearched (λ q i. pass_fault j (c.args.at.now.first + q) i) c.args.at.now.first c.args.at.now.count n c.loop-pass.work.found) e (c.loop-pass.invariant.searched c.requires.plan).searched)
+
+pub returns-clause-made : goal.returns-clause-made
+returns-clause-made g c =
+    let j = job_of c.args.at.now.job.now in
+    plan_made j c.requires.job.job c.args.at.now.count c.args.at.now.plan.now c.requires.plan c.loop-pass.kept
+    (λ n lt. c.loop-pass.invariant.made n (let f = c.loop-pass-test.false in let l = c.loop-pass.auto.pass-end in let m = c.loop_passes-passes.ensures.count in omega (arith, f, l, m, lt)))

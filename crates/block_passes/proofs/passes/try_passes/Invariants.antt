@@ -1,0 +1,15 @@
+use Rattle.std.proofs.Common.{◌≡◌, ◌<◌, length, ℕ}
+use Rattle.entry_cache.specs.Jobs.{job_of}
+use Rattle.block_passes.specs.Plans.{IsPlan}
+use Rattle.block_passes.specs.Spends.{Spends}
+use Rattle.block_passes.specs.Tries.{IsPassMade, IsSearchedTo}
+use Rattle.block_passes.proofs.passes.try_passes.Given as goal
+
+abbrev pub invariant-loop-pass : goal.invariant-loop-pass
+invariant-loop-pass g l = record {
+  spends : Spends (job_of l.at.job.now) l.at.first l.at.count l.fn.work.lanes.items l.work.lanes.items l.fn.steps l.steps;
+  scratch : length l.work.scratch.items ≡ length l.fn.work.scratch.items;
+  levels : length l.work.levels.items ≡ length l.fn.work.levels.items;
+  searched : (p : IsPlan (job_of l.at.job.now) l.at.plan.now) → IsSearchedTo (job_of l.at.job.now) l.at.first l.at.count p.chains l.pass l.work.lanes.items l.kept l.work.found;
+  made : (n : ℕ) → n < l.pass → IsPassMade (job_of l.at.job.now) l.at.count l.at.plan.now l.kept n;
+}

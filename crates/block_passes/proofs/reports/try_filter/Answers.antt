@@ -1,0 +1,56 @@
+use Rattle.std.proofs.Common.{◌≡◌, ◌∙◌, Some, ap, subst, sym}
+use Rattle.std.proofs.lemmas.Result.{on_ok_weaker}
+use Rattle.entry_cache.specs.Jobs.{job_of}
+use Rattle.block_passes.specs.Selections.{AreRemade, IsMadeAt, IsSelectedTo}
+use Rattle.block_passes.specs.declared.plan.NamedSteps.{NamedSteps}
+use Rattle.block_passes.proofs.Remaking.{both_ok, made_selected, made_stays, remade_then, some_named}
+use Rattle.block_passes.proofs.Spending.{spends_then}
+use Rattle.block_passes.proofs.TriedFilters.{above_there, filter_tried, has_named, never_none, own_there}
+use Rattle.block_passes.proofs.reports.try_filter.Goals as goal
+
+pub named-requires : goal.named-requires
+named-requires g c = has_named (job_of c.args.at.now.job.now) c.requires.job.job c.args.filter c.requires.covered c.args.at.now.plan.now c.requires.plan
+
+pub select_step-requires-clause-step : goal.select_step-requires-clause-step
+select_step-requires-clause-step g c = above_there (job_of c.args.at.now.job.now) c.requires.job.job c.args.filter c.requires.covered c.args.at.now.plan.now c.requires.plan c.in-Some.named (c.named.ensures ∙ ap Some c.in-Some.is)
+
+pub select_step-requires-in-Ok-clause-step : goal.select_step-requires-in-Ok-clause-step
+select_step-requires-in-Ok-clause-step g c = own_there (job_of c.args.at.now.job.now) c.requires.job.job c.args.filter c.requires.covered c.args.at.now.plan.now c.requires.plan c.in-Some.named (c.named.ensures ∙ ap Some c.in-Some.is)
+
+pub unreachable-requires : goal.unreachable-requires
+unreachable-requires g c = never_none (job_of c.args.at.now.job.now) c.requires.job.job c.args.filter c.requires.covered c.args.at.now.plan.now c.requires.plan (c.named.ensures ∙ ap Some c.in-None.is)
+
+pub returns-in-Ok-clause-spends : goal.returns-in-Ok-clause-spends
+returns-in-Ok-clause-spends g c =
+    spends_then (job_of c.args.at.now.job.now) c.args.at.now.first c.args.at.now.count c.args.work.now.lanes.items c.select_step.new.work.lanes.items c.select_step-in-Ok.new.work.lanes.items c.args.steps.now c.select_step.new.steps c.select_step-in-Ok.new.steps
+    c.select_step.ensures.spends c.select_step-in-Ok.ensures.spends
+
+pub returns-in-Ok-clause-tried : goal.returns-in-Ok-clause-tried
+returns-in-Ok-clause-tried g c = λ p.
+    on_ok_weaker c.select_step-in-Ok.result
+    (λ (k : IsSelectedTo (job_of c.args.at.now.job.now) c.args.at.now.first c.args.at.now.count p.chains c.args.at.now.pass c.in-Some.named.own c.select_step-in-Ok.new.work.lanes.items c.select_step-in-Ok.new.kept c.select_step.new.work.found c.select_step-in-Ok.new.work.found).
+    filter_tried (job_of c.args.at.now.job.now) c.requires.job.job c.args.filter c.requires.covered c.args.at.now.plan.now p c.in-Some.named (c.named.ensures ∙ ap Some c.in-Some.is) c.args.at.now.first c.args.at.now.count c.args.at.now.pass c.select_step.new.work.lanes.items c.select_step-in-Ok.new.work.lanes.items c.select_step.new.kept c.select_step-in-Ok.new.kept c.args.work.now.found c.select_step.new.work.found c.select_step-in-Ok.new.work.found
+    (c.in-Ok.ensures.selected p) k)
+    (c.select_step-in-Ok.ensures.selected p)
+
+pub returns-in-Ok-clause-remade : goal.returns-in-Ok-clause-remade
+returns-in-Ok-clause-remade g c =
+    on_ok_weaker c.select_step-in-Ok.result
+    (λ (k : AreRemade c.args.at.now.count c.select_step.new.kept c.select_step-in-Ok.new.kept). remade_then c.args.at.now.count c.args.kept.now c.select_step.new.kept c.select_step-in-Ok.new.kept c.in-Ok.ensures.remade k)
+    c.select_step-in-Ok.ensures.remade
+
+pub returns-in-Ok-clause-made : goal.returns-in-Ok-clause-made
+returns-in-Ok-clause-made g c =
+    let p = c.requires.plan in
+    let j = job_of c.args.at.now.job.now in
+    let above = made_selected c.args.at.now.count j c.args.at.now.first p.chains c.args.at.now.pass c.in-Some.named.above c.select_step.new.work.lanes.items c.select_step.new.kept c.args.work.now.found c.select_step.new.work.found (c.in-Ok.ensures.selected p) in
+    on_ok_weaker c.select_step-in-Ok.result
+    (λ (w : IsSelectedTo j c.args.at.now.first c.args.at.now.count p.chains c.args.at.now.pass c.in-Some.named.own c.select_step-in-Ok.new.work.lanes.items c.select_step-in-Ok.new.kept c.select_step.new.work.found c.select_step-in-Ok.new.work.found
+    × AreRemade c.args.at.now.count c.select_step.new.kept c.select_step-in-Ok.new.kept).
+    λ s its.
+    let same : c.in-Some.named ≡ s = some_named c.in-Some.named s (sym (c.named.ensures ∙ ap Some c.in-Some.is) ∙ its) in
+    subst (λ (n : NamedSteps). IsMadeAt c.args.at.now.count c.select_step-in-Ok.new.kept n.above × IsMadeAt c.args.at.now.count c.select_step-in-Ok.new.kept n.own) same (
+      made_stays c.args.at.now.count c.select_step.new.kept c.select_step-in-Ok.new.kept c.in-Some.named.above w.1 above,
+      made_selected c.args.at.now.count j c.args.at.now.first p.chains c.args.at.now.pass c.in-Some.named.own c.select_step-in-Ok.new.work.lanes.items c.select_step-in-Ok.new.kept c.select_step.new.work.found c.select_step-in-Ok.new.work.found w.0,
+    ))
+    (both_ok _ _ c.select_step-in-Ok.result (c.select_step-in-Ok.ensures.selected p) c.select_step-in-Ok.ensures.remade)

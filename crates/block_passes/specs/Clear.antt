@@ -1,0 +1,21 @@
+-- What stands after a search over a block in which no pass faults.
+use Rattle.std.specs.Prelude.{◌≡◌, ◌<◌, ◌+◌, ℕ, List, None, Some, length, slice_get}
+use Rattle.block_lanes.specs.Lanes.{LaneView}
+use Rattle.entry_cache.specs.Caches.{IsActionPass}
+use Rattle.entry_cache.specs.Jobs.{JobView, passes_in}
+use Rattle.entry_passes.specs.Turns.{pass_fault}
+use Rattle.block_cache.specs.Blocks.{AreReady}
+use Rattle.block_passes.specs.Counting.{AreCountable, IsOverAll}
+use Rattle.block_passes.specs.Plans.{PlanView}
+use Rattle.block_passes.specs.Steps.{Chain}
+use Rattle.block_passes.specs.Tries.{IsReadBelow}
+use Rattle.block_passes.specs.declared.kept.Kept.{Kept}
+
+-- no pass faults at any place; the selections of all steps that are fed or counted were made over all of the block; and what the
+-- actions read is at hand where their filters are passed
+pub record IsClear (j : JobView) (first count : ℕ) (chains : List Chain) (p : PlanView) (lanes : List LaneView) (kept : List Kept) : Type 0 where
+  pub ready : AreReady j first count lanes
+  pub countable : AreCountable j first count chains p kept
+  pub clear : (n q : ℕ) → n < length (passes_in j) → q < count → pass_fault j (first + q) n ≡ None
+  pub read : (n : ℕ) → IsReadBelow j first lanes count n
+  pub over : (n last : ℕ) → IsActionPass j n → slice_get p.passes n ≡ Some last → IsOverAll count kept last

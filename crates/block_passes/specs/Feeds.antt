@@ -1,0 +1,40 @@
+-- What the passes of a block feed.
+use Rattle.std.specs.Prelude.{◌≡◌, ◌<◌, ◌+◌, ℕ, ℤ, List, Option, length}
+use Rattle.std.specs.List.{AllByRecursion}
+use Rattle.rdf_values.specs.Bookings.{columns_of}
+use Rattle.rdf_values.specs.declared.action.ActionKind.{ActionKind}
+use Rattle.rdf_values.specs.declared.fault.EntryFault.{EntryFault}
+use Rattle.rdf_values.specs.declared.value.ColType.{ColType}
+use Rattle.rdf_values.specs.declared.value.Value.{Value}
+use Rattle.rdf_model.specs.Evaluation.{Outcome, Gives, for_all}
+use Rattle.rdf_model.specs.Laws.{FitsFeed}
+use Rattle.actions.specs.Batches.{HasPlace, HasValues, SuitsAt, lane_value, values_at}
+use Rattle.actions.specs.declared.batch.Sources.{Sources}
+use Rattle.actions.specs.declared.lane.Lane.{Lane}
+use Rattle.entry_cache.specs.Jobs.{JobView}
+use Rattle.entry_cache.specs.Store.{version_in}
+use Rattle.block_passes.specs.Inputs.{CanServe}
+use Rattle.block_passes.specs.Parts.{feeding_fault}
+
+-- the lane has what the outcome gives at the place
+pub record IsLaneOf (o : Outcome ⊥ Value) (l : Lane) (p : ℕ) : Type 0 where
+  pub there : HasPlace l p
+  pub value : o ≡ Gives (lane_value l p)
+
+-- so have the lanes of all that an action reads, and it takes these values
+pub record AreLanesOf (o : Outcome ⊥ (List Value)) (k : ActionKind) (s : Sources) (p : ℕ) : Type 0 where
+  pub there : HasValues s p
+  pub values : o ≡ Gives (values_at s p)
+  pub suits : SuitsAt k s p
+
+-- the fault of feeding an action what it reads, at a place of a block that begins at this entry
+abbrev pub unfed : JobView → ℕ → ActionKind → List ℕ → Option ℕ → ℕ → Option EntryFault
+unfed j first k inputs u p = feeding_fault k (for_all (version_in {M = ⊥} j (first + p) u) inputs)
+
+-- an action's lanes can be gathered: its versions can be served, one for each of its columns, and come to values that it takes
+pub record CanGather (j : JobView) (first count : ℕ) (kinds : List ColType) (cells : List (List ℤ)) (k : ActionKind) (inputs : List ℕ) (u : Option ℕ) : Type 0 where
+  pub scratch : ℕ
+  pub levels : ℕ
+  pub can : AllByRecursion (CanServe j first u count kinds cells scratch levels) inputs
+  pub many : length inputs ≡ length (columns_of k)
+  pub fits : (p : ℕ) (vs : List Value) → p < count → for_all (version_in {M = ⊥} j (first + p) u) inputs ≡ Gives vs → FitsFeed k vs

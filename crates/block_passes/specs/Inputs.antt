@@ -1,0 +1,76 @@
+-- What the passes of a block read.
+use Rattle.std.specs.Prelude.{◌≡◌, ◌<◌, ◌+◌, ⊤, ℕ, ℤ, Bool, true, List, Option, Some, nat_lt, length, slice_get}
+use Rattle.std.specs.List.{filter, AllByRecursion}
+use Rattle.rdf_values.specs.declared.fault.EntryFault.{EntryFault}
+use Rattle.rdf_values.specs.declared.value.ColType.{ColType}
+use Rattle.rdf_values.specs.declared.value.ColType.TheVariants as kind
+use Rattle.rdf_model.specs.Evaluation.{for_all}
+use Rattle.rdf_model.specs.Results.{fault_in}
+use Rattle.graph_numbers.specs.Graphs.{graph_sites, graph_versions}
+use Rattle.graph_numbers.specs.Meets.{HasInputs}
+use Rattle.graph_numbers.specs.Sources.{source_value}
+use Rattle.graph_numbers.specs.declared.source.Source.{Source}
+use Rattle.graph_numbers.specs.declared.source.Source.TheVariants as from
+use Rattle.block_lanes.specs.Lanes.{LaneView}
+use Rattle.entry_cache.specs.Jobs.{JobView, job_graph}
+use Rattle.entry_cache.specs.Keys.{key}
+use Rattle.entry_cache.specs.Store.{IsSourceIn, row_of, site_in, source_at, version_in}
+use Rattle.block_cache.specs.Blocks.{AreReady, HasColumn}
+use Rattle.block_cache.specs.Fills.{CanFill, holds_at}
+use Rattle.block_passes.specs.Demands.{IsDemandedAt}
+use Rattle.block_passes.specs.Searches.{Lowers, where_in}
+use Rattle.block_passes.specs.Spends.{IsSettledAt}
+use Rattle.block_passes.specs.declared.found.Found.{Found}
+use Rattle.block_passes.specs.declared.kept.Kept.{Kept}
+
+-- ---- what is read
+
+-- what gives a version its value is at hand at a place: a column of numbers is, a site where its value is held
+abbrev pub IsAtHand : JobView → List LaneView → Option ℕ → ℕ → Source → Type 0
+IsAtHand j lanes u p (from.Cell col) = ⊤
+IsAtHand j lanes u p (from.Site s) = holds_at lanes (key (job_graph j) s u) p ≡ true
+IsAtHand j lanes u p (from.Element s k tags) = ⊥
+
+-- so are all versions that are read
+abbrev pub AreAtHand : JobView → List LaneView → Option ℕ → List ℕ → ℕ → Type 0
+AreAtHand j lanes u inputs p = AllByRecursion (λ c. IsAtHand j lanes u p (source_at j u c)) inputs
+
+-- the key's lane holds no vectors
+abbrev pub IsScalarLane : List ColType → ℕ → Type 0
+IsScalarLane kinds k = slice_get kinds k ≡ Some kind.Vect → ⊥
+
+-- a column of numbers is there, or a site can be filled, and its lane holds numbers or truths
+abbrev pub IsServable : JobView → ℕ → Option ℕ → ℕ → List ColType → List (List ℤ) → ℕ → ℕ → Source → Type 0
+IsServable j first u count kinds cells scratch levels (from.Cell col) = HasColumn j first count cells col
+IsServable j first u count kinds cells scratch levels (from.Site s) = (s < length (graph_sites (job_graph j))) × CanFill j first u count kinds cells scratch levels s × IsScalarLane kinds (key (job_graph j) s u)
+IsServable j first u count kinds cells scratch levels (from.Element s k tags) = ⊥
+
+-- the version is there, and so is what gives it its value
+abbrev pub CanServe : JobView → ℕ → Option ℕ → ℕ → List ColType → List (List ℤ) → ℕ → ℕ → ℕ → Type 0
+CanServe j first u count kinds cells scratch levels c = (c < length (graph_versions (job_graph j))) × IsServable j first u count kinds cells scratch levels (source_at j u c)
+
+-- the loop demands the source in the entry
+abbrev pub DemandsSource : JobView → ℕ → Option ℕ → (ℕ → Bool) → Source → Type 0
+DemandsSource j entry u T x = (D : ℕ → Bool) × IsDemandedAt j entry u T D × IsSourceIn D x
+
+-- it demands what is read in it
+abbrev pub DemandsInputs : JobView → ℕ → Option ℕ → (ℕ → Bool) → List ℕ → Type 0
+DemandsInputs j entry u T inputs = (D : ℕ → Bool) × IsDemandedAt j entry u T D × HasInputs (λ s. D s ≡ true) (source_at j u) (version_in j entry u) inputs
+
+-- ---- faults
+
+-- the fault of a source, and of what is read, at a place of a block that begins at this entry
+abbrev pub source_fault : JobView → ℕ → Option ℕ → Source → ℕ → Option EntryFault
+source_fault j first u x p = fault_in (source_value {M = ⊥} (row_of j (first + p)) (site_in j (first + p) u) x)
+
+abbrev pub inputs_fault : JobView → ℕ → Option ℕ → List ℕ → ℕ → Option EntryFault
+inputs_fault j first u inputs p = fault_in (for_all (version_in {M = ⊥} j (first + p) u) inputs)
+
+-- a part of a pass was tried at the places of a selection, with the fault of each place in it: the first that faults lowers the limit,
+-- below which the places are left; what is held is right, and below the limit all that was begun is held
+pub record IsServedTo (j : JobView) (first count : ℕ) (part : ℕ → Option EntryFault) (pass : ℕ) (sel : List ℕ) (to : Kept) (lanes : List LaneView) (old new : Found) : Type 0 where
+  pub ready : AreReady j first count lanes
+  pub settled : (p : ℕ) → p < new.limit → IsSettledAt lanes p
+  pub lowers : Lowers (where_in part sel) first pass old new
+  pub its_limit : to.limit ≡ Some new.limit
+  pub left : to.places ≡ filter (λ p. nat_lt p new.limit) sel

@@ -1,0 +1,136 @@
+// Feeding what the passes of a block give.
+ghost use Rattle.std.specs.Prelude.{◌≡◌, ◌<◌, ◌≤◌, ◌+◌, ℕ, All, List, IfOk, OnErr, OnOk, length, slice_get, Some};
+ghost use Rattle.rdf_model.specs.LoopFacts.{kinds_in};
+ghost use Rattle.expr_lanes.specs.declared.TheConstants.{MAX_PLACES};
+ghost use Rattle.block_lanes.specs.Lanes.{kinds_of};
+ghost use Rattle.cluster_tally.specs.Blocks.{BlockStage, HoldsIn, pass_done};
+ghost use Rattle.actions.specs.Holding.{IsTake};
+ghost use Rattle.entry_cache.specs.Caches.{numbered_in};
+ghost use Rattle.entry_cache.specs.Jobs.{Fits, job_graph, job_of, passes_in};
+ghost use Rattle.entry_cache.specs.Keys.{AreKeys};
+ghost use Rattle.entry_passes.specs.Entries.{IsNoTake, facts_in};
+ghost use Rattle.entry_passes.specs.Turns.{actions_before};
+ghost use Rattle.block_cache.specs.Blocks.{AreReady};
+ghost use Rattle.block_passes.specs.Clear.{IsClear};
+ghost use Rattle.block_passes.specs.Counting.{IsAmid, at_pass};
+ghost use Rattle.block_passes.specs.Fed.{IsFeedable};
+ghost use Rattle.block_passes.specs.Feeds.{CanGather};
+ghost use Rattle.block_passes.specs.Plans.{IsPlan};
+ghost use Rattle.block_passes.specs.Selections.{AreKept};
+ghost use Rattle.block_passes.specs.Tries.{CanServeAll, IsReadOf};
+
+use crate::kept::Kept;
+use crate::passes::action_read;
+use crate::plan::loop_passes;
+use crate::sources::gather;
+use crate::testing::batch_places;
+use crate::turn::{ActionRead, Turn};
+use actions::Batch;
+use block_lanes::Lane;
+use cluster_tally::Tally;
+use graph_numbers::Pass;
+use rdf_values::Memory;
+
+/// Where a pass is fed: its place among the loop's actions, and the cluster.
+#[derive(Clone, Copy, Debug)]
+pub(crate) struct FedPass {
+    pub(crate) place: u32,
+    pub(crate) cluster: u32,
+}
+
+/// Feeds an action's pass with what it reads at the places of its last step, where it can be fed with all of that.
+pub(crate) fn feed_action(
+    at: &Turn<'_>,
+    lanes: &[Lane],
+    kept: &[Kept],
+    tally: &mut Tally,
+    own: &ActionRead<'_>,
+    to: FedPass,
+) -> Result<(), Memory>
+    requires job { Fits at.now.job.now }
+    requires rows { AreKeys (job_graph (job_of at.now.job.now)) at.now.rows.now }
+    requires ready { AreReady (job_of at.now.job.now) at.now.first at.now.count lanes.now }
+    requires plan { IsPlan (job_of at.now.job.now) at.now.plan.now }
+    requires small { at.now.count ≤ MAX_PLACES }
+    requires own { IsReadOf (job_of at.now.job.now) at.now.pass own.now.kind.now own.now.inputs.now own.now.under }
+    requires place { to.place ≡ actions_before (job_of at.now.job.now) at.now.pass }
+    requires can { CanGather (job_of at.now.job.now) at.now.first at.now.count (kinds_of lanes.now) at.now.cells.now own.now.kind.now own.now.inputs.now own.now.under }
+    requires kept { (p : IsPlan (job_of at.now.job.now) at.now.plan.now) → AreKept (job_of at.now.job.now) at.now.first p.chains at.now.count kept.now }
+    requires feedable { (last : ℕ) → slice_get at.now.plan.now.passes at.now.pass ≡ Some last
+        → IsFeedable (job_of at.now.job.now) at.now.first at.now.count lanes.now kept.now last own.now.kind.now own.now.inputs.now own.now.under }
+    requires begin { (watched : List ℕ) × (s : BlockStage) × IsAmid (job_of at.now.job.now) at.now.first at.now.count s × (s.cluster ≡ to.cluster) × (s.passes ≡ to.place) × HoldsIn (facts_in (job_of at.now.job.now)) watched s tally.old }
+    ensures holds { (watched : List ℕ) (s : BlockStage) → IsAmid (job_of at.now.job.now) at.now.first at.now.count s → s.cluster ≡ to.cluster → s.passes ≡ to.place → HoldsIn (facts_in (job_of at.now.job.now)) watched s tally.old
+        → OnOk result (HoldsIn (facts_in (job_of at.now.job.now)) watched (pass_done s) tally.new) }
+    ensures memory { OnErr result (IsTake own.now.kind.now) }
+{
+    let last = at.plan.last_step(at.pass);
+    let selection = &kept[last as usize].places;
+    let batch = Batch {
+        places: batch_places(selection),
+        sources: gather(at, lanes, own.kind, own.inputs, own.under),
+    };
+    tally.feed_batch(to.place, to.cluster, &batch)
+}
+
+/// Feeds a pass, before which there are so many of actions, and says how many there are behind it.
+fn feed_pass(
+    at: &Turn<'_>,
+    lanes: &[Lane],
+    kept: &[Kept],
+    tally: &mut Tally,
+    own: Pass,
+    to: FedPass,
+) -> Result<u32, Memory>
+    requires job { Fits at.now.job.now }
+    requires rows { AreKeys (job_graph (job_of at.now.job.now)) at.now.rows.now }
+    requires plan { IsPlan (job_of at.now.job.now) at.now.plan.now }
+    requires small { at.now.count ≤ MAX_PLACES }
+    requires serve { (scratch levels : ℕ) × CanServeAll (job_of at.now.job.now) at.now.first at.now.count (kinds_of lanes.now) at.now.cells.now scratch levels }
+    requires clear { (p : IsPlan (job_of at.now.job.now) at.now.plan.now) → IsClear (job_of at.now.job.now) at.now.first at.now.count p.chains at.now.plan.now lanes.now kept.now }
+    requires own { numbered_in (job_of at.now.job.now) at.now.pass ≡ Some own }
+    requires few { at.now.pass < 4294967295 }
+    requires place { to.place ≡ actions_before (job_of at.now.job.now) at.now.pass }
+    requires begin { (watched : List ℕ) × (s : BlockStage) × IsAmid (job_of at.now.job.now) at.now.first at.now.count s × (s.cluster ≡ to.cluster) × (s.passes ≡ to.place) × HoldsIn (facts_in (job_of at.now.job.now)) watched s tally.old }
+    ensures place { IfOk result (λ next. next ≡ actions_before (job_of at.now.job.now) (at.now.pass + 1)) }
+    ensures holds { IfOk result (λ next. (watched : List ℕ) (s : BlockStage) → IsAmid (job_of at.now.job.now) at.now.first at.now.count s → s.cluster ≡ to.cluster → s.passes ≡ to.place → HoldsIn (facts_in (job_of at.now.job.now)) watched s tally.old
+        → HoldsIn (facts_in (job_of at.now.job.now)) watched (at_pass s next) tally.new) }
+    ensures memory { All IsNoTake (kinds_in (passes_in (job_of at.now.job.now))) → OnErr result ⊥ }
+{
+    let Some(read) = action_read(at.job, own, at.pass) else {
+        return Ok(to.place);
+    };
+    feed_action(at, lanes, kept, tally, &read, to)?;
+    Ok(to.place + 1)
+}
+
+/// Feeds all action passes of a block in which no pass faults.
+pub(crate) fn feed_passes(
+    at: &Turn<'_>,
+    lanes: &[Lane],
+    kept: &[Kept],
+    tally: &mut Tally,
+    cluster: u32,
+) -> Result<(), Memory>
+    requires job { Fits at.now.job.now }
+    requires rows { AreKeys (job_graph (job_of at.now.job.now)) at.now.rows.now }
+    requires plan { IsPlan (job_of at.now.job.now) at.now.plan.now }
+    requires small { at.now.count ≤ MAX_PLACES }
+    requires serve { (scratch levels : ℕ) × CanServeAll (job_of at.now.job.now) at.now.first at.now.count (kinds_of lanes.now) at.now.cells.now scratch levels }
+    requires clear { (p : IsPlan (job_of at.now.job.now) at.now.plan.now) → IsClear (job_of at.now.job.now) at.now.first at.now.count p.chains at.now.plan.now lanes.now kept.now }
+    requires begin { (watched : List ℕ) × (s : BlockStage) × IsAmid (job_of at.now.job.now) at.now.first at.now.count s × (s.cluster ≡ cluster) × (s.passes ≡ 0) × HoldsIn (facts_in (job_of at.now.job.now)) watched s tally.old }
+    ensures holds { (watched : List ℕ) (s : BlockStage) → IsAmid (job_of at.now.job.now) at.now.first at.now.count s → s.cluster ≡ cluster → s.passes ≡ 0 → HoldsIn (facts_in (job_of at.now.job.now)) watched s tally.old
+        → OnOk result (HoldsIn (facts_in (job_of at.now.job.now)) watched (at_pass s (length (kinds_in (passes_in (job_of at.now.job.now))))) tally.new) }
+    ensures memory { All IsNoTake (kinds_in (passes_in (job_of at.now.job.now))) → OnErr result ⊥ }
+{
+    let mut place = 0;
+    let passes = loop_passes(at.job);
+    for (pass, own) in passes.iter().enumerate() {
+        let mut turn = *at;
+        turn.pass = pass as u32;
+        match feed_pass(&turn, lanes, kept, tally, *own, FedPass { place, cluster }) {
+            Ok(next) => place = next,
+            Err(Memory) => return Err(Memory),
+        }
+    }
+    Ok(())
+}

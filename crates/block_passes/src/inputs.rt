@@ -1,0 +1,168 @@
+// Filling what an action reads.
+ghost use Rattle.std.specs.Prelude.{◌≡◌, ◌<◌, ◌≤◌, ◌+◌, ℕ, Bool, OnOk, Some, length, true};
+ghost use Rattle.std.specs.List.{AllByRecursion};
+ghost use Rattle.graph_numbers.specs.Graphs.{graph_sites, graph_versions};
+ghost use Rattle.expr_lanes.specs.Places.{EachPlace, is_in};
+ghost use Rattle.expr_lanes.specs.declared.TheConstants.{MAX_PLACES};
+ghost use Rattle.block_lanes.specs.Lanes.{kinds_of};
+ghost use Rattle.entry_cache.specs.Jobs.{Fits, job_graph, job_of};
+ghost use Rattle.entry_cache.specs.Keys.{AreKeys, key};
+ghost use Rattle.entry_cache.specs.Store.{source_at};
+ghost use Rattle.entry_passes.specs.Turns.{HasAllDemands};
+ghost use Rattle.block_cache.specs.Blocks.{AreReady};
+ghost use Rattle.block_cache.specs.Fills.{CanFill, IsSpentOver, holds_at, site_fault};
+ghost use Rattle.block_passes.specs.Inputs.{AreAtHand, CanServe, DemandsInputs, DemandsSource, IsAtHand, IsServedTo, inputs_fault, source_fault};
+ghost use Rattle.block_passes.specs.Spends.{IsSettledAt, Spends};
+
+use crate::kept::Kept;
+use crate::turn::{Turn, Work};
+use block_cache::attempt::Block;
+use block_cache::leads::fill_led;
+use entry_cache::reading::{Reading, source_of};
+use entry_cache::rows::row_at;
+use expr_eval::Steps;
+use graph_numbers::Source;
+use rdf_values::Memory;
+use std::sync::ledger::Ledger;
+
+/// Fills a site at the places of a selection, up to the first at which it faults, which lowers the limit; the places below it are left.
+fn serve_site<L: Ledger>(
+    at: &Turn<'_>,
+    work: &mut Work,
+    to: &mut Kept,
+    site: u32,
+    under: Option<u32>,
+    steps: &mut Steps<L>,
+) -> Result<(), Memory>
+    requires job { Fits at.now.job.now }
+    requires rows { AreKeys (job_graph (job_of at.now.job.now)) at.now.rows.now }
+    requires site { site < length (graph_sites (job_graph (job_of at.now.job.now))) }
+    requires ready { AreReady (job_of at.now.job.now) at.now.first at.now.count work.old.lanes.items }
+    requires can { CanFill (job_of at.now.job.now) at.now.first under at.now.count (kinds_of work.old.lanes.items) at.now.cells.now (length work.old.scratch.items) (length work.old.levels.items) site }
+    requires small { at.now.count ≤ MAX_PLACES }
+    requires few { at.now.first + at.now.count ≤ 1000000 }
+    requires limit { work.old.found.limit ≤ at.now.count }
+    requires inside { EachPlace to.old.places (λ p. p < work.old.found.limit) }
+    requires settled { (p : ℕ) → p < work.old.found.limit → IsSettledAt work.old.lanes.items p }
+    ensures spent { IsSpentOver (job_of at.now.job.now) at.now.first under site to.old.places work.old.lanes.items work.new.lanes.items steps.old steps.new }
+    ensures served { OnOk result (IsServedTo (job_of at.now.job.now) at.now.first at.now.count (site_fault (job_of at.now.job.now) at.now.first under site) at.now.pass to.old.places to.new work.new.lanes.items work.old.found work.new.found) }
+    ensures held { OnOk result (EachPlace to.new.places (λ p. holds_at work.new.lanes.items (key (job_graph (job_of at.now.job.now)) site under) p ≡ true)) }
+    ensures scratch { length work.new.scratch.items ≡ length work.old.scratch.items }
+    ensures levels { length work.new.levels.items ≡ length work.old.levels.items }
+{
+    let _rising = to.places.as_slice();
+    let _few = to.places.len();
+    let reading = Reading {
+        job: at.job,
+        row: row_at(at.rows, at.job.graph, under),
+        entry: at.first,
+        under,
+    };
+    let block = Block {
+        at: &reading,
+        count: at.count as usize,
+        cells: at.cells,
+    };
+    match fill_led(
+        &block,
+        &mut work.lanes,
+        site,
+        &mut to.places,
+        &mut work.levels,
+        &mut work.scratch,
+        steps,
+    ) {
+        Ok(fault) => {
+            work.found.note(at.first, at.pass, fault);
+            to.limit = Some(work.found.limit);
+            Ok(())
+        }
+        Err(Memory) => Err(Memory),
+    }
+}
+
+/// What gives a version its value, under nominal or a variation.
+pub(crate) fn source_under(at: &Turn<'_>, version: u32, under: Option<u32>) -> Source
+    requires job { Fits at.now.job.now }
+    requires rows { AreKeys (job_graph (job_of at.now.job.now)) at.now.rows.now }
+    requires version { version < length (graph_versions (job_graph (job_of at.now.job.now))) }
+    ensures { source_at (job_of at.now.job.now) under version ≡ result }
+{
+    let reading = Reading {
+        job: at.job,
+        row: row_at(at.rows, at.job.graph, under),
+        entry: at.first,
+        under,
+    };
+    source_of(&reading, version)
+}
+
+/// Fills what gives a version its value, likewise.
+fn serve_version<L: Ledger>(
+    at: &Turn<'_>,
+    work: &mut Work,
+    to: &mut Kept,
+    version: u32,
+    under: Option<u32>,
+    steps: &mut Steps<L>,
+) -> Result<(), Memory>
+    requires job { Fits at.now.job.now }
+    requires rows { AreKeys (job_graph (job_of at.now.job.now)) at.now.rows.now }
+    requires ready { AreReady (job_of at.now.job.now) at.now.first at.now.count work.old.lanes.items }
+    requires can { CanServe (job_of at.now.job.now) at.now.first under at.now.count (kinds_of work.old.lanes.items) at.now.cells.now (length work.old.scratch.items) (length work.old.levels.items) version }
+    requires small { at.now.count ≤ MAX_PLACES }
+    requires few { at.now.first + at.now.count ≤ 1000000 }
+    requires limit { work.old.found.limit ≤ at.now.count }
+    requires made { to.old.limit ≡ Some work.old.found.limit }
+    requires inside { EachPlace to.old.places (λ p. p < work.old.found.limit) }
+    requires settled { (p : ℕ) → p < work.old.found.limit → IsSettledAt work.old.lanes.items p }
+    requires demanded { (p : ℕ) (T : ℕ → Bool) → is_in p to.old.places ≡ true → HasAllDemands (job_of at.now.job.now) (at.now.first + p) T
+        → DemandsSource (job_of at.now.job.now) (at.now.first + p) under T (source_at (job_of at.now.job.now) under version) }
+    ensures spends { Spends (job_of at.now.job.now) at.now.first at.now.count work.old.lanes.items work.new.lanes.items steps.old steps.new }
+    ensures served { OnOk result (IsServedTo (job_of at.now.job.now) at.now.first at.now.count (source_fault (job_of at.now.job.now) at.now.first under (source_at (job_of at.now.job.now) under version)) at.now.pass to.old.places to.new work.new.lanes.items work.old.found work.new.found) }
+    ensures held { OnOk result (EachPlace to.new.places (λ p. IsAtHand (job_of at.now.job.now) work.new.lanes.items under p (source_at (job_of at.now.job.now) under version))) }
+    ensures scratch { length work.new.scratch.items ≡ length work.old.scratch.items }
+    ensures levels { length work.new.levels.items ≡ length work.old.levels.items }
+{
+    match source_under(at, version, under) {
+        Source::Cell { .. } => Ok(()),
+        Source::Site { site } => serve_site(at, work, to, site, under, steps),
+        Source::Element { .. } => unreachable!(),
+    }
+}
+
+/// Fills what gives these versions their values, one after another.
+pub(crate) fn serve_inputs<L: Ledger>(
+    at: &Turn<'_>,
+    work: &mut Work,
+    to: &mut Kept,
+    inputs: &[u32],
+    under: Option<u32>,
+    steps: &mut Steps<L>,
+) -> Result<(), Memory>
+    requires job { Fits at.now.job.now }
+    requires rows { AreKeys (job_graph (job_of at.now.job.now)) at.now.rows.now }
+    requires ready { AreReady (job_of at.now.job.now) at.now.first at.now.count work.old.lanes.items }
+    requires can { AllByRecursion (CanServe (job_of at.now.job.now) at.now.first under at.now.count (kinds_of work.old.lanes.items) at.now.cells.now (length work.old.scratch.items) (length work.old.levels.items)) inputs.now }
+    requires small { at.now.count ≤ MAX_PLACES }
+    requires few { at.now.first + at.now.count ≤ 1000000 }
+    requires limit { work.old.found.limit ≤ at.now.count }
+    requires made { to.old.limit ≡ Some work.old.found.limit }
+    requires inside { EachPlace to.old.places (λ p. p < work.old.found.limit) }
+    requires settled { (p : ℕ) → p < work.old.found.limit → IsSettledAt work.old.lanes.items p }
+    requires demanded { (p : ℕ) (T : ℕ → Bool) → is_in p to.old.places ≡ true → HasAllDemands (job_of at.now.job.now) (at.now.first + p) T
+        → DemandsInputs (job_of at.now.job.now) (at.now.first + p) under T inputs.now }
+    ensures spends { Spends (job_of at.now.job.now) at.now.first at.now.count work.old.lanes.items work.new.lanes.items steps.old steps.new }
+    ensures served { OnOk result (IsServedTo (job_of at.now.job.now) at.now.first at.now.count (inputs_fault (job_of at.now.job.now) at.now.first under inputs.now) at.now.pass to.old.places to.new work.new.lanes.items work.old.found work.new.found) }
+    ensures held { OnOk result (EachPlace to.new.places (AreAtHand (job_of at.now.job.now) work.new.lanes.items under inputs.now)) }
+    ensures scratch { length work.new.scratch.items ≡ length work.old.scratch.items }
+    ensures levels { length work.new.levels.items ≡ length work.old.levels.items }
+{
+    let Some((version, rest)) = inputs.split_first() else {
+        return Ok(());
+    };
+    match serve_version(at, work, to, *version, under, steps) {
+        Ok(()) => serve_inputs(at, work, to, rest, under, steps),
+        Err(Memory) => Err(Memory),
+    }
+}

@@ -1,0 +1,117 @@
+// Trying the passes of a loop over a block.
+ghost use Rattle.std.specs.Prelude.{◌≡◌, ◌<◌, ◌≤◌, ℕ, ◌+◌, IfSome, None, OnOk, Some, length, slice_range};
+ghost use Rattle.rdf_model.specs.Results.{first_fault_from};
+ghost use Rattle.expr_lanes.specs.declared.TheConstants.{MAX_PLACES};
+ghost use Rattle.block_lanes.specs.Lanes.{kinds_of};
+ghost use Rattle.entry_cache.specs.Caches.{numbered_in};
+ghost use Rattle.entry_cache.specs.Jobs.{Fits, job_graph, job_of, passes_in};
+ghost use Rattle.entry_cache.specs.Keys.{AreKeys};
+ghost use Rattle.entry_passes.specs.Turns.{IsReportPass};
+ghost use Rattle.block_passes.specs.Plans.{IsPlan};
+ghost use Rattle.block_passes.specs.Selections.{AreRemade, CanSelect, IsReadyBelow};
+ghost use Rattle.block_passes.specs.Spends.{Spends};
+ghost use Rattle.block_passes.specs.Tries.{CanServeAll, IsPassMade, IsPassTried, IsPlanMade, IsReadOf, IsSearchedTo};
+
+use crate::action::try_action;
+use crate::kept::Kept;
+use crate::plan::loop_passes;
+use crate::reports::try_filters;
+use crate::turn::{ActionRead, Turn, Work};
+use entry_cache::Job;
+use expr_eval::Steps;
+use graph_numbers::{Pass, ResultKind};
+use rdf_values::Memory;
+use std::sync::ledger::Ledger;
+
+/// What the action of a pass reads; a report has none.
+pub(crate) fn action_read<'a>(job: &Job<'a>, own: Pass, _pass: u32) -> Option<ActionRead<'a>>
+    requires job { Fits job.now }
+    requires own { numbered_in (job_of job.now) _pass ≡ Some own }
+    ensures action { IfSome result (λ a. IsReadOf (job_of job.now) _pass a.kind.now a.inputs.now a.under) }
+    ensures report { result ≡ None → IsReportPass (job_of job.now) _pass own.result }
+{
+    match job.graph.kind(own.result) {
+        ResultKind::Action(kind) => Some(ActionRead {
+            kind,
+            inputs: job.graph.inputs(own.result),
+            under: own.variation,
+        }),
+        ResultKind::Report => None,
+    }
+}
+
+/// Tries a pass at the places below the limit.
+pub(crate) fn try_pass<L: Ledger>(
+    at: &Turn<'_>,
+    work: &mut Work,
+    kept: &mut [Kept],
+    own: Pass,
+    steps: &mut Steps<L>,
+) -> Result<(), Memory>
+    requires job { Fits at.now.job.now }
+    requires rows { AreKeys (job_graph (job_of at.now.job.now)) at.now.rows.now }
+    requires small { at.now.count ≤ MAX_PLACES }
+    requires few { at.now.first + at.now.count ≤ 1000000 }
+    requires within { at.now.first + at.now.count ≤ length at.now.job.now.columns.now.table.rows }
+    requires plan { IsPlan (job_of at.now.job.now) at.now.plan.now }
+    requires can { CanSelect (job_of at.now.job.now) at.now.first at.now.count at.now.plan.now (kinds_of work.old.lanes.items) at.now.cells.now (length work.old.scratch.items) (length work.old.levels.items) }
+    requires serve { CanServeAll (job_of at.now.job.now) at.now.first at.now.count (kinds_of work.old.lanes.items) at.now.cells.now (length work.old.scratch.items) (length work.old.levels.items) }
+    requires own { numbered_in (job_of at.now.job.now) at.now.pass ≡ Some own }
+    requires ready { (p : IsPlan (job_of at.now.job.now) at.now.plan.now) → IsReadyBelow (job_of at.now.job.now) at.now.first at.now.count p.chains work.old.found.limit work.old.lanes.items kept.old }
+    ensures spends { Spends (job_of at.now.job.now) at.now.first at.now.count work.old.lanes.items work.new.lanes.items steps.old steps.new }
+    ensures tried { (p : IsPlan (job_of at.now.job.now) at.now.plan.now)
+        → OnOk result (IsPassTried (job_of at.now.job.now) at.now.first at.now.count p.chains at.now.pass work.new.lanes.items kept.new work.old.found work.new.found) }
+    ensures remade { OnOk result (AreRemade at.now.count kept.old kept.new) }
+    ensures made { OnOk result (IsPassMade (job_of at.now.job.now) at.now.count at.now.plan.now kept.new at.now.pass) }
+    ensures scratch { length work.new.scratch.items ≡ length work.old.scratch.items }
+    ensures levels { length work.new.levels.items ≡ length work.old.levels.items }
+{
+    match action_read(at.job, own, at.pass) {
+        Some(read) => try_action(at, work, kept, &read, steps),
+        None => try_filters(at, work, kept, at.job.graph.covered(own.result), steps),
+    }
+}
+
+/// Tries all passes over a block, of which none was tried: the search for its first fault.
+pub(crate) fn try_passes<L: Ledger>(
+    at: &Turn<'_>,
+    work: &mut Work,
+    kept: &mut [Kept],
+    steps: &mut Steps<L>,
+) -> Result<(), Memory>
+    requires job { Fits at.now.job.now }
+    requires rows { AreKeys (job_graph (job_of at.now.job.now)) at.now.rows.now }
+    requires small { at.now.count ≤ MAX_PLACES }
+    requires few { at.now.first + at.now.count ≤ 1000000 }
+    requires within { at.now.first + at.now.count ≤ length at.now.job.now.columns.now.table.rows }
+    requires plan { IsPlan (job_of at.now.job.now) at.now.plan.now }
+    requires can { CanSelect (job_of at.now.job.now) at.now.first at.now.count at.now.plan.now (kinds_of work.old.lanes.items) at.now.cells.now (length work.old.scratch.items) (length work.old.levels.items) }
+    requires serve { CanServeAll (job_of at.now.job.now) at.now.first at.now.count (kinds_of work.old.lanes.items) at.now.cells.now (length work.old.scratch.items) (length work.old.levels.items) }
+    requires begun { work.old.found ≡ record { limit = at.now.count; best = None } }
+    requires ready { (p : IsPlan (job_of at.now.job.now) at.now.plan.now) → IsReadyBelow (job_of at.now.job.now) at.now.first at.now.count p.chains at.now.count work.old.lanes.items kept.old }
+    ensures spends { Spends (job_of at.now.job.now) at.now.first at.now.count work.old.lanes.items work.new.lanes.items steps.old steps.new }
+    ensures searched { (p : IsPlan (job_of at.now.job.now) at.now.plan.now)
+        → OnOk result (IsSearchedTo (job_of at.now.job.now) at.now.first at.now.count p.chains (length (passes_in (job_of at.now.job.now))) work.new.lanes.items kept.new work.new.found) }
+    ensures fault { OnOk result (first_fault_from (job_of at.now.job.now).dataset at.now.first (slice_range (job_of at.now.job.now).dataset.rows at.now.first (at.now.first + at.now.count)) (passes_in (job_of at.now.job.now)) ≡ work.new.found.best) }
+    ensures made { OnOk result (IsPlanMade (job_of at.now.job.now) at.now.count at.now.plan.now kept.new) }
+    ensures scratch { length work.new.scratch.items ≡ length work.old.scratch.items }
+    ensures levels { length work.new.levels.items ≡ length work.old.levels.items }
+{
+    let passes = loop_passes(at.job);
+    for (pass, own) in passes.iter().enumerate() {
+        let turn = Turn {
+            job: at.job,
+            plan: at.plan,
+            rows: at.rows,
+            cells: at.cells,
+            first: at.first,
+            count: at.count,
+            pass: pass as u32,
+        };
+        match try_pass(&turn, work, kept, *own, steps) {
+            Ok(()) => {}
+            Err(Memory) => return Err(Memory),
+        }
+    }
+    Ok(())
+}
