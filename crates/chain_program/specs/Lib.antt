@@ -1,0 +1,7 @@
+pub mod Answers
+pub mod Limits
+pub mod PartFiles
+pub mod Scripts
+pub mod TableFiles
+pub mod Top
+pub mod Turns
