@@ -1,5 +1,4 @@
 pub mod Answers
-pub mod Limits
 pub mod PartFiles
 pub mod Scripts
 pub mod TableFiles

@@ -5,7 +5,7 @@ ghost use Rattle.rdf_values.specs.Bookable.{IsBookable};
 ghost use Rattle.rdf_values.specs.Path.{history};
 ghost use Rattle.rdf_values.specs.Words.{StatementsHaveWords};
 ghost use Rattle.chain_program.specs.Answers.{IsAnswer};
-ghost use Rattle.chain_program.specs.Limits.{AreWithinLimits};
+ghost use Rattle.chain_words.specs.Limits.{AreWithinLimits};
 ghost use Rattle.chain_program.specs.Scripts.{IsDueToText};
 ghost use Rattle.chain_program.specs.Turns.{AreTurned, IsOtherRead, others_in, script_in};
 

@@ -9,7 +9,7 @@ ghost use Rattle.rdf_values.specs.Words.{StatementsHaveWords};
 ghost use Rattle.shard_loop.specs.LoopSpans.{table_of};
 ghost use Rattle.shard_spans.specs.Spans.{loops_of};
 ghost use Rattle.chain_runs.specs.Chains.{alone, chain_loops};
-ghost use Rattle.chain_program.specs.Limits.{AreSettings};
+ghost use Rattle.chain_words.specs.Limits.{AreSettings};
 ghost use Rattle.chain_program.specs.TableFiles.{IsFirstOf, ReadsFirst};
 
 use crate::answer::Read;

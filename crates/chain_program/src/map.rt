@@ -6,7 +6,7 @@ ghost use Rattle.rdf_values.specs.Path.{history};
 ghost use Rattle.rdf_values.specs.Words.{StatementsHaveWords};
 ghost use Rattle.chain_due.specs.Due.{IsMapDue};
 ghost use Rattle.chain_program.specs.Answers.{IsAnswer};
-ghost use Rattle.chain_program.specs.Limits.{AreSettings};
+ghost use Rattle.chain_words.specs.Limits.{AreSettings};
 ghost use Rattle.chain_program.specs.Turns.{AreTurned, IsTableFile};
 
 use crate::answer::{Answer, Read};

@@ -5,7 +5,7 @@ ghost use Rattle.graph_shapes.specs.GraphShapes.{graph_shapes};
 ghost use Rattle.rdf_values.specs.Functions.{fn_names};
 ghost use Rattle.rdf_values.specs.Path.{history};
 ghost use Rattle.rdf_values.specs.Words.{StatementsHaveWords};
-ghost use Rattle.chain_program.specs.Limits.{AreSettings};
+ghost use Rattle.chain_words.specs.Limits.{AreSettings};
 ghost use Rattle.chain_program.specs.TableFiles.{AreRun, ReadsAll, ReadsNext};
 ghost use Rattle.chain_program.specs.Turns.{AreTurned, IsTableFile};
 
