@@ -433,7 +433,7 @@ end"
     write_shards pieces.txt pieces.csv 1777 "$(cuts_of pieces.csv 1777)" 3
     run merge pieces.txt $files
     judge "rdf_shard: spans of a table with marks and vectors" 0 "$due"
-    rm -f p*
+    rm -f p[0-9]*
     run_random shards 60
 
     head -c 134217728 /dev/zero >huge
@@ -464,7 +464,7 @@ large_shards() {
     judge "rdf_shard: 1,000,000 entries in 12 files" 0 "n = 1000000
 s = 499999500000
 l = 999999"
-    rm -f p*
+    rm -f p[0-9]*
     awk 'BEGIN { print "x:int"; for (i = 0; i < 1000000; i++) printf "-922337203685%07d\n", i }' >long.csv
     for takes in 6 7; do
         awk -v takes=$takes 'BEGIN { for (i = 0; i < takes; i++) print "t" i " = df.Take(\"x\")"; print "Print(t0)" }' >takes.txt

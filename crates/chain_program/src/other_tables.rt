@@ -86,12 +86,7 @@ pub(crate) fn other_tables<R: Threads + Sync, S: Shelf, G: Gate>(
     for i in 1..tables.len() {
         match next_table(means, shelf, chaining, tables[i].as_str(), i as u32)? {
             Read::Whole(more) => {
-                loops = joined_loops(
-                    means.alloc,
-                    chaining.shapes,
-                    loops.as_slice(),
-                    more.as_slice(),
-                )?;
+                loops = joined_loops(means.alloc, chaining.shapes, loops, more.as_slice())?;
             }
             Read::Refused(answer) => return Ok(Read::Refused(answer)),
         }

@@ -37,7 +37,7 @@ loop-i-preserved g c =
       same = c.in_ok-more.ensures.same ∙ c.loop-i.invariant.same;
       later = omega (arith, first, then);
       run = one_more (functions_in c.args.means.now.functions.now) graph.script graph.header told names i c.as_str.result.now next.0 graph c.loop-i.loops c.in-Whole.more c.in_ok-loops-in-Whole.loops refl lt at next.1 next.2
-          (c.in_ok-loops-in-Whole.ensures ∙ ap₃ c.requires.shapes c.as_slice.ensures c.as_slice-in-Whole.ensures) c.loop-i.invariant.run;
+          (c.in_ok-loops-in-Whole.ensures ∙ ap₃ c.requires.shapes refl c.as_slice.ensures) c.loop-i.invariant.run;
       turned = λ after h. c.loop-i.invariant.turned after
           (subst (λ l. AreTurned (IsTableFile told) l (g.S.Shelf.turns c.loop-i.shelf) after) (sym (left_from names i c.as_str.result.now lt at))
           (turned_more (IsTableFile told) c.as_str.result.now (drop (i + 1) names) (g.S.Shelf.turns c.loop-i.shelf) (g.S.Shelf.turns c.next_table.new.shelf) after c.in_ok-more.ensures.turns
