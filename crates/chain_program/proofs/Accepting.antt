@@ -1,5 +1,5 @@
 -- Scripts that are booked over columns, or refused.
-use Rattle.std.proofs.Common.{Result, Ok, Err, ◌≡◌, ◌⊎◌, inl, inr, ℕ, List, Option, None, Some, ap, ap₂, refl, sym, subst, ◌∙◌}
+use Rattle.std.proofs.Common.{Result, Ok, Err, ◌≡◌, inl, inr, ℕ, List, Option, None, Some, ap₂, refl, sym, ◌∙◌}
 use Rattle.rdf_values.specs.Answers.{Refuses}
 use Rattle.rdf_values.specs.Functions.{Function, fn_names}
 use Rattle.rdf_values.specs.Kinds.{FunctionNames}

@@ -1,6 +1,6 @@
 -- Tables of a chain, one after the other.
-use Rattle.std.proofs.Common.{◌≡◌, ◌≤◌, ◌<◌, ◌+◌, ◌⊎◌, inl, inr, ℕ, zero, suc, Bool, true, false, ◌&&◌, nat_eq, List, [], ◌∷◌, ◌++◌, length, drop, map, Option, None, Some, IfSome, arith, ap, ap₂, refl, sym, subst, ◌∙◌, if◌then◌else◌}
-use Rattle.std.specs.Prelude.{All, slice_get}
+use Rattle.std.proofs.Common.{◌≡◌, ◌≤◌, ◌<◌, ◌+◌, inl, ℕ, zero, suc, Bool, true, false, ◌&&◌, List, [], ◌∷◌, ◌++◌, length, drop, map, Option, None, Some, IfSome, arith, ap, ap₂, refl, sym, subst, ◌∙◌}
+use Rattle.std.specs.Prelude.{slice_get}
 use Rattle.std.specs.Bool.{MatchBool}
 use Rattle.std.specs.List.{AllByRecursion, list_all}
 use Rattle.std.proofs.lemmas.List.{length-append, length-map, map-append}
@@ -20,7 +20,6 @@ use Rattle.rdf_values.specs.declared.value.ColType.TheVariants as k
 use Rattle.rdf_values.specs.declared.value.Value.{Value}
 use Rattle.rdf_model.specs.Transcript.{Printed}
 use Rattle.graph_numbers.specs.Graphs.{GraphView}
-use Rattle.shard_lines.specs.declared.pass_shape.PassShape.{PassShape}
 use Rattle.shard_files.specs.Merging.{same_column, same_columns, same_kind}
 use Rattle.columns.specs.ColumnsView.{ColumnsView}
 use Rattle.shard_loop.specs.LoopSpans.{table_of}
@@ -122,7 +121,7 @@ module _ (fns : List Function) (script : Script) where
   first_goes files (first ∷ names) name t d at hold accepted next =
       let same : first ≡ name = cc at in
       table_goes files first t (λ u e. WithAccepted fns script u.table.columns (λ g. WithTables files u.table.columns (u ∷ []) names (IsRunEnd fns script u.table.columns) g) e) d (subst (λ n. HoldsTheTable t (files n)) (sym same) hold)
-          (accepted_goes fns script t.table.columns (λ g. WithTables files t.table.columns (t ∷ []) names (IsRunEnd fns script t.table.columns) g) d accepted next)
+      (accepted_goes fns script t.table.columns (λ g. WithTables files t.table.columns (t ∷ []) names (IsRunEnd fns script t.table.columns) g) d accepted next)
 
   pub begin_run : (told : Option Files) (names : List (List ℕ)) (name : List ℕ) (t : MarkedTable) (f : FirstTable) → slice_get names 0 ≡ Some name → Tells told name (HoldsTheTable t) → IsOver fns script 0 t f
       → AreRun fns script t.table.columns told names 1 f.loops
@@ -141,8 +140,8 @@ module _ (fns : List Function) (script : Script) where
   first_stops files (first ∷ names) name d at h =
       let same : first ≡ name = cc at in
       table_instead files first (λ t e. WithAccepted fns script t.table.columns (λ g. ⊥) e) (λ u e. WithAccepted fns script u.table.columns (λ g. WithTables files u.table.columns (u ∷ []) names (IsRunEnd fns script u.table.columns) g) e) d
-          (λ t e. accepted_stops fns script t.table.columns (λ g. WithTables files t.table.columns (t ∷ []) names (IsRunEnd fns script t.table.columns) g) d e)
-          (subst (λ n. WithTableFile files n (λ t e. WithAccepted fns script t.table.columns (λ g. ⊥) e) d) (sym same) h)
+      (λ t e. accepted_stops fns script t.table.columns (λ g. WithTables files t.table.columns (t ∷ []) names (IsRunEnd fns script t.table.columns) g) d e)
+      (subst (λ n. WithTableFile files n (λ t e. WithAccepted fns script t.table.columns (λ g. ⊥) e) d) (sym same) h)
 
   -- ---- one table more
 
@@ -169,7 +168,7 @@ module _ (fns : List Function) (script : Script) where
         → WithTables files columns (found ++ t ∷ []) rest (IsRunEnd fns script columns) d → WithTables files columns found (name ∷ rest) (IsRunEnd fns script columns) d
     next_goes files found name rest t d hold tested next =
         table_goes files name t (λ u e. MatchBool (same_columns columns u.table.columns) (WithTables files columns (found ++ u ∷ []) rest (IsRunEnd fns script columns) e) (e ≡ due_of FilesDiffer (differs_line name))) d hold
-            (if_true (same_columns columns t.table.columns) (WithTables files columns (found ++ t ∷ []) rest (IsRunEnd fns script columns) d) (d ≡ due_of FilesDiffer (differs_line name)) tested next)
+        (if_true (same_columns columns t.table.columns) (WithTables files columns (found ++ t ∷ []) rest (IsRunEnd fns script columns) d) (d ≡ due_of FilesDiffer (differs_line name)) tested next)
 
     pub one_more : (told : Option Files) (names : List (List ℕ)) (place : ℕ) (name : List ℕ) (t : MarkedTable) (g : GraphView) (loops more all : List PartLoop) → g.script ≡ script → place < length names → slice_get names place ≡ Some name
         → Tells told name (HoldsTheTable t) → IsNext fns script columns place t more → all ≡ joined_loops (graph_shapes g) loops more → AreRun fns script columns told names place loops → AreRun fns script columns told names (place + 1) all

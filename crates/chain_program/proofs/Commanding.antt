@@ -1,8 +1,6 @@
 -- Commands by their scripts.
-use Rattle.std.proofs.Common.{◌≡◌, ◌≤◌, ◌<◌, ◌⊎◌, inl, inr, ℕ, suc, List, [], ◌∷◌, ◌++◌, length, Option, None, Some, IfSome, refl, sym, subst, ◌∙◌}
+use Rattle.std.proofs.Common.{◌≡◌, ◌≤◌, ℕ, List, [], ◌∷◌, ◌++◌, Option, None, Some}
 use Rattle.rdf_values.specs.Functions.{Function}
-use Rattle.rdf_values.specs.declared.script.Script.{Script}
-use Rattle.input_files.specs.Fetching.{Tells}
 use Rattle.chain_words.specs.declared.command.ChainCommand.{ChainCommand}
 use Rattle.chain_words.specs.declared.command.ChainCommand.TheVariants.{Run, Map, Join, Print}
 use Rattle.chain_due.specs.Due.{ChainDue, Files, IsDueToCommand, IsJoinDue, IsMapDue, IsPrintDue, IsRunOver}
@@ -12,7 +10,7 @@ use Rattle.chain_program.specs.Turns.{AreCommandsTurns, AreTurned, HoldsScript, 
 use Rattle.chain_program.specs.declared.answer.Answer.{Answer}
 use Rattle.chain_program.specs.declared.scripts.ScriptText.{ScriptText}
 use Rattle.chain_program.proofs.Staging.{all_told, from_told, goes_on, script_goes, script_stops, stands}
-use Rattle.chain_program.proofs.Turning.{turned_to_others, turned_to_script}
+use Rattle.chain_program.proofs.Turning.{turned_to_others}
 
 holds_script : (t : ScriptText) (file : Option (List ℕ)) → HoldsTheText t file → HoldsScript file
 holds_script t None h = absurd h

@@ -1,5 +1,5 @@
 -- Parts of a script, joined or printed.
-use Rattle.std.proofs.Common.{◌≡◌, ◌≤◌, ◌<◌, ◌+◌, ℕ, zero, suc, Bool, true, false, ◌&&◌, cond, Option, None, Some, List, [], ◌∷◌, length, map, refl, ap, ap₂, ◌∙◌, sym, subst, arith}
+use Rattle.std.proofs.Common.{◌≡◌, ◌<◌, ◌+◌, ℕ, suc, Bool, true, false, ◌&&◌, cond, Option, None, Some, List, [], ◌∷◌, length, refl, ap, ap₂, ◌∙◌, sym, subst, arith}
 use Rattle.std.specs.Prelude.{MatchOption, not, position, slice_get}
 use Rattle.std.specs.List.{AllByRecursion, list_all, position_from}
 use Rattle.std.proofs.lemmas.Iterator.Adapters.{position_from-zero}
@@ -17,7 +17,7 @@ use Rattle.chain_files.specs.Digests.{digest_of}
 use Rattle.chain_files.specs.Joining.{CanJoinAll, are_loops, joined_parts}
 use Rattle.chain_files.specs.Laws.{AcceptedCanJoin}
 use Rattle.chain_files.specs.Parts.{IsPart, PartView, part_text}
-use Rattle.chain_files.specs.Refusing.{first_differing, first_misshapen, is_of}
+use Rattle.chain_files.specs.Refusing.{first_misshapen, is_of}
 use Rattle.chain_text.specs.ChainPrints.{FitGraph}
 use Rattle.chain_text.proofs.Fitting.{shaped_loops_fit}
 use Rattle.chain_due.specs.Due.{ChainDue, IsEachPrinted, IsJoined, IsText, graph_over}

@@ -1,31 +1,27 @@
 -- The part of one table.
-use Rattle.std.proofs.Common.{◌≡◌, ◌≤◌, ◌<◌, ◌+◌, ◌⊎◌, inl, inr, ℕ, List, [], ◌∷◌, ◌++◌, length, Option, arith, ap, refl, sym, subst, ◌∙◌, append-nil}
-use Rattle.std.specs.List.{AllByRecursion}
+use Rattle.std.proofs.Common.{◌≡◌, ◌<◌, ◌+◌, ◌⊎◌, inl, inr, ℕ, List, [], ◌∷◌, ◌++◌, length, Option, arith, ap, refl, sym, subst, ◌∙◌, append-nil}
 use Rattle.rdf_values.specs.Functions.{Function}
 use Rattle.rdf_values.specs.Path.{history}
 use Rattle.rdf_values.specs.TableText.{MarkedTable}
 use Rattle.rdf_values.specs.Words.{AnswerIn64Bits, StatementsHaveWords}
-use Rattle.rdf_values.specs.declared.column.Column.{Column}
 use Rattle.rdf_values.specs.declared.script.Script.{Script}
 use Rattle.rdf_values.specs.declared.value.Value.{Value}
-use Rattle.shard_spans.specs.Spans.{loops_of}
 use Rattle.input_files.specs.Due.{due_of}
 use Rattle.input_files.specs.Fetching.{Tells}
 use Rattle.input_files.specs.Reading.{HoldsTheTable}
 use Rattle.chain_files.specs.Digests.{digest_of}
 use Rattle.chain_files.specs.Parts.{IsPart, PartView, part_text}
-use Rattle.chain_files.specs.declared.part_loop.PartLoop.{PartLoop}
-use Rattle.chain_runs.specs.Chains.{chain_loops, chain_part}
+use Rattle.chain_runs.specs.Chains.{chain_part}
 use Rattle.chain_runs.proofs.Parts.{chains_are_part}
 use Rattle.chain_due.specs.Due.{ChainDue, Files, IsMapDue, IsText, WithAccepted, WithTableFile, chain_of}
 use Rattle.chain_due.specs.declared.status.ChainStatus.{ChainStatus}
 use Rattle.chain_due.specs.declared.status.ChainStatus.TheVariants.{Done, TooLong}
-use Rattle.chain_program.specs.Answers.{Answers, IsAnswer, IsOfFiles}
+use Rattle.chain_program.specs.Answers.{IsAnswer, IsOfFiles}
 use Rattle.chain_program.specs.TableFiles.{IsOver}
 use Rattle.chain_program.specs.declared.answer.Answer.{Answer}
 use Rattle.chain_program.specs.declared.first_table.FirstTable.{FirstTable}
 use Rattle.chain_program.proofs.Chaining.{checked}
-use Rattle.chain_program.proofs.Refusing.{no_table, of_table}
+use Rattle.chain_program.proofs.Refusing.{of_table}
 use Rattle.chain_program.proofs.Staging.{accepted_goes, accepted_stops, all_told, of_files, stands, table_instead}
 
 -- a bounded text has a status that is due

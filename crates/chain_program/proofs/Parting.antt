@@ -1,5 +1,5 @@
 -- Part files, one after the other, and parts of a script.
-use Rattle.std.proofs.Common.{◌≡◌, ◌≤◌, ◌<◌, ◌+◌, ◌⊎◌, inl, inr, ℕ, zero, suc, Bool, true, false, nat_lt, List, [], ◌∷◌, ◌++◌, length, drop, Option, None, Some, IfSome, arith, ap, ap₂, refl, sym, subst, ◌∙◌, append_assoc, append-nil}
+use Rattle.std.proofs.Common.{◌≡◌, ◌≤◌, ◌<◌, ◌+◌, inl, inr, ℕ, Bool, true, false, nat_lt, List, [], ◌∷◌, ◌++◌, length, drop, Option, None, Some, IfSome, arith, ap, refl, sym, subst, ◌∙◌, append_assoc, append-nil}
 use Rattle.std.specs.Prelude.{MatchOption, get_or, not, position, slice_get, unwrap_or}
 use Rattle.std.specs.Bool.{MatchBool}
 use Rattle.std.specs.List.{AllByRecursion}
@@ -14,15 +14,14 @@ use Rattle.rdf_values.specs.declared.script.Script.{Script}
 use Rattle.graph_numbers.specs.Graphs.{GraphView}
 use Rattle.shard_lines.specs.declared.pass_shape.PassShape.{PassShape}
 use Rattle.input_files.specs.Due.{WithFile, due_of}
-use Rattle.input_files.specs.Fetching.{Tells}
 use Rattle.graph_shapes.specs.GraphShapes.{graph_shapes}
 use Rattle.chain_files.specs.Digests.{digest_of}
-use Rattle.chain_files.specs.Parts.{BreaksAt, IsPart, IsPartText, PartView}
+use Rattle.chain_files.specs.Parts.{IsPart, IsPartText, PartView}
 use Rattle.chain_files.specs.Refusing.{first_differing, first_misshapen, is_of}
 use Rattle.chain_due.specs.Due.{ChainDue, Files, ReadsPart, WithAccepted, WithFitting, WithParts, graph_over, max_parts, name_at}
-use Rattle.chain_due.specs.Lines.{differs_line, file_refused_line, long_files_line}
+use Rattle.chain_due.specs.Lines.{differs_line, long_files_line}
 use Rattle.chain_due.specs.Statuses.{statuses}
-use Rattle.chain_due.specs.declared.status.ChainStatus.TheVariants.{FileRefused, FilesDiffer, NoFile, ScriptRefused, TooLong}
+use Rattle.chain_due.specs.declared.status.ChainStatus.TheVariants.{FilesDiffer, ScriptRefused, TooLong}
 use Rattle.chain_program.specs.Answers.{Answers, IsAnswer}
 use Rattle.chain_program.specs.PartFiles.{AllFitScript, ArePartsOf, AreRead, HoldParts, HoldsThePart, IsReadPart, WithPart}
 use Rattle.chain_program.specs.Turns.{HoldsPart, IsPartFile}
@@ -141,8 +140,8 @@ parts_go (name ∷ names) files before found [] Next d h next = absurd h
 parts_go (name ∷ names) files before found (s ∷ more) Next d h next =
     let bytes = h.0 in
     part_goes files before (length bytes) name s (λ b t e. WithParts files (before + length b) (found ++ t ∷ []) names Next e) d (subst (λ file. HoldsThePart s file (length bytes)) (sym h.1) (refl, h.3)) h.2
-        (λ b same. subst (λ n. WithParts files (before + n) (found ++ s ∷ []) names Next d) (sym same)
-        (parts_go names files (before + length bytes) (found ++ s ∷ []) more Next d h.4 (subst (λ l. Next l d) (sym (append_assoc found (s ∷ []) more)) next)))
+    (λ b same. subst (λ n. WithParts files (before + n) (found ++ s ∷ []) names Next d) (sym same)
+    (parts_go names files (before + length bytes) (found ++ s ∷ []) more Next d h.4 (subst (λ l. Next l d) (sym (append_assoc found (s ∷ []) more)) next)))
 
 one_stops : (name : List ℕ) (names : List (List ℕ)) (files : Files) (before : ℕ) (found : List PartView) (Next : List PartView → ChainDue → Type 0) (d : ChainDue)
     → ((n : ℕ) (s : PartView) → WithParts files n (found ++ s ∷ []) names (λ ss e. ⊥) d → WithParts files n (found ++ s ∷ []) names Next d)
@@ -173,8 +172,8 @@ module _ (fns : List Function) (bytes : List ℕ) (script : Script) (names : Lis
   fitting_goes (first ∷ others) f Next d h next =
       let P : ChainDue → Type 0 = λ e. MatchOption (first_misshapen (graph_shapes (graph_over fns script first.columns)) (first ∷ others)) (Next e) (λ place. e ≡ due_of FilesDiffer (differs_line (name_at names place))) in
       none (first_differing (digest_of bytes) (first ∷ others)) (WithAccepted fns script first.columns P d) (λ place. d ≡ due_of FilesDiffer (differs_line (name_at names place))) h.alike
-          (accepted_goes fns script first.columns P d h.accepted
-          (none (first_misshapen (graph_shapes (graph_over fns script first.columns)) (first ∷ others)) (Next d) (λ place. d ≡ due_of FilesDiffer (differs_line (name_at names place))) h.shaped next))
+      (accepted_goes fns script first.columns P d h.accepted
+      (none (first_misshapen (graph_shapes (graph_over fns script first.columns)) (first ∷ others)) (Next d) (λ place. d ≡ due_of FilesDiffer (differs_line (name_at names place))) h.shaped next))
     where
       none : (o : Option ℕ) (P : Type 0) (Q : ℕ → Type 0) → o ≡ None → P → MatchOption o P Q
       none None P Q e p = p

@@ -1,6 +1,6 @@
 -- Answers of the stages of tables and parts that refuse a file.
-use Rattle.std.proofs.Common.{◌≡◌, ◌≤◌, ◌<◌, ◌+◌, ◌⊎◌, inl, inr, ℕ, Bool, true, false, List, [], ◌∷◌, ◌++◌, length, Option, None, Some, IfSome, arith, ap, refl, sym, subst, ◌∙◌}
-use Rattle.std.specs.Prelude.{MatchOption, slice_get, unwrap_or}
+use Rattle.std.proofs.Common.{◌≡◌, ℕ, false, List, [], ◌∷◌, Option, Some, ap, sym, ◌∙◌}
+use Rattle.std.specs.Prelude.{slice_get}
 use Rattle.std.specs.Bool.{MatchBool}
 use Rattle.rdf_values.specs.Functions.{Function}
 use Rattle.rdf_values.specs.TableText.{MarkedTable}
@@ -11,7 +11,7 @@ use Rattle.input_files.specs.Due.{due_of}
 use Rattle.input_files.specs.Fetching.{Tells}
 use Rattle.input_files.specs.Reading.{HoldsTheTable}
 use Rattle.chain_files.specs.Covering.{in_order}
-use Rattle.chain_files.specs.Parts.{IsPart, PartView}
+use Rattle.chain_files.specs.Parts.{PartView}
 use Rattle.chain_due.specs.Due.{ChainDue, Files, IsEachPrinted, IsJoinDue, IsJoined, IsPrintDue, IsRunOver, WithAccepted, WithFitting, WithParts, WithTableFile}
 use Rattle.chain_due.specs.Lines.{differs_line}
 use Rattle.chain_due.specs.declared.status.ChainStatus.TheVariants.{FilesDiffer}
@@ -22,7 +22,7 @@ use Rattle.chain_program.specs.declared.fitting.Fitting.{Fitting}
 use Rattle.chain_program.proofs.Chaining.{first_stops}
 use Rattle.chain_program.proofs.Joining.{joined_is_due, printed_is_due}
 use Rattle.chain_program.proofs.Parting.{fitting_goes, fitting_stops, parts_go, parts_stop}
-use Rattle.chain_program.proofs.Staging.{all_told, as_due, each_told, ends, from_told, goes_on, if_false, of_files, stands, table_goes, table_stops}
+use Rattle.chain_program.proofs.Staging.{all_told, as_due, each_told, ends, from_told, if_false, of_files, stands, table_goes, table_stops}
 
 module _ (told : Option Files) (name : List ℕ) (turns : List (List ℕ)) (f0 f1 : ℕ) (a : Answer) where
   -- ---- tables

@@ -1,12 +1,12 @@
 -- Answers from stage to stage.
-use Rattle.std.proofs.Common.{Result, Ok, Err, IfOk, ◌≡◌, ◌≤◌, ◌<◌, ◌⊎◌, inl, inr, ℕ, Bool, true, false, List, [], ◌∷◌, ◌++◌, length, nat_lt, Option, None, Some, IfSome, arith, ap, refl, sym, subst, ◌∙◌}
+use Rattle.std.proofs.Common.{Result, Ok, Err, IfOk, ◌≡◌, ◌≤◌, ◌<◌, inl, inr, ℕ, Bool, true, false, List, [], ◌∷◌, ◌++◌, length, nat_lt, Option, None, Some, IfSome, arith, sym, subst}
 use Rattle.std.specs.Prelude.{MatchOption, MatchResult, OnOk}
 use Rattle.std.specs.Bool.{MatchBool}
 use Rattle.std.proofs.lemmas.Bool.{le-ltb}
 use Rattle.rdf_outside.specs.Outside.{Rose}
 use Rattle.rdf_values.specs.Functions.{Function, fn_names}
-use Rattle.rdf_values.specs.RefusalLines.{graph_cause_line, long_script_line, long_table_line, no_file_line, read_failed_line, script_cause_line, table_cause_line}
-use Rattle.rdf_values.specs.Scripts.{IsScript, RefusesScript}
+use Rattle.rdf_values.specs.RefusalLines.{graph_cause_line, long_script_line, long_table_line, no_file_line, read_failed_line, table_cause_line}
+use Rattle.rdf_values.specs.Scripts.{IsScript}
 use Rattle.rdf_values.specs.TableText.{MarkedTable, table_of}
 use Rattle.rdf_values.specs.Verdict.{verdict}
 use Rattle.rdf_values.specs.declared.column.Column.{Column}
@@ -14,18 +14,15 @@ use Rattle.rdf_values.specs.declared.graph_cause.GraphCause.{GraphCause}
 use Rattle.rdf_values.specs.declared.script.Script.{Script}
 use Rattle.rdf_values.specs.declared.table_cause.TableCause.{TableCause}
 use Rattle.table_csv.specs.Csv.{csv_records}
-use Rattle.input_files.specs.Answers.{IsLast}
 use Rattle.input_files.specs.Due.{ReadsScript, WithFile, WithScript, due_of, max_script, max_table}
 use Rattle.input_files.specs.Fetching.{IsLongerThan, Tells}
 use Rattle.input_files.specs.Reading.{HoldsTheTable}
-use Rattle.chain_files.specs.Parts.{BreaksAt, IsPartText, PartView}
-use Rattle.chain_due.specs.Due.{ChainDue, Files, ReadsPart, WithAccepted, WithTable, WithTableFile, max_parts}
-use Rattle.chain_due.specs.Lines.{file_refused_line, long_files_line, table_line}
+use Rattle.chain_due.specs.Due.{ChainDue, Files, WithAccepted, WithTable, WithTableFile}
+use Rattle.chain_due.specs.Lines.{table_line}
 use Rattle.chain_due.specs.Statuses.{statuses}
 use Rattle.chain_due.specs.declared.status.ChainStatus.{ChainStatus}
-use Rattle.chain_due.specs.declared.status.ChainStatus.TheVariants.{FileRefused, NoFile, ReadFault, ScriptRefused, TableRefused, TooLong}
+use Rattle.chain_due.specs.declared.status.ChainStatus.TheVariants.{NoFile, ReadFault, ScriptRefused, TableRefused}
 use Rattle.chain_program.specs.Answers.{Answers, IsAnswer, IsOfFiles, IsUnread}
-use Rattle.chain_program.specs.PartFiles.{HoldsThePart, WithPart}
 use Rattle.chain_program.specs.Scripts.{HoldsTheText, WithText}
 use Rattle.chain_program.specs.declared.answer.Answer.{Answer}
 use Rattle.chain_program.specs.declared.scripts.ScriptText.{ScriptText}

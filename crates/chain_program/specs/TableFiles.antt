@@ -1,5 +1,5 @@
 -- What the stages of a command's tables come to.
-use Rattle.std.specs.Prelude.{◌≡◌, ◌<◌, ℕ, true, All, List, [], ◌∷◌, drop, length, map, Option, None, IfSome}
+use Rattle.std.specs.Prelude.{◌≡◌, ◌<◌, ℕ, true, All, List, [], ◌∷◌, drop, length, Option, None, IfSome}
 use Rattle.std.specs.Bool.{MatchBool}
 use Rattle.std.specs.List.{AllByRecursion, list_all}
 use Rattle.rdf_values.specs.Functions.{Function, fn_names}

@@ -1,6 +1,5 @@
 -- The files that the shelf was turned to.
-use Rattle.std.specs.Prelude.{◌≡◌, ◌⊎◌, ◌+◌, ℕ, zero, suc, List, [], ◌∷◌, ◌++◌, Option, Some, None, IfSome, MatchOption, Ok, length, slice_get}
-use Rattle.rdf_values.specs.Scripts.{IsScript}
+use Rattle.std.specs.Prelude.{◌≡◌, ◌⊎◌, ℕ, zero, suc, List, [], ◌∷◌, ◌++◌, Option, Some, None, IfSome, MatchOption, slice_get}
 use Rattle.rdf_values.specs.TableText.{MarkedTable}
 use Rattle.rdf_values.specs.declared.script.Script.{Script}
 use Rattle.input_files.specs.Answers.{AreTurnedTo}

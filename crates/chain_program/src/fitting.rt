@@ -38,9 +38,7 @@ fn first_other(script: &[u8], columns: &[Column], parts: &[Part]) -> Option<usiz
     ensures value { result ≡ position (λ t. not (is_of script.now columns.now t)) parts.now }
     ensures within { IfSome result (λ place. place < length parts.now) }
 {
-    parts
-        .iter()
-        .position(|part| !is_of(script, columns, part))
+    parts.iter().position(|part| !is_of(script, columns, part))
 }
 
 // The place of the first part without the loops of the script.
@@ -48,7 +46,9 @@ fn first_misshapen(loops: &[ListOf<PassShape>], parts: &[Part]) -> Option<usize>
     ensures value { result ≡ first_misshapen loops.now parts.now }
     ensures within { IfSome result (λ place. place < length parts.now) }
 {
-    parts.iter().position(|part| !are_loops(loops, part.loops()))
+    parts
+        .iter()
+        .position(|part| !are_loops(loops, part.loops()))
 }
 
 /// The graph of the script over the parts' columns, where all parts are of it.

@@ -23,7 +23,12 @@ use std::alloc::Global;
 use std::slice;
 
 // The answer to a part of a script.
-fn print_fitting(alloc: Global, fitting: &Fitting, part: &Part, count: u32) -> Result<Answer, Memory>
+fn print_fitting(
+    alloc: Global,
+    fitting: &Fitting,
+    part: &Part,
+    count: u32,
+) -> Result<Answer, Memory>
     requires count { 0 < count }
     requires part { CanPrint fitting.now.graph part.now }
     ensures { IfOk result (Answers (IsPrintedBy fitting.now.graph count part.now)) }

@@ -1,4 +1,3 @@
-use Rattle.std.proofs.Common.{◌∙◌, IfOk, subst, sym}
 use Rattle.entry_fns.specs.Lists.{functions_in}
 use Rattle.chain_files.specs.Covering.{in_order}
 use Rattle.chain_due.specs.Due.{IsJoinDue, IsJoined, WithFitting}

@@ -12,8 +12,7 @@ pub returns-clause-read : goal.returns-clause-read
 returns-clause-read g c =
     let read = rw c.in-Whole.is at c.in_ok-marked.ensures.read in
     let table = ap (λ (v : ColumnsView). v.table) c.in_ok-columns.ensures in
-    let tested = sym c.same_columns.ensures ∙ c.if-not-same_columns.false in
-    (
+    let tested = sym c.same_columns.ensures ∙ c.if-not-same_columns.false in (
       marked_table c.in-Whole.marked,
       read.holds,
       next_of (functions_in c.args.means.now.functions.now) c.args.chaining.now.graph.now.script c.args.chaining.now.graph.now.header c.args.file (marked_table c.in-Whole.marked) c.header.result.now c.columns-2.result.now c.in_ok-columns.columns c.in_ok-loops.loops
