@@ -27,3 +27,5 @@ pub mod TriedFilters
 pub mod SearchedPasses
 pub mod Remaking
 pub mod PlanMade
+pub mod BegunFew
+pub mod ClearBlocks

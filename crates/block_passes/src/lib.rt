@@ -4,6 +4,7 @@
 #![tactic(auto)]
 
 mod action;
+mod ending;
 mod feed;
 pub mod found;
 mod inputs;
