@@ -1,7 +1,7 @@
 -- Over a block of which nothing was known no more evaluations are begun than its entries demand.
 use Rattle.std.proofs.Common.{◌≡◌, ◌⊎◌, inl, inr, ℕ, zero, suc, ◌+◌, ◌-◌, ◌*◌, ◌<◌, ◌≤◌, Bool, true, false, List, [], ◌∷◌, length, map, take, Some, refl, sym, ◌∙◌, ap, arith, slice_get, if◌then◌else◌, unwrap_or}
 use Rattle.std.specs.Prelude.{count_by, slice_range}
-use Rattle.std.specs.List.{AllByRecursion, slice_index_or, sum_by}
+use Rattle.std.specs.List.{AllByRecursion, slice_index_or}
 use Rattle.std.proofs.lemmas.List.Elements.{All-from_recursion, recursion_from_All}
 use Rattle.std.proofs.lemmas.List.Sums.{sum_by-cons}
 use Rattle.std.proofs.lemmas.Option.{slice_get_within}

@@ -1,8 +1,6 @@
 -- A block that was searched without a fault is clear, and is taken in.
-use Rattle.std.proofs.Common.{◌≡◌, ℕ, ◌+◌, ◌-◌, ◌*◌, ◌<◌, ◌≤◌, List, length, Option, None, Some, Result, Ok, Err, refl, sym, ◌∙◌, ap, subst, arith, slice_get}
-use Rattle.std.specs.Prelude.{OnOk}
+use Rattle.std.proofs.Common.{◌≡◌, ℕ, ◌+◌, ◌-◌, ◌*◌, ◌≤◌, List, length, None, Some, Ok, Err, refl, ◌∙◌, ap, subst, arith, slice_get}
 use Rattle.std.proofs.lemmas.Option.{slice_get_within}
-use Rattle.rdf_values.specs.declared.span.Span.{Span}
 use Rattle.rdf_model.specs.LoopFacts.{kinds_in}
 use Rattle.rdf_model.specs.Results.{first_fault_from}
 use Rattle.graph_numbers.specs.Graphs.{graph_filters}
