@@ -1,5 +1,5 @@
 -- What an evaluation reads first is met in every entry, and a site may be filled behind it.
-use Rattle.std.proofs.Common.{◌≡◌, ◌<◌, ◌≤◌, ◌+◌, ◌⊎◌, inl, inr, ℕ, ℤ, Bool, true, false, List, [], ◌∷◌, length, Option, Some, None, Result, Ok, Err, IfOk, OnOk, refl, sym, ◌∙◌, ap, subst, arith, cond, nat_eq, nat_lt, slice_get, if◌then◌else◌}
+use Rattle.std.proofs.Common.{◌≡◌, ◌<◌, ◌≤◌, ◌+◌, ◌⊎◌, inl, inr, ℕ, ℤ, Bool, true, false, List, [], ◌∷◌, length, Option, Some, None, Result, Ok, Err, IfOk, refl, sym, ◌∙◌, ap, subst, arith, cond, nat_eq, nat_lt, slice_get, if◌then◌else◌}
 use Rattle.std.specs.Prelude.{option_map}
 use Rattle.std.specs.List.{filter}
 use Rattle.std.proofs.lemmas.Bool.{lt-ltb, ltb-true}
@@ -9,7 +9,6 @@ use Rattle.rdf_values.specs.Path.{history}
 use Rattle.rdf_values.specs.Tree.{NumTree, Tree, Trees, Lit, Truth, Col, Neg, Not, Bin, Cond, Pick, Call, End, More}
 use Rattle.rdf_values.specs.declared.expr.BinOp.{BinOp}
 use Rattle.rdf_values.specs.declared.expr.BinOp.TheVariants as op
-use Rattle.rdf_values.specs.declared.fault.EntryFault.{EntryFault}
 use Rattle.rdf_values.specs.declared.memory.Memory.{Memory}
 use Rattle.rdf_values.specs.declared.value.ColType.{ColType}
 use Rattle.rdf_values.specs.declared.value.Value.{Value}
@@ -30,9 +29,8 @@ use Rattle.entry_cache.specs.Plain.{ArePlain}
 use Rattle.entry_cache.specs.Store.{IsSiteOf, IsSourceIn, MeetsAt, site_in, source_at, version_in}
 use Rattle.entry_cache.proofs.EvaluateLaws.{accepted_of}
 use Rattle.entry_cache.proofs.FillLaws.{in_source}
-use Rattle.block_cache.specs.Blocks.{AreReady}
-use Rattle.block_cache.specs.Fills.{CanFill, IsFilledOver, IsGrownOver, IsOnlyCalled, IsRankedBelow, IsSameAt, IsSettled, IsSpentOver, below_fault, fault_over, holds_at, is_below, site_fault}
-use Rattle.block_cache.specs.Leads.{IsFilledTo, IsLead, first_read, first_read_in, or_behind}
+use Rattle.block_cache.specs.Fills.{CanFill, IsFilledOver, IsGrownOver, IsRankedBelow, IsSameAt, IsSpentOver, below_fault, fault_over, is_below, site_fault}
+use Rattle.block_cache.specs.Leads.{IsFilledTo, IsLead, first_read, first_read_in}
 use Rattle.block_cache.specs.Turns.{IsFaultOf, found_or}
 use Rattle.block_cache.specs.declared.faults.PlaceFault.{PlaceFault}
 use Rattle.block_cache.proofs.CanFills.{falls_by_number, met_each, met_used, ranked}

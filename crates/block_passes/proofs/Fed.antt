@@ -1,5 +1,5 @@
 -- A block's batch is what its places feed to an action's pass.
-use Rattle.std.proofs.Common.{◌≡◌, ◌<◌, ◌≤◌, ◌+◌, ℕ, Bool, true, List, [], length, Option, Some, None, refl, sym, ◌∙◌, ap, subst, arith, get_or, slice_get}
+use Rattle.std.proofs.Common.{◌≡◌, ◌<◌, ◌+◌, ℕ, Bool, true, List, length, Option, Some, None, sym, ◌∙◌, ap, subst, arith, get_or, slice_get}
 use Rattle.std.specs.Prelude.{All, OnErr, Result, flat_map}
 use Rattle.std.specs.List.{filter, range_with_len}
 use Rattle.std.proofs.lemmas.List.FromFn.{length-range_with_len}
@@ -7,34 +7,29 @@ use Rattle.std.proofs.lemmas.Option.{slice_get-get_or, slice_get_within}
 use Rattle.rdf_values.specs.Spread.{feed_fault, spread}
 use Rattle.rdf_values.specs.declared.action.ActionKind.{ActionKind}
 use Rattle.rdf_values.specs.declared.memory.Memory.{Memory}
-use Rattle.rdf_values.specs.declared.value.Value.{Value}
 use Rattle.rdf_model.specs.Evaluation.{Gives, for_all}
 use Rattle.rdf_model.specs.Results.{is_true}
 use Rattle.actions.specs.Batches.{HasValues, SuitsAt, batch_items, places_of, values_at}
 use Rattle.actions.specs.Holding.{IsTake}
 use Rattle.actions.specs.declared.batch.Batch.{Batch}
-use Rattle.actions.specs.declared.batch.Sources.{Sources}
 use Rattle.expr_lanes.specs.Places.{EachPlace, is_in}
 use Rattle.graph_numbers.specs.Outcomes.{through_sites}
-use Rattle.graph_numbers.specs.Results.{ResultAt}
-use Rattle.graph_numbers.specs.declared.pass.Pass.{Pass as NumberedPass}
 use Rattle.block_lanes.specs.Lanes.{LaneView}
 use Rattle.cluster_tally.specs.Blocks.{BlockStage, CanFeedBatch, HoldsIn, block_items}
 use Rattle.cluster_tally.specs.Tallies.{TallyView}
 use Rattle.entry_cache.specs.Jobs.{IsJob, JobView}
 use Rattle.entry_cache.specs.Store.{site_in, version_in}
-use Rattle.entry_passes.specs.Entries.{facts_in, job_spans}
+use Rattle.entry_passes.specs.Entries.{facts_in}
 use Rattle.entry_passes.specs.Turns.{actions_before}
 use Rattle.block_cache.proofs.Members.{filter_short}
-use Rattle.block_passes.specs.Counting.{IsAmid, IsOverAll}
-use Rattle.block_passes.specs.Fed.{IsFeedable, IsFeedableAt}
+use Rattle.block_passes.specs.Counting.{IsAmid}
+use Rattle.block_passes.specs.Fed.{IsFeedable}
 use Rattle.block_passes.specs.Feeds.{AreLanesOf}
 use Rattle.block_passes.specs.Inputs.{AreAtHand}
 use Rattle.block_passes.specs.Parts.{feeding_fault}
-use Rattle.block_passes.specs.Plans.{IsActionOf, IsLast, IsPlan, PlanView}
+use Rattle.block_passes.specs.Plans.{IsLast, IsPlan, PlanView}
 use Rattle.block_passes.specs.Selections.{AreKept}
 use Rattle.block_passes.specs.Tries.{IsReadOf}
-use Rattle.block_passes.specs.Steps.{Chain}
 use Rattle.block_passes.specs.declared.kept.Kept.{Kept}
 use Rattle.block_passes.proofs.Counting.{block_within, its_places}
 use Rattle.block_passes.proofs.FaultsOver.{chosen_below, in_chosen}

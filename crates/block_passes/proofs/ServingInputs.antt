@@ -14,6 +14,7 @@ use Rattle.expr_lanes.specs.Places.{EachPlace, is_in}
 use Rattle.block_lanes.specs.Lanes.{LaneView}
 use Rattle.entry_cache.specs.Jobs.{JobView, job_graph}
 use Rattle.entry_cache.specs.Keys.{key, key_count}
+use Rattle.entry_cache.specs.Plain.{ArePlainVersions}
 use Rattle.entry_cache.specs.Store.{IsSourceIn, source_at, version_in}
 use Rattle.entry_cache.specs.Store.{is_held as is_known}
 use Rattle.entry_passes.specs.Turns.{HasAllDemands}
@@ -83,6 +84,10 @@ none_served j first count u pass inputs e to lanes s ready made inside settled =
 
 pub none_held : (j : JobView) (lanes : List LaneView) (u : Option ℕ) (inputs : List ℕ) → inputs ≡ [] → (sel : List ℕ) → EachPlace sel (AreAtHand j lanes u inputs)
 none_held j lanes u inputs e sel p i = subst (λ (l : List ℕ). AreAtHand j lanes u l p) (sym e) tt
+
+-- the first of versions without vectors
+pub first_plain : (used : ℕ → Bool) (j : JobView) (u : Option ℕ) (inputs cs : List ℕ) (c : ℕ) → inputs ≡ c ∷ cs → ArePlainVersions j used u inputs → IsSourceIn used (source_at j u c)
+first_plain used j u inputs cs c e all = (subst (λ (l : List ℕ). ArePlainVersions j used u l) e all).0
 
 module _ (j : JobView) (first : ℕ) (u : Option ℕ) (inputs cs : List ℕ) (c : ℕ) (e : inputs ≡ c ∷ cs) where
   -- ---- what is asked

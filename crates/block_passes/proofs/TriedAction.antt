@@ -1,5 +1,5 @@
 -- An action's pass, tried part by part.
-use Rattle.std.proofs.Common.{◌≡◌, ◌⊎◌, inl, inr, ℕ, ◌+◌, ◌<◌, ◌≤◌, ℤ, Bool, true, false, List, [], length, Option, None, Some, refl, sym, ◌∙◌, ap, subst, arith, slice_get, nat_lt, if◌then◌else◌}
+use Rattle.std.proofs.Common.{◌≡◌, ◌⊎◌, inl, inr, ℕ, ◌+◌, ◌<◌, ◌≤◌, ℤ, Bool, true, false, List, [], ◌∷◌, length, Option, None, Some, refl, sym, ◌∙◌, ap, subst, arith, slice_get, nat_lt, if◌then◌else◌}
 use Rattle.std.specs.Prelude.{slice_set}
 use Rattle.std.specs.List.{filter, AllByRecursion}
 use Rattle.std.proofs.lemmas.Option.{slice_get_within}
@@ -17,7 +17,10 @@ use Rattle.expr_lanes.specs.Places.{EachPlace, is_in}
 use Rattle.block_lanes.specs.Lanes.{LaneView}
 use Rattle.entry_cache.specs.Jobs.{IsJob, JobView, job_graph}
 use Rattle.entry_cache.specs.Store.{site_in, version_in}
+use Rattle.std.proofs.lemmas.List.Elements.{recursion_from_All}
+use Rattle.entry_cache.specs.Caches.{IsPlainLoop}
 use Rattle.entry_cache.specs.Passes.{IsActionAt}
+use Rattle.entry_cache.specs.Plain.{ArePlainVersions, IsPlainVersion}
 use Rattle.entry_cache.proofs.ActionLaws.{can_act}
 use Rattle.entry_cache.proofs.PassTies.{pass_answer}
 use Rattle.entry_cache.proofs.TableLaws.{row_there}
@@ -49,6 +52,16 @@ if_passed (Needs m) X h x = elim m [ ]
 or_else_twice : (a b c : Option EntryFault) → or_else (or_else a b) c ≡ or_else a (or_else b c)
 or_else_twice None b c = refl
 or_else_twice (Some k) b c = refl
+
+-- what an action of a loop without vectors reads
+pub read_plain : (j : JobView) → IsJob j → (pass : ℕ) (k : ActionKind) (inputs : List ℕ) (u : Option ℕ) → IsReadOf j pass k inputs u → (loop : IsPlainLoop j) → ArePlainVersions j loop.used u inputs
+read_plain j job pass k inputs u own loop =
+    subst (λ (v : Option ℕ). ArePlainVersions j loop.used v inputs) own.its_under
+    (each_source inputs (subst (λ (cs : List ℕ). AllByRecursion (IsPlainVersion (job_graph j) loop.used) cs) own.inputs_are (recursion_from_All (IsPlainVersion (job_graph j) loop.used) own.result.inputs (loop.inputs pass own.numbered own.result own.action.its_pass own.action.its_result))))
+  where
+    each_source : (cs : List ℕ) → AllByRecursion (IsPlainVersion (job_graph j) loop.used) cs → ArePlainVersions j loop.used own.numbered.variation cs
+    each_source [] h = tt
+    each_source (c ∷ cs) h = (h.0.1 own.numbered.variation, each_source cs h.1)
 
 last_none : (a b : Option EntryFault) → or_else a b ≡ None → b ≡ None
 last_none None b h = h

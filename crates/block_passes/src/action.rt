@@ -1,8 +1,9 @@
 // Trying an action's pass over a block.
-ghost use Rattle.std.specs.Prelude.{◌≡◌, ◌<◌, ◌≤◌, ◌+◌, ℕ, OnOk, Some, length, slice_get};
+ghost use Rattle.std.specs.Prelude.{◌≡◌, ◌<◌, ◌≤◌, ◌+◌, ℕ, OnOk, Some, length, slice_get, OnErr};
 ghost use Rattle.std.specs.List.{AllByRecursion};
 ghost use Rattle.expr_lanes.specs.declared.TheConstants.{MAX_PLACES};
 ghost use Rattle.block_lanes.specs.Lanes.{kinds_of};
+ghost use Rattle.entry_cache.specs.Caches.{IsPlainLoop};
 ghost use Rattle.entry_cache.specs.Jobs.{Fits, job_graph, job_of};
 ghost use Rattle.entry_cache.specs.Keys.{AreKeys};
 ghost use Rattle.block_passes.specs.Inputs.{CanServe};
@@ -45,6 +46,7 @@ pub(crate) fn try_action<L: Ledger>(
     ensures made { OnOk result ((last : ℕ) → slice_get at.now.plan.now.passes at.now.pass ≡ Some last → IsMadeAt at.now.count kept.new last) }
     ensures scratch { length work.new.scratch.items ≡ length work.old.scratch.items }
     ensures levels { length work.new.levels.items ≡ length work.old.levels.items }
+    ensures plain { IsPlainLoop (job_of at.now.job.now) → OnErr result ⊥ }
 {
     let last = at.plan.last_step(at.pass);
     match select_step(at, work, kept, last, steps) {

@@ -1,13 +1,14 @@
 // Filling what an action reads.
-ghost use Rattle.std.specs.Prelude.{◌≡◌, ◌<◌, ◌≤◌, ◌+◌, ℕ, Bool, OnOk, Some, length, true};
+ghost use Rattle.std.specs.Prelude.{◌≡◌, ◌<◌, ◌≤◌, ◌+◌, ℕ, Bool, OnOk, Some, length, true, OnErr};
 ghost use Rattle.std.specs.List.{AllByRecursion};
 ghost use Rattle.graph_numbers.specs.Graphs.{graph_sites, graph_versions};
 ghost use Rattle.expr_lanes.specs.Places.{EachPlace, is_in};
 ghost use Rattle.expr_lanes.specs.declared.TheConstants.{MAX_PLACES};
 ghost use Rattle.block_lanes.specs.Lanes.{kinds_of};
+ghost use Rattle.entry_cache.specs.Plain.{ArePlain, ArePlainVersions};
 ghost use Rattle.entry_cache.specs.Jobs.{Fits, job_graph, job_of};
 ghost use Rattle.entry_cache.specs.Keys.{AreKeys, key};
-ghost use Rattle.entry_cache.specs.Store.{source_at};
+ghost use Rattle.entry_cache.specs.Store.{IsSourceIn, source_at};
 ghost use Rattle.entry_passes.specs.Turns.{HasAllDemands};
 ghost use Rattle.block_cache.specs.Blocks.{AreReady};
 ghost use Rattle.block_cache.specs.Fills.{CanFill, IsSpentOver, holds_at, site_fault};
@@ -49,6 +50,7 @@ fn serve_site<L: Ledger>(
     ensures held { OnOk result (EachPlace to.new.places (λ p. holds_at work.new.lanes.items (key (job_graph (job_of at.now.job.now)) site under) p ≡ true)) }
     ensures scratch { length work.new.scratch.items ≡ length work.old.scratch.items }
     ensures levels { length work.new.levels.items ≡ length work.old.levels.items }
+    ensures plain { (used : ℕ → Bool) → ArePlain (job_of at.now.job.now) used → used site ≡ true → OnErr result ⊥ }
 {
     let _rising = to.places.as_slice();
     let _few = to.places.len();
@@ -123,6 +125,7 @@ fn serve_version<L: Ledger>(
     ensures held { OnOk result (EachPlace to.new.places (λ p. IsAtHand (job_of at.now.job.now) work.new.lanes.items under p (source_at (job_of at.now.job.now) under version))) }
     ensures scratch { length work.new.scratch.items ≡ length work.old.scratch.items }
     ensures levels { length work.new.levels.items ≡ length work.old.levels.items }
+    ensures plain { (used : ℕ → Bool) → ArePlain (job_of at.now.job.now) used → IsSourceIn used (source_at (job_of at.now.job.now) under version) → OnErr result ⊥ }
 {
     match source_under(at, version, under) {
         Source::Cell { .. } => Ok(()),
@@ -157,6 +160,7 @@ pub(crate) fn serve_inputs<L: Ledger>(
     ensures held { OnOk result (EachPlace to.new.places (AreAtHand (job_of at.now.job.now) work.new.lanes.items under inputs.now)) }
     ensures scratch { length work.new.scratch.items ≡ length work.old.scratch.items }
     ensures levels { length work.new.levels.items ≡ length work.old.levels.items }
+    ensures plain { (used : ℕ → Bool) → ArePlain (job_of at.now.job.now) used → ArePlainVersions (job_of at.now.job.now) used under inputs.now → OnErr result ⊥ }
 {
     let Some((version, rest)) = inputs.split_first() else {
         return Ok(());

@@ -1,9 +1,9 @@
 // Trying the passes of a loop over a block.
-ghost use Rattle.std.specs.Prelude.{◌≡◌, ◌<◌, ◌≤◌, ℕ, ◌+◌, IfSome, None, OnOk, Some, length, slice_range};
+ghost use Rattle.std.specs.Prelude.{◌≡◌, ◌<◌, ◌≤◌, ℕ, ◌+◌, IfSome, None, OnOk, Some, length, slice_range, OnErr};
 ghost use Rattle.rdf_model.specs.Results.{first_fault_from};
 ghost use Rattle.expr_lanes.specs.declared.TheConstants.{MAX_PLACES};
 ghost use Rattle.block_lanes.specs.Lanes.{kinds_of};
-ghost use Rattle.entry_cache.specs.Caches.{numbered_in};
+ghost use Rattle.entry_cache.specs.Caches.{IsPlainLoop, numbered_in};
 ghost use Rattle.entry_cache.specs.Jobs.{Fits, job_graph, job_of, passes_in};
 ghost use Rattle.entry_cache.specs.Keys.{AreKeys};
 ghost use Rattle.entry_passes.specs.Turns.{IsReportPass};
@@ -65,6 +65,7 @@ pub(crate) fn try_pass<L: Ledger>(
     ensures made { OnOk result (IsPassMade (job_of at.now.job.now) at.now.count at.now.plan.now kept.new at.now.pass) }
     ensures scratch { length work.new.scratch.items ≡ length work.old.scratch.items }
     ensures levels { length work.new.levels.items ≡ length work.old.levels.items }
+    ensures plain { IsPlainLoop (job_of at.now.job.now) → OnErr result ⊥ }
 {
     match action_read(at.job, own, at.pass) {
         Some(read) => try_action(at, work, kept, &read, steps),
@@ -96,6 +97,7 @@ pub(crate) fn try_passes<L: Ledger>(
     ensures made { OnOk result (IsPlanMade (job_of at.now.job.now) at.now.count at.now.plan.now kept.new) }
     ensures scratch { length work.new.scratch.items ≡ length work.old.scratch.items }
     ensures levels { length work.new.levels.items ≡ length work.old.levels.items }
+    ensures plain { IsPlainLoop (job_of at.now.job.now) → OnErr result ⊥ }
 {
     let passes = loop_passes(at.job);
     for (pass, own) in passes.iter().enumerate() {

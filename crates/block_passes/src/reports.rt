@@ -1,9 +1,9 @@
 // Trying a report's pass over a block.
-ghost use Rattle.std.specs.Prelude.{◌≡◌, ◌<◌, ◌≤◌, ◌+◌, OnOk, Some, length, slice_get};
+ghost use Rattle.std.specs.Prelude.{◌≡◌, ◌<◌, ◌≤◌, ◌+◌, OnOk, Some, length, slice_get, OnErr};
 ghost use Rattle.std.specs.List.{AllByRecursion};
 ghost use Rattle.expr_lanes.specs.declared.TheConstants.{MAX_PLACES};
 ghost use Rattle.block_lanes.specs.Lanes.{kinds_of};
-ghost use Rattle.entry_cache.specs.Caches.{IsCovered};
+ghost use Rattle.entry_cache.specs.Caches.{IsCovered, IsPlainLoop};
 ghost use Rattle.entry_cache.specs.Jobs.{Fits, job_graph, job_of};
 ghost use Rattle.entry_cache.specs.Keys.{AreKeys};
 ghost use Rattle.block_passes.specs.Plans.{IsPlan};
@@ -42,6 +42,7 @@ fn try_filter<L: Ledger>(
     ensures made { OnOk result (IsNamedMade at.now.count at.now.plan.now kept.new filter) }
     ensures scratch { length work.new.scratch.items ≡ length work.old.scratch.items }
     ensures levels { length work.new.levels.items ≡ length work.old.levels.items }
+    ensures plain { IsPlainLoop (job_of at.now.job.now) → OnErr result ⊥ }
 {
     match at.plan.named(filter) {
         Some(named) => match select_step(at, work, kept, named.above, steps) {
@@ -76,6 +77,7 @@ pub(crate) fn try_filters<L: Ledger>(
     ensures made { OnOk result (AllByRecursion (IsNamedMade at.now.count at.now.plan.now kept.new) filters.now) }
     ensures scratch { length work.new.scratch.items ≡ length work.old.scratch.items }
     ensures levels { length work.new.levels.items ≡ length work.old.levels.items }
+    ensures plain { IsPlainLoop (job_of at.now.job.now) → OnErr result ⊥ }
 {
     let Some((filter, rest)) = filters.split_first() else {
         return Ok(());

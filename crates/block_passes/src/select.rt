@@ -1,10 +1,12 @@
 // Selecting the places of a block that pass filters.
-ghost use Rattle.std.specs.Prelude.{◌≡◌, ◌<◌, ◌≤◌, ◌+◌, ◌++◌, ℕ, OnOk, Some, length, slice_get};
+ghost use Rattle.std.specs.Prelude.{◌≡◌, ◌<◌, ◌≤◌, ◌+◌, ◌++◌, ℕ, OnOk, Some, length, slice_get, OnErr, Bool, true};
 ghost use Rattle.rdf_values.specs.declared.value.ColType.TheVariants as kind;
 ghost use Rattle.graph_numbers.specs.Graphs.{graph_sites};
 ghost use Rattle.expr_lanes.specs.Places.{EachPlace};
 ghost use Rattle.expr_lanes.specs.declared.TheConstants.{MAX_PLACES};
 ghost use Rattle.block_lanes.specs.Lanes.{kinds_of};
+ghost use Rattle.entry_cache.specs.Caches.{IsPlainLoop};
+ghost use Rattle.entry_cache.specs.Plain.{ArePlain};
 ghost use Rattle.entry_cache.specs.Jobs.{Fits, job_graph, job_of};
 ghost use Rattle.entry_cache.specs.Keys.{AreKeys, key};
 ghost use Rattle.block_cache.specs.Blocks.{AreReady};
@@ -49,6 +51,7 @@ pub(crate) fn filter_places<L: Ledger>(
     ensures filtered { OnOk result (IsFilteredTo (job_of at.now.job.now) at.now.first at.now.count filter.under filter.site at.now.pass from.now.places to.new work.new.lanes.items work.old.found work.new.found) }
     ensures scratch { length work.new.scratch.items ≡ length work.old.scratch.items }
     ensures levels { length work.new.levels.items ≡ length work.old.levels.items }
+    ensures plain { (used : ℕ → Bool) → ArePlain (job_of at.now.job.now) used → used filter.site ≡ true → OnErr result ⊥ }
 {
     to.places.copy_from(&from.places);
     let _rising = to.places.as_slice();
@@ -109,6 +112,7 @@ pub(crate) fn next_places<L: Ledger>(
     ensures remade { OnOk result (AreRemade at.now.count (above.now ++ own.old) (above.now ++ own.new)) }
     ensures scratch { length work.new.scratch.items ≡ length work.old.scratch.items }
     ensures levels { length work.new.levels.items ≡ length work.old.levels.items }
+    ensures plain { IsPlainLoop (job_of at.now.job.now) → OnErr result ⊥ }
 {
     filter_places(
         at,
@@ -143,6 +147,7 @@ pub(crate) fn select_step<L: Ledger>(
     ensures remade { OnOk result (AreRemade at.now.count kept.old kept.new) }
     ensures scratch { length work.new.scratch.items ≡ length work.old.scratch.items }
     ensures levels { length work.new.levels.items ≡ length work.old.levels.items }
+    ensures plain { IsPlainLoop (job_of at.now.job.now) → OnErr result ⊥ }
 {
     let limit = work.found.limit;
     if kept[step as usize].narrow(limit) {

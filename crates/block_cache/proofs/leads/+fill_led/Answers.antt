@@ -2,8 +2,7 @@ use Rattle.std.proofs.Common.{◌<◌, arith, length, rules}
 use Rattle.block_lanes.specs.Lanes.{kinds_of}
 use Rattle.graph_numbers.specs.Graphs.{graph_sites}
 use Rattle.entry_cache.specs.Jobs.{job_graph, job_of}
-use Rattle.block_cache.proofs.CanFills.{can_moved}
-use Rattle.block_cache.proofs.LeadLaws.{can_lead, filled_alone, lead_lower, lead_used, led_begun, led_filled, led_selected, led_spent}
+use Rattle.block_cache.proofs.LeadLaws.{can_lead, lead_lower, lead_used, led_begun, led_filled, led_selected, led_spent}
 use Rattle.block_cache.proofs.leads.+fill_led.Goals as goal
 
 pub fill_led-requires : goal.fill_led-requires

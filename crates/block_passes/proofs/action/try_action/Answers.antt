@@ -14,7 +14,7 @@ use Rattle.block_passes.proofs.ServingInputs.{served_inside}
 use Rattle.block_passes.proofs.Spending.{spends_then}
 use Rattle.block_passes.proofs.StepCases.{kept_inside}
 use Rattle.block_passes.proofs.StepLaws.{same_step}
-use Rattle.block_passes.proofs.TriedAction.{action_tried, gathers, has_step, last_there, to_demanded, to_inside, to_limit}
+use Rattle.block_passes.proofs.TriedAction.{action_tried, gathers, has_step, last_there, read_plain, to_demanded, to_inside, to_limit}
 use Rattle.block_passes.proofs.action.try_action.Goals as goal
 
 pub last_step-last-requires : goal.last_step-last-requires
@@ -94,3 +94,8 @@ returns-clause-made g c = λ l its.
     let same : c.last_step-last.result ≡ l = same_step c.last_step-last.result l (sym c.last_step-last.ensures ∙ its) in
     subst (λ (n : ℕ). IsMadeAt c.args.at.now.count (slice_set c.select_step.new.kept c.last_step-last.result c.test_feeding.new.to) n) same
     (made_set c.args.at.now.count c.select_step.new.kept c.last_step-last.result c.test_feeding.new.to lt (c.test_feeding.new.work.found.limit, c.test_feeding.ensures.tested.its_limit, omega (arith, a, b, within)))
+
+pub returns-in-Err-serve_inputs-clause-plain : goal.returns-in-Err-serve_inputs-clause-plain
+returns-in-Err-serve_inputs-clause-plain g c = λ loop.
+    c.in-Err-serve_inputs.ensures.plain loop.used loop.sites
+    (read_plain (job_of c.args.at.now.job.now) c.requires.job.job c.args.at.now.pass c.args.own.now.kind.now c.args.own.now.inputs.now c.args.own.now.under c.requires.action loop)

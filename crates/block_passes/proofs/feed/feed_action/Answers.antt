@@ -1,4 +1,3 @@
-use Rattle.std.specs.Prelude.{IfOk}
 use Rattle.entry_cache.specs.Jobs.{job_of}
 use Rattle.entry_passes.specs.Entries.{facts_in}
 use Rattle.block_passes.proofs.Fed.{can_feed, fed_memory, last_there, pass_there}

@@ -4,7 +4,7 @@ use Rattle.expr_lanes.specs.Places.{EachPlace}
 use Rattle.block_lanes.specs.Lanes.{kinds_of}
 use Rattle.entry_cache.specs.Jobs.{job_of}
 use Rattle.block_passes.specs.Inputs.{AreAtHand, IsServedTo, inputs_fault}
-use Rattle.block_passes.proofs.ServingInputs.{empty_list, first_demanded, inputs_held, inputs_served, none_served, rest_can, rest_demanded, rest_inside}
+use Rattle.block_passes.proofs.ServingInputs.{empty_list, first_demanded, first_plain, inputs_held, inputs_served, none_served, rest_can, rest_demanded, rest_inside}
 use Rattle.block_passes.proofs.Spending.{spends_then}
 use Rattle.block_passes.proofs.inputs.+serve_inputs.Goals as goal
 
@@ -52,3 +52,6 @@ returns-in-Ok-clause-held g t c =
     inputs_held j c.args.at.now.first c.args.under c.args.inputs.now c.in-Some.rest.now c.in-Some.version.now c.in-Some.ensures.cases.0 c.args.at.now.count c.args.at.now.pass c.args.to.now.places c.serve_version.new.to c.args.work.now.lanes.items c.serve_version.new.work.lanes.items c.args.work.now.found c.serve_version.new.work.found c.in-Ok.ensures.served
     c.serve_inputs.new.to c.serve_inputs.new.work.lanes.items c.serve_inputs.new.work.found w.0 c.serve_version.new.steps c.serve_inputs.new.steps c.serve_inputs.ensures.spends c.in-Ok.ensures.held w.1)
     (search rules)
+
+pub returns-in-Err-clause-plain : goal.returns-in-Err-clause-plain
+returns-in-Err-clause-plain g t c = λ used p all. c.in-Err.ensures.plain used p (first_plain used (job_of c.args.at.now.job.now) c.args.under c.args.inputs.now c.in-Some.rest.now c.in-Some.version.now c.in-Some.ensures.cases.0 all)

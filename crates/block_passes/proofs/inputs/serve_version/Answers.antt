@@ -2,7 +2,7 @@ use Rattle.std.proofs.Common.{◌∙◌, length, subst}
 use Rattle.graph_numbers.specs.declared.source.Source.{Source}
 use Rattle.block_lanes.specs.Lanes.{kinds_of}
 use Rattle.entry_cache.specs.Jobs.{job_of}
-use Rattle.entry_cache.specs.Store.{source_at}
+use Rattle.entry_cache.specs.Store.{IsSourceIn, source_at}
 use Rattle.block_passes.specs.Inputs.{IsServable}
 use Rattle.block_passes.proofs.Serving.{column_served, version_spends}
 use Rattle.block_passes.proofs.inputs.serve_version.Goals as goal
@@ -20,3 +20,6 @@ returns-in-Site-clause-spends g c =
     let j = job_of c.args.at.now.job.now in
     version_spends j c.args.at.now.first c.args.at.now.count c.args.under c.in-Site.site c.args.work.now.found.limit (source_at j c.args.under c.args.version) (c.source_under.ensures ∙ c.in-Site.is) c.args.to.now.places c.requires.limit c.requires.inside c.requires.demanded
     c.args.work.now.lanes.items c.serve_site.new.work.lanes.items c.args.steps.now c.serve_site.new.steps c.serve_site.ensures.spent
+
+pub returns-in-Site-clause-plain : goal.returns-in-Site-clause-plain
+returns-in-Site-clause-plain g c = λ used p source. c.serve_site.ensures.plain used p (subst (IsSourceIn used) (c.source_under.ensures ∙ c.in-Site.is) source)

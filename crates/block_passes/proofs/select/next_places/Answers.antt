@@ -7,7 +7,7 @@ use Rattle.block_passes.specs.Steps.{longer}
 use Rattle.block_passes.specs.declared.steps.Step.TheVariants as step
 use Rattle.block_passes.proofs.NextPlaces.{from_inside, next_selected, next_spends}
 use Rattle.block_passes.proofs.Remaking.{remade_behind}
-use Rattle.block_passes.proofs.SitesThere.{site_there}
+use Rattle.block_passes.proofs.SitesThere.{site_there, site_used}
 use Rattle.block_passes.proofs.StepLaws.{get_kept}
 use Rattle.block_passes.proofs.select.next_places.Goals as goal
 
@@ -78,3 +78,10 @@ returns-clause-remade g c =
     remade_behind c.args.at.now.count c.args.above.now c.args.own.now c.filter_places.new.to _ refl
     (c.filter_places.new.work.found.limit, h.its_limit, (let falls = h.lowers.falls in let within = (c.requires.ready c.requires.plan).within in omega (arith, falls, within))))
     c.filter_places.ensures.filtered
+
+pub returns-clause-plain : goal.returns-clause-plain
+returns-clause-plain g c = λ loop.
+    let p = c.requires.plan in
+    let s = p.steps.each c.args.next.step (step.Filter c.args.next.parent c.args.next.filter.site c.args.next.filter.under) c.requires.step in
+    c.filter_places.ensures.plain loop.used loop.sites
+    (site_used (job_of c.args.at.now.job.now) c.requires.job.job (longer s.up c.args.next.filter.site c.args.next.filter.under) s.up.sites c.args.next.filter.site refl loop (p.tried c.args.next.step _ s.own))
