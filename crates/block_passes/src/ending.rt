@@ -1,10 +1,11 @@
 // The end of a block: what its search comes to, and what the tally takes in of it.
-ghost use Rattle.std.specs.Prelude.{◌≡◌, ◌<◌, ◌≤◌, ◌+◌, ℕ, All, List, OnErr, OnOk, None, length};
+ghost use Rattle.std.specs.Prelude.{◌≡◌, ◌≢◌, ◌<◌, ◌≤◌, ◌+◌, ℕ, All, Err, List, OnErr, OnOk, None, length};
 ghost use Rattle.rdf_model.specs.LoopFacts.{kinds_in};
 ghost use Rattle.expr_lanes.specs.declared.TheConstants.{MAX_PLACES};
 ghost use Rattle.block_lanes.specs.Lanes.{AreUnknown, kinds_of, rooms_of};
 ghost use Rattle.cluster_tally.specs.Stages.{Stage};
 ghost use Rattle.cluster_tally.specs.Tallies.{Holds};
+ghost use Rattle.entry_cache.specs.Caches.{IsPlainLoop};
 ghost use Rattle.entry_cache.specs.Jobs.{Fits, job_graph, job_of, passes_in};
 ghost use Rattle.entry_cache.specs.Keys.{AreKeys};
 ghost use Rattle.entry_passes.specs.Entries.{IsNoTake, facts_in};
@@ -77,6 +78,7 @@ pub(crate) fn try_begun<L: Ledger>(
     ensures scratch { length work.new.scratch.items ≡ length work.old.scratch.items }
     ensures levels { length work.new.levels.items ≡ length work.old.levels.items }
     ensures kept { length kept.new ≡ length kept.old }
+    ensures plain { IsPlainLoop (job_of at.now.job.now) → All IsNoTake (kinds_in (passes_in (job_of at.now.job.now))) → result ≢ Err BlockStop.Memory }
 {
     match try_passes(at, work, kept, steps) {
         Ok(()) => {}

@@ -48,3 +48,9 @@ returns-in-Err-take_in-clause-tried g c =
     let j = job_of c.args.at.now.job.now in
     tried_stopped j c.args.at.now.first c.args.at.now.count c.args.cluster c.args.tally.now c.take_in.new.tally c.args.steps.now c.try_passes.new.steps
     (spent_few j c.args.at.now.first c.args.at.now.count c.args.work.now.lanes.items c.try_passes.new.work.lanes.items c.args.steps.now c.try_passes.new.steps c.requires.within c.requires.unknown c.try_passes.ensures.spends) stop.Memory tt
+
+pub returns-in-Err-clause-plain : goal.returns-in-Err-clause-plain
+returns-in-Err-clause-plain g c = λ plain none e. c.in-Err.ensures.plain plain
+
+pub returns-in-Err-take_in-clause-plain : goal.returns-in-Err-take_in-clause-plain
+returns-in-Err-take_in-clause-plain g c = λ plain none e. c.in-Err-take_in.ensures.memory none
