@@ -29,3 +29,4 @@ pub mod Remaking
 pub mod PlanMade
 pub mod BegunFew
 pub mod ClearBlocks
+pub mod FirstLengths
