@@ -27,3 +27,6 @@ pub mod TriedFilters
 pub mod SearchedPasses
 pub mod Remaking
 pub mod PlanMade
+pub mod BegunFew
+pub mod ClearBlocks
+pub mod FirstLengths

@@ -4,6 +4,8 @@
 #![tactic(auto)]
 
 mod action;
+mod block_ends;
+mod ending;
 mod feed;
 pub mod found;
 mod inputs;
