@@ -104,12 +104,7 @@ pub fn join_parts(
 {
     let first = first.into_fields();
     let second = second.into_fields();
-    let all = joined_loops(
-        alloc,
-        loops,
-        first.loops,
-        second.loops.as_slice(),
-    )?;
+    let all = joined_loops(alloc, loops, first.loops, second.loops.as_slice())?;
     Ok(Part::new(PartFields {
         first_file: first.first_file,
         end_file: second.end_file,
