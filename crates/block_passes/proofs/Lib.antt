@@ -27,3 +27,8 @@ pub mod TriedFilters
 pub mod SearchedPasses
 pub mod Remaking
 pub mod PlanMade
+pub mod BegunBlocks
+pub mod DeepSites
+pub mod FilterKinds
+pub mod KeyKinds
+pub mod LoadedColumns
