@@ -36,3 +36,4 @@ pub mod KeyKinds
 pub mod LoadedColumns
 pub mod StateStays
 pub mod BlockTurns
+pub mod FirstLengths

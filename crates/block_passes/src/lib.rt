@@ -6,6 +6,7 @@
 mod action;
 mod cluster;
 mod depths;
+mod block_ends;
 mod ending;
 mod feed;
 pub mod found;
