@@ -32,3 +32,4 @@ pub mod DeepSites
 pub mod FilterKinds
 pub mod KeyKinds
 pub mod LoadedColumns
+pub mod ReadInputs

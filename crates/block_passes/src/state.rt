@@ -37,15 +37,15 @@ impl Model for BlockState {
     ghost Value = { StateView };
 
     ghost view = { λ s. record {
-        size = s.size;
-        plan = s.plan;
-        rows = s.rows;
-        cells = s.cells.items;
-        lanes = s.work.lanes.items;
-        scratch = length s.work.scratch.items;
-        levels = length s.work.levels.items;
-        found = s.work.found;
-        kept = s.kept.items;
+      size = s.size;
+      plan = s.plan;
+      rows = s.rows;
+      cells = s.cells.items;
+      lanes = s.work.lanes.items;
+      scratch = length s.work.scratch.items;
+      levels = length s.work.levels.items;
+      found = s.work.found;
+      kept = s.kept.items;
     } };
 }
 
