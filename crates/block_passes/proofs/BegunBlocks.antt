@@ -1,16 +1,16 @@
 -- A block that begins with what a slot reserves.
-use Rattle.std.proofs.Common.{◌≡◌, ℕ, zero, suc, ◌+◌, ◌<◌, ◌≤◌, ℤ, Bool, true, false, List, [], ◌∷◌, length, map, All, get_or, Option, Some, None, refl, sym, ◌∙◌, ap, subst, arith, slice_get, if◌then◌else◌}
+use Rattle.std.proofs.Common.{◌≡◌, ℕ, zero, suc, ◌+◌, ◌<◌, ◌≤◌, ℤ, true, false, List, [], ◌∷◌, length, All, get_or, Option, Some, None, refl, sym, ◌∙◌, ap, subst, arith, slice_get, if◌then◌else◌}
 use Rattle.std.proofs.lemmas.List.{length-map}
 use Rattle.std.proofs.lemmas.List.Elements.{All-weaker}
 use Rattle.std.proofs.lemmas.Option.{get_or_from_slice_get, slice_get_within}
 use Rattle.rdf_values.specs.EachColumn.{EachColumn}
 use Rattle.rdf_values.specs.Path.{history}
-use Rattle.rdf_values.specs.Tables.{kind_at}
 use Rattle.rdf_values.specs.declared.value.ColType.{ColType}
-use Rattle.rdf_values.specs.declared.value.ColType.TheVariants as kind
 use Rattle.rdf_model.proofs.KnownColumns.{each_weaker}
-use Rattle.block_lanes.specs.Lanes.{AreUnknown, HaveRoom, IsUnknown, LaneView, is_held, is_tried, kinds_of, room_of, rooms_of, value_of}
-use Rattle.graph_numbers.specs.Graphs.{graph_sites, graph_under}
+use Rattle.block_lanes.specs.Lanes.{AreUnknown, HaveRoom, IsUnknown, LaneView, is_tried, kinds_of, room_of, rooms_of, value_of}
+use Rattle.block_lanes.specs.Sizes.{size_for}
+use Rattle.expr_lanes.specs.declared.TheConstants.{MAX_PLACES}
+use Rattle.graph_numbers.specs.Graphs.{GraphView, graph_sites, graph_under}
 use Rattle.graph_numbers.specs.Sites.{SiteAt}
 use Rattle.graph_numbers.specs.Sources.{IsBelow}
 use Rattle.graph_numbers.specs.Versions.{version_count}
@@ -18,19 +18,19 @@ use Rattle.graph_numbers.specs.declared.source.Source.{Source}
 use Rattle.graph_numbers.specs.declared.source.Source.TheVariants as from
 use Rattle.graph_numbers.proofs.Equations.{columns_below}
 use Rattle.entry_cache.specs.Jobs.{IsJob, JobView, job_graph}
-use Rattle.entry_cache.specs.Keys.{key, key_count}
+use Rattle.entry_cache.specs.Keys.{AreKeys, key, key_count}
 use Rattle.entry_cache.specs.Store.{IsRight, site_in, source_at}
 use Rattle.entry_cache.specs.declared.held.Held.{Held}
 use Rattle.entry_cache.specs.declared.held.Held.TheVariants as held
 use Rattle.entry_cache.proofs.EvaluateLaws.{accepted_of}
-use Rattle.block_cache.specs.Blocks.{AreReady, held_at, held_value}
-use Rattle.block_cache.specs.Fills.{CanFill, IsLoaded, begun_at, lane_begun}
+use Rattle.block_cache.specs.Blocks.{AreReady, held_value}
+use Rattle.block_cache.specs.Fills.{CanFill, IsLoaded, holds_at, lane_begun}
 use Rattle.block_cache.proofs.BlockLaws.{held_of_lane, lane_held}
 use Rattle.block_cache.proofs.CanFills.{can_fill_site}
 use Rattle.block_passes.specs.Plans.{IsPlan}
 use Rattle.block_passes.specs.Selections.{CanSelect, IsReadyBelow}
 use Rattle.block_passes.specs.Spends.{IsSettledAt}
-use Rattle.block_passes.specs.States.{AreLoaded, HaveCells, IsBegunBlock, IsStateOf, StateView}
+use Rattle.block_passes.specs.States.{AreDeepEnough, AreLoaded, HaveCells, HaveKinds, IsBegunBlock, IsStateOf, StateView}
 use Rattle.block_passes.specs.Steps.{IsFilterStep, longer}
 use Rattle.block_passes.specs.declared.found.Found.{Found}
 use Rattle.block_passes.specs.declared.kept.Kept.{Kept}
@@ -71,7 +71,7 @@ module _ (count : ℕ) (lanes : List LaneView) (unknown : AreUnknown count lanes
   none_begun : (p : ℕ) → IsSettledAt lanes p
   none_begun p k begun = go (slice_get lanes k) refl begun
     where
-      go : (o : Option LaneView) → slice_get lanes k ≡ o → lane_begun o p ≡ true → _
+      go : (o : Option LaneView) → slice_get lanes k ≡ o → lane_begun o p ≡ true → holds_at lanes k p ≡ true
       go None q b = cc b
       go (Some l) q b = let u = all_get (IsUnknown count) lanes unknown k l q in let n : is_tried l p ≡ false = u.tried p in absurd (cc (sym n ∙ b))
 
@@ -112,12 +112,32 @@ module _ (j : JobView) (s : StateView) (state : IsStateOf j s) (cells : List (Li
     cells = many_cells ∙ state.cells;
     cell_room = cell_room;
     lanes = same_many s.lanes lanes kinds ∙ state.lanes;
-    kinds = subst (λ (ks : List ColType). _) (sym kinds) state.kinds;
+    kinds = subst (λ (ks : List ColType). HaveKinds (job_graph j) (length (graph_sites (job_graph j))) ks) (sym kinds) state.kinds;
     lane_room = all_rooms s.size s.lanes lanes rooms state.lane_room;
     scratch = state.scratch;
     levels = state.levels;
     kept = many_kept ∙ state.kept;
   }
+
+-- all that is made for the graph of a job
+pub state_new : (j : JobView) (g : GraphView) → g ≡ job_graph j → (s : StateView) (keys : ℕ) → AreKeys g s.rows × (keys ≡ key_count g) → s.size ≡ size_for keys → 1 ≤ s.size → s.size ≤ MAX_PLACES → IsPlan j s.plan
+    → length s.cells ≡ length j.dataset.columns → HaveCells s.size s.cells → (kinds : List ColType) → length kinds ≡ key_count g → HaveKinds g (length (graph_sites g)) kinds → kinds_of s.lanes ≡ kinds → HaveRoom s.size s.lanes
+    → AreDeepEnough g s.scratch → s.levels ≡ length (graph_sites g) → length s.kept ≡ length s.plan.steps → IsStateOf j s
+state_new j g is s keys rows size least most plan cells cell_room kinds many have lanes room scratch levels kept = record {
+  size = size ∙ ap size_for (rows.1 ∙ ap key_count is);
+  least = least;
+  most = most;
+  plan = plan;
+  rows = subst (λ (v : GraphView). AreKeys v s.rows) is rows.0;
+  cells = cells;
+  cell_room = cell_room;
+  lanes = sym (length-map s.lanes (λ (l : LaneView). l.kind)) ∙ ap length lanes ∙ many ∙ ap key_count is;
+  kinds = subst (λ (v : GraphView). HaveKinds v (length (graph_sites v)) (kinds_of s.lanes)) is (subst (λ (ks : List ColType). HaveKinds g (length (graph_sites g)) ks) (sym lanes) have);
+  lane_room = room;
+  scratch = subst (λ (v : GraphView). AreDeepEnough v s.scratch) is scratch;
+  levels = levels ∙ ap (λ (v : GraphView). length (graph_sites v)) is;
+  kept = kept;
+}
 
 module _ (j : JobView) (job : IsJob j) (first count : ℕ) (s : StateView) (state : IsStateOf j s) (some : 0 < count) (within : first + count ≤ length j.dataset.rows) (unknown : AreUnknown count s.lanes)
     (unmade : All (λ (k : Kept). k.limit ≡ None) s.kept) (loaded : AreLoaded j first count s.cells) where

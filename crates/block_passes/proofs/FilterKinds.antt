@@ -11,7 +11,6 @@ use Rattle.rdf_values.specs.Numbered.{callee, renamed}
 use Rattle.rdf_values.specs.Bookings.{ActionAt, ReportOn, columns_of, covered}
 use Rattle.rdf_values.specs.Functions.{fn_names}
 use Rattle.rdf_values.specs.Path.{history, makes, parent_of, path}
-use Rattle.rdf_values.specs.Tree.{NumTree}
 use Rattle.rdf_values.specs.Verdict.{AreAccepted, check_node, expect_kind, scope_at}
 use Rattle.rdf_values.specs.declared.column.Column.{Column}
 use Rattle.rdf_values.specs.declared.graph_cause.GraphCause.{GraphCause}
@@ -44,7 +43,7 @@ use Rattle.block_passes.proofs.StepLaws.{same_step}
 
 -- ---- the kinds of versions, as an expression lists them
 
-known : Option ColType → Result ColType GraphCause
+abbrev known : Option ColType → Result ColType GraphCause
 known None = Err cause.UnknownColumn
 known (Some k) = Ok k
 
@@ -96,7 +95,7 @@ module _ (header : List Column) (names : FunctionNames) where
         where
           go : (r : Result ColType GraphCause) → column_kind (scope_at names (scope_of header) p.earlier p.parent) c ≡ r → IsOk r → r ≡ version (version_at header p.earlier p.parent c)
           go (Ok t) q h = sym (ap known (kind_later header names p.earlier before p.extends _ t (visible_kind header names p.earlier p.accepted p.parent c t q)))
-          go (Err w) q h = absurd h
+          go (Err w) q h = cc h
 
       each : (cs : List (List ℕ)) → AllByRecursion (λ c. IsOk (column_kind (scope_at names (scope_of header) p.earlier p.parent) c)) cs
           → AllByRecursion (λ c. column_kind (scope_at names (scope_of header) p.earlier p.parent) c ≡ version (version_at header p.earlier p.parent c)) cs

@@ -1,13 +1,16 @@
 -- The kinds of keys, site by site.
-use Rattle.std.proofs.Common.{◌≡◌, ◌⊎◌, inl, inr, ℕ, zero, suc, ◌+◌, ◌<◌, ◌≤◌, List, [], ◌∷◌, ◌++◌, map, length, length-append, replicate, Option, Some, None, Result, Ok, refl, sym, ◌∙◌, ap, subst, arith, option_map, slice_get}
+use Rattle.std.proofs.Common.{◌≡◌, ◌⊎◌, inl, inr, ℕ, zero, suc, ◌+◌, ◌<◌, ◌≤◌, false, List, [], ◌∷◌, ◌++◌, map, length, length-append, replicate, Option, Some, None, Result, Ok, refl, sym, ◌∙◌, ap, subst, arith, option_map, slice_get}
+use Rattle.std.specs.Prelude.{count_by}
 use Rattle.std.specs.List.{AllByRecursion}
 use Rattle.std.proofs.lemmas.Bool.{cases_eq}
 use Rattle.std.proofs.lemmas.List.{length-replicate}
 use Rattle.std.proofs.lemmas.List.Elements.{recursion_from_All}
 use Rattle.std.proofs.lemmas.Option.{slice_get_within}
+use Rattle.rdf_values.specs.Depends.{columns_in}
+use Rattle.rdf_values.specs.Tree.{NumTree}
 use Rattle.rdf_values.specs.declared.graph_cause.GraphCause.{GraphCause}
 use Rattle.rdf_values.specs.declared.value.ColType.{ColType}
-use Rattle.expr_check.specs.NumKinds.{CheckedExpr, num_kind}
+use Rattle.expr_check.specs.NumKinds.{CheckedExpr, distinct, num_kind}
 use Rattle.variation_sets.specs.Sets.{has, members_below}
 use Rattle.variation_sets.specs.declared.var_set.VarSet.{VarSet}
 use Rattle.graph_numbers.specs.Graphs.{GraphView, IsSiteExpr, graph_kinds, graph_sites, graph_variations, holds_at, site_depends_at}
@@ -49,7 +52,7 @@ one_kind g s e d its other = same (sym its.typed.typed ∙ (λ i. num_kind (pair
 
     pairs : e.kinds ≡ d.kinds
     pairs =
-        same_pairs (graph_kinds g) e.kinds d.kinds (its.typed.columns ∙ ap (λ t. _) trees ∙ sym other.typed.columns)
+        same_pairs (graph_kinds g) e.kinds d.kinds (its.typed.columns ∙ ap (λ (t : NumTree). distinct (columns_in t)) trees ∙ sym other.typed.columns)
         (recursion_from_All (HasKind (graph_kinds g)) e.kinds its.kinds) (recursion_from_All (HasKind (graph_kinds g)) d.kinds other.kinds)
 
 -- ---- keys of one more site
@@ -65,14 +68,17 @@ no_kinds g kinds t w low = absurd (omega (arith, low))
 module _ (g : GraphView) (site : ℕ) (inside : site < length (graph_sites g)) (depends : VarSet) (its : (v : ℕ) → has depends v ≡ site_depends_at g site v) (count : ℕ) (members : count ≡ members_below depends 128)
     (above : (v : ℕ) → 128 ≤ v → has depends v ≡ false) (e : CheckedExpr) (expr : IsSiteExpr g site e) (kinds : List ColType) (many : length kinds ≡ keys_before (graph_variations g) (graph_sites g) site)
     (more : List ColType) (are : more ≡ kinds ++ replicate (1 + count) e.kind) where
-  x : SiteAt
+  abbrev x : SiteAt
   x = (there (graph_sites g) site inside).0
 
   at : slice_get (graph_sites g) site ≡ Some x
   at = (there (graph_sites g) site inside).1
 
   own_count : 1 + count ≡ own_keys (graph_variations g) x
-  own_count = ap suc (members ∙ members_all (depends_on x) (graph_variations g) depends (λ v. its v ∙ ap (holds_at (λ y. holds_at (depends_on y) (slice_get (graph_variations g) v))) at) above)
+  own_count =
+      let e : count ≡ count_by (depends_on x) (graph_variations g) = members ∙ members_all (depends_on x) (graph_variations g) depends (λ v. its v ∙ ap (holds_at (λ y. holds_at (depends_on y) (slice_get (graph_variations g) v))) at) above in
+      let own : own_keys (graph_variations g) x ≡ suc (count_by (depends_on x) (graph_variations g)) = refl in
+      omega (arith, e, own)
 
   pub more_many : length more ≡ keys_before (graph_variations g) (graph_sites g) (site + 1)
   more_many =

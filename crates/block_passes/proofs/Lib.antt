@@ -37,3 +37,4 @@ pub mod LoadedColumns
 pub mod StateStays
 pub mod BlockTurns
 pub mod FirstLengths
+pub mod ReadInputs

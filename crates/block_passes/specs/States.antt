@@ -16,7 +16,6 @@ use Rattle.entry_cache.specs.declared.rows.Row.{Row}
 use Rattle.block_cache.specs.Blocks.{HasColumn}
 use Rattle.block_passes.specs.Plans.{IsPlan, PlanView}
 use Rattle.block_passes.specs.Selections.{CanSelect, IsReadyBelow}
-use Rattle.block_passes.specs.Tries.{CanServeAll}
 use Rattle.block_passes.specs.declared.found.Found.{Found}
 use Rattle.block_passes.specs.declared.kept.Kept.{Kept}
 
@@ -74,4 +73,3 @@ pub record IsBegunBlock (j : JobView) (first count : ℕ) (s : StateView) : Type
   pub ready : (p : IsPlan j s.plan) → IsReadyBelow j first count p.chains count s.lanes s.kept
   pub loaded : AreLoaded j first count s.cells
   pub select : CanSelect j first count s.plan (kinds_of s.lanes) s.cells s.scratch s.levels
-  pub serve : CanServeAll j first count (kinds_of s.lanes) s.cells s.scratch s.levels

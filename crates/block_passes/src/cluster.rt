@@ -1,5 +1,5 @@
 // The blocks of a cluster, one after the other.
-ghost use Rattle.std.specs.Prelude.{◌≡◌, ◌≢◌, ◌<◌, ◌≤◌, ◌+◌, ◌*◌, ◌-◌, ℕ, All, Err, List, OnOk, length, min};
+ghost use Rattle.std.specs.Prelude.{◌≡◌, ◌≢◌, ◌<◌, ◌≤◌, ◌+◌, ◌*◌, ◌-◌, ℕ, All, Err, List, OnOk, length};
 ghost use Rattle.rdf_model.specs.LoopFacts.{kinds_in};
 ghost use Rattle.cluster_tally.specs.Stages.{Stage, at_begin};
 ghost use Rattle.cluster_tally.specs.Tallies.{Holds};
@@ -8,8 +8,10 @@ ghost use Rattle.entry_cache.specs.Jobs.{Fits, job_of, passes_in};
 ghost use Rattle.entry_passes.specs.Entries.{IsNoTake, facts_in, job_spans};
 ghost use Rattle.block_passes.specs.Blocks.{IsBefore, IsBlockTried};
 ghost use Rattle.block_passes.specs.Clusters.{IsClusterAnswer, at_end, span_demands};
+ghost use Rattle.block_passes.specs.Served.{CanServeBlocks};
 ghost use Rattle.block_passes.specs.States.{IsStateOf};
 
+use crate::block_ends::block_end;
 use crate::ending::try_begun;
 use crate::state::BlockState;
 use crate::stop::BlockStop;
@@ -32,6 +34,7 @@ impl BlockState {
     ) -> Result<(), BlockStop>
         requires job { Fits job.now }
         requires cuts { job.now.cuts.now ≡ job.now.columns.now.cuts }
+        requires serve { CanServeBlocks (job_of job.now) }
         requires state { IsStateOf (job_of job.now) self.old }
         requires small { entries.hi - entries.lo ≤ self.old.size }
         requires before { (watched : List ℕ) × (s : Stage) × IsBefore (job_of job.now) watched s cluster entries tally.old }
@@ -53,24 +56,26 @@ impl BlockState {
         try_begun(&turn, &mut self.work, &mut self.kept, tally, cluster, steps)
     }
 
-    // How many entries the next block has, where so many are left.
-    fn next_count(&self, left: u32) -> u32
-        ensures { result ≡ min self.now.size left }
+    // How many entries a block has at most.
+    fn size(&self) -> u32
+        ensures { result ≡ self.now.size }
     {
-        self.size.min(left)
+        self.size
     }
 
-    /// Takes the blocks of a cluster into the tally, in order, up to the first in which a pass faults. Each has as many entries as any, or
-    /// all that are left.
+    /// Takes the blocks of a cluster into the tally, in order, up to the first in which a pass faults, in a loop with so many keys of
+    /// vectors.
     pub fn try_cluster<L: Ledger>(
         &mut self,
         job: &Job<'_>,
         cluster: u32,
+        keys: u32,
         tally: &mut Tally,
         steps: &mut Steps<L>,
     ) -> Result<(), BlockStop>
         requires job { Fits job.now }
         requires cuts { job.now.cuts.now ≡ job.now.columns.now.cuts }
+        requires serve { CanServeBlocks (job_of job.now) }
         requires state { IsStateOf (job_of job.now) self.old }
         requires cluster { cluster < length (job_spans (job_of job.now)) }
         requires begin { (watched : List ℕ) × (done : List ℕ) × Holds (facts_in (job_of job.now)) watched (at_begin done cluster) tally.old }
@@ -78,13 +83,14 @@ impl BlockState {
         ensures holds { (watched done : List ℕ) → Holds (facts_in (job_of job.now)) watched (at_begin done cluster) tally.old
             → OnOk result (Holds (facts_in (job_of job.now)) watched (at_end (facts_in (job_of job.now)) done cluster) tally.new) }
         ensures state { IsStateOf (job_of job.now) self.new }
-        ensures bound { steps.new ≤ steps.old + 2 * span_demands (job_of job.now) self.old.size 0 cluster }
+        ensures bound { steps.new ≤ steps.old + 2 * span_demands (job_of job.now) self.old.size keys cluster }
         ensures plain { IsPlainLoop (job_of job.now) → All IsNoTake (kinds_in (passes_in (job_of job.now))) → result ≢ Err BlockStop.Memory }
     {
         let span = job.cuts.range(cluster);
         let mut lo = span.lo;
         while lo < span.hi {
-            let hi = lo + self.next_count(span.hi - lo);
+            let left = Span { lo, hi: span.hi };
+            let hi = block_end(job.columns, left, self.size(), keys);
             match self.try_block(job, cluster, Span { lo, hi }, tally, steps) {
                 Ok(()) => lo = hi,
                 Err(stop) => return Err(stop),

@@ -4,9 +4,9 @@
 #![tactic(auto)]
 
 mod action;
+mod block_ends;
 mod cluster;
 mod depths;
-mod block_ends;
 mod ending;
 mod feed;
 pub mod found;

@@ -6,7 +6,7 @@ use Rattle.block_passes.proofs.state.BlockState.try_cluster.Given as goal
 
 abbrev pub invariant-loop-lo : goal.invariant-loop-lo
 invariant-loop-lo g l = record {
-  at : IsAtBlock (job_of l.job) l.cluster l.fn.self.size 0 l.span l.fn.tally l.fn.steps l.lo l.tally l.steps;
+  at : IsAtBlock (job_of l.job) l.cluster l.fn.self.size l.keys l.span l.fn.tally l.fn.steps l.lo l.tally l.steps;
   state : IsStateOf (job_of l.job) l.self;
   size : l.self.size ≡ l.fn.self.size;
 }
