@@ -4,6 +4,8 @@
 #![tactic(auto)]
 
 mod action;
+mod copies;
+mod elements;
 mod feed;
 pub mod found;
 mod inputs;
