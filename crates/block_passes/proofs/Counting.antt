@@ -1,9 +1,8 @@
 -- The counts of named filters are sizes of selections.
-use Rattle.std.proofs.Common.{◌≡◌, ◌<◌, ◌≤◌, ◌+◌, ◌⊎◌, inl, inr, ℕ, Bool, true, false, List, [], ◌∷◌, ◌++◌, length, map, Option, Some, None, refl, sym, ◌∙◌, ap, subst, arith, get_or, slice_get}
+use Rattle.std.proofs.Common.{◌≡◌, ◌<◌, ◌+◌, ◌⊎◌, inl, inr, ℕ, true, false, List, [], ◌∷◌, ◌++◌, length, map, Option, Some, None, refl, sym, ◌∙◌, ap, subst, arith, get_or, slice_get}
 use Rattle.std.specs.List.{filter, range_with_len}
 use Rattle.std.proofs.lemmas.List.{length-map}
 use Rattle.std.proofs.lemmas.Option.{slice_get-get_or, slice_get_within}
-use Rattle.rdf_model.specs.Evaluation.{Outcome}
 use Rattle.rdf_model.specs.Results.{fault_in, is_true}
 use Rattle.rdf_values.specs.Bookings.{named_before}
 use Rattle.rdf_values.specs.Path.{history}
@@ -15,17 +14,17 @@ use Rattle.loop_pieces.proofs.Places.{range_length}
 use Rattle.graph_numbers.specs.Outcomes.{through_sites}
 use Rattle.graph_numbers.specs.Results.{FilterAt}
 use Rattle.filters_report.specs.declared.flow.Counts.{Counts}
-use Rattle.cluster_tally.specs.Blocks.{BlockStage, CanNoteCounts, HoldsIn, IsWithin, block_reaches, filter_done}
+use Rattle.cluster_tally.specs.Blocks.{BlockStage, CanNoteCounts, HoldsIn, IsWithin, block_reaches}
 use Rattle.cluster_tally.specs.Stages.{counted}
 use Rattle.cluster_tally.specs.Tallies.{TallyView}
 use Rattle.entry_cache.specs.Jobs.{IsJob, JobView, job_graph, passes_in}
 use Rattle.entry_cache.specs.Store.{site_in}
 use Rattle.entry_cache.proofs.FillLaws.{there}
-use Rattle.entry_passes.specs.Entries.{facts_in, job_spans}
+use Rattle.entry_passes.specs.Entries.{facts_in}
 use Rattle.entry_passes.specs.Plans.{covered_in}
-use Rattle.block_passes.specs.Counting.{AreCountable, IsAmid, IsOverAll, at_filter}
+use Rattle.block_passes.specs.Counting.{AreCountable, IsAmid, at_filter}
 use Rattle.block_passes.specs.Plans.{IsLast, IsNamed, IsPlan, IsPlannedFilter, PlanView, through_chain}
-use Rattle.block_passes.specs.Selections.{AreKept, IsMade, chosen}
+use Rattle.block_passes.specs.Selections.{AreKept, IsMade}
 use Rattle.block_passes.specs.Steps.{Chain}
 use Rattle.block_passes.specs.declared.kept.Kept.{Kept}
 use Rattle.block_passes.specs.declared.plan.NamedSteps.{NamedSteps}

@@ -1,5 +1,5 @@
 -- A block's batch is what its places feed to an action's pass.
-use Rattle.std.proofs.Common.{◌≡◌, ◌<◌, ◌≤◌, ◌+◌, ℕ, Bool, true, List, [], length, Option, Some, None, refl, sym, ◌∙◌, ap, subst, arith, get_or, slice_get}
+use Rattle.std.proofs.Common.{◌≡◌, ◌<◌, ◌+◌, ℕ, Bool, true, List, length, Option, Some, None, sym, ◌∙◌, ap, subst, arith, get_or, slice_get}
 use Rattle.std.specs.Prelude.{All, OnErr, Result, flat_map}
 use Rattle.std.specs.List.{filter, range_with_len}
 use Rattle.std.proofs.lemmas.List.FromFn.{length-range_with_len}
@@ -7,34 +7,29 @@ use Rattle.std.proofs.lemmas.Option.{slice_get-get_or, slice_get_within}
 use Rattle.rdf_values.specs.Spread.{feed_fault, spread}
 use Rattle.rdf_values.specs.declared.action.ActionKind.{ActionKind}
 use Rattle.rdf_values.specs.declared.memory.Memory.{Memory}
-use Rattle.rdf_values.specs.declared.value.Value.{Value}
 use Rattle.rdf_model.specs.Evaluation.{Gives, for_all}
 use Rattle.rdf_model.specs.Results.{is_true}
 use Rattle.actions.specs.Batches.{HasValues, SuitsAt, batch_items, places_of, values_at}
 use Rattle.actions.specs.Holding.{IsTake}
 use Rattle.actions.specs.declared.batch.Batch.{Batch}
-use Rattle.actions.specs.declared.batch.Sources.{Sources}
 use Rattle.expr_lanes.specs.Places.{EachPlace, is_in}
 use Rattle.graph_numbers.specs.Outcomes.{through_sites}
-use Rattle.graph_numbers.specs.Results.{ResultAt}
-use Rattle.graph_numbers.specs.declared.pass.Pass.{Pass as NumberedPass}
 use Rattle.block_lanes.specs.Lanes.{LaneView}
 use Rattle.cluster_tally.specs.Blocks.{BlockStage, CanFeedBatch, HoldsIn, block_items}
 use Rattle.cluster_tally.specs.Tallies.{TallyView}
 use Rattle.entry_cache.specs.Jobs.{IsJob, JobView}
 use Rattle.entry_cache.specs.Store.{site_in, version_in}
-use Rattle.entry_passes.specs.Entries.{facts_in, job_spans}
+use Rattle.entry_passes.specs.Entries.{facts_in}
 use Rattle.entry_passes.specs.Turns.{actions_before}
 use Rattle.block_cache.proofs.Members.{filter_short}
-use Rattle.block_passes.specs.Counting.{IsAmid, IsOverAll}
-use Rattle.block_passes.specs.Fed.{IsFeedable, IsFeedableAt}
+use Rattle.block_passes.specs.Counting.{IsAmid}
+use Rattle.block_passes.specs.Fed.{IsFeedable}
 use Rattle.block_passes.specs.Feeds.{AreLanesOf}
 use Rattle.block_passes.specs.Inputs.{AreAtHand}
 use Rattle.block_passes.specs.Parts.{feeding_fault}
-use Rattle.block_passes.specs.Plans.{IsActionOf, IsLast, IsPlan, PlanView}
+use Rattle.block_passes.specs.Plans.{IsLast, IsPlan, PlanView}
 use Rattle.block_passes.specs.Selections.{AreKept}
 use Rattle.block_passes.specs.Tries.{IsReadOf}
-use Rattle.block_passes.specs.Steps.{Chain}
 use Rattle.block_passes.specs.declared.kept.Kept.{Kept}
 use Rattle.block_passes.proofs.Counting.{block_within, its_places}
 use Rattle.block_passes.proofs.FaultsOver.{chosen_below, in_chosen}
@@ -60,10 +55,24 @@ module _ (j : JobView) (job : IsJob j) (first count : ℕ) (pass : ℕ) (k : Act
       pub last_there : last < length kept
       last_there = let low = slice_get_within p.chains last last_led.chain last_led.its in let many = are.many in omega (arith, low, many)
 
+      -- ---- what is fed
+
+      module _ (lanes : List LaneView) (feedable : IsFeedable j first count lanes kept last k inputs u) (d : Kept) where
+        got : slice_get kept last ≡ Some (get_or kept last d)
+        got = slice_get-get_or kept last d last_there
+
+        pub fed_low : (s : BlockStage) → IsAmid j first count s → EachPlace (get_or kept last d).places (λ q. q < count)
+        fed_low s amid q i =
+            let is = its_places j first count s amid u p.chains kept are own.result.filters last last_led (get_or kept last d) got (feedable.over_all (get_or kept last d) got) in
+            subst (λ (n : ℕ). q < n) amid.block (chosen_below (λ x. is_true (through_sites (site_in j (amid.lo + s.entries + x) u) own.result.filters)) q s.block (subst (λ (l : List ℕ). is_in q l ≡ true) is i))
+
+        pub fed_hand : EachPlace (get_or kept last d).places (AreAtHand j lanes u inputs)
+        fed_hand q i = (feedable.each (get_or kept last d) got q i).hand
+
       -- ---- a batch
 
       module _ (lanes : List LaneView) (feedable : IsFeedable j first count lanes kept last k inputs u) (d : Kept) (batch : Batch) (places : places_of batch.places ≡ (get_or kept last d).places)
-          (gathered : (q : ℕ) → q < count → AreAtHand j lanes u inputs q → AreLanesOf (for_all (version_in {M = ⊥} j (first + q) u) inputs) k batch.sources q) where
+          (gathered : (q : ℕ) → q < count → is_in q (get_or kept last d).places ≡ true → AreAtHand j lanes u inputs q → AreLanesOf (for_all (version_in {M = ⊥} j (first + q) u) inputs) k batch.sources q) where
         abbrev sel : Kept
         sel = get_or kept last d
 
@@ -85,7 +94,7 @@ module _ (j : JobView) (job : IsJob j) (first count : ℕ) (pass : ℕ) (k : Act
           chosen_low q i = subst (λ (n : ℕ). q < n) amid.block (chosen_below passes q s.block (subst (λ (l : List ℕ). is_in q l ≡ true) sel_is i))
 
           lanes_at : (q : ℕ) → is_in q sel.places ≡ true → AreLanesOf (for_all (version_in {M = ⊥} j (first + q) u) inputs) k batch.sources q
-          lanes_at q i = gathered q (chosen_low q i) (feedable.each sel sel_at q i).hand
+          lanes_at q i = gathered q (chosen_low q i) i (feedable.each sel sel_at q i).hand
 
           clear_at : (q : ℕ) → is_in q sel.places ≡ true → feed_fault k (values_at batch.sources q) ≡ None
           clear_at q i = ap (feeding_fault k) (sym (lanes_at q i).values) ∙ (feedable.each sel sel_at q i).clear

@@ -1,5 +1,5 @@
 -- All action passes of a block are fed, one after the other.
-use Rattle.std.proofs.Common.{◌≡◌, ◌<◌, ◌≤◌, ◌+◌, ℕ, List, [], length, Option, Some, refl, sym, ◌∙◌, ap, subst, arith, get_or, slice_get}
+use Rattle.std.proofs.Common.{◌≡◌, ◌<◌, ◌+◌, ℕ, List, [], length, Option, Some, sym, ◌∙◌, subst, get_or, slice_get}
 use Rattle.std.specs.Prelude.{All, MatchOption}
 use Rattle.std.proofs.lemmas.Option.{slice_get-get_or, slice_get_within}
 use Rattle.std.proofs.lemmas.List.Elements.{All-get_or}
@@ -7,7 +7,6 @@ use Rattle.rdf_values.specs.Bookings.{Pass}
 use Rattle.rdf_values.specs.declared.action.ActionKind.{ActionKind}
 use Rattle.rdf_values.specs.declared.action.ActionKind.TheVariants as kind
 use Rattle.rdf_model.specs.LoopFacts.{kinds_in}
-use Rattle.graph_numbers.specs.Results.{ResultAt}
 use Rattle.actions.specs.Holding.{IsTake}
 use Rattle.block_lanes.specs.Lanes.{LaneView}
 use Rattle.cluster_tally.specs.Blocks.{BlockStage, HoldsIn, pass_done}

@@ -1,6 +1,7 @@
 pub mod Blocks
 pub mod Clear
 pub mod Clusters
+pub mod Copying
 pub mod Counting
 pub mod Demands
 pub mod Fed

@@ -4,7 +4,9 @@
 #![tactic(auto)]
 
 mod action;
+mod copies;
 mod depths;
+mod elements;
 mod feed;
 pub mod found;
 mod inputs;

@@ -20,7 +20,8 @@ feed_action-requires-clause-feedable g c = λ last its.
     can_be_fed (job_of c.args.at.now.job.now) c.requires.job.job c.args.at.now.first c.args.at.now.count c.args.at.now.plan.now c.requires.plan c.args.lanes.now c.args.kept.now (c.requires.clear c.requires.plan) c.args.at.now.pass c.in-Some.read.kind.now c.in-Some.read.inputs.now c.in-Some.read.under c.in-Some.ensures.action last its
 
 pub returns-in_err-feed_action-clause-memory : goal.returns-in_err-feed_action-clause-memory
-returns-in_err-feed_action-clause-memory g c = λ none. absurd (takes_none (job_of c.args.at.now.job.now) c.args.at.now.pass c.in-Some.read.kind.now c.in-Some.read.inputs.now c.in-Some.read.under c.in-Some.ensures.action none c.in_err-feed_action.ensures.memory)
+returns-in_err-feed_action-clause-memory g c = λ whole none.
+    absurd (takes_none (job_of c.args.at.now.job.now) c.args.at.now.pass c.in-Some.read.kind.now c.in-Some.read.inputs.now c.in-Some.read.under c.in-Some.ensures.action none (c.in_err-feed_action.ensures.memory (whole c.args.at.now.pass c.in-Some.read.kind.now c.in-Some.read.inputs.now c.in-Some.read.under c.in-Some.ensures.action)))
 
 pub overflow_add-result : goal.overflow_add-result
 overflow_add-result g c = let f = actions_few c.args.at.now.pass (passes_in (job_of c.args.at.now.job.now)) in let p = c.requires.place in let s = c.requires.few in omega (arith, f, p, s)
