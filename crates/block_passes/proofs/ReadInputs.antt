@@ -19,8 +19,8 @@ inputs_readable j job n k inputs u read = subst (AreReadable j u) read.inputs_ar
   where
     sound : IsSoundAction j.dataset (graph_under (job_graph j) u) (history j.script) read.result k
     sound =
-      subst (λ (b : Booking). IsSoundBooking j.dataset (graph_under (job_graph j) u) (history j.script) read.result b) read.action.booking
-      (result_sound j.dataset (graph_under (job_graph j) u) (history j.script) (history j.script) (accepted_of j job) itself read.numbered.result read.result read.action.its_result)
+        subst (λ (b : Booking). IsSoundBooking j.dataset (graph_under (job_graph j) u) (history j.script) read.result b) read.action.booking
+        (result_sound j.dataset (graph_under (job_graph j) u) (history j.script) (history j.script) (accepted_of j job) itself read.numbered.result read.result read.action.its_result)
 
     readable : (cs : List ℕ) → AllByRecursion (IsGivenBelow j.dataset (graph_under (job_graph j) u) (history j.script)) cs → AreReadable j u cs
     readable [] h = tt
