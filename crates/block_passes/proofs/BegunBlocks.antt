@@ -3,6 +3,7 @@ use Rattle.std.proofs.Common.{◌≡◌, ℕ, zero, suc, ◌+◌, ◌<◌, ◌�
 use Rattle.std.proofs.lemmas.List.{length-map}
 use Rattle.std.proofs.lemmas.List.Elements.{All-weaker}
 use Rattle.std.proofs.lemmas.Option.{get_or_from_slice_get, slice_get_within}
+use Rattle.std.specs.List.{AllByRecursion}
 use Rattle.rdf_values.specs.EachColumn.{EachColumn}
 use Rattle.rdf_values.specs.Path.{history}
 use Rattle.rdf_values.specs.declared.value.ColType.{ColType}
@@ -19,6 +20,7 @@ use Rattle.graph_numbers.specs.declared.source.Source.TheVariants as from
 use Rattle.graph_numbers.proofs.Equations.{columns_below}
 use Rattle.entry_cache.specs.Jobs.{IsJob, JobView, job_graph}
 use Rattle.entry_cache.specs.Keys.{AreKeys, key, key_count}
+use Rattle.entry_cache.specs.Passes.{AreReadable}
 use Rattle.entry_cache.specs.Store.{IsRight, site_in, source_at}
 use Rattle.entry_cache.specs.declared.held.Held.{Held}
 use Rattle.entry_cache.specs.declared.held.Held.TheVariants as held
@@ -27,6 +29,7 @@ use Rattle.block_cache.specs.Blocks.{AreReady, held_value}
 use Rattle.block_cache.specs.Fills.{CanFill, IsLoaded, holds_at, lane_begun}
 use Rattle.block_cache.proofs.BlockLaws.{held_of_lane, lane_held}
 use Rattle.block_cache.proofs.CanFills.{can_fill_site}
+use Rattle.block_passes.specs.Inputs.{CanServe, IsServable}
 use Rattle.block_passes.specs.Plans.{IsPlan}
 use Rattle.block_passes.specs.Selections.{CanSelect, IsReadyBelow}
 use Rattle.block_passes.specs.Spends.{IsSettledAt}
@@ -36,6 +39,8 @@ use Rattle.block_passes.specs.declared.found.Found.{Found}
 use Rattle.block_passes.specs.declared.kept.Kept.{Kept}
 use Rattle.block_passes.specs.declared.steps.Step.TheVariants as step
 use Rattle.block_passes.proofs.FilterKinds.{filter_kind}
+use Rattle.block_passes.specs.Tries.{CanServeAll}
+use Rattle.block_passes.proofs.ReadInputs.{inputs_readable}
 use Rattle.block_passes.proofs.KeyKinds.{site_kinds}
 use Rattle.block_passes.proofs.SitesThere.{site_there}
 
@@ -186,5 +191,17 @@ module _ (j : JobView) (job : IsJob j) (first count : ℕ) (s : StateView) (stat
       inside : (k parent site : ℕ) (u : Option ℕ) → slice_get s.plan.steps k ≡ Some (step.Filter parent site u) → site < length (graph_sites (job_graph j))
       inside k parent site u at = let f = its_step k parent site u at in site_there j job (longer f.up site u) f.up.sites site refl (state.plan.tried k (longer f.up site u) f.own)
 
+  serve : CanServeAll j first count (kinds_of s.lanes) s.cells s.scratch s.levels
+  serve n k inputs u read = each inputs (inputs_readable j job n k inputs u read)
+    where
+      servable : (x : Source) → IsBelow (length j.dataset.columns) (length (graph_sites (job_graph j))) x → IsServable j first u count (kinds_of s.lanes) s.cells s.scratch s.levels x
+      servable (from.Cell col) below = (below, loaded col)
+      servable (from.Site t) below = (below, can_fill u t below)
+      servable (from.Element t i tags) below = (below, can_fill u t below)
+
+      each : (cs : List ℕ) → AreReadable j u cs → AllByRecursion (CanServe j first u count (kinds_of s.lanes) s.cells s.scratch s.levels) cs
+      each [] h = tt
+      each (c ∷ cs) h = ((h.0.0, servable (source_at j u c) h.0.1), each cs h.1)
+
   pub is_begun : s.found ≡ record { limit = count; best = None } → IsBegunBlock j first count s
-  is_begun found = record { found = found; unknown = unknown; unmade = unmade; ready = ready; loaded = loaded; select = select }
+  is_begun found = record { found = found; unknown = unknown; unmade = unmade; ready = ready; loaded = loaded; select = select; serve = serve }

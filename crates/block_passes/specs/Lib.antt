@@ -1,6 +1,7 @@
 pub mod Blocks
 pub mod Clear
 pub mod Clusters
+pub mod Copying
 pub mod Counting
 pub mod Demands
 pub mod Fed
@@ -11,7 +12,6 @@ pub mod Parts
 pub mod Plans
 pub mod Searches
 pub mod Selections
-pub mod Served
 pub mod Spends
 pub mod States
 pub mod Steps

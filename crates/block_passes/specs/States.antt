@@ -16,6 +16,7 @@ use Rattle.entry_cache.specs.declared.rows.Row.{Row}
 use Rattle.block_cache.specs.Blocks.{HasColumn}
 use Rattle.block_passes.specs.Plans.{IsPlan, PlanView}
 use Rattle.block_passes.specs.Selections.{CanSelect, IsReadyBelow}
+use Rattle.block_passes.specs.Tries.{CanServeAll}
 use Rattle.block_passes.specs.declared.found.Found.{Found}
 use Rattle.block_passes.specs.declared.kept.Kept.{Kept}
 
@@ -65,7 +66,8 @@ pub record IsStateOf (j : JobView) (s : StateView) : Type 0 where
 abbrev pub AreLoaded : JobView → ℕ → ℕ → List (List ℤ) → Type 0
 AreLoaded j first count cells = (col : ℕ) → kind_at j.dataset.columns col ≡ Some kind.Int → HasColumn j first count cells col
 
--- a block of so many entries was begun at an entry: nothing is known of it, no selection was made, and its filters can be tried
+-- a block of so many entries was begun at an entry: nothing is known of it, no selection was made, its filters can be tried, and all that
+-- the actions read can be served
 pub record IsBegunBlock (j : JobView) (first count : ℕ) (s : StateView) : Type 0 where
   pub found : s.found ≡ record { limit = count; best = None }
   pub unknown : AreUnknown count s.lanes
@@ -73,3 +75,4 @@ pub record IsBegunBlock (j : JobView) (first count : ℕ) (s : StateView) : Type
   pub ready : (p : IsPlan j s.plan) → IsReadyBelow j first count p.chains count s.lanes s.kept
   pub loaded : AreLoaded j first count s.cells
   pub select : CanSelect j first count s.plan (kinds_of s.lanes) s.cells s.scratch s.levels
+  pub serve : CanServeAll j first count (kinds_of s.lanes) s.cells s.scratch s.levels

@@ -8,7 +8,6 @@ ghost use Rattle.entry_cache.specs.Jobs.{Fits, job_of, passes_in};
 ghost use Rattle.entry_passes.specs.Entries.{IsNoTake, facts_in, job_spans};
 ghost use Rattle.block_passes.specs.Blocks.{IsBefore, IsBlockTried};
 ghost use Rattle.block_passes.specs.Clusters.{IsClusterAnswer, at_end, span_demands};
-ghost use Rattle.block_passes.specs.Served.{CanServeBlocks};
 ghost use Rattle.block_passes.specs.States.{IsStateOf};
 
 use crate::block_ends::block_end;
@@ -34,7 +33,6 @@ impl BlockState {
     ) -> Result<(), BlockStop>
         requires job { Fits job.now }
         requires cuts { job.now.cuts.now ≡ job.now.columns.now.cuts }
-        requires serve { CanServeBlocks (job_of job.now) }
         requires state { IsStateOf (job_of job.now) self.old }
         requires small { entries.hi - entries.lo ≤ self.old.size }
         requires before { (watched : List ℕ) × (s : Stage) × IsBefore (job_of job.now) watched s cluster entries tally.old }
@@ -75,7 +73,6 @@ impl BlockState {
     ) -> Result<(), BlockStop>
         requires job { Fits job.now }
         requires cuts { job.now.cuts.now ≡ job.now.columns.now.cuts }
-        requires serve { CanServeBlocks (job_of job.now) }
         requires state { IsStateOf (job_of job.now) self.old }
         requires cluster { cluster < length (job_spans (job_of job.now)) }
         requires begin { (watched : List ℕ) × (done : List ℕ) × Holds (facts_in (job_of job.now)) watched (at_begin done cluster) tally.old }

@@ -6,7 +6,9 @@
 mod action;
 mod block_ends;
 mod cluster;
+mod copies;
 mod depths;
+mod elements;
 mod ending;
 mod feed;
 pub mod found;

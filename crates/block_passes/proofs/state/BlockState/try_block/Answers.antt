@@ -17,7 +17,7 @@ use Rattle.block_passes.proofs.state.BlockState.try_block.Goals as goal
 pub try_begun-requires-clause-serve : goal.try_begun-requires-clause-serve
 try_begun-requires-clause-serve g c =
     subst (λ (cells : List (List ℤ)). CanServeAll (job_of c.args.job.now) c.args.entries.lo (c.args.entries.hi - c.args.entries.lo) (kinds_of c.self.inside.work.lanes.items) cells (length c.self.inside.work.scratch.items) (length c.self.inside.work.levels.items)) (sym c.deref.ensures.value)
-    (subst (λ (s : StateView). CanServeAll (job_of c.args.job.now) c.args.entries.lo (c.args.entries.hi - c.args.entries.lo) (kinds_of s.lanes) s.cells s.scratch s.levels) (sym c.self.view_is) (c.requires.serve c.args.entries.lo (c.args.entries.hi - c.args.entries.lo) c.begin.new.self c.begin.ensures.state c.begin.ensures.begun))
+    (subst (λ (s : StateView). CanServeAll (job_of c.args.job.now) c.args.entries.lo (c.args.entries.hi - c.args.entries.lo) (kinds_of s.lanes) s.cells s.scratch s.levels) (sym c.self.view_is) c.begin.ensures.begun.serve)
 
 pub try_begun-requires-clause-ready : goal.try_begun-requires-clause-ready
 try_begun-requires-clause-ready g c =
