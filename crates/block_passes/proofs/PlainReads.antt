@@ -124,9 +124,9 @@ module _ (j : JobView) (job : IsJob j) (first : ℕ) (within : first < length j.
   cell_int : (col : ℕ) (t : ColType) → is_vector t ≡ false → col < length j.dataset.columns → FitsOutcome t (source_value {M = ℕ} (row_of j first) (site_in j first u) (from.Cell col)) → kind_at j.dataset.columns col ≡ Some kind.Int
   cell_int col t scalar lt fit =
       let c = cell_there j.dataset.columns (row_of j first) col row_fits lt in
-      ap (option_map (λ (x : Column). x.kind)) c.2.0
-      ∙ ap Some (both_fit t c.0.kind c.1 (subst (λ (o : Option Value). FitsOutcome {M = ℕ} t (cell_value o)) c.2.1 fit) c.2.2 scalar
-      (λ b. not_stored j.dataset.columns j.dataset.columns refl job.table.columns col lt c.0 (stored_kind col c.0 c.2.0 ∙ b)))
+      ap (option_map (λ (x : Column). x.kind)) c.2
+      ∙ ap Some (both_fit t c.0.kind c.1 (subst (λ (o : Option Value). FitsOutcome {M = ℕ} t (cell_value o)) c.3 fit) c.4 scalar
+      (λ b. not_stored j.dataset.columns j.dataset.columns refl job.table.header.distinct col lt c.0 (stored_kind col c.0 c.2 ∙ b)))
     where
       stored_kind : (col : ℕ) (c : Column) → slice_get j.dataset.columns col ≡ Some c → (get_or j.dataset.columns col c).kind ≡ c.kind
       stored_kind col c q = ap (λ (x : Column). x.kind) (get_or_from_slice_get j.dataset.columns col c c q)

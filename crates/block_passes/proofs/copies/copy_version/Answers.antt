@@ -74,4 +74,4 @@ copy_tagged-requires-clause-vectors g c = λ e its.
 
 pub returns-in_err-copy_tagged-in-Element-clause-plain : goal.returns-in_err-copy_tagged-in-Element-clause-plain
 returns-in_err-copy_tagged-in-Element-clause-plain g c = λ used p source.
-    c.in_err-copy_tagged-in-Element.ensures.plain used p (subst (IsPlainSource (job_of c.args.at.now.job.now) used) (c.source_under-source.ensures ∙ c.in-Element.is) source)
+    absurd (c.in_err-copy_tagged-in-Element.ensures.plain used p (subst (IsPlainSource (job_of c.args.at.now.job.now) used) (c.source_under-source.ensures ∙ c.in-Element.is) source))

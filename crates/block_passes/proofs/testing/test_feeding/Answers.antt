@@ -18,3 +18,6 @@ returns-clause-tested g c =
     part_served (job_of c.args.at.now.job.now) c.args.at.now.first c.args.at.now.count (unfed (job_of c.args.at.now.job.now) c.args.at.now.first c.args.own.now.kind.now c.args.own.now.inputs.now c.args.own.now.under) c.args.at.now.pass c.args.to.now c.narrow-made.new.self c.args.work.now.lanes.items c.args.work.now.found c.note.new.self
     c.in_ok-fault.fault c.requires.ready c.requires.settled c.as_slice-rising.ensures.rising c.requires.inside c.in_ok-fault.ensures.fault c.note.ensures
     c.requires.made (c.narrow-made.ensures.some c.args.work.now.found.limit c.requires.made).1
+
+pub returns-in_err-fault-clause-plain : goal.returns-in_err-fault-clause-plain
+returns-in_err-fault-clause-plain g c = λ used p sources. absurd (c.in_err-fault.ensures.plain used p sources)
