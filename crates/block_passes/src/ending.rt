@@ -44,7 +44,7 @@ fn take_in(
     requires before { (watched : List ℕ) × (s : Stage) × IsBefore (job_of at.now.job.now) watched s cluster (entries_from at.now.first at.now.count) tally.old }
     ensures holds { (watched : List ℕ) (s : Stage) → IsBefore (job_of at.now.job.now) watched s cluster (entries_from at.now.first at.now.count) tally.old
         → OnOk result (Holds (facts_in (job_of at.now.job.now)) watched (after_block s (entries_from at.now.first at.now.count)) tally.new) }
-    ensures memory { All IsNoTake (kinds_in (passes_in (job_of at.now.job.now))) → OnErr result ⊥ }
+    ensures plain { IsPlainLoop (job_of at.now.job.now) → All IsNoTake (kinds_in (passes_in (job_of at.now.job.now))) → OnErr result ⊥ }
 {
     feed_passes(at, lanes, kept, tally, cluster)?;
     note_filters(at, kept, tally);

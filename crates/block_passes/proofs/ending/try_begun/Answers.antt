@@ -53,4 +53,4 @@ pub returns-in-Err-clause-plain : goal.returns-in-Err-clause-plain
 returns-in-Err-clause-plain g c = λ plain none e. c.in-Err.ensures.plain plain
 
 pub returns-in-Err-take_in-clause-plain : goal.returns-in-Err-take_in-clause-plain
-returns-in-Err-take_in-clause-plain g c = λ plain none e. c.in-Err-take_in.ensures.memory none
+returns-in-Err-take_in-clause-plain g c = λ plain none e. c.in-Err-take_in.ensures.plain plain none
