@@ -27,5 +27,6 @@ pub mod TriedAction
 pub mod FedPasses
 pub mod TriedFilters
 pub mod SearchedPasses
+pub mod ServedAll
 pub mod Remaking
 pub mod PlanMade
