@@ -1,30 +1,16 @@
 -- The site of an element is one of vectors.
-use Rattle.std.proofs.Common.{◌≡◌, ◌⊎◌, inl, inr, ℕ, zero, suc, ◌+◌, Bool, true, false, List, [], ◌∷◌, ◌++◌, map, length, All, Option, Some, None, Result, Ok, Err, refl, sym, ◌∙◌, ap, subst, append_assoc, arith, nat_eq, option_map, slice_get, if◌then◌else◌}
-use Rattle.std.specs.Prelude.{IsOk}
-use Rattle.std.specs.List.{AllByRecursion}
-use Rattle.std.proofs.lemmas.Bool.Decides.{Decides-eqb}
-use Rattle.std.proofs.lemmas.List.{append-nil}
-use Rattle.std.proofs.lemmas.List.Elements.{recursion_from_All}
-use Rattle.rdf_values.specs.Depends.{columns_in}
-use Rattle.rdf_values.specs.Kinds.{FunctionNames, column_kind, kind_by, kind_of, scope_of, shape_of}
-use Rattle.rdf_values.specs.Numbered.{callee, renamed}
-use Rattle.rdf_values.specs.Bookings.{ActionAt, ReportOn, columns_of, covered}
+use Rattle.std.proofs.Common.{◌≡◌, ◌⊎◌, inl, inr, ℕ, zero, suc, ◌+◌, List, [], ◌∷◌, length, Option, Some, None, refl, sym, ◌∙◌, ap, subst, arith, nat_eq, option_map, slice_get}
+use Rattle.rdf_values.specs.Kinds.{FunctionNames, kind_of, scope_of}
 use Rattle.rdf_values.specs.Functions.{fn_names}
-use Rattle.rdf_values.specs.Path.{history, makes, parent_of, path}
-use Rattle.rdf_values.specs.Verdict.{AreAccepted, check_node, expect_kind, scope_at}
+use Rattle.rdf_values.specs.Path.{history}
+use Rattle.rdf_values.specs.Verdict.{AreAccepted, expect_kind, scope_at}
 use Rattle.rdf_values.specs.declared.column.Column.{Column}
-use Rattle.rdf_values.specs.declared.graph_cause.GraphCause.{GraphCause}
 use Rattle.rdf_values.specs.declared.graph_cause.GraphCause.TheVariants as cause
 use Rattle.rdf_values.specs.declared.statement.Statement.{Statement}
-use Rattle.rdf_values.specs.declared.statement.Statement.TheVariants.{Action, Filter, Report}
-use Rattle.rdf_values.specs.declared.value.ColType.{ColType}
 use Rattle.rdf_values.specs.declared.value.ColType.TheVariants as kind
 use Rattle.rdf_model.specs.Demanded.{site_at}
 use Rattle.rdf_model.proofs.Accepted.{both_none, kind_expected}
-use Rattle.expr_check.specs.NumKinds.{CheckedExpr, IsWellTyped, callee_shape, number_kind}
-use Rattle.expr_check.proofs.Callees.{callee_shape-callee}
-use Rattle.expr_check.proofs.Distinct.{each_from_distinct}
-use Rattle.expr_check.proofs.Typed.{columns_known, kind_by-renamed, kind_by-same}
+use Rattle.expr_check.specs.NumKinds.{CheckedExpr}
 use Rattle.rdf_values.specs.Path.{Under}
 use Rattle.rdf_values.specs.declared.vary_values.VaryValues.{VaryValues}
 use Rattle.rdf_values.specs.declared.vary_values.VaryValues.TheVariants.{Lists, Vector}
@@ -32,12 +18,10 @@ use Rattle.rdf_values.specs.declared.statement.Statement.TheVariants.{Define, Re
 use Rattle.rdf_values.specs.Verdict.{check_vector_column, refuse_unless}
 use Rattle.rdf_model.proofs.Accepted.{checked_of}
 use Rattle.rdf_model.specs.ColumnValues.{own_place}
-use Rattle.std.specs.Prelude.{slice_index_or}
-use Rattle.graph_numbers.specs.Graphs.{IsSiteExpr, graph_sources, graph_under}
-use Rattle.graph_numbers.specs.Kinds.{version_kinds}
+use Rattle.graph_numbers.specs.Graphs.{IsSiteExpr, graph_under}
 use Rattle.graph_numbers.specs.Sites.{SiteAt, own_sites, site_count, site_in, sites}
 use Rattle.graph_numbers.specs.Sources.{cell_sources, own_source, own_sources, source_in, sources, varied_sources}
-use Rattle.graph_numbers.specs.Versions.{named_version, version_at}
+use Rattle.graph_numbers.specs.Versions.{named_version}
 use Rattle.graph_numbers.specs.declared.source.Source.{Source}
 use Rattle.graph_numbers.specs.declared.source.Source.TheVariants as from
 use Rattle.graph_numbers.proofs.Extending.{further, itself}

@@ -1,6 +1,6 @@
 -- What the actions of a loop without vectors read.
-use Rattle.std.proofs.Common.{◌≡◌, ◌⊎◌, inl, inr, ℕ, Bool, zero, suc, ◌+◌, ◌<◌, ◌≤◌, true, false, List, [], ◌∷◌, length, map, option_map, Option, Some, Ok, refl, sym, ◌∙◌, ap, subst, arith, slice_get}
-use Rattle.std.specs.Prelude.{⊤, get_or, unwrap_or}
+use Rattle.std.proofs.Common.{◌≡◌, ◌⊎◌, inl, inr, ℕ, Bool, zero, suc, ◌+◌, ◌<◌, true, false, List, [], ◌∷◌, length, map, option_map, Option, Some, refl, sym, ◌∙◌, ap, subst, arith, slice_get}
+use Rattle.std.specs.Prelude.{get_or, unwrap_or}
 use Rattle.std.specs.List.{AllByRecursion}
 use Rattle.std.proofs.lemmas.List.Elements.{recursion_from_All}
 use Rattle.std.proofs.lemmas.Option.{get_or_from_slice_get}
@@ -20,10 +20,9 @@ use Rattle.rdf_values.specs.declared.value.Value.{Value}
 use Rattle.rdf_values.specs.declared.value.Value.TheVariants as val
 use Rattle.expr_check.specs.NumKinds.{CheckedExpr, is_vector}
 use Rattle.expr_check.proofs.Plain.{columns_scalar, plain_typed}
-use Rattle.rdf_model.specs.Evaluation.{Outcome}
 use Rattle.rdf_model.specs.Laws.{FitsOutcome}
 use Rattle.rdf_model.specs.Results.{Dataset}
-use Rattle.graph_numbers.specs.Graphs.{IsSiteExpr, graph_kinds, graph_under}
+use Rattle.graph_numbers.specs.Graphs.{IsSiteExpr, graph_under}
 use Rattle.graph_numbers.specs.Results.{ResultAt, covered_at, own_results, results}
 use Rattle.graph_numbers.specs.Sites.{filter_sites}
 use Rattle.graph_numbers.specs.Sources.{cell_value, source_value}

@@ -1,5 +1,5 @@
 -- What the actions of a loop read is there.
-use Rattle.std.proofs.Common.{◌≡◌, ℕ, ◌<◌, List, [], ◌∷◌, Option, length, subst, sym}
+use Rattle.std.proofs.Common.{ℕ, ◌<◌, List, [], ◌∷◌, Option, subst, sym}
 use Rattle.std.specs.List.{AllByRecursion}
 use Rattle.rdf_values.specs.Bookings.{Booking}
 use Rattle.rdf_values.specs.Functions.{fn_names}

@@ -1,5 +1,4 @@
-use Rattle.std.proofs.Common.{◌≡◌, ◌∙◌, ◌⊎◌, inl, inr, Some, ap, subst, sym}
-use Rattle.rdf_values.specs.declared.value.ColType.{ColType}
+use Rattle.std.proofs.Common.{◌∙◌, Some, ap, subst, sym}
 use Rattle.rdf_values.specs.declared.value.ColType.TheVariants as kind
 use Rattle.graph_numbers.specs.declared.source.Source.{Source}
 use Rattle.block_lanes.specs.Lanes.{kinds_of}

@@ -1,4 +1,4 @@
-use Rattle.std.proofs.Common.{arith, ◌+◌, ◌-◌, ◌∙◌, refl, sym}
+use Rattle.std.proofs.Common.{arith, ◌-◌, ◌∙◌, refl, sym}
 use Rattle.entry_cache.specs.Jobs.{job_of}
 use Rattle.block_passes.specs.Clusters.{at_entry}
 use Rattle.block_passes.proofs.BlockTurns.{end_as}
