@@ -29,3 +29,8 @@ pub mod Remaking
 pub mod PlanMade
 pub mod BegunFew
 pub mod ClearBlocks
+pub mod BegunBlocks
+pub mod DeepSites
+pub mod FilterKinds
+pub mod KeyKinds
+pub mod LoadedColumns

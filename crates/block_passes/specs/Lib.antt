@@ -12,5 +12,6 @@ pub mod Plans
 pub mod Searches
 pub mod Selections
 pub mod Spends
+pub mod States
 pub mod Steps
 pub mod Tries

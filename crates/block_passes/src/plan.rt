@@ -175,6 +175,13 @@ impl LoopPlan {
         })
     }
 
+    /// How many steps there are.
+    pub(crate) fn steps(&self) -> usize
+        ensures { result ≡ length self.now.steps }
+    {
+        self.steps.len()
+    }
+
     /// The step of that number.
     pub(crate) fn step(&self, step: u32) -> Step
         requires { step < length self.now.steps }

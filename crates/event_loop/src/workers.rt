@@ -82,7 +82,7 @@ fn work<L: Ledger, G: Gate>(
     let mut steps: Steps<L> = Steps::open(blank);
     while let Some(cluster) = claims.claim(&mut slot.seat) {
         gate.turn(slot.seat.slot(), cluster);
-        match state.process(alloc, job, cluster, &mut steps) {
+        match state.process(job, cluster, &mut steps) {
             Ok(Progress::Done) => note(book, &mut slot.share),
             Ok(Progress::Faulted(fault)) => {
                 claims.lower(&mut slot.seat, cluster);

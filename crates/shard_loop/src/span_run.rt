@@ -41,7 +41,7 @@ fn process_span<L: Ledger>(
     let mut state = SlotState::new(alloc, job)?;
     let mut steps: Steps<L> = Steps::open(blank);
     for cluster in lo..hi {
-        match state.process(alloc, job, cluster, &mut steps) {
+        match state.process(job, cluster, &mut steps) {
             Ok(Progress::Done) => {}
             Ok(Progress::Faulted(fault)) => return Ok(Spanned::Faulted(fault)),
             Err(SlotStop::Memory) => return Err(Memory),

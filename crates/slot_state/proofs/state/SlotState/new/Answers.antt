@@ -11,5 +11,5 @@ returns g c =
     let t = c.in_ok-tally in
     let d = c.in_ok-done in
     begun (job_of c.args.job.now) c.requires.job.job c.answers_have_64_bits.ensures c.requires.words
-    (the_view (record { cache = c.in_ok-cache.cache; plan = c.in_ok-plan.plan; tally = t.tally; done = d.done; phase = phase.Going }))
-    c.in_ok-cache.ensures.1 c.in_ok-plan.ensures t.ensures.fresh t.ensures.flow (omega (arith, d.ensures.capacity, c.count.ensures.value)) (ap (map (λ (s : Snapshot ℕ). s.value)) d.ensures.items) refl
+    (the_view (record { blocks = c.in_ok-blocks.blocks; tally = t.tally; done = d.done; phase = phase.Going }))
+    c.in_ok-blocks.ensures t.ensures.fresh t.ensures.flow (omega (arith, d.ensures.capacity, c.count.ensures.value)) (ap (map (λ (s : Snapshot ℕ). s.value)) d.ensures.items) refl
