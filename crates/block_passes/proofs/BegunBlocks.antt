@@ -1,5 +1,6 @@
 -- A block that begins with what a slot reserves.
 use Rattle.std.proofs.Common.{◌≡◌, ℕ, zero, suc, ◌+◌, ◌<◌, ◌≤◌, ℤ, true, false, List, [], ◌∷◌, length, All, get_or, Option, Some, None, refl, sym, ◌∙◌, ap, subst, arith, slice_get, if◌then◌else◌}
+use Rattle.std.specs.List.{AllByRecursion}
 use Rattle.std.proofs.lemmas.List.{length-map}
 use Rattle.std.proofs.lemmas.List.Elements.{All-weaker}
 use Rattle.std.proofs.lemmas.Option.{get_or_from_slice_get, slice_get_within}
@@ -17,7 +18,7 @@ use Rattle.graph_numbers.specs.Versions.{version_count}
 use Rattle.graph_numbers.specs.declared.source.Source.{Source}
 use Rattle.graph_numbers.specs.declared.source.Source.TheVariants as from
 use Rattle.graph_numbers.proofs.Equations.{columns_below}
-use Rattle.entry_cache.specs.Jobs.{IsJob, JobView, job_graph}
+use Rattle.entry_cache.specs.Jobs.{IsJob, JobView, job_graph, passes_in}
 use Rattle.entry_cache.specs.Keys.{AreKeys, key, key_count}
 use Rattle.entry_cache.specs.Store.{IsRight, site_in, source_at}
 use Rattle.entry_cache.specs.declared.held.Held.{Held}
@@ -29,15 +30,36 @@ use Rattle.block_cache.proofs.BlockLaws.{held_of_lane, lane_held}
 use Rattle.block_cache.proofs.CanFills.{can_fill_site}
 use Rattle.block_passes.specs.Plans.{IsPlan}
 use Rattle.block_passes.specs.Selections.{CanSelect, IsReadyBelow}
+use Rattle.block_passes.specs.SpareColumns.{AreInputsKept, AreRoomy, AreSitesKept, IsKeptSource, IsKeptVersion}
 use Rattle.block_passes.specs.Spends.{IsSettledAt}
-use Rattle.block_passes.specs.States.{AreDeepEnough, AreLoaded, HaveCells, HaveKinds, IsBegunBlock, IsStateOf, StateView}
+use Rattle.block_passes.specs.States.{AreDeepEnough, AreLoaded, AreRead, HasRoom, HaveCells, HaveKinds, IsBegunBlock, IsStateOf, StateView}
 use Rattle.block_passes.specs.Steps.{IsFilterStep, longer}
 use Rattle.block_passes.specs.declared.found.Found.{Found}
 use Rattle.block_passes.specs.declared.kept.Kept.{Kept}
 use Rattle.block_passes.specs.declared.steps.Step.TheVariants as step
 use Rattle.block_passes.proofs.FilterKinds.{filter_kind}
 use Rattle.block_passes.proofs.KeyKinds.{site_kinds}
+use Rattle.block_passes.proofs.LoadedColumns.{lengths, many_rooms, room_same, source_read}
+use Rattle.block_passes.proofs.SpareLaws.{pass_inside}
 use Rattle.block_passes.proofs.SitesThere.{site_there}
+
+each_input : (P Q : ℕ → Type 0) → ((c : ℕ) → P c → Q c) → (cs : List ℕ) → AllByRecursion P cs → AllByRecursion Q cs
+each_input P Q f [] h = tt
+each_input P Q f (c ∷ cs) h = (f c h.0, each_input P Q f cs h.1)
+
+-- ---- columns
+
+-- those that aren't spare have room
+pub kept_room : (j : JobView) (spare : List Bool) (size : ℕ) (cells : List (List ℤ)) → AreSitesKept (job_graph j) (length (graph_sites (job_graph j))) spare → AreInputsKept j (length (passes_in j)) spare → AreRoomy spare size cells → HaveCells j size cells
+kept_room j spare size cells sites inputs roomy = record {
+  sites = λ u t x at. each_weaker (IsKeptVersion (job_graph j) spare) _ (λ c kept. of_source (source_at j u c) (kept u)) x.tree (sites t x (slice_get_within (graph_sites (job_graph j)) t x at) at);
+  actions = λ n k is u read. each_input (IsKeptVersion (job_graph j) spare) _ (λ c kept. of_source (source_at j u c) (kept u)) is (inputs n k is u (pass_inside j n k is u read) read);
+}
+  where
+    of_source : (x : Source) → IsKeptSource spare x → HasRoom size cells x
+    of_source (from.Cell col) kept numbers at = roomy col numbers kept at
+    of_source (from.Site t) kept = tt
+    of_source (from.Element t k tags) kept = tt
 
 -- ---- lists of lanes
 
@@ -96,7 +118,7 @@ module _ (count : ℕ) (lanes : List LaneView) (unknown : AreUnknown count lanes
 
 -- ---- the state
 
-module _ (j : JobView) (s : StateView) (state : IsStateOf j s) (cells : List (List ℤ)) (many_cells : length cells ≡ length s.cells) (cell_room : HaveCells s.size cells) (lanes : List LaneView) (kinds : kinds_of lanes ≡ kinds_of s.lanes)
+module _ (j : JobView) (s : StateView) (state : IsStateOf j s) (cells : List (List ℤ)) (same_cells : lengths cells ≡ lengths s.cells) (lanes : List LaneView) (kinds : kinds_of lanes ≡ kinds_of s.lanes)
     (rooms : rooms_of lanes ≡ rooms_of s.lanes) (found : Found) (kept : List Kept) (many_kept : length kept ≡ length s.kept) where
   -- with as much of each
   abbrev pub now : StateView
@@ -109,8 +131,11 @@ module _ (j : JobView) (s : StateView) (state : IsStateOf j s) (cells : List (Li
     most = state.most;
     plan = state.plan;
     rows = state.rows;
-    cells = many_cells ∙ state.cells;
-    cell_room = cell_room;
+    cells = many_rooms s.cells cells same_cells ∙ state.cells;
+    cell_room = record {
+      sites = λ u t x at. each_weaker (λ c. HasRoom s.size s.cells (source_at j u c)) _ (λ c h. room_same s.size s.cells cells same_cells (source_at j u c) h) x.tree (state.cell_room.sites u t x at);
+      actions = λ n k inputs u read. each_input (λ c. HasRoom s.size s.cells (source_at j u c)) _ (λ c h. room_same s.size s.cells cells same_cells (source_at j u c) h) inputs (state.cell_room.actions n k inputs u read);
+    };
     lanes = same_many s.lanes lanes kinds ∙ state.lanes;
     kinds = subst (λ (ks : List ColType). HaveKinds (job_graph j) (length (graph_sites (job_graph j))) ks) (sym kinds) state.kinds;
     lane_room = all_rooms s.size s.lanes lanes rooms state.lane_room;
@@ -121,7 +146,7 @@ module _ (j : JobView) (s : StateView) (state : IsStateOf j s) (cells : List (Li
 
 -- all that is made for the graph of a job
 pub state_new : (j : JobView) (g : GraphView) → g ≡ job_graph j → (s : StateView) (keys : ℕ) → AreKeys g s.rows × (keys ≡ key_count g) → s.size ≡ size_for keys → 1 ≤ s.size → s.size ≤ MAX_PLACES → IsPlan j s.plan
-    → length s.cells ≡ length j.dataset.columns → HaveCells s.size s.cells → (kinds : List ColType) → length kinds ≡ key_count g → HaveKinds g (length (graph_sites g)) kinds → kinds_of s.lanes ≡ kinds → HaveRoom s.size s.lanes
+    → length s.cells ≡ length j.dataset.columns → HaveCells j s.size s.cells → (kinds : List ColType) → length kinds ≡ key_count g → HaveKinds g (length (graph_sites g)) kinds → kinds_of s.lanes ≡ kinds → HaveRoom s.size s.lanes
     → AreDeepEnough g s.scratch → s.levels ≡ length (graph_sites g) → length s.kept ≡ length s.plan.steps → IsStateOf j s
 state_new j g is s keys rows size least most plan cells cell_room kinds many have lanes room scratch levels kept = record {
   size = size ∙ ap size_for (rows.1 ∙ ap key_count is);
@@ -140,7 +165,7 @@ state_new j g is s keys rows size least most plan cells cell_room kinds many hav
 }
 
 module _ (j : JobView) (job : IsJob j) (first count : ℕ) (s : StateView) (state : IsStateOf j s) (some : 0 < count) (within : first + count ≤ length j.dataset.rows) (unknown : AreUnknown count s.lanes)
-    (unmade : All (λ (k : Kept). k.limit ≡ None) s.kept) (loaded : AreLoaded j first count s.cells) where
+    (unmade : All (λ (k : Kept). k.limit ≡ None) s.kept) (few : count ≤ s.size) (read : AreRead j first count s.cells) where
   ready : (p : IsPlan j s.plan) → IsReadyBelow j first count p.chains count s.lanes s.kept
   ready p = record {
     ready = unknown_ready count s.lanes unknown j first state.lanes some within;
@@ -155,21 +180,17 @@ module _ (j : JobView) (job : IsJob j) (first count : ℕ) (s : StateView) (stat
       never : (made : ℕ) → ◌≡◌ {A = Option ℕ} None (Some made) → ⊥
       never made e = cc e
 
-  source_loaded : (x : Source) → IsLoaded j first count s.cells x
-  source_loaded (from.Cell col) = loaded col
-  source_loaded (from.Site t) = tt
-  source_loaded (from.Element t k tags) = tt
+  loaded : AreLoaded j first count s.cells
+  loaded = record {
+    sites = λ u t x at. each_weaker (λ c. HasRoom s.size s.cells (source_at j u c)) _ (λ c h. source_read j first count s.size s.cells state.cells few read (source_at j u c) h) x.tree (state.cell_room.sites u t x at);
+    actions = λ n k inputs u its. each_input (λ c. HasRoom s.size s.cells (source_at j u c)) _ (λ c h. source_read j first count s.size s.cells state.cells few read (source_at j u c) h) inputs (state.cell_room.actions n k inputs u its);
+  }
 
   -- each site can be filled
   pub can_fill : (u : Option ℕ) (t : ℕ) → t < length (graph_sites (job_graph j)) → CanFill j first u count (kinds_of s.lanes) s.cells s.scratch s.levels t
   can_fill u t inside =
       can_fill_site j job first u count t (kinds_of s.lanes) s.cells s.scratch s.levels (site_kinds (job_graph j) (kinds_of s.lanes) state.kinds)
-      (λ n x at. (state.scratch n x at, columns n x at)) (let l = state.levels in omega (arith, inside, l))
-    where
-      columns : (n : ℕ) (x : SiteAt) → slice_get (graph_sites (job_graph j)) n ≡ Some x → EachColumn (λ c. IsLoaded j first count s.cells (source_at j u c)) x.tree
-      columns n x at =
-          each_weaker (λ c. (c < version_count j.dataset.columns (history j.script)) × IsBelow (length j.dataset.columns) n (source_at j u c)) _ (λ c below. source_loaded (source_at j u c)) x.tree
-          (columns_below j.dataset.fns j.dataset.columns (graph_under (job_graph j) u) (history j.script) (accepted_of j job) n x at)
+      (λ n x at. (state.scratch n x at, loaded.sites u n x at)) (let l = state.levels in omega (arith, inside, l))
 
   select : CanSelect j first count s.plan (kinds_of s.lanes) s.cells s.scratch s.levels
   select = record {

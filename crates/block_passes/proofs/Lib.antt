@@ -33,3 +33,4 @@ pub mod FilterKinds
 pub mod KeyKinds
 pub mod LoadedColumns
 pub mod ReadInputs
+pub mod SpareLaws

@@ -11,6 +11,7 @@ pub mod Parts
 pub mod Plans
 pub mod Searches
 pub mod Selections
+pub mod SpareColumns
 pub mod Spends
 pub mod States
 pub mod Steps

@@ -1,6 +1,9 @@
 -- What a slot of a loop reserves for its blocks.
-use Rattle.std.specs.Prelude.{◌≡◌, ◌<◌, ◌≤◌, ℕ, ℤ, List, All, Option, None, Some, length, slice_get}
+use Rattle.std.specs.Prelude.{◌≡◌, ◌<◌, ◌≤◌, ⊤, ℕ, ℤ, List, All, Option, None, Some, length, slice_get}
+use Rattle.std.specs.List.{AllByRecursion}
+use Rattle.rdf_values.specs.EachColumn.{EachColumn}
 use Rattle.rdf_values.specs.Tables.{kind_at}
+use Rattle.rdf_values.specs.declared.action.ActionKind.{ActionKind}
 use Rattle.rdf_values.specs.declared.value.ColType.{ColType}
 use Rattle.rdf_values.specs.declared.value.ColType.TheVariants as kind
 use Rattle.expr_check.specs.NumKinds.{CheckedExpr}
@@ -10,12 +13,17 @@ use Rattle.block_lanes.specs.Lanes.{AreUnknown, HaveRoom, LaneView, kinds_of}
 use Rattle.block_lanes.specs.Sizes.{size_for}
 use Rattle.graph_numbers.specs.Graphs.{GraphView, IsSiteExpr, graph_sites}
 use Rattle.graph_numbers.specs.Sites.{SiteAt}
+use Rattle.graph_numbers.specs.declared.source.Source.{Source}
+use Rattle.graph_numbers.specs.declared.source.Source.TheVariants as from
 use Rattle.entry_cache.specs.Jobs.{JobView, job_graph}
 use Rattle.entry_cache.specs.Keys.{AreKeys, key, key_count}
 use Rattle.entry_cache.specs.declared.rows.Row.{Row}
-use Rattle.block_cache.specs.Blocks.{HasColumn}
+use Rattle.entry_cache.specs.Store.{source_at}
+use Rattle.block_cache.specs.Blocks.{IsColumn}
+use Rattle.block_cache.specs.Fills.{IsLoaded}
 use Rattle.block_passes.specs.Plans.{IsPlan, PlanView}
 use Rattle.block_passes.specs.Selections.{CanSelect, IsReadyBelow}
+use Rattle.block_passes.specs.Tries.{IsReadOf}
 use Rattle.block_passes.specs.declared.found.Found.{Found}
 use Rattle.block_passes.specs.declared.kept.Kept.{Kept}
 
@@ -36,16 +44,23 @@ pub record StateView : Type 0 where
 abbrev pub AreDeepEnough : GraphView → ℕ → Type 0
 AreDeepEnough g levels = (t : ℕ) (x : SiteAt) → slice_get (graph_sites g) t ≡ Some x → depth x.tree ≤ levels
 
--- each has room for so many entries
-abbrev pub HaveCells : ℕ → List (List ℤ) → Type 0
-HaveCells size cells = All (λ numbers. length numbers ≡ size) cells
+-- where a column gives the source, there is a list for so many numbers
+abbrev pub HasRoom : ℕ → List (List ℤ) → Source → Type 0
+HasRoom size cells (from.Cell col) = (numbers : List ℤ) → slice_get cells col ≡ Some numbers → length numbers ≡ size
+HasRoom size cells (from.Site t) = ⊤
+HasRoom size cells (from.Element t k tags) = ⊤
+
+-- so there is for each column that a site of the graph or an action of the loop reads
+pub record HaveCells (j : JobView) (size : ℕ) (cells : List (List ℤ)) : Type 0 where
+  pub sites : (u : Option ℕ) (t : ℕ) (x : SiteAt) → slice_get (graph_sites (job_graph j)) t ≡ Some x → EachColumn (λ c. HasRoom size cells (source_at j u c)) x.tree
+  pub actions : (n : ℕ) (k : ActionKind) (inputs : List ℕ) (u : Option ℕ) → IsReadOf j n k inputs u → AllByRecursion (λ c. HasRoom size cells (source_at j u c)) inputs
 
 -- the keys of the first so many sites have the kinds of their expressions, under nominal and each variation
 abbrev pub HaveKinds : GraphView → ℕ → List ColType → Type 0
 HaveKinds g sites kinds = (t : ℕ) (w : Option ℕ) → t < sites → (e : CheckedExpr) × IsSiteExpr g t e × (slice_get kinds (key g t w) ≡ Some e.kind)
 
--- a slot has what the blocks of a loop take: the loop's plan, a lane for each key, of its site's kind, a list of numbers for each column,
--- levels enough for each site, and a selection for each step
+-- a slot has what the blocks of a loop take: the loop's plan, a lane for each key, of its site's kind, a list of numbers for each column
+-- that it reads, levels enough for each site, and a selection for each step
 pub record IsStateOf (j : JobView) (s : StateView) : Type 0 where
   pub size : s.size ≡ size_for (key_count (job_graph j))
   pub least : 1 ≤ s.size
@@ -53,7 +68,7 @@ pub record IsStateOf (j : JobView) (s : StateView) : Type 0 where
   pub plan : IsPlan j s.plan
   pub rows : AreKeys (job_graph j) s.rows
   pub cells : length s.cells ≡ length j.dataset.columns
-  pub cell_room : HaveCells s.size s.cells
+  pub cell_room : HaveCells j s.size s.cells
   pub lanes : length s.lanes ≡ key_count (job_graph j)
   pub kinds : HaveKinds (job_graph j) (length (graph_sites (job_graph j))) (kinds_of s.lanes)
   pub lane_room : HaveRoom s.size s.lanes
@@ -61,9 +76,15 @@ pub record IsStateOf (j : JobView) (s : StateView) : Type 0 where
   pub levels : s.levels ≡ length (graph_sites (job_graph j))
   pub kept : length s.kept ≡ length s.plan.steps
 
--- the numbers of each column of numbers are there
-abbrev pub AreLoaded : JobView → ℕ → ℕ → List (List ℤ) → Type 0
-AreLoaded j first count cells = (col : ℕ) → kind_at j.dataset.columns col ≡ Some kind.Int → HasColumn j first count cells col
+-- the numbers of a column stand in each list with room for so many entries
+abbrev pub AreRead : JobView → ℕ → ℕ → List (List ℤ) → Type 0
+AreRead j first count cells =
+    (col : ℕ) (numbers : List ℤ) → slice_get cells col ≡ Some numbers → count ≤ length numbers → kind_at j.dataset.columns col ≡ Some kind.Int → IsColumn j.dataset.rows first count col numbers
+
+-- the columns of numbers that the sites of the graph and the actions of the loop read are there
+pub record AreLoaded (j : JobView) (first count : ℕ) (cells : List (List ℤ)) : Type 0 where
+  pub sites : (u : Option ℕ) (t : ℕ) (x : SiteAt) → slice_get (graph_sites (job_graph j)) t ≡ Some x → EachColumn (λ c. IsLoaded j first count cells (source_at j u c)) x.tree
+  pub actions : (n : ℕ) (k : ActionKind) (inputs : List ℕ) (u : Option ℕ) → IsReadOf j n k inputs u → AllByRecursion (λ c. IsLoaded j first count cells (source_at j u c)) inputs
 
 -- a block of so many entries was begun at an entry: nothing is known of it, no selection was made, and its filters can be tried
 pub record IsBegunBlock (j : JobView) (first count : ℕ) (s : StateView) : Type 0 where

@@ -18,6 +18,7 @@ mod reports;
 mod reserve;
 mod select;
 mod sources;
+mod spare;
 pub mod state;
 pub mod steps;
 pub mod stop;

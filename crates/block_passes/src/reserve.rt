@@ -1,7 +1,10 @@
 // The memory that a slot reserves for its blocks.
-ghost use Rattle.std.specs.Prelude.{◌≡◌, ◌≤◌, ◌-◌, All, IfOk, None, Some, length};
+ghost use Rattle.std.specs.Prelude.{◌≡◌, ◌<◌, ◌≤◌, ◌-◌, All, IfOk, None, Some, false, length, map};
+ghost use Rattle.rdf_values.specs.Tables.{kind_at};
 ghost use Rattle.entry_cache.specs.Jobs.{Fits, job_of};
-ghost use Rattle.block_passes.specs.States.{AreLoaded, HaveCells};
+ghost use Rattle.block_cache.specs.Blocks.{IsColumn};
+ghost use Rattle.block_passes.specs.SpareColumns.{AreRoomy};
+ghost use Rattle.block_passes.specs.States.{AreRead};
 ghost use Rattle.block_passes.specs.declared.kept.Kept.{Kept as KeptPlaces};
 
 use crate::kept::Kept;
@@ -13,14 +16,25 @@ use expr_lanes::{Scratch, Selection};
 use rdf_values::{ColType, Memory, Span};
 use std::alloc::Global;
 
-/// A list of numbers for each of so many columns, with room for so many entries.
-pub(crate) fn new_cells(alloc: Global, columns: usize, size: usize) -> Result<Vec<CellLane>, Memory>
-    ensures many { IfOk result (λ cells. length cells.items ≡ columns) }
-    ensures room { IfOk result (λ cells. HaveCells size cells.items) }
+// For how many entries a column has room.
+fn room_for(is_spare: bool, size: usize) -> usize
+    ensures { is_spare ≡ false → result ≡ size }
 {
-    let mut cells = Vec::with_capacity(alloc, columns)?;
-    for _ in 0..columns {
-        cells.push(CellLane::new(alloc, size)?)?;
+    if is_spare { 0 } else { size }
+}
+
+/// A list of numbers for each column, with room for so many entries unless the column is spare.
+pub(crate) fn new_cells(
+    alloc: Global,
+    spare: &[bool],
+    size: usize,
+) -> Result<Vec<CellLane>, Memory>
+    ensures many { IfOk result (λ cells. length cells.items ≡ length spare.now) }
+    ensures room { IfOk result (λ cells. AreRoomy spare.now size cells.items) }
+{
+    let mut cells = Vec::with_capacity(alloc, spare.len())?;
+    for i in 0..spare.len() {
+        cells.push(CellLane::new(alloc, room_for(spare[i], size))?)?;
     }
     Ok(cells)
 }
@@ -71,29 +85,44 @@ pub(crate) fn forget(kept: &mut [Kept])
     }
 }
 
-/// Reads the columns of numbers at some entries of a cluster.
+// Reads a column, if it is one of numbers and there is room for them.
+fn load_column(cell: &mut CellLane, kind: ColType, over: &Over<'_>, entries: Span, col: u32)
+    requires kind { kind_at over.now.columns.now.table.columns col ≡ Some kind }
+    requires from { over.now.span.lo ≤ entries.lo }
+    requires within { entries.hi ≤ over.now.span.hi }
+    requires some { entries.lo < entries.hi }
+    ensures room { length cell.new ≡ length cell.old }
+    ensures read { entries.hi - entries.lo ≤ length cell.new → kind ≡ ColType.Int → IsColumn over.now.columns.now.table.rows entries.lo (entries.hi - entries.lo) col cell.new }
+{
+    let room = cell.as_slice().len();
+    match kind {
+        ColType::Int => {
+            if (entries.hi - entries.lo) as usize <= room {
+                cell.load(over, entries, col);
+            }
+        }
+        ColType::Bool | ColType::Vect => {}
+    }
+}
+
+/// Reads the columns of numbers that have room at some entries of a cluster.
 pub(crate) fn load_columns(
     cells: &mut [CellLane],
     job: &Job<'_>,
     over: &Over<'_>,
     entries: Span,
-    _size: u32,
 )
     requires job { Fits job.now }
     requires columns { over.now.columns.now ≡ job.now.columns.now }
     requires from { over.now.span.lo ≤ entries.lo }
     requires within { entries.hi ≤ over.now.span.hi }
-    requires small { entries.hi - entries.lo ≤ _size }
+    requires some { entries.lo < entries.hi }
     requires many { length cells.old ≡ length (job_of job.now).dataset.columns }
-    requires room { HaveCells _size cells.old }
-    ensures many { length cells.new ≡ length cells.old }
-    ensures room { HaveCells _size cells.new }
-    ensures loaded { AreLoaded (job_of job.now) entries.lo (entries.hi - entries.lo) cells.new }
+    ensures rooms { map (λ numbers. length numbers) cells.new ≡ map (λ numbers. length numbers) cells.old }
+    ensures read { AreRead (job_of job.now) entries.lo (entries.hi - entries.lo) cells.new }
 {
     let columns = job.columns.columns();
     for col in 0..columns.len() {
-        if let ColType::Int = columns[col].kind {
-            cells[col].load(over, entries, col as u32);
-        }
+        load_column(&mut cells[col], columns[col].kind, over, entries, col as u32);
     }
 }

@@ -9,6 +9,7 @@ use crate::kept::Kept;
 use crate::kinds::key_kinds;
 use crate::plan::LoopPlan;
 use crate::reserve::{forget, load_columns, new_cells, new_kept, new_levels, new_scratch};
+use crate::spare::spare_columns;
 use crate::turn::Work;
 use block_cache::cells::CellLane;
 use block_lanes::{begin_block, block_size, new_lanes};
@@ -59,7 +60,8 @@ impl BlockState {
         let (rows, keys) = rows_of(alloc, job.graph)?;
         let size = block_size(keys);
         let kinds = key_kinds(alloc, job.graph)?;
-        let cells = new_cells(alloc, job.columns.columns().len(), size)?;
+        let spare = spare_columns(alloc, job)?;
+        let cells = new_cells(alloc, spare.as_slice(), size)?;
         let work = Work {
             lanes: new_lanes(alloc, kinds.as_slice(), size)?,
             scratch: new_scratch(alloc, deepest(job.graph)?)?,
@@ -91,7 +93,7 @@ impl BlockState {
         ensures begun { IsBegunBlock (job_of job.now) entries.lo (entries.hi - entries.lo) self.new }
     {
         let count = entries.hi - entries.lo;
-        load_columns(&mut self.cells, job, over, entries, self.size);
+        load_columns(&mut self.cells, job, over, entries);
         begin_block(&mut self.work.lanes, count as usize);
         forget(&mut self.kept);
         self.work.found = Found::begin(count);

@@ -1,7 +1,8 @@
-use Rattle.std.proofs.Common.{◌∙◌, ap, length, subst, sym}
+use Rattle.std.proofs.Common.{◌∙◌, Bool, List, ap, length, subst, sym}
 use Rattle.entry_cache.specs.Jobs.{job_of}
+use Rattle.block_passes.specs.SpareColumns.{AreRoomy}
 use Rattle.block_passes.specs.States.{AreDeepEnough}
-use Rattle.block_passes.proofs.BegunBlocks.{state_new}
+use Rattle.block_passes.proofs.BegunBlocks.{kept_room, state_new}
 use Rattle.block_passes.proofs.state.BlockState.new.Goals as goal
 
 pub returns : goal.returns
@@ -18,5 +19,6 @@ returns g c =
       found = c.begin.result;
       kept = c.in_ok-kept.kept.items;
     }) c.in_ok-rows.keys c.in_ok-rows.ensures c.block_size-size.ensures.value c.block_size-size.ensures.least c.block_size-size.ensures.most c.in_ok-plan.ensures
-    (c.in_ok-cells.ensures.many ∙ ap length c.columns.ensures.value) c.in_ok-cells.ensures.room c.in_ok-kinds.kinds c.in_ok-kinds.ensures.many c.in_ok-kinds.ensures.kinds (c.in_ok-new_lanes.ensures.kinds ∙ c.as_slice.ensures) c.in_ok-new_lanes.ensures.rooms
+    (c.in_ok-cells.ensures.many ∙ ap length c.as_slice.ensures.value ∙ c.in_ok-spare.ensures.many)
+    (kept_room (job_of c.args.job.now) c.in_ok-spare.spare.items c.block_size-size.result c.in_ok-cells.cells.items c.in_ok-spare.ensures.sites c.in_ok-spare.ensures.inputs (subst (λ (s : List Bool). AreRoomy s c.block_size-size.result c.in_ok-cells.cells.items) c.as_slice.ensures.value c.in_ok-cells.ensures.room)) c.in_ok-kinds.kinds c.in_ok-kinds.ensures.many c.in_ok-kinds.ensures.kinds (c.in_ok-new_lanes.ensures.kinds ∙ c.as_slice-2.ensures) c.in_ok-new_lanes.ensures.rooms
     (subst (AreDeepEnough c.args.job.now.graph.now) (sym c.in_ok-new_scratch.ensures) c.in_ok-deepest.ensures) (c.in_ok-new_levels.ensures ∙ c.sites.ensures) (c.in_ok-kept.ensures ∙ c.steps.ensures)
