@@ -118,8 +118,9 @@ def work(words):
             return Runner(name, [*words, "--slots", SLOTS], os.path.join(folder, name))
 
         one = runner("rdf, one table", [race.rdf_program(), SCRIPT, tables[0]])
-        alone = runner("run, one table", [chain, "run", SCRIPT, tables[0]])
-        whole = runner("run, all tables", [chain, "run", SCRIPT, *tables])
+        run = ["env", "MALLOC_TRIM_THRESHOLD_=131072", chain, "run", SCRIPT]    # as ./rdf begins it
+        alone = runner("run, one table", [*run, tables[0]])
+        whole = runner("run, all tables", [*run, *tables])
         farm = []
         python = python_with_dask()
         if python is None:

@@ -158,7 +158,7 @@ MISTAKES = [
     ("--slots 0", COUNT, TABLE, PLAIN + " --slots 0", "--slots: 0 is not from 1 to 16", None),
     ("--slots two", COUNT, TABLE, PLAIN + " --slots two", "--slots: two is no whole number", None),
     ("a folder", COUNT, TABLE, "./rdf s.txt .", "TABLE: '.' is a folder", None),
-    ("no file", COUNT, TABLE, "./rdf s.txt b.csv", "TABLE: there is no file 'b.csv'", None),
+    ("no file", COUNT, TABLE, "./rdf s.txt none.csv", "TABLE: there is no file 'none.csv'", None),
     ("an empty script", "", TABLE, PLAIN, "'s.txt' holds no statement", None),
     ("no Print", "n = df.Count()\n", TABLE, PLAIN, "'s.txt' prints nothing, so nothing was run; add Print(n)", None),
     ("65 results", "".join("n%d = df.Count()\n" % i for i in range(65)), TABLE, PLAIN, "at most 64 results, and this is the 65th", "n64 = df.Count()"),

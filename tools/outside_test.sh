@@ -604,6 +604,10 @@ end"
     judge "rdf_chain: a part that is refused before a folder" 21 "file a.csv refused at line 1"
     cat a.csv | "$chain" run s.txt a.csv /dev/stdin a.csv >out 2>err; echo $? >status
     judge "rdf_chain: a pipe as table" 0 "n = 9"
+    printf 'n = df.Count()\nPrint(n)\ns = df.Sum("x")\nPrint(s)\n' >two.txt
+    cat a.csv | "$chain" run two.txt a.csv /dev/stdin >out 2>err; echo $? >status
+    judge "rdf_chain: a pipe as table of two loops" 0 "n = 6
+s = 12"
     cat p2 | "$chain" join s.txt p0 /dev/stdin p1 >out 2>err; echo $? >status
     cmp -s out whole && : >out
     judge "rdf_chain: a pipe as part" 0 ""
@@ -612,8 +616,8 @@ end"
         judge "rdf_chain: a full output" 4 ""
     fi
     pieces_as_chain
-    changed_tables
     rm -f p? whole "a part"
+    run_random chains 60
 }
 
 # The table with marks and vectors, cut into files of 3,000 entries, some of which lose their marks.
@@ -635,34 +639,6 @@ pieces_as_chain() {
     run print pieces.txt $number whole
     judge "rdf_chain: its parts" 0 "$due"
     rm -f piece_* part_*
-}
-
-# Runs the program while a command writes into the named pipe that is one of its tables.
-run_fed() { # COMMAND WORDS..
-    timeout 30 sh -c "$1" &
-    shift
-    timeout 30 "$program" "$@" >out 2>err </dev/null; echo $? >status
-    wait $!
-}
-
-# Each loop reads a table again. Here other bytes go into it for the second one, once the first reader is gone.
-changed_tables() {
-    printf 'n = df.Count()\nPrint(n)\ns = df.Sum("x")\nPrint(s)\n' >two.txt
-    mkfifo pipe
-    printf 'x:int\n4\n5\n6\n' >other.csv
-    run_fed "cat a.csv >pipe; sleep 1; cat other.csv >pipe" run two.txt a.csv pipe
-    judge "rdf_chain: other numbers in the second loop" 0 "n = 6
-s = 21"
-    for text in 'x:int\n4\n5\n' 'x:int\n1\n2\n3\n4\n' 'x:int\n1\n2\n03\n' 'y:int\n1\n2\n3\n' 'x:vec\n1\n2\n3\n' 'x:int,k:cut\n1,0\n2,1\n3,0\n'; do
-        printf "$text" >other.csv
-        run_fed "cat a.csv >pipe; sleep 1; cat other.csv >pipe" run two.txt a.csv pipe
-        judge "rdf_chain: $text in the second loop" 25 "file pipe changed"
-    done
-    # The name is taken away before the first reader meets the end.
-    run_fed "{ cat a.csv && rm pipe; } >pipe" run two.txt a.csv pipe
-    judge "rdf_chain: no file in the second loop" 25 "file pipe changed"
-    cat a.csv | "$chain" run two.txt /dev/stdin >out 2>err; echo $? >status
-    judge "rdf_chain: a pipe whose end the first loop met" 25 "file /dev/stdin changed"
 }
 
 # A part with one Take: so many numbers of 20 characters, and one of so many digits.

@@ -104,6 +104,6 @@ def for_status(words, status):
     """The lines for an end that no line of the program's tells of, or only in part."""
     if status == 1:
         return ["rdf: memory ran out, and nothing was written; fewer slots want less"]
-    rule = {0: files.nothing_printed, 3: files.unreadable, 4: files.unwritten, 5: files.missing, 25: run_files.changed}
+    rule = {0: files.nothing_printed, 3: files.unreadable, 4: files.unwritten, 5: files.missing}
     hint = rule[status](words)
     return hint.lines("") if hint else []

@@ -122,9 +122,4 @@ def told_span(name, span):
     return "%s has %d to %d" % (shown(name), low, high - 1)
 
 
-def changed(words):
-    return Hint("a table was another when a later loop read it again: it stays as it is until the run ends, and a "
-                "pipe can be read only once")
-
-
 RULES = {"long": too_long, "span": no_span, "file": refused, "differs": differs, "covered": not_covered}

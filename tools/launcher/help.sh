@@ -140,7 +140,6 @@ status  0  the part or every Print was written    21  a file isn't a part
      1 - 8 as with rdf; a fault that map meets    22  a table has other columns, or a part another script
            stands in its part, and print          23  a file of the chain stands in no part, or in two
            ends with 8                            24  parts have too many bytes
-                                                  25  a table changed between two loops of a run
 
 Lines name a table by its number, from 0 in the order of the words; a hint adds its name.
 ./rdf chain --build, --program and --version are as without a command, and so are hints.

@@ -120,7 +120,7 @@ _partial_line = re.compile(rf"partial ({_NAME}) over ([0-9,-]+) = (none|{_NUMBER
 _run = re.compile(rf"({_COUNT})(?:-({_COUNT}))?")
 _refusal = re.compile(
     r"usage: rdf[ _]|read failed: |no file |script refused(?:: | at )|table (?:.+ )?refused(?:: | at )|friend refused(?:: | at )"
-    r"|fault (?:in file \d+ )?at entry |span refused$|file .+ (?:refused at line \d+|differs|changed)$"
+    r"|fault (?:in file \d+ )?at entry |span refused$|file .+ (?:refused at line \d+|differs)$"
     r"|(?:cluster|file) \d+ isn't covered once$|(?:files|part) longer than \d+ bytes$"
 )
 

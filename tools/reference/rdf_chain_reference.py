@@ -1,8 +1,5 @@
 #!/usr/bin/env python3
-"""What rdf_chain writes, worked out by separate passes: the same words, output and exit status.
-
-A table is read once here, so that none is found changed.
-"""
+"""What rdf_chain writes, worked out by separate passes: the same words, output and exit status."""
 import os
 import sys
 

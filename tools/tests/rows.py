@@ -87,7 +87,6 @@ REFUSALS = (
     "table b.csv refused: longer than 67108864 bytes",
     "fault in file 1 at entry 2 in n: F2 ZeroDivisor",
     "file 1 isn't covered once",
-    "file b.csv changed",
     "part longer than 134217728 bytes",
     FAULT,
 )

@@ -105,7 +105,7 @@ module _ (j : JobView) (plan : PlanView) (p : IsPlan j plan) (f : ℕ) (inside :
       sizes_counted d d' job s amid =
           let at_above = slice_get-get_or kept named.above d above_there in
           let at_own = slice_get-get_or kept named.own d' own_there in
-          counts_named j first count s amid job f named_at.0 named_at.1 p.chains kept can.kept_are named its_steps.1 its_steps.0 (get_or kept named.above d) (get_or kept named.own d') at_above (can.above f named its_at _ at_above) at_own (can.own f named its_at _ at_own)
+          counts_named j first count s amid job f named_at.0 named_at.1 p.chains kept can.kept_are named its_steps.1 its_steps.0 (get_or kept named.above d) (get_or kept named.own d') at_above (can.above f named_at.0 named named_at.1 its_at _ at_above) at_own (can.own f named_at.0 named named_at.1 its_at _ at_own)
 
 -- ---- filter by filter
 
@@ -133,7 +133,7 @@ module _ (j : JobView) (first count : ℕ) where
       let here = ap (λ (o : Option Span). length (span_rows (map (spreads_of j.dataset (passes_in j)) j.dataset.rows) o)) c.its_span in
       omega (arith, b, w, long, here)
 
-  filters_many : length (graph_filters (job_graph j)) ≡ length (named_before (history j.script))
+  pub filters_many : length (graph_filters (job_graph j)) ≡ length (named_before (history j.script))
   filters_many = sym (covered_count j) ∙ length-map (named_before (history j.script)) (is_covered (passes_in j))
 
   -- the next filter's counts can be taken in

@@ -55,10 +55,24 @@ module _ (j : JobView) (job : IsJob j) (first count : ℕ) (pass : ℕ) (k : Act
       pub last_there : last < length kept
       last_there = let low = slice_get_within p.chains last last_led.chain last_led.its in let many = are.many in omega (arith, low, many)
 
+      -- ---- what is fed
+
+      module _ (lanes : List LaneView) (feedable : IsFeedable j first count lanes kept last k inputs u) (d : Kept) where
+        got : slice_get kept last ≡ Some (get_or kept last d)
+        got = slice_get-get_or kept last d last_there
+
+        pub fed_low : (s : BlockStage) → IsAmid j first count s → EachPlace (get_or kept last d).places (λ q. q < count)
+        fed_low s amid q i =
+            let is = its_places j first count s amid u p.chains kept are own.result.filters last last_led (get_or kept last d) got (feedable.over_all (get_or kept last d) got) in
+            subst (λ (n : ℕ). q < n) amid.block (chosen_below (λ x. is_true (through_sites (site_in j (amid.lo + s.entries + x) u) own.result.filters)) q s.block (subst (λ (l : List ℕ). is_in q l ≡ true) is i))
+
+        pub fed_hand : EachPlace (get_or kept last d).places (AreAtHand j lanes u inputs)
+        fed_hand q i = (feedable.each (get_or kept last d) got q i).hand
+
       -- ---- a batch
 
       module _ (lanes : List LaneView) (feedable : IsFeedable j first count lanes kept last k inputs u) (d : Kept) (batch : Batch) (places : places_of batch.places ≡ (get_or kept last d).places)
-          (gathered : (q : ℕ) → q < count → AreAtHand j lanes u inputs q → AreLanesOf (for_all (version_in {M = ⊥} j (first + q) u) inputs) k batch.sources q) where
+          (gathered : (q : ℕ) → q < count → is_in q (get_or kept last d).places ≡ true → AreAtHand j lanes u inputs q → AreLanesOf (for_all (version_in {M = ⊥} j (first + q) u) inputs) k batch.sources q) where
         abbrev sel : Kept
         sel = get_or kept last d
 
@@ -80,7 +94,7 @@ module _ (j : JobView) (job : IsJob j) (first count : ℕ) (pass : ℕ) (k : Act
           chosen_low q i = subst (λ (n : ℕ). q < n) amid.block (chosen_below passes q s.block (subst (λ (l : List ℕ). is_in q l ≡ true) sel_is i))
 
           lanes_at : (q : ℕ) → is_in q sel.places ≡ true → AreLanesOf (for_all (version_in {M = ⊥} j (first + q) u) inputs) k batch.sources q
-          lanes_at q i = gathered q (chosen_low q i) (feedable.each sel sel_at q i).hand
+          lanes_at q i = gathered q (chosen_low q i) i (feedable.each sel sel_at q i).hand
 
           clear_at : (q : ℕ) → is_in q sel.places ≡ true → feed_fault k (values_at batch.sources q) ≡ None
           clear_at q i = ap (feeding_fault k) (sym (lanes_at q i).values) ∙ (feedable.each sel sel_at q i).clear

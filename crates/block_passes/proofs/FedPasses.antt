@@ -68,9 +68,9 @@ takes_none j n k inputs u own none take = no_take k (subst IsNoTake same (All-ge
 module _ (j : JobView) (job : IsJob j) (first count : ℕ) (plan : PlanView) (p : IsPlan j plan) (lanes : List LaneView) (kept : List Kept) (h : IsClear j first count p.chains plan lanes kept) where
   pub can_be_fed : (n : ℕ) (k : ActionKind) (inputs : List ℕ) (u : Option ℕ) (own : IsReadOf j n k inputs u) (last : ℕ) → slice_get plan.passes n ≡ Some last → IsFeedable j first count lanes kept last k inputs u
   can_be_fed n k inputs u own last its = record {
-    over_all = h.over n last (read_action j n k inputs u own) its;
+    over_all = h.over n k inputs u own last its;
     each = λ s at q i.
-        let low = placed j job first count n plan p h.ready.within k inputs u own last its kept h.countable.kept_are s at (h.over n last (read_action j n k inputs u own) its s at) q i in
+        let low = placed j job first count n plan p h.ready.within k inputs u own last its kept h.countable.kept_are s at (h.over n k inputs u own last its s at) q i in
         record {
           hand = subst (λ (v : Option ℕ). AreAtHand j lanes v inputs q) own.its_under (subst (λ (cs : List ℕ). AreAtHand j lanes own.numbered.variation cs q) own.inputs_are (h.read n own.numbered own.result k own.action q low.0 low.1));
           clear = unfed_none j job first count n plan p h.ready.within k inputs u own last its q low.0 low.1 (h.clear n q (read_inside j n k inputs u own) low.0);

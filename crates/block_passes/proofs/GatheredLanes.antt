@@ -13,7 +13,7 @@ use Rattle.actions.specs.declared.lane.Lane.{Lane}
 use Rattle.block_passes.specs.Feeds.{AreLanesOf, IsLaneOf}
 use Rattle.entry_cache.proofs.SuitsLaws.{integer_fits, numeric_fits, pair_fits, single_fits, triple_fits, weighted_fits}
 
-all_get : (P : ℕ → Type 0) (cs : List ℕ) (i : ℕ) → i < length cs → AllByRecursion P cs → P (get_or cs i 0)
+pub all_get : (P : ℕ → Type 0) (cs : List ℕ) (i : ℕ) → i < length cs → AllByRecursion P cs → P (get_or cs i 0)
 all_get P [] i lt h = absurd (omega (arith, lt))
 all_get P (c ∷ cs) zero lt h = h.0
 all_get P (c ∷ cs) (suc i) lt h = all_get P cs i (omega (arith, lt)) h.1

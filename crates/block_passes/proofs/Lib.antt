@@ -1,6 +1,8 @@
 pub mod ClusterBlocks
 pub mod Counting
 pub mod Demanding
+pub mod ElementKinds
+pub mod ElementsHeld
 pub mod FaultsOver
 pub mod Feeding
 pub mod FirstFaults
@@ -8,6 +10,8 @@ pub mod GatheredLanes
 pub mod NextPlaces
 pub mod Parts
 pub mod PlaceLists
+pub mod PlaceWalks
+pub mod PlainReads
 pub mod PlanSteps
 pub mod Searching
 pub mod Selecting
@@ -27,3 +31,14 @@ pub mod TriedFilters
 pub mod SearchedPasses
 pub mod Remaking
 pub mod PlanMade
+pub mod BegunFew
+pub mod ClearBlocks
+pub mod BegunBlocks
+pub mod DeepSites
+pub mod FilterKinds
+pub mod KeyKinds
+pub mod LoadedColumns
+pub mod StateStays
+pub mod BlockTurns
+pub mod FirstLengths
+pub mod ReadInputs

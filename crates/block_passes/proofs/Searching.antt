@@ -10,7 +10,7 @@ abbrev pub or_else : Option EntryFault → Option EntryFault → Option EntryFau
 or_else None later = later
 or_else (Some kind) later = Some kind
 
-below_or_at : (m n : ℕ) → m ≤ n → (m < n) ⊎ (m ≡ n)
+pub below_or_at : (m n : ℕ) → m ≤ n → (m < n) ⊎ (m ≡ n)
 below_or_at m n h = grind (arith, h)
 
 -- ---- one part

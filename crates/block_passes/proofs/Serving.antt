@@ -1,5 +1,5 @@
 -- Filling what a pass reads lowers the limit at its first fault.
-use Rattle.std.proofs.Common.{◌≡◌, ℕ, ◌+◌, ◌<◌, ◌≤◌, Bool, true, false, ◌&&◌, List, Option, None, Some, sym, ◌∙◌, ap, subst, arith, nat_lt, refl, ℤ}
+use Rattle.std.proofs.Common.{◌≡◌, ℕ, ◌+◌, ◌<◌, ◌≤◌, Bool, true, false, ◌&&◌, List, Option, None, Some, sym, ◌∙◌, ap, subst, arith, nat_lt, refl, slice_get}
 use Rattle.std.specs.List.{filter}
 use Rattle.std.proofs.lemmas.Bool.Decides.{Decides-ltb}
 use Rattle.rdf_model.specs.Results.{fault_in}
@@ -10,8 +10,10 @@ use Rattle.expr_lanes.specs.Places.{AreRising, EachPlace, is_in}
 use Rattle.block_lanes.specs.Lanes.{LaneView}
 use Rattle.entry_cache.specs.Jobs.{JobView, job_graph}
 use Rattle.entry_cache.specs.Keys.{key}
+use Rattle.entry_cache.specs.Store.{row_of}
+use Rattle.rdf_values.specs.declared.value.Value.{Value}
 use Rattle.entry_passes.specs.Turns.{HasAllDemands}
-use Rattle.block_cache.specs.Blocks.{AreReady, HasColumn}
+use Rattle.block_cache.specs.Blocks.{AreReady}
 use Rattle.block_cache.specs.Leads.{IsFilledTo}
 use Rattle.block_cache.specs.Fills.{IsSettled, IsSpentOver, holds_at, site_fault}
 use Rattle.block_cache.specs.declared.faults.PlaceFault.{PlaceFault}
@@ -66,6 +68,18 @@ version_spends j first count u s limit x e sel le inside demanded before after s
     of_site : (p : ℕ) (T : ℕ → Bool) → DemandsSource j (first + p) u T (from.Site s) → Demands j (first + p) u T s
     of_site p T d = (d.0, d.1, d.2)
 
+-- likewise of an element
+pub element_spends : (j : JobView) (first count : ℕ) (u : Option ℕ) (s k tags limit : ℕ) (x : Source) → x ≡ from.Element s k tags → (sel : List ℕ) → limit ≤ count → EachPlace sel (λ p. p < limit)
+    → ((p : ℕ) (T : ℕ → Bool) → is_in p sel ≡ true → HasAllDemands j (first + p) T → DemandsSource j (first + p) u T x)
+    → (before after : List LaneView) (start end : ℕ) → IsSpentOver j first u s sel before after start end → Spends j first count before after start end
+element_spends j first count u s k tags limit x e sel le inside demanded before after start end spent =
+    spends_filled j first count u s sel before after start end spent
+    (λ p i. (let l = inside p i in omega (arith, l, le)))
+    (λ p T i all. of_site p T (subst (λ (y : Source). DemandsSource j (first + p) u T y) e (demanded p T i all)))
+  where
+    of_site : (p : ℕ) (T : ℕ → Bool) → DemandsSource j (first + p) u T (from.Element s k tags) → Demands j (first + p) u T s
+    of_site p T d = (d.0, d.1, d.2)
+
 pub version_served : (j : JobView) (first count : ℕ) (u : Option ℕ) (s pass : ℕ) (x : Source) → x ≡ from.Site s → (sel : List ℕ) (to : Kept) (lanes : List LaneView) (old new : Found)
     → IsServedTo j first count (site_fault j first u s) pass sel to lanes old new → IsServedTo j first count (source_fault j first u x) pass sel to lanes old new
 version_served j first count u s pass x e sel to lanes old new h = subst (λ (y : Source). IsServedTo j first count (source_fault j first u y) pass sel to lanes old new) (sym e) h
@@ -75,9 +89,13 @@ pub version_held : (j : JobView) (lanes : List LaneView) (u : Option ℕ) (s : �
 version_held j lanes u s x e sel h p i = subst (λ (y : Source). IsAtHand j lanes u p y) (sym e) (h p i)
 
 -- a column never faults
-module _ (j : JobView) (first count : ℕ) (u : Option ℕ) (col : ℕ) (x : Source) (e : x ≡ from.Cell col) (cells : List (List ℤ)) (there : HasColumn j first count cells col) where
+module _ (j : JobView) (first count : ℕ) (u : Option ℕ) (col : ℕ) (x : Source) (e : x ≡ from.Cell col) where
   no_fault : (p : ℕ) → p < count → source_fault j first u x p ≡ None
-  no_fault p lt = ap (λ (y : Source). source_fault j first u y p) e ∙ ap (λ o. fault_in (cell_value {M = ⊥} o)) (there.2.each p lt)
+  no_fault p lt = ap (λ (y : Source). source_fault j first u y p) e ∙ none (slice_get (row_of j (first + p)) col)
+    where
+      none : (o : Option Value) → fault_in (cell_value {M = ⊥} o) ≡ None
+      none None = refl
+      none (Some v) = refl
 
   pub column_served : (pass : ℕ) (to : Kept) (lanes : List LaneView) (s : Found) → AreReady j first count lanes → s.limit ≤ count → to.limit ≡ Some s.limit → EachPlace to.places (λ p. p < s.limit) → ((p : ℕ) → p < s.limit → IsSettledAt lanes p)
       → IsServedTo j first count (source_fault j first u x) pass to.places to lanes s s

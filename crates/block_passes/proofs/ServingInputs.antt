@@ -15,16 +15,18 @@ use Rattle.block_lanes.specs.Lanes.{LaneView}
 use Rattle.entry_cache.specs.Jobs.{JobView, job_graph}
 use Rattle.entry_cache.specs.Keys.{key, key_count}
 use Rattle.entry_cache.specs.Plain.{ArePlainVersions}
-use Rattle.entry_cache.specs.Store.{IsSourceIn, source_at, version_in}
+use Rattle.entry_cache.specs.Store.{IsSourceIn, held_element, held_in, source_at, version_in}
+use Rattle.entry_cache.specs.declared.held.Held.{Held}
 use Rattle.entry_cache.specs.Store.{is_held as is_known}
 use Rattle.entry_passes.specs.Turns.{HasAllDemands}
-use Rattle.block_cache.specs.Blocks.{AreReady}
+use Rattle.block_cache.specs.Blocks.{AreReady, cells_at}
 use Rattle.block_cache.specs.Fills.{holds_at}
 use Rattle.block_passes.specs.Inputs.{AreAtHand, CanServe, DemandsInputs, DemandsSource, IsAtHand, IsServedTo, inputs_fault, source_fault}
 use Rattle.block_passes.specs.Searches.{Lowers, where_in}
 use Rattle.block_passes.specs.Spends.{IsSettledAt, Spends}
 use Rattle.block_passes.specs.declared.found.Found.{Found}
 use Rattle.block_passes.specs.declared.kept.Kept.{Kept}
+use Rattle.block_passes.proofs.ElementsHeld.{known_held}
 use Rattle.block_passes.proofs.FaultsOver.{in_filtered, kept_whole, selected_or_none}
 use Rattle.block_passes.proofs.Parts.{inputs_fault as all_fault}
 use Rattle.block_passes.proofs.PlaceLists.{filter_twice}
@@ -49,7 +51,11 @@ still_held j first count before after start end spends k p h =
 pub still_at_hand : (j : JobView) (first count : ℕ) (before after : List LaneView) (start end : ℕ) → Spends j first count before after start end → (u : Option ℕ) (p : ℕ) (x : Source) → IsAtHand j before u p x → IsAtHand j after u p x
 still_at_hand j first count before after start end spends u p (from.Cell col) h = tt
 still_at_hand j first count before after start end spends u p (from.Site s) h = still_held j first count before after start end spends (key (job_graph j) s u) p h
-still_at_hand j first count before after start end spends u p (from.Element s k tags) h = elim h [ ]
+still_at_hand j first count before after start end spends u p (from.Element s k tags) h =
+    let cell = held_in (cells_at (key_count (job_graph j)) before p) (key (job_graph j) s u) in (
+      h.0,
+      ap (λ (x : Held). held_element 0 x k tags) (spends.grows p (key (job_graph j) s u) (known_held cell k tags h.0 h.1)) ∙ h.1,
+    )
 
 of_set : (D : ℕ → Bool) (x : Source) → HasSourceIn (λ s. D s ≡ true) x → IsSourceIn D x
 of_set D (from.Cell col) h = tt

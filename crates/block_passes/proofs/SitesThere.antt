@@ -15,13 +15,13 @@ use Rattle.entry_cache.proofs.EvaluateLaws.{accepted_of}
 use Rattle.block_passes.specs.Plans.{IsTried}
 use Rattle.block_passes.specs.Steps.{Chain}
 
-all_at : (P : ℕ → Type 0) (up rest : List ℕ) (s : ℕ) → AllByRecursion P (up ++ s ∷ rest) → P s
+pub all_at : (P : ℕ → Type 0) (up rest : List ℕ) (s : ℕ) → AllByRecursion P (up ++ s ∷ rest) → P s
 all_at P [] rest s h = h.0
 all_at P (t ∷ up) rest s h = all_at P up rest s h.1
 
-none : (up : List ℕ) (s : ℕ) → up ++ s ∷ [] ≡ [] → ⊥
-none [] s q = cc q
-none (x ∷ xs) s q = cc q
+pub not_empty : (up : List ℕ) (s : ℕ) → up ++ s ∷ [] ≡ [] → ⊥
+not_empty [] s q = cc q
+not_empty (x ∷ xs) s q = cc q
 
 module _ (j : JobView) (job : IsJob j) (c : Chain) (up : List ℕ) (s : ℕ) (e : c.sites ≡ up ++ s ∷ []) where
   in_list : (P : ℕ → Type 0) (path rest : List ℕ) → path ≡ c.sites ++ rest → AllByRecursion P path → P s
@@ -32,7 +32,7 @@ module _ (j : JobView) (job : IsJob j) (c : Chain) (up : List ℕ) (s : ℕ) (e 
 
   -- the last filter of a chain that is tried is a site of the graph
   pub site_there : IsTried j c → s < length (graph_sites (job_graph j))
-  site_there (inl q) = absurd (none up s (sym e ∙ q))
+  site_there (inl q) = absurd (not_empty up s (sym e ∙ q))
   site_there (inr (inl p)) =
       let u = graph_under (job_graph j) p.numbered.variation in
       let sound = subst (λ (b : Booking). IsSoundBooking j.dataset u (history j.script) p.result b) p.action.booking
@@ -42,7 +42,7 @@ module _ (j : JobView) (job : IsJob j) (c : Chain) (up : List ℕ) (s : ℕ) (e 
 
   -- and of a loop without vectors it is one of the sites without vectors
   pub site_used : (loop : IsPlainLoop j) → IsTried j c → loop.used s ≡ true
-  site_used loop (inl q) = absurd (none up s (sym e ∙ q))
+  site_used loop (inl q) = absurd (not_empty up s (sym e ∙ q))
   site_used loop (inr (inl p)) =
       in_list (λ t. loop.used t ≡ true) p.result.filters p.begins.rest p.begins.begins (recursion_from_All (λ t. loop.used t ≡ true) p.result.filters (loop.filters p.pass p.numbered p.result p.action.its_pass p.action.its_result))
   site_used loop (inr (inr f)) =

@@ -11,6 +11,10 @@ use Rattle.block_laws.specs.Counts.{rows_demand}
 use Rattle.block_passes.specs.declared.stop.BlockStop.{BlockStop}
 use Rattle.block_passes.specs.declared.stop.BlockStop.TheVariants as stop
 
+-- so many entries from one on
+abbrev pub entries_from : ℕ → ℕ → Span
+entries_from first count = record { lo = first; hi = first + count }
+
 -- the rows of a block
 abbrev pub block_rows : JobView → Span → List (List Value)
 block_rows j b = slice_range j.dataset.rows b.lo b.hi

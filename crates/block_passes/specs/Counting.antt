@@ -1,7 +1,9 @@
 -- What a block comes to at the named filters.
 use Rattle.std.specs.Prelude.{◌≡◌, ◌+◌, ℕ, List, Some, slice_get}
+use Rattle.graph_numbers.specs.Graphs.{graph_filters}
+use Rattle.graph_numbers.specs.Results.{FilterAt}
 use Rattle.cluster_tally.specs.Blocks.{BlockStage}
-use Rattle.entry_cache.specs.Jobs.{JobView}
+use Rattle.entry_cache.specs.Jobs.{JobView, job_graph}
 use Rattle.block_passes.specs.Laws.{IsInCluster}
 use Rattle.block_passes.specs.Plans.{PlanView}
 use Rattle.block_passes.specs.Selections.{AreKept}
@@ -27,8 +29,8 @@ IsOverAll count kept k = (m : Kept) → slice_get kept k ≡ Some m → m.limit 
 -- so were those of each named filter that is covered, and none of the filters faults in the block
 pub record AreCountable (j : JobView) (first count : ℕ) (chains : List Chain) (p : PlanView) (kept : List Kept) : Type 0 where
   pub kept_are : AreKept j first chains count kept
-  pub above : (f : ℕ) (s : NamedSteps) → slice_get p.filters f ≡ Some (Some s) → IsOverAll count kept s.above
-  pub own : (f : ℕ) (s : NamedSteps) → slice_get p.filters f ≡ Some (Some s) → IsOverAll count kept s.own
+  pub above : (f : ℕ) (x : FilterAt) (s : NamedSteps) → slice_get (graph_filters (job_graph j)) f ≡ Some x → slice_get p.filters f ≡ Some (Some s) → IsOverAll count kept s.above
+  pub own : (f : ℕ) (x : FilterAt) (s : NamedSteps) → slice_get (graph_filters (job_graph j)) f ≡ Some x → slice_get p.filters f ≡ Some (Some s) → IsOverAll count kept s.own
 
 -- so many action passes have taken it in
 abbrev pub at_pass : BlockStage → ℕ → BlockStage

@@ -4,7 +4,9 @@ use Rattle.std.specs.List.{filter, AllByRecursion}
 use Rattle.rdf_values.specs.declared.fault.EntryFault.{EntryFault}
 use Rattle.rdf_values.specs.declared.value.ColType.{ColType}
 use Rattle.rdf_values.specs.declared.value.ColType.TheVariants as kind
-use Rattle.rdf_model.specs.Evaluation.{for_all}
+use Rattle.rdf_values.specs.declared.value.Value.{Value}
+use Rattle.rdf_values.specs.Tables.{kind_at}
+use Rattle.rdf_model.specs.Evaluation.{Gives, for_all}
 use Rattle.rdf_model.specs.Results.{fault_in}
 use Rattle.graph_numbers.specs.Graphs.{graph_sites, graph_versions}
 use Rattle.graph_numbers.specs.Meets.{HasInputs}
@@ -13,9 +15,9 @@ use Rattle.graph_numbers.specs.declared.source.Source.{Source}
 use Rattle.graph_numbers.specs.declared.source.Source.TheVariants as from
 use Rattle.block_lanes.specs.Lanes.{LaneView}
 use Rattle.entry_cache.specs.Jobs.{JobView, job_graph}
-use Rattle.entry_cache.specs.Keys.{key}
-use Rattle.entry_cache.specs.Store.{IsSourceIn, row_of, site_in, source_at, version_in}
-use Rattle.block_cache.specs.Blocks.{AreReady, HasColumn}
+use Rattle.entry_cache.specs.Keys.{key, key_count}
+use Rattle.entry_cache.specs.Store.{IsSourceIn, held_element, held_in, row_of, site_in, source_at, version_in}
+use Rattle.block_cache.specs.Blocks.{AreReady, HasColumn, cells_at}
 use Rattle.block_cache.specs.Fills.{CanFill, holds_at}
 use Rattle.block_passes.specs.Demands.{IsDemandedAt}
 use Rattle.block_passes.specs.Searches.{Lowers, where_in}
@@ -25,11 +27,12 @@ use Rattle.block_passes.specs.declared.kept.Kept.{Kept}
 
 -- ---- what is read
 
--- what gives a version its value is at hand at a place: a column of numbers is, a site where its value is held
+-- what gives a version its value is at hand at a place: a column of the table is, a site where its value is held, and an element of a
+-- site's vector where that is held and has one element for each tag
 abbrev pub IsAtHand : JobView → List LaneView → Option ℕ → ℕ → Source → Type 0
 IsAtHand j lanes u p (from.Cell col) = ⊤
 IsAtHand j lanes u p (from.Site s) = holds_at lanes (key (job_graph j) s u) p ≡ true
-IsAtHand j lanes u p (from.Element s k tags) = ⊥
+IsAtHand j lanes u p (from.Element s k tags) = (v : Value) × (held_element 0 (held_in (cells_at (key_count (job_graph j)) lanes p) (key (job_graph j) s u)) k tags ≡ Gives v)
 
 -- so are all versions that are read
 abbrev pub AreAtHand : JobView → List LaneView → Option ℕ → List ℕ → ℕ → Type 0
@@ -39,11 +42,35 @@ AreAtHand j lanes u inputs p = AllByRecursion (λ c. IsAtHand j lanes u p (sourc
 abbrev pub IsScalarLane : List ColType → ℕ → Type 0
 IsScalarLane kinds k = slice_get kinds k ≡ Some kind.Vect → ⊥
 
--- a column of numbers is there, or a site can be filled, and its lane holds numbers or truths
+-- the source is read in place: a column of numbers, or the lane of a site that holds numbers or truths
+abbrev pub IsWhole : JobView → Option ℕ → List ColType → Source → Type 0
+IsWhole j u kinds (from.Cell col) = kind_at j.dataset.columns col ≡ Some kind.Int
+IsWhole j u kinds (from.Site s) = IsScalarLane kinds (key (job_graph j) s u)
+IsWhole j u kinds (from.Element s k tags) = ⊥
+
+-- so are the sources of all versions that are read
+abbrev pub AreWhole : JobView → Option ℕ → List ColType → List ℕ → Type 0
+AreWhole j u kinds inputs = AllByRecursion (λ c. IsWhole j u kinds (source_at j u c)) inputs
+
+-- a column of numbers, or a source of a site of the set
+abbrev pub IsPlainSource : JobView → (ℕ → Bool) → Source → Type 0
+IsPlainSource j used (from.Cell col) = kind_at j.dataset.columns col ≡ Some kind.Int
+IsPlainSource j used (from.Site s) = used s ≡ true
+IsPlainSource j used (from.Element s k tags) = used s ≡ true
+
+-- so are the sources of all versions that are read
+abbrev pub ArePlainSources : JobView → (ℕ → Bool) → Option ℕ → List ℕ → Type 0
+ArePlainSources j used u inputs = AllByRecursion (λ c. IsPlainSource j used (source_at j u c)) inputs
+
+-- the site can be filled
+abbrev pub IsFillableSite : JobView → ℕ → Option ℕ → ℕ → List ColType → List (List ℤ) → ℕ → ℕ → ℕ → Type 0
+IsFillableSite j first u count kinds cells scratch levels s = (s < length (graph_sites (job_graph j))) × CanFill j first u count kinds cells scratch levels s
+
+-- a column is there, as numbers if it is one of numbers; or the site can be filled
 abbrev pub IsServable : JobView → ℕ → Option ℕ → ℕ → List ColType → List (List ℤ) → ℕ → ℕ → Source → Type 0
-IsServable j first u count kinds cells scratch levels (from.Cell col) = HasColumn j first count cells col
-IsServable j first u count kinds cells scratch levels (from.Site s) = (s < length (graph_sites (job_graph j))) × CanFill j first u count kinds cells scratch levels s × IsScalarLane kinds (key (job_graph j) s u)
-IsServable j first u count kinds cells scratch levels (from.Element s k tags) = ⊥
+IsServable j first u count kinds cells scratch levels (from.Cell col) = (col < length j.dataset.columns) × (kind_at j.dataset.columns col ≡ Some kind.Int → HasColumn j first count cells col)
+IsServable j first u count kinds cells scratch levels (from.Site s) = IsFillableSite j first u count kinds cells scratch levels s
+IsServable j first u count kinds cells scratch levels (from.Element s k tags) = IsFillableSite j first u count kinds cells scratch levels s
 
 -- the version is there, and so is what gives it its value
 abbrev pub CanServe : JobView → ℕ → Option ℕ → ℕ → List ColType → List (List ℤ) → ℕ → ℕ → ℕ → Type 0
@@ -62,6 +89,10 @@ DemandsInputs j entry u T inputs = (D : ℕ → Bool) × IsDemandedAt j entry u 
 -- the fault of a source, and of what is read, at a place of a block that begins at this entry
 abbrev pub source_fault : JobView → ℕ → Option ℕ → Source → ℕ → Option EntryFault
 source_fault j first u x p = fault_in (source_value {M = ⊥} (row_of j (first + p)) (site_in j (first + p) u) x)
+
+-- likewise of an element of a site's vector, at the place of a tag among so many
+abbrev pub element_fault : JobView → ℕ → Option ℕ → ℕ → ℕ → ℕ → ℕ → Option EntryFault
+element_fault j first u s k tags p = source_fault j first u (from.Element s k tags) p
 
 abbrev pub inputs_fault : JobView → ℕ → Option ℕ → List ℕ → ℕ → Option EntryFault
 inputs_fault j first u inputs p = fault_in (for_all (version_in {M = ⊥} j (first + p) u) inputs)

@@ -1,6 +1,7 @@
 pub mod Blocks
 pub mod Clear
 pub mod Clusters
+pub mod Copying
 pub mod Counting
 pub mod Demands
 pub mod Fed
@@ -12,5 +13,6 @@ pub mod Plans
 pub mod Searches
 pub mod Selections
 pub mod Spends
+pub mod States
 pub mod Steps
 pub mod Tries

@@ -15,7 +15,7 @@ pub record Spends (j : JobView) (first count : ℕ) (before after : List LaneVie
   pub rooms : rooms_of after ≡ rooms_of before
   pub stays : (k p : ℕ) → begun_at before k p ≡ true → begun_at after k p ≡ true
   pub grows : (p : ℕ) → Grows (cells_at (key_count (job_graph j)) before p) (cells_at (key_count (job_graph j)) after p)
-  pub only : (T : ℕ → ℕ → Bool) → ((p : ℕ) → p < count → HasAllDemands j (first + p) (T p)) → (k p : ℕ) → p < count → begun_at after k p ≡ true → (begun_at before k p ≡ true) ⊎ (T p k ≡ true)
+  pub only : (T : ℕ → ℕ → Bool) → ((p : ℕ) → p < count → HasAllDemands j (first + p) (T p)) → (k p : ℕ) → begun_at after k p ≡ true → (begun_at before k p ≡ true) ⊎ ((p < count) × (T p k ≡ true))
   pub cost : end + 2 * begun_count before ≤ start + 2 * begun_count after
 
 -- all that was begun at the place holds its value

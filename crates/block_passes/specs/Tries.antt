@@ -13,7 +13,7 @@ use Rattle.block_lanes.specs.Lanes.{LaneView}
 use Rattle.entry_cache.specs.Jobs.{JobView, job_graph}
 use Rattle.entry_cache.specs.Store.{site_in}
 use Rattle.entry_passes.specs.Turns.{IsReportPass, pass_fault}
-use Rattle.block_passes.specs.Inputs.{AreAtHand, CanServe}
+use Rattle.block_passes.specs.Inputs.{AreAtHand, AreWhole, CanServe}
 use Rattle.block_passes.specs.Plans.{IsActionOf, PlanView}
 use Rattle.block_passes.specs.Searches.{IsSearched, Lowers}
 use Rattle.block_passes.specs.Selections.{IsMadeAt, IsReadyBelow}
@@ -71,6 +71,10 @@ pub record IsPassMade (j : JobView) (count : ℕ) (plan : PlanView) (kept : List
 abbrev pub CanServeAll : JobView → ℕ → ℕ → List ColType → List (List ℤ) → ℕ → ℕ → Type 0
 CanServeAll j first count kinds cells scratch levels =
     (n : ℕ) (k : ActionKind) (inputs : List ℕ) (u : Option ℕ) → IsReadOf j n k inputs u → AllByRecursion (CanServe j first u count kinds cells scratch levels) inputs
+
+-- the actions of the loop read all in place
+abbrev pub AreAllWhole : JobView → List ColType → Type 0
+AreAllWhole j kinds = (n : ℕ) (k : ActionKind) (inputs : List ℕ) (u : Option ℕ) → IsReadOf j n k inputs u → AreWhole j u kinds inputs
 
 -- so many passes were tried over a block: what is known of it, the search so far, and what the actions among them read is at hand
 pub record IsSearchedTo (j : JobView) (first count : ℕ) (chains : List Chain) (passes : ℕ) (lanes : List LaneView) (kept : List Kept) (s : Found) : Type 0 where

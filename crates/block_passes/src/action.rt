@@ -58,6 +58,8 @@ pub(crate) fn try_action<L: Ledger>(
         Ok(()) => {}
         Err(Memory) => return Err(Memory),
     }
-    test_feeding(at, work, to, own);
-    Ok(())
+    match test_feeding(at, work, to, own) {
+        Ok(()) => Ok(()),
+        Err(Memory) => Err(Memory),
+    }
 }

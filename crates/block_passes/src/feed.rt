@@ -1,11 +1,12 @@
 // Feeding what the passes of a block give.
-ghost use Rattle.std.specs.Prelude.{◌≡◌, ◌<◌, ◌≤◌, ◌+◌, ℕ, All, List, IfOk, OnErr, OnOk, length, slice_get, Some};
+ghost use Rattle.std.specs.Prelude.{◌≡◌, ◌<◌, ◌≤◌, ◌+◌, ℕ, All, Bool, List, IfOk, OnErr, OnOk, length, slice_get, Some};
 ghost use Rattle.rdf_model.specs.LoopFacts.{kinds_in};
 ghost use Rattle.expr_lanes.specs.declared.TheConstants.{MAX_PLACES};
 ghost use Rattle.block_lanes.specs.Lanes.{kinds_of};
 ghost use Rattle.cluster_tally.specs.Blocks.{BlockStage, HoldsIn, pass_done};
 ghost use Rattle.actions.specs.Holding.{IsTake};
-ghost use Rattle.entry_cache.specs.Caches.{numbered_in};
+ghost use Rattle.entry_cache.specs.Caches.{IsPlainLoop, numbered_in};
+ghost use Rattle.entry_cache.specs.Plain.{ArePlain};
 ghost use Rattle.entry_cache.specs.Jobs.{Fits, job_graph, job_of, passes_in};
 ghost use Rattle.entry_cache.specs.Keys.{AreKeys};
 ghost use Rattle.entry_passes.specs.Entries.{IsNoTake, facts_in};
@@ -17,8 +18,10 @@ ghost use Rattle.block_passes.specs.Fed.{IsFeedable};
 ghost use Rattle.block_passes.specs.Feeds.{CanGather};
 ghost use Rattle.block_passes.specs.Plans.{IsPlan};
 ghost use Rattle.block_passes.specs.Selections.{AreKept};
-ghost use Rattle.block_passes.specs.Tries.{CanServeAll, IsReadOf};
+ghost use Rattle.block_passes.specs.Inputs.{ArePlainSources, AreWhole};
+ghost use Rattle.block_passes.specs.Tries.{AreAllWhole, CanServeAll, IsReadOf};
 
+use crate::copies::copy_inputs;
 use crate::kept::Kept;
 use crate::passes::action_read;
 use crate::plan::loop_passes;
@@ -61,13 +64,15 @@ pub(crate) fn feed_action(
     requires begin { (watched : List ℕ) × (s : BlockStage) × IsAmid (job_of at.now.job.now) at.now.first at.now.count s × (s.cluster ≡ to.cluster) × (s.passes ≡ to.place) × HoldsIn (facts_in (job_of at.now.job.now)) watched s tally.old }
     ensures holds { (watched : List ℕ) (s : BlockStage) → IsAmid (job_of at.now.job.now) at.now.first at.now.count s → s.cluster ≡ to.cluster → s.passes ≡ to.place → HoldsIn (facts_in (job_of at.now.job.now)) watched s tally.old
         → OnOk result (HoldsIn (facts_in (job_of at.now.job.now)) watched (pass_done s) tally.new) }
-    ensures memory { OnErr result (IsTake own.now.kind.now) }
+    ensures memory { AreWhole (job_of at.now.job.now) own.now.under (kinds_of lanes.now) own.now.inputs.now → OnErr result (IsTake own.now.kind.now) }
+    ensures plain { (used : ℕ → Bool) → ArePlain (job_of at.now.job.now) used → ArePlainSources (job_of at.now.job.now) used own.now.under own.now.inputs.now → OnErr result (IsTake own.now.kind.now) }
 {
     let last = at.plan.last_step(at.pass);
     let selection = &kept[last as usize].places;
+    let copies = copy_inputs(at, lanes, selection, own)?;
     let batch = Batch {
         places: batch_places(selection),
-        sources: gather(at, lanes, own.kind, own.inputs, own.under),
+        sources: gather(at, lanes, selection, &copies, own),
     };
     tally.feed_batch(to.place, to.cluster, &batch)
 }
@@ -94,7 +99,8 @@ fn feed_pass(
     ensures place { IfOk result (λ next. next ≡ actions_before (job_of at.now.job.now) (at.now.pass + 1)) }
     ensures holds { IfOk result (λ next. (watched : List ℕ) (s : BlockStage) → IsAmid (job_of at.now.job.now) at.now.first at.now.count s → s.cluster ≡ to.cluster → s.passes ≡ to.place → HoldsIn (facts_in (job_of at.now.job.now)) watched s tally.old
         → HoldsIn (facts_in (job_of at.now.job.now)) watched (at_pass s next) tally.new) }
-    ensures memory { All IsNoTake (kinds_in (passes_in (job_of at.now.job.now))) → OnErr result ⊥ }
+    ensures memory { AreAllWhole (job_of at.now.job.now) (kinds_of lanes.now) → All IsNoTake (kinds_in (passes_in (job_of at.now.job.now))) → OnErr result ⊥ }
+    ensures plain { IsPlainLoop (job_of at.now.job.now) → All IsNoTake (kinds_in (passes_in (job_of at.now.job.now))) → OnErr result ⊥ }
 {
     let Some(read) = action_read(at.job, own, at.pass) else {
         return Ok(to.place);
@@ -120,7 +126,8 @@ pub(crate) fn feed_passes(
     requires begin { (watched : List ℕ) × (s : BlockStage) × IsAmid (job_of at.now.job.now) at.now.first at.now.count s × (s.cluster ≡ cluster) × (s.passes ≡ 0) × HoldsIn (facts_in (job_of at.now.job.now)) watched s tally.old }
     ensures holds { (watched : List ℕ) (s : BlockStage) → IsAmid (job_of at.now.job.now) at.now.first at.now.count s → s.cluster ≡ cluster → s.passes ≡ 0 → HoldsIn (facts_in (job_of at.now.job.now)) watched s tally.old
         → OnOk result (HoldsIn (facts_in (job_of at.now.job.now)) watched (at_pass s (length (kinds_in (passes_in (job_of at.now.job.now))))) tally.new) }
-    ensures memory { All IsNoTake (kinds_in (passes_in (job_of at.now.job.now))) → OnErr result ⊥ }
+    ensures memory { AreAllWhole (job_of at.now.job.now) (kinds_of lanes.now) → All IsNoTake (kinds_in (passes_in (job_of at.now.job.now))) → OnErr result ⊥ }
+    ensures plain { IsPlainLoop (job_of at.now.job.now) → All IsNoTake (kinds_in (passes_in (job_of at.now.job.now))) → OnErr result ⊥ }
 {
     let mut place = 0;
     let passes = loop_passes(at.job);

@@ -2,6 +2,7 @@
 ghost use Rattle.std.specs.Prelude.{◌≡◌, ◌<◌, ◌≤◌, ◌+◌, ℕ, Bool, OnOk, Some, length, true, OnErr};
 ghost use Rattle.std.specs.List.{AllByRecursion};
 ghost use Rattle.graph_numbers.specs.Graphs.{graph_sites, graph_versions};
+ghost use Rattle.graph_numbers.specs.declared.source.Source.TheVariants as source;
 ghost use Rattle.expr_lanes.specs.Places.{EachPlace, is_in};
 ghost use Rattle.expr_lanes.specs.declared.TheConstants.{MAX_PLACES};
 ghost use Rattle.block_lanes.specs.Lanes.{kinds_of};
@@ -12,9 +13,10 @@ ghost use Rattle.entry_cache.specs.Store.{IsSourceIn, source_at};
 ghost use Rattle.entry_passes.specs.Turns.{HasAllDemands};
 ghost use Rattle.block_cache.specs.Blocks.{AreReady};
 ghost use Rattle.block_cache.specs.Fills.{CanFill, IsSpentOver, holds_at, site_fault};
-ghost use Rattle.block_passes.specs.Inputs.{AreAtHand, CanServe, DemandsInputs, DemandsSource, IsAtHand, IsServedTo, inputs_fault, source_fault};
+ghost use Rattle.block_passes.specs.Inputs.{AreAtHand, CanServe, DemandsInputs, DemandsSource, IsAtHand, IsServedTo, element_fault, inputs_fault, source_fault};
 ghost use Rattle.block_passes.specs.Spends.{IsSettledAt, Spends};
 
+use crate::elements::{SiteElement, test_elements};
 use crate::kept::Kept;
 use crate::turn::{Turn, Work};
 use block_cache::attempt::Block;
@@ -99,6 +101,40 @@ pub(crate) fn source_under(at: &Turn<'_>, version: u32, under: Option<u32>) -> S
     source_of(&reading, version)
 }
 
+/// Fills the site of an element likewise, and tests whether there is one for each tag.
+fn serve_element<L: Ledger>(
+    at: &Turn<'_>,
+    work: &mut Work,
+    to: &mut Kept,
+    of: &SiteElement,
+    steps: &mut Steps<L>,
+) -> Result<(), Memory>
+    requires job { Fits at.now.job.now }
+    requires rows { AreKeys (job_graph (job_of at.now.job.now)) at.now.rows.now }
+    requires site { of.now.site < length (graph_sites (job_graph (job_of at.now.job.now))) }
+    requires ready { AreReady (job_of at.now.job.now) at.now.first at.now.count work.old.lanes.items }
+    requires can { CanFill (job_of at.now.job.now) at.now.first of.now.under at.now.count (kinds_of work.old.lanes.items) at.now.cells.now (length work.old.scratch.items) (length work.old.levels.items) of.now.site }
+    requires small { at.now.count ≤ MAX_PLACES }
+    requires few { at.now.first + at.now.count ≤ 1000000 }
+    requires limit { work.old.found.limit ≤ at.now.count }
+    requires inside { EachPlace to.old.places (λ p. p < work.old.found.limit) }
+    requires settled { (p : ℕ) → p < work.old.found.limit → IsSettledAt work.old.lanes.items p }
+    ensures spent { IsSpentOver (job_of at.now.job.now) at.now.first of.now.under of.now.site to.old.places work.old.lanes.items work.new.lanes.items steps.old steps.new }
+    ensures served { OnOk result (IsServedTo (job_of at.now.job.now) at.now.first at.now.count (element_fault (job_of at.now.job.now) at.now.first of.now.under of.now.site of.now.nth of.now.tags) at.now.pass to.old.places to.new work.new.lanes.items work.old.found work.new.found) }
+    ensures held { OnOk result (EachPlace to.new.places (λ p. IsAtHand (job_of at.now.job.now) work.new.lanes.items of.now.under p (source.Element of.now.site of.now.nth of.now.tags))) }
+    ensures scratch { length work.new.scratch.items ≡ length work.old.scratch.items }
+    ensures levels { length work.new.levels.items ≡ length work.old.levels.items }
+    ensures plain { (used : ℕ → Bool) → ArePlain (job_of at.now.job.now) used → used of.now.site ≡ true → OnErr result ⊥ }
+{
+    match serve_site(at, work, to, of.site, of.under, steps) {
+        Ok(()) => {
+            test_elements(at, work, to, of);
+            Ok(())
+        }
+        Err(Memory) => Err(Memory),
+    }
+}
+
 /// Fills what gives a version its value, likewise.
 fn serve_version<L: Ledger>(
     at: &Turn<'_>,
@@ -130,7 +166,15 @@ fn serve_version<L: Ledger>(
     match source_under(at, version, under) {
         Source::Cell { .. } => Ok(()),
         Source::Site { site } => serve_site(at, work, to, site, under, steps),
-        Source::Element { .. } => unreachable!(),
+        Source::Element { site, place, tags } => {
+            let of = SiteElement {
+                site,
+                under,
+                nth: place,
+                tags,
+            };
+            serve_element(at, work, to, &of, steps)
+        }
     }
 }
 

@@ -4,17 +4,26 @@
 #![tactic(auto)]
 
 mod action;
+mod block_ends;
+mod cluster;
+mod copies;
+mod depths;
+mod elements;
+mod ending;
 mod feed;
 pub mod found;
 mod inputs;
 pub mod kept;
+mod kinds;
 pub mod laws;
 mod noting;
 mod passes;
 pub mod plan;
 mod reports;
+mod reserve;
 mod select;
 mod sources;
+pub mod state;
 pub mod steps;
 pub mod stop;
 mod testing;
@@ -22,5 +31,6 @@ pub mod turn;
 
 pub use crate::found::Found;
 pub use crate::plan::{LoopPlan, NamedSteps};
+pub use crate::state::BlockState;
 pub use crate::steps::Step;
 pub use crate::stop::BlockStop;

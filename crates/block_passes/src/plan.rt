@@ -26,6 +26,7 @@ pub struct NamedSteps {
 /// Which selections the passes of a loop share, and which each of them takes.
 #[derive(Drop)]
 pub struct LoopPlan {
+    alloc: Global,
     steps: ListOf<Step>,
     passes: ListOf<u32>,
     filters: ListOf<Option<NamedSteps>>,
@@ -169,10 +170,23 @@ impl LoopPlan {
         let passes = pass_steps(alloc, job, &mut steps)?;
         let filters = filter_steps(alloc, job, &mut steps)?;
         Ok(LoopPlan {
+            alloc,
             steps,
             passes,
             filters,
         })
+    }
+
+    /// How many steps there are.
+    pub(crate) fn steps(&self) -> usize
+        ensures { result ≡ length self.now.steps }
+    {
+        self.steps.len()
+    }
+
+    /// What copies for a pass take memory from.
+    pub(crate) fn alloc(&self) -> Global {
+        self.alloc
     }
 
     /// The step of that number.

@@ -7,20 +7,24 @@ ghost use Rattle.rdf_model.specs.Evaluation.{Gives, for_all};
 ghost use Rattle.rdf_model.specs.Laws.{FitsFeed};
 ghost use Rattle.graph_numbers.specs.Graphs.{graph_sites};
 ghost use Rattle.block_lanes.specs.Lanes.{kinds_of};
+ghost use Rattle.expr_lanes.specs.Places.{is_in};
 ghost use Rattle.entry_cache.specs.Jobs.{Fits, job_graph, job_of};
 ghost use Rattle.entry_cache.specs.Keys.{AreKeys, key as key_of};
 ghost use Rattle.entry_cache.specs.Store.{site_in, source_at, version_in};
 ghost use Rattle.block_cache.specs.Blocks.{AreReady};
 ghost use Rattle.block_cache.specs.Fills.{AreSiteKinds, holds_at};
-ghost use Rattle.block_passes.specs.Feeds.{AreLanesOf, IsLaneOf};
-ghost use Rattle.block_passes.specs.Inputs.{AreAtHand, CanServe, IsAtHand, IsScalarLane};
+ghost use Rattle.block_passes.specs.Copying.{AreCopied, IsCopyOf};
+ghost use Rattle.block_passes.specs.Feeds.{AreLanesOf, CanGather, IsLaneOf};
+ghost use Rattle.block_passes.specs.Inputs.{AreAtHand, CanServe, IsAtHand, IsScalarLane, IsWhole};
 
+use crate::copies::{Copied, Copies};
 use crate::inputs::source_under;
-use crate::turn::Turn;
+use crate::turn::{ActionRead, Turn};
 use actions::{Lane as FedLane, Sources};
 use block_lanes::Lane;
 use entry_cache::reading::{Reading, expression, key};
 use entry_cache::rows::row_at;
+use expr_lanes::Selection;
 use graph_numbers::Source;
 use rdf_values::{ActionKind, ColType};
 
@@ -49,8 +53,35 @@ fn site_lane<'s>(at: &Turn<'_>, lanes: &'s [Lane], site: u32, under: Option<u32>
     }
 }
 
-/// The lane of a version.
+/// The lane of a version over a selection, by what was copied of it there.
 fn version_lane<'a: 's, 's>(
+    at: &Turn<'a>,
+    lanes: &'s [Lane],
+    _selection: &Selection,
+    copied: &'s Copied,
+    version: u32,
+    under: Option<u32>,
+) -> FedLane<'s>
+    requires job { Fits at.now.job.now }
+    requires rows { AreKeys (job_graph (job_of at.now.job.now)) at.now.rows.now }
+    requires ready { AreReady (job_of at.now.job.now) at.now.first at.now.count lanes.now }
+    requires can { (scratch levels : ℕ) × CanServe (job_of at.now.job.now) at.now.first under at.now.count (kinds_of lanes.now) at.now.cells.now scratch levels version }
+    requires copied { IsCopyOf (job_of at.now.job.now) at.now.first under (kinds_of lanes.now) _selection.now version copied.now }
+    ensures { (p : ℕ) → p < at.now.count → is_in p _selection.now ≡ true → IsAtHand (job_of at.now.job.now) lanes.now under p (source_at (job_of at.now.job.now) under version)
+        → IsLaneOf (version_in {M = ⊥} (job_of at.now.job.now) (at.now.first + p) under version) result p }
+{
+    match copied {
+        Copied::Whole => whole_lane(at, lanes, version, under),
+        Copied::Numbers(numbers) => FedLane::Int(numbers.as_slice()),
+        Copied::Vectors(vectors) => FedLane::Vects {
+            elements: vectors.elements.as_slice(),
+            spans: vectors.spans.as_slice(),
+        },
+    }
+}
+
+/// The lane of a version that is read in place.
+fn whole_lane<'a: 's, 's>(
     at: &Turn<'a>,
     lanes: &'s [Lane],
     version: u32,
@@ -60,6 +91,7 @@ fn version_lane<'a: 's, 's>(
     requires rows { AreKeys (job_graph (job_of at.now.job.now)) at.now.rows.now }
     requires ready { AreReady (job_of at.now.job.now) at.now.first at.now.count lanes.now }
     requires can { (scratch levels : ℕ) × CanServe (job_of at.now.job.now) at.now.first under at.now.count (kinds_of lanes.now) at.now.cells.now scratch levels version }
+    requires whole { IsWhole (job_of at.now.job.now) under (kinds_of lanes.now) (source_at (job_of at.now.job.now) under version) }
     ensures { (p : ℕ) → p < at.now.count → IsAtHand (job_of at.now.job.now) lanes.now under p (source_at (job_of at.now.job.now) under version)
         → IsLaneOf (version_in {M = ⊥} (job_of at.now.job.now) (at.now.first + p) under version) result p }
 {
@@ -70,24 +102,25 @@ fn version_lane<'a: 's, 's>(
     }
 }
 
-/// The lanes of all versions that an action reads.
+/// The lanes of all versions that an action reads, over a selection at whose places they are at hand, by what was copied of them there.
 pub(crate) fn gather<'a: 's, 's>(
     at: &Turn<'a>,
     lanes: &'s [Lane],
-    kind: &ActionKind,
-    inputs: &[u32],
-    under: Option<u32>,
+    selection: &Selection,
+    copies: &'s Copies,
+    own: &ActionRead<'_>,
 ) -> Sources<'s>
     requires job { Fits at.now.job.now }
     requires rows { AreKeys (job_graph (job_of at.now.job.now)) at.now.rows.now }
     requires ready { AreReady (job_of at.now.job.now) at.now.first at.now.count lanes.now }
-    requires can { (scratch levels : ℕ) × AllByRecursion (CanServe (job_of at.now.job.now) at.now.first under at.now.count (kinds_of lanes.now) at.now.cells.now scratch levels) inputs.now }
-    requires count { length inputs.now ≡ length (columns_of kind.now) }
-    requires fits { (p : ℕ) (vs : List Value) → p < at.now.count → for_all (version_in {M = ⊥} (job_of at.now.job.now) (at.now.first + p) under) inputs.now ≡ Gives vs → FitsFeed kind.now vs }
-    ensures { (p : ℕ) → p < at.now.count → AreAtHand (job_of at.now.job.now) lanes.now under inputs.now p
-        → AreLanesOf (for_all (version_in {M = ⊥} (job_of at.now.job.now) (at.now.first + p) under) inputs.now) kind.now result p }
+    requires can { CanGather (job_of at.now.job.now) at.now.first at.now.count (kinds_of lanes.now) at.now.cells.now own.now.kind.now own.now.inputs.now own.now.under }
+    requires copied { AreCopied (job_of at.now.job.now) at.now.first own.now.under (kinds_of lanes.now) selection.now own.now.inputs.now copies.now }
+    ensures { (p : ℕ) → p < at.now.count → is_in p selection.now ≡ true → AreAtHand (job_of at.now.job.now) lanes.now own.now.under own.now.inputs.now p
+        → AreLanesOf (for_all (version_in {M = ⊥} (job_of at.now.job.now) (at.now.first + p) own.now.under) own.now.inputs.now) own.now.kind.now result p }
 {
-    match kind {
+    let inputs = own.inputs;
+    let under = own.under;
+    match own.kind {
         ActionKind::Count => Sources::Entry,
         ActionKind::Sum(_)
         | ActionKind::Min(_)
@@ -95,29 +128,29 @@ pub(crate) fn gather<'a: 's, 's>(
         | ActionKind::Take(_)
         | ActionKind::Reduce(..)
         | ActionKind::Histo1D { weight: None, .. } => {
-            let x = version_lane(at, lanes, inputs[0], under);
+            let x = version_lane(at, lanes, selection, &copies.first, inputs[0], under);
             Sources::One { x }
         }
         ActionKind::Histo1D {
             weight: Some(_),
             ..
         } => {
-            let x = version_lane(at, lanes, inputs[0], under);
-            let w = version_lane(at, lanes, inputs[1], under);
+            let x = version_lane(at, lanes, selection, &copies.first, inputs[0], under);
+            let w = version_lane(at, lanes, selection, &copies.second, inputs[1], under);
             Sources::Weighted { x, w }
         }
         ActionKind::Histo2D { weight: None, .. } => {
-            let x = version_lane(at, lanes, inputs[0], under);
-            let y = version_lane(at, lanes, inputs[1], under);
+            let x = version_lane(at, lanes, selection, &copies.first, inputs[0], under);
+            let y = version_lane(at, lanes, selection, &copies.second, inputs[1], under);
             Sources::Pair { x, y }
         }
         ActionKind::Histo2D {
             weight: Some(_),
             ..
         } => {
-            let x = version_lane(at, lanes, inputs[0], under);
-            let y = version_lane(at, lanes, inputs[1], under);
-            let w = version_lane(at, lanes, inputs[2], under);
+            let x = version_lane(at, lanes, selection, &copies.first, inputs[0], under);
+            let y = version_lane(at, lanes, selection, &copies.second, inputs[1], under);
+            let w = version_lane(at, lanes, selection, &copies.third, inputs[2], under);
             Sources::WeightedPair { x, y, w }
         }
     }

@@ -1,17 +1,19 @@
 // Whether what an action reads can be fed.
-ghost use Rattle.std.specs.Prelude.{◌≡◌, ◌<◌, ◌≤◌, ◌+◌, ℕ, Some, length};
+ghost use Rattle.std.specs.Prelude.{◌≡◌, ◌<◌, ◌≤◌, ◌+◌, ℕ, Bool, IfOk, OnErr, OnOk, Some, length};
 ghost use Rattle.expr_lanes.specs.Places.{EachPlace};
 ghost use Rattle.expr_lanes.specs.declared.TheConstants.{MAX_PLACES};
 ghost use Rattle.actions.specs.Batches.{places_of};
+ghost use Rattle.entry_cache.specs.Plain.{ArePlain};
 ghost use Rattle.entry_cache.specs.Jobs.{Fits, job_graph, job_of};
 ghost use Rattle.entry_cache.specs.Keys.{AreKeys};
 ghost use Rattle.block_cache.specs.Blocks.{AreReady};
 ghost use Rattle.block_cache.specs.Fills.{fault_over};
 ghost use Rattle.block_lanes.specs.Lanes.{kinds_of};
 ghost use Rattle.block_passes.specs.Feeds.{CanGather, unfed};
-ghost use Rattle.block_passes.specs.Inputs.{AreAtHand, IsServedTo};
+ghost use Rattle.block_passes.specs.Inputs.{AreAtHand, ArePlainSources, IsServedTo};
 ghost use Rattle.block_passes.specs.Spends.{IsSettledAt};
 
+use crate::copies::copy_inputs;
 use crate::kept::Kept;
 use crate::sources::gather;
 use crate::turn::{ActionRead, Turn, Work};
@@ -19,6 +21,7 @@ use actions::{Batch, PlaceFault as BatchFault, Places};
 use block_cache::faults::PlaceFault;
 use block_lanes::Lane;
 use expr_lanes::Selection;
+use rdf_values::Memory;
 
 /// The places of a selection, as an action takes them.
 pub(crate) fn batch_places(selection: &Selection) -> Places<'_>
@@ -37,29 +40,36 @@ fn first_unfed(
     lanes: &[Lane],
     selection: &Selection,
     own: &ActionRead<'_>,
-) -> Option<PlaceFault>
+) -> Result<Option<PlaceFault>, Memory>
     requires job { Fits at.now.job.now }
     requires rows { AreKeys (job_graph (job_of at.now.job.now)) at.now.rows.now }
     requires ready { AreReady (job_of at.now.job.now) at.now.first at.now.count lanes.now }
     requires can { CanGather (job_of at.now.job.now) at.now.first at.now.count (kinds_of lanes.now) at.now.cells.now own.now.kind.now own.now.inputs.now own.now.under }
     requires inside { EachPlace selection.now (λ p. p < at.now.count) }
     requires hand { EachPlace selection.now (AreAtHand (job_of at.now.job.now) lanes.now own.now.under own.now.inputs.now) }
-    ensures { result ≡ fault_over (unfed (job_of at.now.job.now) at.now.first own.now.kind.now own.now.inputs.now own.now.under) selection.now }
+    ensures fault { IfOk result (λ f. f ≡ fault_over (unfed (job_of at.now.job.now) at.now.first own.now.kind.now own.now.inputs.now own.now.under) selection.now) }
+    ensures plain { (used : ℕ → Bool) → ArePlain (job_of at.now.job.now) used → ArePlainSources (job_of at.now.job.now) used own.now.under own.now.inputs.now → OnErr result ⊥ }
 {
     let _few = selection.len();
+    let copies = copy_inputs(at, lanes, selection, own)?;
     let batch = Batch {
         places: batch_places(selection),
-        sources: gather(at, lanes, own.kind, own.inputs, own.under),
+        sources: gather(at, lanes, selection, &copies, own),
     };
     match batch.first_fault() {
-        Some(BatchFault { place, kind }) => Some(PlaceFault { place, kind }),
-        None => None,
+        Some(BatchFault { place, kind }) => Ok(Some(PlaceFault { place, kind })),
+        None => Ok(None),
     }
 }
 
 /// Tests whether an action can be fed what it reads at the selected places, where all of that is at hand: the first at which it can't
 /// lowers the limit, below which the places are left.
-pub(crate) fn test_feeding(at: &Turn<'_>, work: &mut Work, to: &mut Kept, own: &ActionRead<'_>)
+pub(crate) fn test_feeding(
+    at: &Turn<'_>,
+    work: &mut Work,
+    to: &mut Kept,
+    own: &ActionRead<'_>,
+) -> Result<(), Memory>
     requires job { Fits at.now.job.now }
     requires rows { AreKeys (job_graph (job_of at.now.job.now)) at.now.rows.now }
     requires ready { AreReady (job_of at.now.job.now) at.now.first at.now.count work.old.lanes.items }
@@ -70,13 +80,15 @@ pub(crate) fn test_feeding(at: &Turn<'_>, work: &mut Work, to: &mut Kept, own: &
     requires inside { EachPlace to.old.places (λ p. p < work.old.found.limit) }
     requires settled { (p : ℕ) → p < work.old.found.limit → IsSettledAt work.old.lanes.items p }
     requires hand { EachPlace to.old.places (AreAtHand (job_of at.now.job.now) work.old.lanes.items own.now.under own.now.inputs.now) }
-    ensures tested { IsServedTo (job_of at.now.job.now) at.now.first at.now.count (unfed (job_of at.now.job.now) at.now.first own.now.kind.now own.now.inputs.now own.now.under) at.now.pass to.old.places to.new work.old.lanes.items work.old.found work.new.found }
+    ensures tested { OnOk result (IsServedTo (job_of at.now.job.now) at.now.first at.now.count (unfed (job_of at.now.job.now) at.now.first own.now.kind.now own.now.inputs.now own.now.under) at.now.pass to.old.places to.new work.old.lanes.items work.old.found work.new.found) }
     ensures lanes { work.new.lanes.items ≡ work.old.lanes.items }
     ensures scratch { length work.new.scratch.items ≡ length work.old.scratch.items }
     ensures levels { length work.new.levels.items ≡ length work.old.levels.items }
+    ensures plain { (used : ℕ → Bool) → ArePlain (job_of at.now.job.now) used → ArePlainSources (job_of at.now.job.now) used own.now.under own.now.inputs.now → OnErr result ⊥ }
 {
     let _rising = to.places.as_slice();
-    let fault = first_unfed(at, &work.lanes, &to.places, own);
+    let fault = first_unfed(at, &work.lanes, &to.places, own)?;
     work.found.note(at.first, at.pass, fault);
     let _made = to.narrow(work.found.limit);
+    Ok(())
 }

@@ -1,5 +1,5 @@
 //! What is due to the words of the program for chains, to the files that they name and to the handed-in functions: a status and bytes, for
-//! `run`, `map`, `join` and `print`, in stages. Definitions and a law; the program that answers so is to stand on it.
+//! `run`, `map`, `join` and `print`, in stages. Definitions and a law; the program that answers so is `chain_program`.
 #![tactic(auto)]
 
 mod laws;

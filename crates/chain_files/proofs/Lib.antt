@@ -14,3 +14,4 @@ mod Runs
 mod Shaped
 mod Splitting
 mod Within
+mod JoinedLoops

@@ -42,17 +42,17 @@ pub fn are_loops(loops: &[ListOf<PassShape>], found: &[PartLoop]) -> bool
 fn joined_loop(
     alloc: Global,
     shapes: &[PassShape],
-    earlier: &PartLoop,
+    earlier: PartLoop,
     later: &PartLoop,
 ) -> Result<PartLoop, Memory>
-    ensures { IfOk result (λ one. one ≡ joined_loop shapes.now earlier.now later.now) }
+    ensures { IfOk result (λ one. one ≡ joined_loop shapes.now earlier later.now) }
 {
     match earlier {
-        PartLoop::Faulted(fault) => Ok(PartLoop::Faulted(*fault)),
+        PartLoop::Faulted(fault) => Ok(PartLoop::Faulted(fault)),
         PartLoop::Whole(lines) => match later {
             PartLoop::Faulted(fault) => Ok(PartLoop::Faulted(*fault)),
             PartLoop::Whole(others) => {
-                let all = joined_lines(alloc, shapes, lines.as_slice(), others.as_slice())?;
+                let all = joined_lines(alloc, shapes, lines, others.as_slice())?;
                 Ok(PartLoop::Whole(all))
             }
         },
@@ -70,22 +70,24 @@ fn is_faulty(one: &PartLoop) -> bool
 pub fn joined_loops(
     alloc: Global,
     loops: &[ListOf<PassShape>],
-    earlier: &[PartLoop],
+    earlier: ListOf<PartLoop>,
     later: &[PartLoop],
 ) -> Result<ListOf<PartLoop>, Memory>
-    ensures { IfOk result (λ all. all ≡ joined_loops loops.now earlier.now later.now) }
+    ensures { IfOk result (λ all. all ≡ joined_loops loops.now earlier later.now) }
 {
     let mut all = ListOf::new(alloc);
-    for (number, shapes) in loops.iter().enumerate() {
-        if number >= earlier.len() || number >= later.len() {
+    let mut number = 0;
+    for one in earlier.into_vec() {
+        if number >= loops.len() || number >= later.len() {
             return Ok(all);
         }
-        let one = joined_loop(alloc, shapes.as_slice(), &earlier[number], &later[number])?;
+        let one = joined_loop(alloc, loops[number].as_slice(), one, &later[number])?;
         let over = is_faulty(&one);
         all.push(one)?;
         if over {
             return Ok(all);
         }
+        number += 1;
     }
     Ok(all)
 }
@@ -102,12 +104,7 @@ pub fn join_parts(
 {
     let first = first.into_fields();
     let second = second.into_fields();
-    let all = joined_loops(
-        alloc,
-        loops,
-        first.loops.as_slice(),
-        second.loops.as_slice(),
-    )?;
+    let all = joined_loops(alloc, loops, first.loops, second.loops.as_slice())?;
     Ok(Part::new(PartFields {
         first_file: first.first_file,
         end_file: second.end_file,

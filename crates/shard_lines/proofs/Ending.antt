@@ -35,6 +35,10 @@ cells_end cs ds all i h l = sym (append-nil all) ∙ ap (λ t. all ++ t) (sym (a
 pub counts_end : (cs ds all : List Counts) (i : ℕ) → all ++ added_counts (drop i cs) (drop i ds) ≡ added_counts cs ds → length ds ≤ i → all ≡ added_counts cs ds
 counts_end cs ds all i h l = sym (append-nil all) ∙ ap (λ t. all ++ t) (sym (ap (added_counts (drop i cs)) (gone i ds l) ∙ no_counts (drop i cs))) ∙ h
 
-pub lines_end : (ss : List PassShape) (ps qs all : List ShardLine) (i : ℕ) → all ++ joined_lines (drop i ss) (drop i ps) (drop i qs) ≡ joined_lines ss ps qs → (length ps ≤ i) ⊎ (length qs ≤ i) → all ≡ joined_lines ss ps qs
-lines_end ss ps qs all i h (inl l) = sym (append-nil all) ∙ ap (λ t. all ++ t) (sym (ap (λ xs. joined_lines (drop i ss) xs (drop i qs)) (gone i ps l) ∙ no_lines (drop i ss) (drop i qs))) ∙ h
-lines_end ss ps qs all i h (inr l) = sym (append-nil all) ∙ ap (λ t. all ++ t) (sym (ap (joined_lines (drop i ss) (drop i ps)) (gone i qs l) ∙ no_others (drop i ss) (drop i ps))) ∙ h
+pub lines_end : (ss : List PassShape) (ps qs all joined : List ShardLine) (i : ℕ) → all ++ joined_lines (drop i ss) ps (drop i qs) ≡ joined → (length ss ≤ i) ⊎ (length qs ≤ i) → all ≡ joined
+lines_end ss ps qs all joined i h (inl l) = sym (append-nil all) ∙ ap (λ t. all ++ t) (sym (ap (λ xs. joined_lines xs ps (drop i qs)) (gone i ss l))) ∙ h
+lines_end ss ps qs all joined i h (inr l) = sym (append-nil all) ∙ ap (λ t. all ++ t) (sym (ap (joined_lines (drop i ss) ps) (gone i qs l) ∙ no_others (drop i ss) ps)) ∙ h
+
+pub lines_over : (ss : List PassShape) (ps qs all joined : List ShardLine) → length ps ≡ 0 → all ++ joined_lines ss ps qs ≡ joined → all ≡ joined
+lines_over ss [] qs all joined e h = sym (append-nil all) ∙ ap (λ t. all ++ t) (sym (no_lines ss qs)) ∙ h
+lines_over ss (p ∷ ps) qs all joined e h = absurd (omega arith)

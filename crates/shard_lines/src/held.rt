@@ -5,7 +5,8 @@ ghost use Rattle.shard_lines.specs.Joining.{cells_of, count_of, counts_of, extre
 use crate::shard_line::ShardLine;
 use filters_report::Counts;
 use histograms::CellSum;
-use rdf_values::Scalar;
+use rdf_values::{ListOf, Scalar};
+use std::alloc::Global;
 
 pub(crate) fn count_of(line: &ShardLine) -> u64
     ensures { result ≡ count_of line.now }
@@ -49,6 +50,15 @@ pub(crate) fn taken_of(line: &ShardLine) -> &[Scalar]
     match line {
         ShardLine::Take(values) => values.as_slice(),
         _ => &[],
+    }
+}
+
+pub(crate) fn into_taken(alloc: Global, line: ShardLine) -> ListOf<Scalar>
+    ensures { result ≡ taken_of line }
+{
+    match line {
+        ShardLine::Take(values) => values,
+        _ => ListOf::new(alloc),
     }
 }
 

@@ -10,7 +10,9 @@ ghost use Rattle.shard_lines.specs.Joining.{
   joined_lines,
 };
 
-use crate::held::{cells_of, count_of, counts_of, extreme_of, number_of, sum_of, taken_of};
+use crate::held::{
+    cells_of, count_of, counts_of, extreme_of, into_taken, number_of, sum_of, taken_of,
+};
 use crate::pass_shape::PassShape;
 use crate::shard_line::ShardLine;
 use filters_report::Counts;
@@ -151,14 +153,11 @@ fn added_counts(alloc: Global, counts: &[Counts], more: &[Counts]) -> Result<Lis
     Ok(all)
 }
 
-fn joined_values(
-    alloc: Global,
-    values: &[Scalar],
-    more: &[Scalar],
-) -> Result<ListOf<Scalar>, Memory>
-    ensures { IfOk result (λ all. all ≡ values.now ++ more.now) }
+// The values are kept where they are, so that many joinings copy none of them again.
+fn joined_values(values: ListOf<Scalar>, more: &[Scalar]) -> Result<ListOf<Scalar>, Memory>
+    ensures { IfOk result (λ all. all ≡ values ++ more.now) }
 {
-    let mut all = Vec::from_slice(alloc, values)?;
+    let mut all = values.into_vec();
     all.extend_from_slice(more)?;
     Ok(ListOf::from_vec(all))
 }
@@ -166,37 +165,36 @@ fn joined_values(
 fn joined_line(
     alloc: Global,
     shape: PassShape,
-    line: &ShardLine,
+    line: ShardLine,
     other: &ShardLine,
 ) -> Result<ShardLine, Memory>
-    ensures { IfOk result (λ joined. joined ≡ joined_line shape line.now other.now) }
+    ensures { IfOk result (λ joined. joined ≡ joined_line shape line other.now) }
 {
     match shape {
-        PassShape::Count => Ok(ShardLine::Count(added_count(count_of(line), count_of(other))?)),
-        PassShape::Sum => Ok(ShardLine::Sum(added(sum_of(line), sum_of(other))?)),
-        PassShape::Least => Ok(ShardLine::Extreme(least_of(extreme_of(line), extreme_of(other)))),
+        PassShape::Count => Ok(ShardLine::Count(added_count(count_of(&line), count_of(other))?)),
+        PassShape::Sum => Ok(ShardLine::Sum(added(sum_of(&line), sum_of(other))?)),
+        PassShape::Least => Ok(ShardLine::Extreme(least_of(extreme_of(&line), extreme_of(other)))),
         PassShape::Greatest => Ok(ShardLine::Extreme(greatest_of(
-            extreme_of(line),
+            extreme_of(&line),
             extreme_of(other),
         ))),
         PassShape::Take(_) => Ok(ShardLine::Take(joined_values(
-            alloc,
-            taken_of(line),
+            into_taken(alloc, line),
             taken_of(other),
         )?)),
         PassShape::Number(op) => Ok(ShardLine::Number(reduce(
             op,
-            number_of(line),
+            number_of(&line),
             number_of(other),
         ))),
         PassShape::Cells(_) => Ok(ShardLine::Cells(added_cells(
             alloc,
-            cells_of(line),
+            cells_of(&line),
             cells_of(other),
         )?)),
         PassShape::Report(_) => Ok(ShardLine::Report(added_counts(
             alloc,
-            counts_of(line),
+            counts_of(&line),
             counts_of(other),
         )?)),
     }
@@ -206,17 +204,19 @@ fn joined_line(
 pub fn joined_lines(
     alloc: Global,
     shapes: &[PassShape],
-    lines: &[ShardLine],
+    lines: ListOf<ShardLine>,
     others: &[ShardLine],
 ) -> Result<ListOf<ShardLine>, Memory>
-    ensures { IfOk result (λ all. all ≡ joined_lines shapes.now lines.now others.now) }
+    ensures { IfOk result (λ all. all ≡ joined_lines shapes.now lines others.now) }
 {
     let mut all = ListOf::new(alloc);
-    for (i, shape) in shapes.iter().enumerate() {
-        if i >= lines.len() || i >= others.len() {
+    let mut i = 0;
+    for line in lines.into_vec() {
+        if i >= shapes.len() || i >= others.len() {
             return Ok(all);
         }
-        all.push(joined_line(alloc, *shape, &lines[i], &others[i])?)?;
+        all.push(joined_line(alloc, shapes[i], line, &others[i])?)?;
+        i += 1;
     }
     Ok(all)
 }

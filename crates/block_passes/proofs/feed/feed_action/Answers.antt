@@ -1,6 +1,6 @@
 use Rattle.entry_cache.specs.Jobs.{job_of}
 use Rattle.entry_passes.specs.Entries.{facts_in}
-use Rattle.block_passes.proofs.Fed.{can_feed, fed_memory, last_there, pass_there}
+use Rattle.block_passes.proofs.Fed.{can_feed, fed_hand, fed_low, fed_memory, last_there, pass_there}
 use Rattle.block_passes.proofs.feed.feed_action.Goals as goal
 
 pub last_step-last-requires : goal.last_step-last-requires
@@ -19,6 +19,20 @@ returns-clause-holds g c = λ watched s amid its at holds.
     c.feed_batch.ensures.holds (facts_in (job_of c.args.at.now.job.now)) watched s (can_feed (job_of c.args.at.now.job.now) c.requires.job.job c.args.at.now.first c.args.at.now.count c.args.at.now.pass c.args.own.now.kind.now c.args.own.now.inputs.now c.args.own.now.under c.requires.own c.args.at.now.plan.now c.requires.plan c.last_step-last.result c.last_step-last.ensures c.args.kept.now (c.requires.kept c.requires.plan) c.args.lanes.now (c.requires.feedable c.last_step-last.result c.last_step-last.ensures) c.index-kept-last.result (record { places = c.batch_places.result; sources = c.gather.result }) c.batch_places.ensures c.gather.ensures s amid watched c.args.to.place c.args.to.cluster c.args.tally.now c.requires.place its at holds)
 
 pub returns-clause-memory : goal.returns-clause-memory
-returns-clause-memory g c =
+returns-clause-memory g c = λ whole.
     let b = c.requires.begin in
     fed_memory (job_of c.args.at.now.job.now) c.requires.job.job c.args.at.now.first c.args.at.now.count c.args.at.now.pass c.args.own.now.kind.now c.args.own.now.inputs.now c.args.own.now.under c.requires.own c.args.at.now.plan.now c.requires.plan c.last_step-last.result c.last_step-last.ensures c.args.kept.now (c.requires.kept c.requires.plan) c.args.lanes.now (c.requires.feedable c.last_step-last.result c.last_step-last.ensures) c.index-kept-last.result (record { places = c.batch_places.result; sources = c.gather.result }) c.batch_places.ensures c.gather.ensures b.1 b.2 b.0 c.args.to.place c.args.to.cluster c.args.tally.now c.feed_batch.result c.requires.place b.3 b.4 b.5 (c.feed_batch.ensures.memory (facts_in (job_of c.args.at.now.job.now)) b.0 b.1)
+
+pub returns-clause-plain : goal.returns-clause-plain
+returns-clause-plain g c = λ used p sources.
+    let b = c.requires.begin in
+    fed_memory (job_of c.args.at.now.job.now) c.requires.job.job c.args.at.now.first c.args.at.now.count c.args.at.now.pass c.args.own.now.kind.now c.args.own.now.inputs.now c.args.own.now.under c.requires.own c.args.at.now.plan.now c.requires.plan c.last_step-last.result c.last_step-last.ensures c.args.kept.now (c.requires.kept c.requires.plan) c.args.lanes.now (c.requires.feedable c.last_step-last.result c.last_step-last.ensures) c.index-kept-last.result (record { places = c.batch_places.result; sources = c.gather.result }) c.batch_places.ensures c.gather.ensures b.1 b.2 b.0 c.args.to.place c.args.to.cluster c.args.tally.now c.feed_batch.result c.requires.place b.3 b.4 b.5 (c.feed_batch.ensures.memory (facts_in (job_of c.args.at.now.job.now)) b.0 b.1)
+
+pub copy_inputs-requires-clause-can : goal.copy_inputs-requires-clause-can
+copy_inputs-requires-clause-can g c = (c.requires.can.scratch, c.requires.can.levels, c.requires.can.can)
+
+pub copy_inputs-requires-clause-inside : goal.copy_inputs-requires-clause-inside
+copy_inputs-requires-clause-inside g c = let b = c.requires.begin in fed_low (job_of c.args.at.now.job.now) c.requires.job.job c.args.at.now.first c.args.at.now.count c.args.at.now.pass c.args.own.now.kind.now c.args.own.now.inputs.now c.args.own.now.under c.requires.own c.args.at.now.plan.now c.requires.plan c.last_step-last.result c.last_step-last.ensures c.args.kept.now (c.requires.kept c.requires.plan) c.args.lanes.now (c.requires.feedable c.last_step-last.result c.last_step-last.ensures) c.index-kept-last.result b.1 b.2
+
+pub copy_inputs-requires-clause-hand : goal.copy_inputs-requires-clause-hand
+copy_inputs-requires-clause-hand g c = fed_hand (job_of c.args.at.now.job.now) c.requires.job.job c.args.at.now.first c.args.at.now.count c.args.at.now.pass c.args.own.now.kind.now c.args.own.now.inputs.now c.args.own.now.under c.requires.own c.args.at.now.plan.now c.requires.plan c.last_step-last.result c.last_step-last.ensures c.args.kept.now (c.requires.kept c.requires.plan) c.args.lanes.now (c.requires.feedable c.last_step-last.result c.last_step-last.ensures) c.index-kept-last.result

@@ -4,6 +4,7 @@ use Rattle.entry_passes.proofs.EntryLaws.{action_next, actions_few, report_next}
 use Rattle.block_lanes.specs.Lanes.{kinds_of}
 use Rattle.block_passes.proofs.FedPasses.{can_be_fed, one_further, read_action, takes_none}
 use Rattle.block_passes.proofs.TriedAction.{gathers}
+use Rattle.block_passes.proofs.PlainReads.{plain_reads}
 use Rattle.block_passes.proofs.feed.feed_pass.Goals as goal
 
 pub returns-in_default-clause-place : goal.returns-in_default-clause-place
@@ -20,7 +21,8 @@ feed_action-requires-clause-feedable g c = λ last its.
     can_be_fed (job_of c.args.at.now.job.now) c.requires.job.job c.args.at.now.first c.args.at.now.count c.args.at.now.plan.now c.requires.plan c.args.lanes.now c.args.kept.now (c.requires.clear c.requires.plan) c.args.at.now.pass c.in-Some.read.kind.now c.in-Some.read.inputs.now c.in-Some.read.under c.in-Some.ensures.action last its
 
 pub returns-in_err-feed_action-clause-memory : goal.returns-in_err-feed_action-clause-memory
-returns-in_err-feed_action-clause-memory g c = λ none. absurd (takes_none (job_of c.args.at.now.job.now) c.args.at.now.pass c.in-Some.read.kind.now c.in-Some.read.inputs.now c.in-Some.read.under c.in-Some.ensures.action none c.in_err-feed_action.ensures.memory)
+returns-in_err-feed_action-clause-memory g c = λ whole none.
+    absurd (takes_none (job_of c.args.at.now.job.now) c.args.at.now.pass c.in-Some.read.kind.now c.in-Some.read.inputs.now c.in-Some.read.under c.in-Some.ensures.action none (c.in_err-feed_action.ensures.memory (whole c.args.at.now.pass c.in-Some.read.kind.now c.in-Some.read.inputs.now c.in-Some.read.under c.in-Some.ensures.action)))
 
 pub overflow_add-result : goal.overflow_add-result
 overflow_add-result g c = let f = actions_few c.args.at.now.pass (passes_in (job_of c.args.at.now.job.now)) in let p = c.requires.place in let s = c.requires.few in omega (arith, f, p, s)
@@ -30,3 +32,15 @@ returns-clause-place g c = action_next (job_of c.args.at.now.job.now) c.args.at.
 
 pub returns-clause-holds : goal.returns-clause-holds
 returns-clause-holds g c = λ watched s amid its at holds. one_further (job_of c.args.at.now.job.now) c.args.at.now.first c.args.at.now.count c.args.to.cluster watched s c.feed_action.new.tally c.args.to.place at (c.in_ok-feed_action.ensures.holds watched s amid its at holds)
+
+pub returns-in_err-feed_action-clause-plain : goal.returns-in_err-feed_action-clause-plain
+returns-in_err-feed_action-clause-plain g c = λ loop none.
+    let j = job_of c.args.at.now.job.now in
+    let s = c.requires.serve in
+    let h = (c.requires.clear c.requires.plan).ready in
+    let within = h.within in
+    let some = h.some in
+    let read = c.in-Some.ensures.action in
+    absurd (takes_none j c.args.at.now.pass c.in-Some.read.kind.now c.in-Some.read.inputs.now c.in-Some.read.under read none
+    (c.in_err-feed_action.ensures.plain loop.used loop.sites
+    (plain_reads j c.requires.job.job c.args.at.now.first (omega (arith, within, some)) c.in-Some.read.under loop c.args.at.now.pass c.in-Some.read.kind.now c.in-Some.read.inputs.now read c.args.at.now.count (kinds_of c.args.lanes.now) c.args.at.now.cells.now s.0 s.1 (s.2 c.args.at.now.pass c.in-Some.read.kind.now c.in-Some.read.inputs.now c.in-Some.read.under read))))

@@ -1,18 +1,14 @@
-use Rattle.std.proofs.Common.{◌∙◌, length, subst}
-use Rattle.graph_numbers.specs.declared.source.Source.{Source}
-use Rattle.block_lanes.specs.Lanes.{kinds_of}
+use Rattle.std.proofs.Common.{◌∙◌, subst}
 use Rattle.entry_cache.specs.Jobs.{job_of}
 use Rattle.entry_cache.specs.Store.{IsSourceIn, source_at}
-use Rattle.block_passes.specs.Inputs.{IsServable}
-use Rattle.block_passes.proofs.Serving.{column_served, version_spends}
+use Rattle.block_passes.proofs.Serving.{column_served, element_spends, version_spends}
 use Rattle.block_passes.proofs.inputs.serve_version.Goals as goal
 
 pub returns-in-Cell-clause-served : goal.returns-in-Cell-clause-served
 returns-in-Cell-clause-served g c =
     let j = job_of c.args.at.now.job.now in
     let e = c.source_under.ensures ∙ c.in-Cell.is in
-    let there = subst (λ (y : Source). IsServable j c.args.at.now.first c.args.under c.args.at.now.count (kinds_of c.args.work.now.lanes.items) c.args.at.now.cells.now (length c.args.work.now.scratch.items) (length c.args.work.now.levels.items) y) e c.requires.can.1 in
-    column_served j c.args.at.now.first c.args.at.now.count c.args.under c.in-Cell.col (source_at j c.args.under c.args.version) e c.args.at.now.cells.now there c.args.at.now.pass c.args.to.now c.args.work.now.lanes.items c.args.work.now.found
+    column_served j c.args.at.now.first c.args.at.now.count c.args.under c.in-Cell.col (source_at j c.args.under c.args.version) e c.args.at.now.pass c.args.to.now c.args.work.now.lanes.items c.args.work.now.found
     c.requires.ready c.requires.limit c.requires.made c.requires.inside c.requires.settled
 
 pub returns-in-Site-clause-spends : goal.returns-in-Site-clause-spends
@@ -23,3 +19,12 @@ returns-in-Site-clause-spends g c =
 
 pub returns-in-Site-clause-plain : goal.returns-in-Site-clause-plain
 returns-in-Site-clause-plain g c = λ used p source. c.serve_site.ensures.plain used p (subst (IsSourceIn used) (c.source_under.ensures ∙ c.in-Site.is) source)
+
+pub returns-in-Element-clause-spends : goal.returns-in-Element-clause-spends
+returns-in-Element-clause-spends g c =
+    let j = job_of c.args.at.now.job.now in
+    element_spends j c.args.at.now.first c.args.at.now.count c.args.under c.in-Element.site c.in-Element.place c.in-Element.tags c.args.work.now.found.limit (source_at j c.args.under c.args.version) (c.source_under.ensures ∙ c.in-Element.is) c.args.to.now.places c.requires.limit c.requires.inside c.requires.demanded
+    c.args.work.now.lanes.items c.serve_element.new.work.lanes.items c.args.steps.now c.serve_element.new.steps c.serve_element.ensures.spent
+
+pub returns-in-Element-clause-plain : goal.returns-in-Element-clause-plain
+returns-in-Element-clause-plain g c = λ used p source. c.serve_element.ensures.plain used p (subst (IsSourceIn used) (c.source_under.ensures ∙ c.in-Element.is) source)

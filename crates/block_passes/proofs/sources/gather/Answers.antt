@@ -8,24 +8,24 @@ use Rattle.block_passes.proofs.sources.gather.Goals as goal
 use Rattle.block_passes.proofs.sources.gather.Goals.{in-Sum-1, in-Min-1, in-Max-1, in-Take-1, in-Reduce-1, in-Histo1D+in-None-1}
 
 pub returns-in-Histo1D-default-default-Some : goal.returns-in-Histo1D-default-default-Some
-returns-in-Histo1D-default-default-Some g c = λ p low hand.
+returns-in-Histo1D-default-default-Some g c = λ p low among hand.
     let j = job_of c.args.at.now.job.now in
-    lanes_weighted (version_in {M = ⊥} j (c.args.at.now.first + p) c.args.under) c.args.inputs.now (λ v. IsAtHand j c.args.lanes.now c.args.under p (source_at j c.args.under v)) hand p c.args.kind.now c.requires.count (λ vs e. c.requires.fits p vs low e) c.in-Histo1D-default-default-Some.x_edges c.in-Histo1D-default-default-Some.x c.in-Histo1D-default-default-Some.weight-0 (c.in-Histo1D-default-default-Some.is ∙ ap (action.Histo1D c.in-Histo1D-default-default-Some.x_edges c.in-Histo1D-default-default-Some.x) (rw c.in-Histo1D-default-default-Some.is at c.in-Histo1D-default-default-Some.weight-is)) c.version_lane-x.result c.version_lane-w.result (λ h. c.version_lane-x.ensures p low h) (λ h. c.version_lane-w.ensures p low h)
+    lanes_weighted (version_in {M = ⊥} j (c.args.at.now.first + p) c.args.own.now.under) c.args.own.now.inputs.now (λ v. IsAtHand j c.args.lanes.now c.args.own.now.under p (source_at j c.args.own.now.under v)) hand p c.args.own.now.kind.now c.requires.can.many (λ vs e. c.requires.can.fits p vs low e) c.in-Histo1D-default-default-Some.x_edges c.in-Histo1D-default-default-Some.x c.in-Histo1D-default-default-Some.weight-0 (c.in-Histo1D-default-default-Some.is ∙ ap (action.Histo1D c.in-Histo1D-default-default-Some.x_edges c.in-Histo1D-default-default-Some.x) (rw c.in-Histo1D-default-default-Some.is at c.in-Histo1D-default-default-Some.weight-is)) c.version_lane-x.result c.version_lane-w.result (λ h. c.version_lane-x.ensures p low among h) (λ h. c.version_lane-w.ensures p low among h)
 
 pub returns-in-Histo2D-default-default-default-default-None : goal.returns-in-Histo2D-default-default-default-default-None
-returns-in-Histo2D-default-default-default-default-None g c = λ p low hand.
+returns-in-Histo2D-default-default-default-default-None g c = λ p low among hand.
     let j = job_of c.args.at.now.job.now in
-    lanes_pair (version_in {M = ⊥} j (c.args.at.now.first + p) c.args.under) c.args.inputs.now (λ v. IsAtHand j c.args.lanes.now c.args.under p (source_at j c.args.under v)) hand p c.args.kind.now c.requires.count (λ vs e. c.requires.fits p vs low e) c.in-Histo2D-default-default-default-default-None.x_edges c.in-Histo2D-default-default-default-default-None.y_edges c.in-Histo2D-default-default-default-default-None.x c.in-Histo2D-default-default-default-default-None.y (c.in-Histo2D-default-default-default-default-None.is ∙ ap (action.Histo2D c.in-Histo2D-default-default-default-default-None.x_edges c.in-Histo2D-default-default-default-default-None.y_edges c.in-Histo2D-default-default-default-default-None.x c.in-Histo2D-default-default-default-default-None.y) (rw c.in-Histo2D-default-default-default-default-None.is at c.in-Histo2D-default-default-default-default-None.weight-is)) c.version_lane-x-in-Histo2D-default-default-default-default-None.result c.version_lane-y.result (λ h. c.version_lane-x-in-Histo2D-default-default-default-default-None.ensures p low h) (λ h. c.version_lane-y.ensures p low h)
+    lanes_pair (version_in {M = ⊥} j (c.args.at.now.first + p) c.args.own.now.under) c.args.own.now.inputs.now (λ v. IsAtHand j c.args.lanes.now c.args.own.now.under p (source_at j c.args.own.now.under v)) hand p c.args.own.now.kind.now c.requires.can.many (λ vs e. c.requires.can.fits p vs low e) c.in-Histo2D-default-default-default-default-None.x_edges c.in-Histo2D-default-default-default-default-None.y_edges c.in-Histo2D-default-default-default-default-None.x c.in-Histo2D-default-default-default-default-None.y (c.in-Histo2D-default-default-default-default-None.is ∙ ap (action.Histo2D c.in-Histo2D-default-default-default-default-None.x_edges c.in-Histo2D-default-default-default-default-None.y_edges c.in-Histo2D-default-default-default-default-None.x c.in-Histo2D-default-default-default-default-None.y) (rw c.in-Histo2D-default-default-default-default-None.is at c.in-Histo2D-default-default-default-default-None.weight-is)) c.version_lane-x-in-Histo2D-default-default-default-default-None.result c.version_lane-y.result (λ h. c.version_lane-x-in-Histo2D-default-default-default-default-None.ensures p low among h) (λ h. c.version_lane-y.ensures p low among h)
 
 pub returns-in-Histo2D-default-default-default-default-Some : goal.returns-in-Histo2D-default-default-default-default-Some
-returns-in-Histo2D-default-default-default-default-Some g c = λ p low hand.
+returns-in-Histo2D-default-default-default-default-Some g c = λ p low among hand.
     let j = job_of c.args.at.now.job.now in
-    lanes_triple (version_in {M = ⊥} j (c.args.at.now.first + p) c.args.under) c.args.inputs.now (λ v. IsAtHand j c.args.lanes.now c.args.under p (source_at j c.args.under v)) hand p c.args.kind.now c.requires.count (λ vs e. c.requires.fits p vs low e) c.in-Histo2D-default-default-default-default-Some.x_edges c.in-Histo2D-default-default-default-default-Some.y_edges c.in-Histo2D-default-default-default-default-Some.x c.in-Histo2D-default-default-default-default-Some.y c.in-Histo2D-default-default-default-default-Some.weight-0 (c.in-Histo2D-default-default-default-default-Some.is ∙ ap (action.Histo2D c.in-Histo2D-default-default-default-default-Some.x_edges c.in-Histo2D-default-default-default-default-Some.y_edges c.in-Histo2D-default-default-default-default-Some.x c.in-Histo2D-default-default-default-default-Some.y) (rw c.in-Histo2D-default-default-default-default-Some.is at c.in-Histo2D-default-default-default-default-Some.weight-is)) c.version_lane-x-in-Histo2D-default-default-default-default-Some.result c.version_lane-y-in-Histo2D-default-default-default-default-Some.result c.version_lane-w-in-Histo2D-default-default-default-default-Some.result (λ h. c.version_lane-x-in-Histo2D-default-default-default-default-Some.ensures p low h) (λ h. c.version_lane-y-in-Histo2D-default-default-default-default-Some.ensures p low h) (λ h. c.version_lane-w-in-Histo2D-default-default-default-default-Some.ensures p low h)
+    lanes_triple (version_in {M = ⊥} j (c.args.at.now.first + p) c.args.own.now.under) c.args.own.now.inputs.now (λ v. IsAtHand j c.args.lanes.now c.args.own.now.under p (source_at j c.args.own.now.under v)) hand p c.args.own.now.kind.now c.requires.can.many (λ vs e. c.requires.can.fits p vs low e) c.in-Histo2D-default-default-default-default-Some.x_edges c.in-Histo2D-default-default-default-default-Some.y_edges c.in-Histo2D-default-default-default-default-Some.x c.in-Histo2D-default-default-default-default-Some.y c.in-Histo2D-default-default-default-default-Some.weight-0 (c.in-Histo2D-default-default-default-default-Some.is ∙ ap (action.Histo2D c.in-Histo2D-default-default-default-default-Some.x_edges c.in-Histo2D-default-default-default-default-Some.y_edges c.in-Histo2D-default-default-default-default-Some.x c.in-Histo2D-default-default-default-default-Some.y) (rw c.in-Histo2D-default-default-default-default-Some.is at c.in-Histo2D-default-default-default-default-Some.weight-is)) c.version_lane-x-in-Histo2D-default-default-default-default-Some.result c.version_lane-y-in-Histo2D-default-default-default-default-Some.result c.version_lane-w-in-Histo2D-default-default-default-default-Some.result (λ h. c.version_lane-x-in-Histo2D-default-default-default-default-Some.ensures p low among h) (λ h. c.version_lane-y-in-Histo2D-default-default-default-default-Some.ensures p low among h) (λ h. c.version_lane-w-in-Histo2D-default-default-default-default-Some.ensures p low among h)
 
 pub returns-in-Sum : goal.returns-in-Sum
-returns-in-Sum g c = λ p low hand.
+returns-in-Sum g c = λ p low among hand.
     let j = job_of c.args.at.now.job.now in
-    let one : length c.args.inputs.now ≡ 1 = elim c.in-Sum-1.branch [
+    let one : length c.args.own.now.inputs.now ≡ 1 = elim c.in-Sum-1.branch [
       | in-Sum-1 w ↦ search rules
       | in-Min-1 w ↦ search rules
       | in-Max-1 w ↦ search rules
@@ -33,4 +33,4 @@ returns-in-Sum g c = λ p low hand.
       | in-Reduce-1 w ↦ search rules
       | in-Histo1D+in-None-1 w ↦ search rules
     ] in
-    lanes_one (version_in {M = ⊥} j (c.args.at.now.first + p) c.args.under) c.args.inputs.now (λ v. IsAtHand j c.args.lanes.now c.args.under p (source_at j c.args.under v)) hand p c.args.kind.now c.requires.count (λ vs e. c.requires.fits p vs low e) one c.version_lane-x-in-Sum.result (λ h. c.version_lane-x-in-Sum.ensures p low h)
+    lanes_one (version_in {M = ⊥} j (c.args.at.now.first + p) c.args.own.now.under) c.args.own.now.inputs.now (λ v. IsAtHand j c.args.lanes.now c.args.own.now.under p (source_at j c.args.own.now.under v)) hand p c.args.own.now.kind.now c.requires.can.many (λ vs e. c.requires.can.fits p vs low e) one c.version_lane-x-in-Sum.result (λ h. c.version_lane-x-in-Sum.ensures p low among h)

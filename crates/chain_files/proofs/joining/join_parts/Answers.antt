@@ -1,4 +1,4 @@
-use Rattle.std.proofs.Common.{ap₂, ◌∙◌}
+use Rattle.std.proofs.Common.{ap, ◌∙◌}
 use Rattle.chain_files.specs.Joining.{joined_loops}
 use Rattle.chain_files.proofs.Keeping.{fields_join}
 use Rattle.chain_files.proofs.joining.join_parts.Goals as goal
@@ -10,4 +10,4 @@ new-requires c =
     let other = c.into_fields-second in
     let wanted = c.requires in
     fields_join loops one.result other.result c.args.first c.args.second c.in_ok-all.all one.ensures.same other.ensures.same one.ensures.valid other.ensures.valid wanted.next wanted.earlier wanted.later
-    (c.in_ok-all.ensures ∙ ap₂ (λ ks ls. joined_loops loops ks ls) c.as_slice.ensures c.as_slice-2.ensures)
+    (c.in_ok-all.ensures ∙ ap (joined_loops loops one.result.loops) c.as_slice.ensures)

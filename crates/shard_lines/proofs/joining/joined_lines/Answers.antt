@@ -1,8 +1,11 @@
-use Rattle.std.proofs.Common.{inl, inr}
-use Rattle.shard_lines.proofs.Ending.{lines_end}
+use Rattle.std.proofs.Common.{inl, inr, sym, ◌∙◌}
+use Rattle.shard_lines.proofs.Ending.{lines_end, lines_over}
 use Rattle.shard_lines.proofs.joining.joined_lines.Goals as goal
-use Rattle.shard_lines.proofs.joining.joined_lines.Goals.{then-i-lines-via-then-i-lines, then-i-lines-via-else-i-lines+then-i-others}
+use Rattle.shard_lines.proofs.joining.joined_lines.Goals.{then-i-shapes-via-then-i-shapes, then-i-shapes-via-else-i-shapes+then-i-others}
 
-pub returns-then-i-lines : goal.returns-then-i-lines
-returns-then-i-lines c = lines_end c.args.shapes.now c.args.lines.now c.args.others.now c.loop-i.all c.loop-i.i c.loop-i.invariant
-    (elim c.then-i-lines.branch [ then-i-lines-via-then-i-lines w ↦ inl w.if-i-lines.true | then-i-lines-via-else-i-lines+then-i-others w ↦ inr w.if-i-others.true ])
+pub returns-then-i-shapes : goal.returns-then-i-shapes
+returns-then-i-shapes c = lines_end c.args.shapes.now c.loop-line.line-iterator.rest.items c.args.others.now c.loop-line.all _ c.loop-line.i c.loop-line.invariant
+    (elim c.then-i-shapes.branch [ then-i-shapes-via-then-i-shapes w ↦ inl w.if-i-shapes.true | then-i-shapes-via-else-i-shapes+then-i-others w ↦ inr w.if-i-others.true ])
+
+pub returns : goal.returns
+returns c = lines_over _ c.loop-line.line-iterator.rest.items _ c.loop-line.all _ (sym c.loop-line.line-iterator.rest.ok.0 ∙ c.in-None.ensures.steps.0) c.loop-line.invariant

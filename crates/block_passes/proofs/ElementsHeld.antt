@@ -1,0 +1,245 @@
+-- Elements of a site's vector, where the site's value is held.
+use Rattle.std.proofs.Common.{◌≡◌, ◌⊎◌, inl, inr, ℤ, get_or, option_map, Result, ℕ, ◌+◌, ◌<◌, ◌≤◌, Bool, true, false, ◌&&◌, List, [], Option, None, Some, refl, sym, ◌∙◌, ap, subst, arith, slice_get, nat_lt, length, pos, if◌then◌else◌}
+use Rattle.std.specs.Prelude.{nat_abs, slice_index_or}
+use Rattle.std.specs.List.{filter}
+use Rattle.std.proofs.lemmas.Option.{slice_get-get_or}
+use Rattle.rdf_values.specs.Tables.{kind_at}
+use Rattle.rdf_values.specs.declared.column.Column.{Column}
+use Rattle.std.proofs.lemmas.Bool.Decides.{Decides-ltb}
+use Rattle.rdf_values.specs.declared.fault.EntryFault.{EntryFault}
+use Rattle.rdf_values.specs.declared.value.ColType.{ColType}
+use Rattle.rdf_values.specs.declared.value.ColType.TheVariants as kind
+use Rattle.rdf_values.specs.declared.value.Value.{Value}
+use Rattle.rdf_values.specs.declared.value.Value.TheVariants as val
+use Rattle.rdf_model.specs.ColumnValues.{tag_element}
+use Rattle.rdf_model.specs.Demanded.{with_needs}
+use Rattle.rdf_model.specs.Evaluation.{Outcome, Gives, Faults, Needs, ◌>>=◌}
+use Rattle.rdf_model.specs.Results.{fault_in}
+use Rattle.rdf_model.proofs.Missing.{alike_is, tag_alike}
+use Rattle.expr_eval.specs.Inputs.{input_outcome}
+use Rattle.expr_eval.specs.declared.inputs.Input.{Input}
+use Rattle.expr_eval.specs.declared.inputs.Input.TheVariants as told
+use Rattle.graph_numbers.specs.Graphs.{graph_sites}
+use Rattle.graph_numbers.specs.declared.source.Source.TheVariants as from
+use Rattle.expr_lanes.specs.Places.{EachPlace, at_place, is_in}
+use Rattle.block_lanes.specs.Values.{value_for}
+use Rattle.entry_cache.proofs.FillLaws.{there}
+use Rattle.entry_cache.proofs.RowLaws.{key_small}
+use Rattle.block_lanes.specs.Lanes.{LaneView, is_held, kinds_of, value_of}
+use Rattle.entry_cache.specs.Jobs.{JobView, job_graph}
+use Rattle.entry_cache.specs.Keys.{key, key_count}
+use Rattle.entry_cache.specs.Store.{IsRight, held_element, held_in, site_in}
+use Rattle.entry_cache.specs.Store.{is_held as is_known}
+use Rattle.entry_cache.specs.declared.held.Held.{Held}
+use Rattle.entry_cache.specs.declared.held.Held.TheVariants as held
+use Rattle.block_cache.specs.Blocks.{AreReady, cells_at, held_value}
+use Rattle.block_cache.specs.Fills.{holds_at, lane_holds, site_fault}
+use Rattle.block_cache.proofs.BlockLaws.{held_of_lane, lane_held, right_value, value_told}
+use Rattle.block_cache.proofs.CanTries.{got_kind}
+use Rattle.block_cache.proofs.OverLaws.{held_true}
+use Rattle.block_passes.specs.Copying.{IsNumberOf}
+use Rattle.block_passes.specs.Inputs.{IsAtHand, IsServedTo, element_fault}
+use Rattle.block_passes.specs.Searches.{where_in}
+use Rattle.block_passes.specs.declared.found.Found.{Found}
+use Rattle.block_passes.specs.declared.kept.Kept.{Kept}
+use Rattle.block_passes.proofs.FaultsOver.{in_filtered}
+use Rattle.block_passes.proofs.PlaceLists.{filter_twice}
+use Rattle.block_passes.proofs.Searching.{both_lower, lowers_as, or_else}
+use Rattle.block_passes.proofs.Spending.{known_is}
+
+tag_told : (tags n : ℕ) (v : Value) → tag_element {M = ℕ} tags n v ≡ with_needs (tag_element {M = ⊥} tags n v)
+tag_told tags n v = alike_is _ _ (tag_alike ⊥ ℕ [] [] [] tags n v)
+
+given_back : (o : Outcome ⊥ Value) (v : Value) → with_needs {M = ℕ} o ≡ Gives v → o ≡ Gives v
+given_back (Gives a) v e = let i : a ≡ v = cc e in ap Gives i
+given_back (Faults k) v e = cc e
+given_back (Needs m) v e = elim m [ ]
+
+pub given_none : (o : Outcome ⊥ Value) → fault_in o ≡ None → (v : Value) × (o ≡ Gives v)
+given_none (Gives v) h = (v, refl)
+given_none (Faults k) h = cc h
+given_none (Needs m) h = elim m [ ]
+
+pub known_held : (h : Held) (n tags : ℕ) (v : Value) → held_element 0 h n tags ≡ Gives v → is_known h ≡ true
+known_held held.Nothing n tags v e = cc e
+known_held (held.Int z) n tags v e = refl
+known_held (held.Bool b) n tags v e = refl
+known_held (held.Vect zs) n tags v e = refl
+known_held (held.Faulted k) n tags v e = refl
+
+-- a value that an input tells
+vect_told : (i : Input) (w : Value) → input_outcome 0 i ≡ Gives w → (zs : _) → i ≡ told.Vect zs → w ≡ val.Vect zs.now
+vect_told i w e zs is = let f : ◌≡◌ {A = Outcome ℕ Value} (Gives (val.Vect zs.now)) (Gives w) = sym (ap (input_outcome 0) is) ∙ e in cc f
+
+module _ (j : JobView) (first count : ℕ) (u : Option ℕ) (s : ℕ) (inside : s < length (graph_sites (job_graph j))) (lanes : List LaneView) (ready : AreReady j first count lanes) (p : ℕ) (low : p < count) where
+  abbrev k : ℕ
+  k = key (job_graph j) s u
+
+  abbrev cell : Held
+  cell = held_in (cells_at (key_count (job_graph j)) lanes p) k
+
+  -- ---- the site
+
+  module _ (l : LaneView) (at : slice_get lanes k ≡ Some l) (holds : holds_at lanes k p ≡ true) where
+    lane_is_held : is_held l p ≡ true
+    lane_is_held = ap (λ o. lane_holds o p) (sym at) ∙ holds
+
+    cell_is : cell ≡ held_value (value_of l p)
+    cell_is = held_of_lane (key_count (job_graph j)) lanes p k ∙ ap (λ o. lane_held o p) at ∙ held_true l p lane_is_held
+
+    pub lane_gives : site_in {M = ⊥} j (first + p) u s ≡ Gives (value_of l p)
+    lane_gives = right_value (site_in j (first + p) u s) (value_of l p) (subst (λ (x : Held). IsRight (site_in j (first + p) u s) x) cell_is ((ready.sound p low).each u s inside))
+
+    -- what is told of it
+    module _ (i : Input) (input : (c : ℕ) → input_outcome c i ≡ (if is_held l p then Gives (value_of l p) else Needs c)) where
+      pub input_given : input_outcome 0 i ≡ Gives (value_of l p)
+      input_given = input 0 ∙ ap (λ b. if b then Gives (value_of l p) else Needs 0) lane_is_held
+
+      pub input_vect : (zs : _) → i ≡ told.Vect zs → site_in {M = ⊥} j (first + p) u s ≡ Gives (val.Vect zs.now)
+      input_vect zs is = lane_gives ∙ ap Gives (vect_told i (value_of l p) input_given zs is)
+
+      pub input_other : (tags n : ℕ) (v : Value) → input_outcome 0 i ≡ Gives v → tag_element {M = ⊥} tags n v ≡ Gives (val.Int (pos 0)) → (site_in {M = ⊥} j (first + p) u s >>= tag_element tags n) ≡ Gives (val.Int (pos 0))
+      input_other tags n v is none =
+          let same : value_of l p ≡ v = (let f : ◌≡◌ {A = Outcome ℕ Value} (Gives (value_of l p)) (Gives v) = sym input_given ∙ is in cc f) in
+          ap (λ (o : Outcome ⊥ Value). o >>= tag_element tags n) (lane_gives ∙ ap Gives same) ∙ none
+
+      -- a lane of vectors tells a vector
+      pub vect_only : slice_get (kinds_of lanes) k ≡ Some kind.Vect → ((x : ℤ) × (i ≡ told.Int x)) ⊎ (((x : Bool) × (i ≡ told.Bool x)) ⊎ (((x : EntryFault) × (i ≡ told.Faulted x)) ⊎ (i ≡ told.Missing))) → ⊥
+      vect_only vectors other = go other
+        where
+          kind_is : l.kind ≡ kind.Vect
+          kind_is = let f : ◌≡◌ {A = Option ColType} (Some l.kind) (Some kind.Vect) = sym (got_kind lanes k l at) ∙ vectors in cc f
+
+          tells : input_outcome 0 i ≡ Gives (value_for kind.Vect l.vectors (at_place l.numbers p))
+          tells = input_given ∙ ap (λ t. Gives (value_for t l.vectors (at_place l.numbers p))) kind_is
+
+          go : ((x : ℤ) × (i ≡ told.Int x)) ⊎ (((x : Bool) × (i ≡ told.Bool x)) ⊎ (((x : EntryFault) × (i ≡ told.Faulted x)) ⊎ (i ≡ told.Missing))) → ⊥
+          go (inl x) = let f : ◌≡◌ {A = Outcome ℕ Value} (Gives (val.Int x.0)) (Gives (val.Vect (slice_index_or l.vectors (nat_abs (at_place l.numbers p)) []))) = sym (ap (input_outcome 0) x.1) ∙ tells in cc f
+          go (inr (inl x)) = let f : ◌≡◌ {A = Outcome ℕ Value} (Gives (val.Bool x.0)) (Gives (val.Vect (slice_index_or l.vectors (nat_abs (at_place l.numbers p)) []))) = sym (ap (input_outcome 0) x.1) ∙ tells in cc f
+          go (inr (inr (inl x))) = let f : ◌≡◌ {A = Outcome ℕ Value} (Faults x.0) (Gives (value_of l p)) = sym (ap (input_outcome 0) x.1) ∙ input_given in cc f
+          go (inr (inr (inr x))) = let f : ◌≡◌ {A = Outcome ℕ Value} (Needs 0) (Gives (value_of l p)) = sym (ap (input_outcome 0) x) ∙ input_given in cc f
+
+      -- what has no elements has 0 for each
+      pub scalar_input : (tags n : ℕ) → ((x : ℤ) × (i ≡ told.Int x)) ⊎ ((x : Bool) × (i ≡ told.Bool x)) → (site_in {M = ⊥} j (first + p) u s >>= tag_element tags n) ≡ Gives (val.Int (pos 0))
+      scalar_input tags n (inl x) = input_other tags n (val.Int x.0) (ap (input_outcome 0) x.1) refl
+      scalar_input tags n (inr x) = input_other tags n (val.Bool x.0) (ap (input_outcome 0) x.1) refl
+
+      pub never_stops : ((x : EntryFault) × (i ≡ told.Faulted x)) ⊎ (i ≡ told.Missing) → ⊥
+      never_stops (inl x) = let f : ◌≡◌ {A = Outcome ℕ Value} (Faults x.0) (Gives (value_of l p)) = sym (ap (input_outcome 0) x.1) ∙ input_given in cc f
+      never_stops (inr x) = let f : ◌≡◌ {A = Outcome ℕ Value} (Needs 0) (Gives (value_of l p)) = sym (ap (input_outcome 0) x) ∙ input_given in cc f
+
+  held_site : holds_at lanes k p ≡ true → (w : Value) × (cell ≡ held_value w) × (site_in {M = ⊥} j (first + p) u s ≡ Gives w)
+  held_site holds = go (slice_get lanes k) refl
+    where
+      go : (o : Option LaneView) → slice_get lanes k ≡ o → (w : Value) × (cell ≡ held_value w) × (site_in {M = ⊥} j (first + p) u s ≡ Gives w)
+      go None e = let f : lane_holds None p ≡ true = ap (λ o. lane_holds o p) (sym e) ∙ holds in cc f
+      go (Some l) e = (value_of l p, cell_is l e holds, lane_gives l e holds)
+
+  -- ---- its elements
+
+  module _ (n tags : ℕ) where
+    pub hand_given : holds_at lanes k p ≡ true → (v : Value) → (site_in {M = ⊥} j (first + p) u s >>= tag_element tags n) ≡ Gives v → IsAtHand j lanes u p (from.Element s n tags)
+    hand_given holds v e =
+        let w = held_site holds in (
+          v,
+          ap (λ (x : Held). held_element 0 x n tags) w.1 ∙ ap (λ (o : Outcome ℕ Value). o >>= tag_element tags n) (value_told 0 w.0) ∙ tag_told tags n w.0
+              ∙ ap (with_needs {M = ℕ}) (sym (ap (λ (o : Outcome ⊥ Value). o >>= tag_element tags n) w.2) ∙ e),
+        )
+
+    pub hand_holds : IsAtHand j lanes u p (from.Element s n tags) → holds_at lanes k p ≡ true
+    hand_holds h = sym (known_is (key_count (job_graph j)) lanes k p) ∙ known_held cell n tags h.0 h.1
+
+    pub hand_value : IsAtHand j lanes u p (from.Element s n tags) → (v : Value) × ((site_in {M = ⊥} j (first + p) u s >>= tag_element tags n) ≡ Gives v)
+    hand_value h =
+        let w = held_site (hand_holds h) in (
+          h.0,
+          ap (λ (o : Outcome ⊥ Value). o >>= tag_element tags n) w.2
+              ∙ given_back (tag_element tags n w.0) h.0 (sym (tag_told tags n w.0) ∙ sym (ap (λ (o : Outcome ℕ Value). o >>= tag_element tags n) (value_told 0 w.0)) ∙ sym (ap (λ (x : Held). held_element 0 x n tags) w.1) ∙ h.1),
+        )
+
+-- the number of an element
+pub number_of : (o : Outcome ⊥ Value) (tags n : ℕ) (zs : List ℤ) (r : Result ℤ EntryFault) → o ≡ Gives (val.Vect zs) → IsNumberOf (tag_element {M = ⊥} tags n (val.Vect zs)) r → IsNumberOf (o >>= tag_element tags n) r
+number_of o tags n zs r e h = subst (λ (x : Outcome ⊥ Value). IsNumberOf (x >>= tag_element tags n) r) (sym e) h
+
+pub no_number : (o : Outcome ⊥ Value) (k : EntryFault) → (v : Value) × (o ≡ Gives v) → o ≡ Faults k → ⊥
+no_number o k v e = let f : ◌≡◌ {A = Outcome ⊥ Value} (Gives v.0) (Faults k) = sym v.1 ∙ e in cc f
+
+pub fault_of_number : (o : Outcome ⊥ Value) (z : ℤ) → o ≡ Gives (val.Int z) → fault_in o ≡ None
+fault_of_number o z e = ap fault_in e
+
+pub fault_is : (o : Outcome ⊥ Value) (k : EntryFault) → o ≡ Faults k → fault_in o ≡ Some k
+fault_is o k e = ap fault_in e
+
+-- a site has a lane
+pub lane_there : (j : JobView) (first count : ℕ) (u : Option ℕ) (s : ℕ) → s < length (graph_sites (job_graph j)) → (lanes : List LaneView) → AreReady j first count lanes → (l : LaneView) × (slice_get lanes (key (job_graph j) s u) ≡ Some l)
+lane_there j first count u s inside lanes ready = there lanes (key (job_graph j) s u) (let small = key_small (job_graph j) s u inside in let many = ready.many in omega (arith, small, many))
+
+-- the kind of a column
+pub kind_got : (cs now : List Column) → now ≡ cs → (i : ℕ) → i < length cs → (d : Column) (t : ColType) → (get_or now i d).kind ≡ t → kind_at cs i ≡ Some t
+kind_got cs now e i lt d t is = ap (option_map (λ (c : Column). c.kind)) (slice_get-get_or cs i d lt) ∙ ap (λ (xs : List Column). Some (get_or xs i d).kind) (sym e) ∙ ap Some is
+
+-- the site's fault is first that of its element
+element_or : (o : Outcome ⊥ Value) (tags n : ℕ) → or_else (fault_in o) (fault_in (o >>= tag_element tags n)) ≡ fault_in (o >>= tag_element tags n)
+element_or (Gives v) tags n = refl
+element_or (Faults k) tags n = refl
+element_or (Needs m) tags n = elim m [ ]
+
+and_true : (b : Bool) → (b && true) ≡ b
+and_true true = refl
+and_true false = refl
+
+both_true : (a b : Bool) → (a && b) ≡ true → (a ≡ true) × (b ≡ true)
+both_true true b h = (refl, h)
+both_true false b h = cc h
+
+-- ---- the site is filled, and then its elements are tested
+
+module _ (j : JobView) (first count : ℕ) (u : Option ℕ) (s n tags pass : ℕ) (sel : List ℕ) (mid to : Kept) (between lanes : List LaneView) (f0 f1 f2 : Found)
+    (h : IsServedTo j first count (site_fault j first u s) pass sel mid between f0 f1) (k : IsServedTo j first count (element_fault j first u s n tags) pass mid.places to lanes f1 f2) where
+  mid_in : (p : ℕ) → is_in p mid.places ≡ (is_in p sel && nat_lt p f1.limit)
+  mid_in p = ap (is_in p) h.left ∙ in_filtered (λ q. nat_lt q f1.limit) p sel
+
+  same_below : (p : ℕ) → p < f1.limit → where_in (element_fault j first u s n tags) mid.places p ≡ where_in (element_fault j first u s n tags) sel p
+  same_below p lt = ap (λ b. if b then element_fault j first u s n tags p else None) (mid_in p ∙ ap (λ b. is_in p sel && b) ((Decides-ltb p f1.limit).1 lt) ∙ and_true (is_in p sel))
+
+  split : (p : ℕ) → or_else (where_in (site_fault j first u s) sel p) (where_in (element_fault j first u s n tags) sel p) ≡ where_in (element_fault j first u s n tags) sel p
+  split p = go (is_in p sel)
+    where
+      go : (b : Bool) → or_else (if b then site_fault j first u s p else None) (if b then element_fault j first u s n tags p else None) ≡ (if b then element_fault j first u s n tags p else None)
+      go true = element_or (site_in {M = ⊥} j (first + p) u s) tags n
+      go false = refl
+
+  below : (x : ℕ) → (nat_lt x f1.limit && nat_lt x f2.limit) ≡ nat_lt x f2.limit
+  below x = go (nat_lt x f2.limit) refl
+    where
+      none : (b : Bool) → (b && false) ≡ false
+      none true = refl
+      none false = refl
+
+      go : (b : Bool) → nat_lt x f2.limit ≡ b → (nat_lt x f1.limit && b) ≡ b
+      go true q = and_true (nat_lt x f1.limit) ∙ (let l = (Decides-ltb x f2.limit).0 q in let f = k.lowers.falls in (Decides-ltb x f1.limit).1 (omega (arith, l, f)))
+      go false q = none (nat_lt x f1.limit)
+
+  pub element_served : IsServedTo j first count (element_fault j first u s n tags) pass sel to lanes f0 f2
+  element_served = record {
+    ready = k.ready;
+    settled = k.settled;
+    lowers =
+        lowers_as (λ p. or_else (where_in (site_fault j first u s) sel p) (where_in (element_fault j first u s n tags) sel p)) (where_in (element_fault j first u s n tags) sel) first pass f0 f2
+        (λ p lt. split p)
+        (both_lower (where_in (site_fault j first u s) sel) (where_in (element_fault j first u s n tags) sel) first pass f0 f1 f2 h.lowers
+        (lowers_as (where_in (element_fault j first u s n tags) mid.places) (where_in (element_fault j first u s n tags) sel) first pass f1 f2 same_below k.lowers));
+    its_limit = k.its_limit;
+    left =
+        k.left ∙ ap (filter (λ p. nat_lt p f2.limit)) h.left ∙ filter_twice (λ p. nat_lt p f1.limit) (λ p. nat_lt p f2.limit) sel
+        ∙ (λ i. filter (λ x. below x i) sel);
+  }
+
+  -- the elements that are left are at hand
+  pub element_held : s < length (graph_sites (job_graph j)) → f2.limit ≤ count → EachPlace mid.places (λ p. holds_at lanes (key (job_graph j) s u) p ≡ true) → EachPlace to.places (λ p. IsAtHand j lanes u p (from.Element s n tags))
+  element_held inside le holds p i =
+      let was = both_true (is_in p mid.places) (nat_lt p f2.limit) (sym (ap (is_in p) k.left ∙ in_filtered (λ q. nat_lt q f2.limit) p mid.places) ∙ i) in
+      let lt : p < f2.limit = (Decides-ltb p f2.limit).0 was.1 in
+      let clear : element_fault j first u s n tags p ≡ None = sym (ap (λ b. if b then element_fault j first u s n tags p else None) was.0) ∙ k.lowers.clear p lt in
+      let v = given_none (site_in {M = ⊥} j (first + p) u s >>= tag_element tags n) clear in
+      hand_given j first count u s inside lanes k.ready p (omega (arith, lt, le)) n tags (holds p was.0) v.0 v.1

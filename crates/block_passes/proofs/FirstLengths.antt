@@ -1,0 +1,213 @@
+-- How many entries the next block has, entry by entry.
+use Rattle.std.proofs.Common.{◌≡◌, ◌⊎◌, inl, inr, ℕ, ℤ, zero, suc, ◌+◌, ◌-◌, ◌*◌, ◌<◌, ◌≤◌, Bool, true, false, ◌&&◌, List, [], ◌∷◌, length, map, take, drop, Option, Some, refl, sym, ◌∙◌, ap, subst, arith, slice_get, if◌then◌else◌}
+use Rattle.std.specs.Prelude.{nat_le, option_and_then, option_map, slice_range}
+use Rattle.std.specs.List.{sum_by}
+use Rattle.std.proofs.lemmas.Bool.{le-leb, le-ltb, lt-leb, lt-ltb}
+use Rattle.std.proofs.lemmas.List.Sums.{sum_by-cons}
+use Rattle.rdf_values.specs.Tables.{FitsColumn, FitsKind, FitRows, FitsRow, IsTable, TableView, cell, kind_at}
+use Rattle.rdf_values.specs.declared.column.Column.{Column}
+use Rattle.rdf_values.specs.declared.value.ColType.{ColType}
+use Rattle.rdf_values.specs.declared.value.ColType.TheVariants as kind
+use Rattle.rdf_values.specs.declared.value.Value.{Value}
+use Rattle.rdf_values.specs.declared.value.Value.TheVariants as val
+use Rattle.entry_cache.proofs.FillLaws.{there}
+use Rattle.loop_pieces.proofs.Places.{range_none}
+use Rattle.block_laws.specs.Blocks.{elements_in, first_length, more_fit, one_more_fits, row_elements}
+
+-- ---- the cells of an entry
+
+row_fits : (cols : List Column) (rows : List (List Value)) (e : ℕ) (row : List Value) → FitRows cols rows → slice_get rows e ≡ Some row → FitsRow cols row
+row_fits cols [] e row h at = cc at
+row_fits cols (r ∷ rs) zero row h at = let s : r ≡ row = cc at in subst (FitsRow cols) s h.0
+row_fits cols (r ∷ rs) (suc e) row h at = row_fits cols rs e row h.1 at
+
+fits_at : (cols : List Column) (row : List Value) (i : ℕ) → FitsRow cols row → i < length cols → (c : Column) × (v : Value) × (slice_get cols i ≡ Some c) × (slice_get row i ≡ Some v) × FitsColumn c.kind v
+fits_at [] [] i h lt = absurd (omega (arith, lt))
+fits_at [] (v ∷ vs) i h lt = elim h [ ]
+fits_at (c ∷ cs) [] i h lt = elim h [ ]
+fits_at (c ∷ cs) (v ∷ vs) zero h lt = (c, v, refl, refl, h.0)
+fits_at (c ∷ cs) (v ∷ vs) (suc i) h lt = fits_at cs vs i h.1 (omega (arith, lt))
+
+many_cells : (cols : List Column) (row : List Value) → FitsRow cols row → length row ≡ length cols
+many_cells [] [] h = refl
+many_cells [] (v ∷ vs) h = elim h [ ]
+many_cells (c ∷ cs) [] h = elim h [ ]
+many_cells (c ∷ cs) (v ∷ vs) h = ap suc (many_cells cs vs h.1)
+
+no_elements : (v : Value) → FitsKind kind.Int v → elements_in v ≡ 0
+no_elements (val.Int z) h = refl
+no_elements (val.Bool b) h = refl
+no_elements (val.Vect zs) h = elim h [ ]
+
+no_truths : (v : Value) → FitsKind kind.Bool v → elements_in v ≡ 0
+no_truths (val.Int z) h = refl
+no_truths (val.Bool b) h = refl
+no_truths (val.Vect zs) h = elim h [ ]
+
+some_same : {A : Type 0} (a b : A) → ◌≡◌ {A = Option A} (Some a) (Some b) → a ≡ b
+some_same a b e = cc e
+
+none_taken : (row : List Value) → sum_by elements_in (take 0 row) ≡ 0
+none_taken [] = refl
+none_taken (v ∷ vs) = refl
+
+take_next : (row : List Value) (i : ℕ) (v : Value) → slice_get row i ≡ Some v → sum_by elements_in (take (suc i) row) ≡ sum_by elements_in (take i row) + elements_in v
+take_next [] i v at = cc at
+take_next (x ∷ xs) zero v at =
+    let s : x ≡ v = cc at in
+    let a = sum_by-cons elements_in x (take 0 xs) in
+    let b = none_taken xs in
+    let c : elements_in x ≡ elements_in v = ap elements_in s in
+    let d : sum_by elements_in (take 0 (x ∷ xs)) ≡ 0 = refl in omega (arith, a, b, c, d)
+take_next (x ∷ xs) (suc i) v at =
+    let a = sum_by-cons elements_in x (take (suc i) xs) in
+    let b = sum_by-cons elements_in x (take i xs) in
+    let c = take_next xs i v at in omega (arith, a, b, c)
+
+take_whole : (row : List Value) (i : ℕ) → length row ≤ i → take i row ≡ row
+take_whole [] zero le = refl
+take_whole [] (suc i) le = refl
+take_whole (x ∷ xs) zero le = absurd (omega (arith, le))
+take_whole (x ∷ xs) (suc i) le = ap (λ l. x ∷ l) (take_whole xs i (omega (arith, le)))
+
+module _ (t : TableView) (table : IsTable t) (e i : ℕ) (inside : i < length t.columns) where
+  -- a cell of another column than one of vectors has no elements
+  pub plain_cell : (k : ColType) → kind_at t.columns i ≡ Some k → (k ≡ kind.Vect → ⊥) → (row : List Value) (v : Value) → slice_get t.rows e ≡ Some row → slice_get row i ≡ Some v → 0 ≡ elements_in v
+  plain_cell k its other row v here at =
+      let w = fits_at t.columns row i (row_fits t.columns t.rows e row table.fit here) inside in
+      let same : w.0.kind ≡ k = some_same w.0.kind k (sym (ap (option_map (λ (c : Column). c.kind)) w.2) ∙ its) in
+      let is : w.1 ≡ v = some_same w.1 v (sym w.3 ∙ at) in
+      go k other (subst (λ (q : ColType). FitsKind q v) same (subst (λ (x : Value). FitsKind w.0.kind x) is w.4.0))
+    where
+      go : (q : ColType) → (q ≡ kind.Vect → ⊥) → FitsKind q v → 0 ≡ elements_in v
+      go kind.Int o f = sym (no_elements v f)
+      go kind.Bool o f = sym (no_truths v f)
+      go kind.Vect o f = absurd (o refl)
+
+  -- a vector has few
+  pub vect_cell : kind_at t.columns i ≡ Some kind.Vect → e < length t.rows → (zs : List ℤ) → cell t e i ≡ Some (val.Vect zs) → length zs ≤ 4096
+  vect_cell its lt zs at =
+      let r = there t.rows e lt in
+      let w = fits_at t.columns r.0 i (row_fits t.columns t.rows e r.0 table.fit r.1) inside in
+      let same : w.0.kind ≡ kind.Vect = some_same w.0.kind kind.Vect (sym (ap (option_map (λ (c : Column). c.kind)) w.2) ∙ its) in
+      let here : slice_get r.0 i ≡ Some (val.Vect zs) = sym (ap (option_and_then (λ (row : List Value). slice_get row i)) r.1) ∙ at in
+      let is : w.1 ≡ val.Vect zs = some_same w.1 (val.Vect zs) (sym w.3 ∙ here) in
+      subst (λ (q : ColType). FitsKind q (val.Vect zs)) same (subst (λ (x : Value). FitsKind w.0.kind x) is w.4.0)
+
+  -- one cell more
+  pub next_cells : (row : List Value) → slice_get t.rows e ≡ Some row → (n m : ℕ) → n ≡ sum_by elements_in (take i row)
+      → ((r : List Value) (v : Value) → slice_get t.rows e ≡ Some r → slice_get r i ≡ Some v → m ≡ elements_in v) → n + m ≡ sum_by elements_in (take (i + 1) row)
+  next_cells row here n m so_far cell_is =
+      let w = fits_at t.columns row i (row_fits t.columns t.rows e row table.fit here) inside in
+      let a = take_next row i w.1 w.3 in
+      let b = cell_is row w.1 here w.3 in
+      let s : suc i ≡ i + 1 = omega arith in
+      let d : sum_by elements_in (take (suc i) row) ≡ sum_by elements_in (take (i + 1) row) = ap (λ k. sum_by elements_in (take k row)) s in
+      omega (arith, so_far, a, b, d)
+
+pub all_cells : (t : TableView) → IsTable t → (e : ℕ) (row : List Value) → slice_get t.rows e ≡ Some row → (i : ℕ) → length t.columns ≤ i → sum_by elements_in (take i row) ≡ sum_by elements_in row
+all_cells t table e row here i le = let m = many_cells t.columns row (row_fits t.columns t.rows e row table.fit here) in ap (sum_by elements_in) (take_whole row i (omega (arith, m, le)))
+
+-- ---- the entries of a block
+
+drop_head : (rows : List (List Value)) (e : ℕ) (row : List Value) → slice_get rows e ≡ Some row → drop e rows ≡ row ∷ drop (suc e) rows
+drop_head [] e row h = cc h
+drop_head (r ∷ rs) zero row h = let s : r ≡ row = cc h in ap (λ x. x ∷ rs) s
+drop_head (r ∷ rs) (suc e) row h = drop_head rs e row h
+
+range_head : (rows : List (List Value)) (e hi : ℕ) (row : List Value) → slice_get rows e ≡ Some row → e < hi → slice_range rows e hi ≡ row ∷ slice_range rows (suc e) hi
+range_head rows e hi row h lt =
+    let m : hi - e ≡ suc (hi - suc e) = omega (arith, lt) in
+    ap (λ k. take k (drop e rows)) m ∙ ap (λ l. take (suc (hi - suc e)) l) (drop_head rows e row h)
+
+module _ (rows : List (List Value)) (keys size most hi : ℕ) where
+  abbrev pub costs_from : ℕ → List ℕ
+  costs_from e = map (row_elements keys) (slice_range rows e hi)
+
+  costs_head : (e : ℕ) (row : List Value) → slice_get rows e ≡ Some row → e < hi → costs_from e ≡ keys * sum_by elements_in row ∷ costs_from (suc e)
+  costs_head e row h lt = ap (map (row_elements keys)) (range_head rows e hi row h lt)
+
+  -- so many entries with so many elements are in the block that begins at an entry, and it may have more
+  pub record IsAtEnd (lo end elements : ℕ) : Type 0 where
+    pub first : first_length size most (costs_from lo) ≡ (end - lo) + more_fit size most (end - lo) elements (costs_from end)
+    pub above : lo < end
+    pub within : end ≤ hi
+
+  pub one_entry : (lo : ℕ) (row : List Value) → slice_get rows lo ≡ Some row → lo < hi → IsAtEnd lo (lo + 1) (keys * sum_by elements_in row)
+  one_entry lo row h lt =
+      let s : suc lo ≡ lo + 1 = omega arith in
+      let d : 1 ≡ lo + 1 - lo = omega arith in
+      let c = keys * sum_by elements_in row in
+      let a : first_length size most (costs_from lo) ≡ suc (more_fit size most 1 c (costs_from (suc lo))) = ap (first_length size most) (costs_head lo row h lt) in
+      let b : more_fit size most 1 c (costs_from (suc lo)) ≡ more_fit size most (lo + 1 - lo) c (costs_from (lo + 1)) = ap (λ e. more_fit size most 1 c (costs_from e)) s ∙ ap (λ n. more_fit size most n c (costs_from (lo + 1))) d in
+      record { first = omega (arith, a, b, d); above = omega arith; within = omega (arith, lt) }
+
+  module _ (lo end elements : ℕ) (at : IsAtEnd lo end elements) where
+    module _ (row : List Value) (h : slice_get rows end ≡ Some row) (lt : end < hi) (room : end - lo < size) where
+      abbrev cost : ℕ
+      cost = keys * sum_by elements_in row
+
+      abbrev rest : Bool → ℕ
+      rest b = if b then suc (more_fit size most (suc (end - lo)) (elements + cost) (costs_from (suc end))) else 0
+
+      next_is : more_fit size most (end - lo) elements (costs_from end) ≡ rest (one_more_fits size most (end - lo) elements cost)
+      next_is = ap (more_fit size most (end - lo) elements) (costs_head end row h lt)
+
+      -- it fits
+      pub one_more : elements + cost ≤ most → IsAtEnd lo (end + 1) (elements + cost)
+      one_more few =
+          let t : one_more_fits size most (end - lo) elements cost ≡ true = ap (λ b. b && nat_le (elements + cost) most) (lt-ltb (end - lo) size room) ∙ le-leb (elements + cost) most few in
+          let s : suc end ≡ end + 1 = omega arith in
+          let up = at.above in
+          let d : suc (end - lo) ≡ end + 1 - lo = omega (arith, up) in
+          let a : more_fit size most (end - lo) elements (costs_from end) ≡ suc (more_fit size most (suc (end - lo)) (elements + cost) (costs_from (suc end))) = next_is ∙ ap rest t in
+          let b : more_fit size most (suc (end - lo)) (elements + cost) (costs_from (suc end)) ≡ more_fit size most (end + 1 - lo) (elements + cost) (costs_from (end + 1)) =
+          ap (λ e. more_fit size most (suc (end - lo)) (elements + cost) (costs_from e)) s ∙ ap (λ n. more_fit size most n (elements + cost) (costs_from (end + 1))) d in
+          let f = at.first in
+          record { first = omega (arith, f, a, b, d); above = omega (arith, up); within = omega (arith, lt) }
+
+      -- it doesn't
+      pub no_more : most < elements + cost → end ≡ lo + first_length size most (costs_from lo)
+      no_more many =
+          let t : one_more_fits size most (end - lo) elements cost ≡ false = ap (λ b. b && nat_le (elements + cost) most) (lt-ltb (end - lo) size room) ∙ lt-leb (elements + cost) most many in
+          let a : more_fit size most (end - lo) elements (costs_from end) ≡ 0 = next_is ∙ ap rest t in
+          let f = at.first in
+          let up = at.above in omega (arith, f, a, up)
+
+    full : (n s : ℕ) (cs : List ℕ) → size ≤ n → more_fit size most n s cs ≡ 0
+    full n s [] le = refl
+    full n s (x ∷ xs) le =
+        ap (λ b. if b then suc (more_fit size most (suc n) (s + x) xs) else 0)
+        (let e : one_more_fits size most n s x ≡ false = ap (λ b. b && nat_le (s + x) most) (le-ltb n size le) in e)
+
+    -- the block is as long as any, or there are no more entries
+    pub at_last : (end ≡ lo + size) ⊎ (end ≡ hi) → end ≡ lo + first_length size most (costs_from lo)
+    at_last (inl e) =
+        let a = full (end - lo) elements (costs_from end) (omega (arith, e)) in
+        let f = at.first in
+        let up = at.above in omega (arith, f, a, up)
+    at_last (inr e) =
+        let none : costs_from end ≡ [] = ap (λ k. costs_from k) e ∙ ap (map (row_elements keys)) (range_none rows hi) in
+        let a : more_fit size most (end - lo) elements (costs_from end) ≡ 0 = ap (more_fit size most (end - lo) elements) none in
+        let f = at.first in
+        let up = at.above in omega (arith, f, a, up)
+
+  -- ---- by the elements that are counted at an entry
+
+  abbrev AreOf : ℕ → ℕ → Type 0
+  AreOf e n = (row : List Value) → slice_get rows e ≡ Some row → n ≡ row_elements keys row
+
+  module _ (inside : hi ≤ length rows) (lo : ℕ) where
+    pub begin_at : (n : ℕ) → lo < hi → AreOf lo n → IsAtEnd lo (lo + 1) n
+    begin_at n lt is = let r = there rows lo (omega (arith, lt, inside)) in subst (λ (m : ℕ). IsAtEnd lo (lo + 1) m) (sym (is r.0 r.1)) (one_entry lo r.0 r.1 lt)
+
+    pub next_at : (end elements n : ℕ) → IsAtEnd lo end elements → end < hi → end - lo < size → AreOf end n → elements + n ≤ most → IsAtEnd lo (end + 1) (elements + n)
+    next_at end elements n at lt room is few =
+        let r = there rows end (omega (arith, lt, inside)) in
+        let e = is r.0 r.1 in
+        subst (λ (m : ℕ). IsAtEnd lo (end + 1) (elements + m)) (sym e) (one_more lo end elements at r.0 r.1 lt room (omega (arith, e, few)))
+
+    pub stop_at : (end elements n : ℕ) → IsAtEnd lo end elements → end < hi → end - lo < size → AreOf end n → most < elements + n → end ≡ lo + first_length size most (costs_from lo)
+    stop_at end elements n at lt room is many =
+        let r = there rows end (omega (arith, lt, inside)) in
+        let e = is r.0 r.1 in no_more lo end elements at r.0 r.1 lt room (omega (arith, e, many))

@@ -1,0 +1,154 @@
+-- What the actions of a loop without vectors read.
+use Rattle.std.proofs.Common.{◌≡◌, ◌⊎◌, inl, inr, ℕ, Bool, zero, suc, ◌+◌, ◌<◌, true, false, List, [], ◌∷◌, length, map, option_map, Option, Some, refl, sym, ◌∙◌, ap, subst, arith, slice_get}
+use Rattle.std.specs.Prelude.{get_or, unwrap_or}
+use Rattle.std.specs.List.{AllByRecursion}
+use Rattle.std.proofs.lemmas.List.Elements.{recursion_from_All}
+use Rattle.std.proofs.lemmas.Option.{get_or_from_slice_get}
+use Rattle.rdf_values.specs.Bookings.{ActionAt, ReportOn, columns_of, covered}
+use Rattle.rdf_values.specs.Functions.{fn_names}
+use Rattle.rdf_values.specs.Kinds.{scope_of}
+use Rattle.rdf_values.specs.Path.{Under, history, path}
+use Rattle.rdf_values.specs.Tables.{FitsKind, FitsRow, kind_at}
+use Rattle.rdf_values.specs.Verdict.{AreAccepted}
+use Rattle.rdf_values.specs.declared.action.ActionKind.{ActionKind}
+use Rattle.rdf_values.specs.declared.column.Column.{Column}
+use Rattle.rdf_values.specs.declared.statement.Statement.{Statement}
+use Rattle.rdf_values.specs.declared.statement.Statement.TheVariants.{Action, Report}
+use Rattle.rdf_values.specs.declared.value.ColType.{ColType}
+use Rattle.rdf_values.specs.declared.value.ColType.TheVariants as kind
+use Rattle.rdf_values.specs.declared.value.Value.{Value}
+use Rattle.rdf_values.specs.declared.value.Value.TheVariants as val
+use Rattle.expr_check.specs.NumKinds.{CheckedExpr, is_vector}
+use Rattle.expr_check.proofs.Plain.{columns_scalar, plain_typed}
+use Rattle.rdf_model.specs.Laws.{FitsOutcome}
+use Rattle.rdf_model.specs.Results.{Dataset}
+use Rattle.graph_numbers.specs.Graphs.{IsSiteExpr, graph_under}
+use Rattle.graph_numbers.specs.Results.{ResultAt, covered_at, own_results, results}
+use Rattle.graph_numbers.specs.Sites.{filter_sites}
+use Rattle.graph_numbers.specs.Sources.{cell_value, source_value}
+use Rattle.graph_numbers.specs.Versions.{version_at}
+use Rattle.graph_numbers.specs.declared.source.Source.{Source}
+use Rattle.graph_numbers.specs.declared.source.Source.TheVariants as from
+use Rattle.graph_numbers.proofs.Extending.{Extends, itself}
+use Rattle.graph_numbers.proofs.Listed.{of_joined}
+use Rattle.graph_numbers.proofs.Passing.{AreVisible, action_visible, shorter}
+use Rattle.graph_numbers.proofs.VersionKinds.{FitsVersion, visible_fits}
+use Rattle.entry_cache.specs.Caches.{IsPlainLoop}
+use Rattle.entry_cache.specs.Jobs.{IsJob, JobView, job_graph}
+use Rattle.entry_cache.specs.Plain.{ArePlain, IsPlainVersion}
+use Rattle.entry_cache.specs.Store.{IsSourceIn, row_of, site_in, source_at}
+use Rattle.entry_cache.proofs.ColumnLaws.{fits_at}
+use Rattle.entry_cache.proofs.EvaluateLaws.{accepted_of}
+use Rattle.entry_cache.proofs.PlainLaws.{plain_expr}
+use Rattle.entry_cache.proofs.TableLaws.{not_stored}
+use Rattle.block_passes.specs.Inputs.{ArePlainSources, CanServe, IsPlainSource, IsServable}
+use Rattle.block_passes.specs.Tries.{IsReadOf}
+
+-- ---- a site without vectors
+
+pub no_vector : (t : ColType) → (t ≡ kind.Int) ⊎ (t ≡ kind.Bool) → t ≡ kind.Vect → ⊥
+no_vector t (inl a) b = let f : kind.Int ≡ kind.Vect = sym a ∙ b in cc f
+no_vector t (inr a) b = let f : kind.Bool ≡ kind.Vect = sym a ∙ b in cc f
+
+pub no_vector_kind : (k : ColType) → is_vector k ≡ false → k ≡ kind.Vect → ⊥
+no_vector_kind k h e = let f : true ≡ false = sym (ap is_vector e) ∙ h in cc f
+
+pub site_no_vector : (j : JobView) (used : ℕ → Bool) (s : ℕ) (e : CheckedExpr) → IsSiteExpr (job_graph j) s e → ArePlain j used → used s ≡ true → e.kind ≡ kind.Vect → ⊥
+site_no_vector j used s e its plain u =
+    no_vector_kind e.kind (plain_typed e.kinds (job_graph j).names e.tree e.kind its.typed.typed (columns_scalar e.kinds e.tree (plain_expr j used s e plain u its))).1
+
+-- ---- the kinds of what an action reads
+
+module _ (d : Dataset) (row : List Value) (u : Under) (fits : FitsRow d.columns row) (before : List Statement) where
+  abbrev HaveFit : List ℕ → Type 0
+  HaveFit cs = AllByRecursion (FitsVersion d row u fits before) cs
+
+  inputs_fit : (earlier : List Statement) → AreAccepted (fn_names d.fns) (scope_of d.columns) earlier → Extends earlier before → (node : List ℕ) (cs : List (List ℕ))
+      → AreVisible ⊥ d.fns d.columns [] u before earlier node cs → HaveFit (map (version_at d.columns earlier node) cs)
+  inputs_fit earlier ok e node [] v = tt
+  inputs_fit earlier ok e node (c ∷ cs) v = (visible_fits d row u fits before earlier ok e node c v.0.0 v.0.1, inputs_fit earlier ok e node cs v.1)
+
+  own_fit : (earlier : List Statement) (s : Statement) → AreAccepted (fn_names d.fns) (scope_of d.columns) (s ∷ earlier) → Extends earlier before
+      → (n : ℕ) (r : ResultAt) → slice_get (own_results d.columns (fn_names d.fns) earlier s) n ≡ Some r → HaveFit r.inputs
+  own_fit earlier (Action result parent k) good e zero r q =
+      let x : ResultAt = record { booked = record { name = result; booking = ActionAt k (path earlier parent) }; filters = filter_sites d.columns (fn_names d.fns) earlier parent; inputs = map (version_at d.columns earlier parent) (columns_of k); covers = [] } in
+      let is : x ≡ r = cc q in
+      subst (λ (y : ResultAt). HaveFit y.inputs) is (inputs_fit earlier good.1 e parent (columns_of k) (action_visible ⊥ d.fns d.columns [] u before earlier result parent k good))
+  own_fit earlier (Report result parent) good e zero r q =
+      let x : ResultAt = record { booked = record { name = result; booking = ReportOn (covered earlier (path earlier parent)) }; filters = filter_sites d.columns (fn_names d.fns) earlier parent; inputs = []; covers = covered_at earlier parent } in
+      let is : x ≡ r = cc q in
+      subst (λ (y : ResultAt). HaveFit y.inputs) is tt
+  own_fit earlier (Action result parent k) good e (suc n) r q = cc q
+  own_fit earlier (Report result parent) good e (suc n) r q = cc q
+  own_fit earlier s good e n r q = cc q
+
+  result_fits : (earlier : List Statement) → AreAccepted (fn_names d.fns) (scope_of d.columns) earlier → Extends earlier before
+      → (n : ℕ) (r : ResultAt) → slice_get (results d.columns (fn_names d.fns) earlier) n ≡ Some r → HaveFit r.inputs
+  result_fits [] good e n r h = cc h
+  result_fits (s ∷ earlier) good e n r h =
+      go (result_fits earlier good.1 (shorter s earlier before e) n r) (of_joined (results d.columns (fn_names d.fns) earlier) (own_results d.columns (fn_names d.fns) earlier s) n r h)
+    where
+      go : (slice_get (results d.columns (fn_names d.fns) earlier) n ≡ Some r → HaveFit r.inputs)
+          → (slice_get (results d.columns (fn_names d.fns) earlier) n ≡ Some r) ⊎ ((k : ℕ) × (n ≡ length (results d.columns (fn_names d.fns) earlier) + k) × (slice_get (own_results d.columns (fn_names d.fns) earlier s) k ≡ Some r))
+          → HaveFit r.inputs
+      go next (inl q) = next q
+      go next (inr q) = own_fit earlier s good (shorter s earlier before e) q.0 r q.2
+
+-- ---- a column that a version without vectors is given by
+
+cell_there : (cs : List Column) (row : List Value) (col : ℕ) → FitsRow cs row → col < length cs → (c : Column) × (v : Value) × (slice_get cs col ≡ Some c) × (slice_get row col ≡ Some v) × FitsKind c.kind v
+cell_there [] row col h lt = absurd (omega (arith, lt))
+cell_there (c ∷ cs) [] col h lt = elim h [ ]
+cell_there (c ∷ cs) (v ∷ vs) zero h lt = (c, v, refl, refl, h.0.0)
+cell_there (c ∷ cs) (v ∷ vs) (suc col) h lt = cell_there cs vs col h.1 (omega (arith, lt))
+
+both_fit : (t k : ColType) (v : Value) → FitsKind t v → FitsKind k v → is_vector t ≡ false → (k ≡ kind.Bool → ⊥) → k ≡ kind.Int
+both_fit t kind.Int v f g scalar nb = refl
+both_fit t kind.Bool v f g scalar nb = absurd (nb refl)
+both_fit kind.Vect kind.Vect v f g scalar nb = cc scalar
+both_fit kind.Int kind.Vect (val.Int z) f g scalar nb = elim g [ ]
+both_fit kind.Int kind.Vect (val.Bool b) f g scalar nb = elim g [ ]
+both_fit kind.Int kind.Vect (val.Vect zs) f g scalar nb = elim f [ ]
+both_fit kind.Bool kind.Vect (val.Int z) f g scalar nb = elim g [ ]
+both_fit kind.Bool kind.Vect (val.Bool b) f g scalar nb = elim g [ ]
+both_fit kind.Bool kind.Vect (val.Vect zs) f g scalar nb = elim f [ ]
+
+module _ (j : JobView) (job : IsJob j) (first : ℕ) (within : first < length j.dataset.rows) (u : Option ℕ) (loop : IsPlainLoop j) where
+  row_fits : FitsRow j.dataset.columns (row_of j first)
+  row_fits = fits_at j.dataset.columns j.dataset.rows first job.table.fit within
+
+  abbrev Fitting : ℕ → Type 0
+  Fitting c = FitsVersion j.dataset (row_of j first) (graph_under (job_graph j) u) row_fits (history j.script) c
+
+  cell_int : (col : ℕ) (t : ColType) → is_vector t ≡ false → col < length j.dataset.columns → FitsOutcome t (source_value {M = ℕ} (row_of j first) (site_in j first u) (from.Cell col)) → kind_at j.dataset.columns col ≡ Some kind.Int
+  cell_int col t scalar lt fit =
+      let c = cell_there j.dataset.columns (row_of j first) col row_fits lt in
+      ap (option_map (λ (x : Column). x.kind)) c.2
+      ∙ ap Some (both_fit t c.0.kind c.1 (subst (λ (o : Option Value). FitsOutcome {M = ℕ} t (cell_value o)) c.3 fit) c.4 scalar
+      (λ b. not_stored j.dataset.columns j.dataset.columns refl job.table.header.distinct col lt c.0 (stored_kind col c.0 c.2 ∙ b)))
+    where
+      stored_kind : (col : ℕ) (c : Column) → slice_get j.dataset.columns col ≡ Some c → (get_or j.dataset.columns col c).kind ≡ c.kind
+      stored_kind col c q = ap (λ (x : Column). x.kind) (get_or_from_slice_get j.dataset.columns col c c q)
+
+  plain_source : (c : ℕ) → IsPlainVersion (job_graph j) loop.used c → Fitting c → (count : ℕ) (kinds : List ColType) (cells : _) (scratch levels : ℕ) → CanServe j first u count kinds cells scratch levels c → IsPlainSource j loop.used (source_at j u c)
+  plain_source c plain fit count kinds cells scratch levels can =
+      go (source_at j u c) fit.2 can.1 (plain.1 u)
+    where
+      plain_kind : is_vector fit.0 ≡ false
+      plain_kind = sym (ap (λ (o : Option ColType). is_vector (unwrap_or o kind.Int)) fit.1) ∙ plain.0
+
+      go : (x : Source) → FitsOutcome fit.0 (source_value {M = ℕ} (row_of j first) (site_in j first u) x) → IsServable j first u count kinds cells scratch levels x → IsSourceIn loop.used x → IsPlainSource j loop.used x
+      go (from.Cell col) f there i = cell_int col fit.0 plain_kind there.0 f
+      go (from.Site s) f there i = i
+      go (from.Element s k tags) f there i = i
+
+  -- an action of a loop without vectors reads columns of numbers and sites without vectors
+  pub plain_reads : (pass : ℕ) (k : ActionKind) (inputs : List ℕ) → IsReadOf j pass k inputs u → (count : ℕ) (kinds : List ColType) (cells : _) (scratch levels : ℕ) → AllByRecursion (CanServe j first u count kinds cells scratch levels) inputs → ArePlainSources j loop.used u inputs
+  plain_reads pass k inputs own count kinds cells scratch levels can =
+      each inputs (subst (λ (cs : List ℕ). AllByRecursion (IsPlainVersion (job_graph j) loop.used) cs) own.inputs_are (recursion_from_All (IsPlainVersion (job_graph j) loop.used) own.result.inputs (loop.inputs pass own.numbered own.result own.action.its_pass own.action.its_result)))
+      (subst (λ (cs : List ℕ). AllByRecursion Fitting cs) own.inputs_are
+      (result_fits j.dataset (row_of j first) (graph_under (job_graph j) u) row_fits (history j.script) (history j.script) (accepted_of j job) itself own.numbered.result own.result own.action.its_result)) can
+    where
+      each : (cs : List ℕ) → AllByRecursion (IsPlainVersion (job_graph j) loop.used) cs → AllByRecursion Fitting cs → AllByRecursion (CanServe j first u count kinds cells scratch levels) cs → ArePlainSources j loop.used u cs
+      each [] p f h = tt
+      each (c ∷ cs) p f h = (plain_source c p.0 f.0 count kinds cells scratch levels h.0, each cs p.1 f.1 h.1)

@@ -1,0 +1,40 @@
+use Rattle.std.proofs.Common.{arith, List, ◌-◌, ◌∙◌, ap, length, subst, sym, ℤ}
+use Rattle.std.specs.Vec.{with_items}
+use Rattle.std.proofs.lemmas.List.{with_items_is}
+use Rattle.block_lanes.specs.Lanes.{kinds_of}
+use Rattle.entry_cache.specs.Jobs.{job_of}
+use Rattle.block_passes.specs.Blocks.{entries_from}
+use Rattle.block_passes.specs.Plans.{IsPlan}
+use Rattle.block_passes.specs.Selections.{IsReadyBelow}
+use Rattle.block_passes.specs.States.{IsStateOf, StateView}
+use Rattle.block_passes.specs.Tries.{CanServeAll}
+use Rattle.block_passes.specs.contracts.state.BlockState.{the_view}
+use Rattle.block_passes.specs.declared.kept.Kept.{Kept}
+use Rattle.block_passes.proofs.BlockTurns.{as_entries, tried_as}
+use Rattle.block_passes.proofs.StateStays.{state_stays}
+use Rattle.block_passes.proofs.state.BlockState.try_block.Goals as goal
+
+pub try_begun-requires-clause-serve : goal.try_begun-requires-clause-serve
+try_begun-requires-clause-serve g c =
+    subst (λ (cells : List (List ℤ)). CanServeAll (job_of c.args.job.now) c.args.entries.lo (c.args.entries.hi - c.args.entries.lo) (kinds_of c.self.inside.work.lanes.items) cells (length c.self.inside.work.scratch.items) (length c.self.inside.work.levels.items)) (sym c.deref.ensures.value)
+    (subst (λ (s : StateView). CanServeAll (job_of c.args.job.now) c.args.entries.lo (c.args.entries.hi - c.args.entries.lo) (kinds_of s.lanes) s.cells s.scratch s.levels) (sym c.self.view_is) c.begin.ensures.begun.serve)
+
+pub try_begun-requires-clause-ready : goal.try_begun-requires-clause-ready
+try_begun-requires-clause-ready g c =
+    subst (λ (kept : List Kept). (p : IsPlan (job_of c.args.job.now) c.self.inside.plan) → IsReadyBelow (job_of c.args.job.now) c.args.entries.lo (c.args.entries.hi - c.args.entries.lo) p.chains (c.args.entries.hi - c.args.entries.lo) c.self.inside.work.lanes.items kept) (sym c.deref_mut.ensures.value)
+    (subst (λ (s : StateView). (p : IsPlan (job_of c.args.job.now) s.plan) → IsReadyBelow (job_of c.args.job.now) c.args.entries.lo (c.args.entries.hi - c.args.entries.lo) p.chains (c.args.entries.hi - c.args.entries.lo) s.lanes s.kept) (sym c.self.view_is) c.begin.ensures.begun.ready)
+
+pub returns-clause-state : goal.returns-clause-state
+returns-clause-state g c =
+    let len = c.self.inside.kept.ok.0 in
+    let many = c.try_begun.ensures.kept in
+    let same = ap length c.deref_mut.ensures.value in
+    let is = with_items_is c.self.inside.kept c.try_begun.new.kept (omega (arith, len, many, same)) in
+    state_stays (job_of c.args.job.now) (the_view c.self.inside) c.try_begun.new.work.lanes.items (length c.try_begun.new.work.scratch.items) (length c.try_begun.new.work.levels.items) c.try_begun.new.work.found (with_items c.self.inside.kept c.try_begun.new.kept).items
+    (subst (λ (s : StateView). IsStateOf (job_of c.args.job.now) s) (sym c.self.view_is) c.begin.ensures.state)
+    c.try_begun.ensures.kinds c.try_begun.ensures.rooms c.try_begun.ensures.scratch c.try_begun.ensures.levels (ap length is ∙ many ∙ same)
+
+pub returns-clause-tried : goal.returns-clause-tried
+returns-clause-tried g c =
+    tried_as (job_of c.args.job.now) c.args.cluster (entries_from c.args.entries.lo (c.args.entries.hi - c.args.entries.lo)) c.args.entries c.args.tally.now c.try_begun.new.tally c.args.steps.now c.try_begun.new.steps c.try_begun.result
+    (as_entries c.args.entries c.requires.before.2.next.some) c.try_begun.ensures.tried

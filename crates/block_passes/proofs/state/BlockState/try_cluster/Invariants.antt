@@ -1,0 +1,15 @@
+use Rattle.std.proofs.Common.{◌≡◌, ◌-◌}
+use Rattle.entry_cache.specs.Jobs.{job_of}
+use Rattle.block_passes.specs.States.{IsStateOf}
+use Rattle.block_passes.proofs.ClusterBlocks.{IsAtBlock}
+use Rattle.block_passes.proofs.state.BlockState.try_cluster.Given as goal
+
+abbrev pub invariant-loop-lo : goal.invariant-loop-lo
+invariant-loop-lo g l = record {
+  at : IsAtBlock (job_of l.job) l.cluster l.fn.self.size l.keys l.span l.fn.tally l.fn.steps l.lo l.tally l.steps;
+  state : IsStateOf (job_of l.job) l.self;
+  size : l.self.size ≡ l.fn.self.size;
+}
+
+abbrev pub decreases-loop-lo : goal.decreases-loop-lo
+decreases-loop-lo g l = l.span.hi - l.lo

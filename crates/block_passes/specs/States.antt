@@ -1,0 +1,78 @@
+-- What a slot of a loop reserves for its blocks.
+use Rattle.std.specs.Prelude.{◌≡◌, ◌<◌, ◌≤◌, ℕ, ℤ, List, All, Option, None, Some, length, slice_get}
+use Rattle.rdf_values.specs.Tables.{kind_at}
+use Rattle.rdf_values.specs.declared.value.ColType.{ColType}
+use Rattle.rdf_values.specs.declared.value.ColType.TheVariants as kind
+use Rattle.expr_check.specs.NumKinds.{CheckedExpr}
+use Rattle.expr_lanes.specs.Depths.{depth}
+use Rattle.expr_lanes.specs.declared.TheConstants.{MAX_PLACES}
+use Rattle.block_lanes.specs.Lanes.{AreUnknown, HaveRoom, LaneView, kinds_of}
+use Rattle.block_lanes.specs.Sizes.{size_for}
+use Rattle.graph_numbers.specs.Graphs.{GraphView, IsSiteExpr, graph_sites}
+use Rattle.graph_numbers.specs.Sites.{SiteAt}
+use Rattle.entry_cache.specs.Jobs.{JobView, job_graph}
+use Rattle.entry_cache.specs.Keys.{AreKeys, key, key_count}
+use Rattle.entry_cache.specs.declared.rows.Row.{Row}
+use Rattle.block_cache.specs.Blocks.{HasColumn}
+use Rattle.block_passes.specs.Plans.{IsPlan, PlanView}
+use Rattle.block_passes.specs.Selections.{CanSelect, IsReadyBelow}
+use Rattle.block_passes.specs.Tries.{CanServeAll}
+use Rattle.block_passes.specs.declared.found.Found.{Found}
+use Rattle.block_passes.specs.declared.kept.Kept.{Kept}
+
+-- how many places a block has at most; the plan; where what is read stands; the numbers of the table's columns; what is known of each key;
+-- how many levels there are for evaluations and for sites within one another; the search; and the selection of each step
+pub record StateView : Type 0 where
+  pub size : ℕ
+  pub plan : PlanView
+  pub rows : List Row
+  pub cells : List (List ℤ)
+  pub lanes : List LaneView
+  pub scratch : ℕ
+  pub levels : ℕ
+  pub found : Found
+  pub kept : List Kept
+
+-- so many levels are enough for each site's expression
+abbrev pub AreDeepEnough : GraphView → ℕ → Type 0
+AreDeepEnough g levels = (t : ℕ) (x : SiteAt) → slice_get (graph_sites g) t ≡ Some x → depth x.tree ≤ levels
+
+-- each has room for so many entries
+abbrev pub HaveCells : ℕ → List (List ℤ) → Type 0
+HaveCells size cells = All (λ numbers. length numbers ≡ size) cells
+
+-- the keys of the first so many sites have the kinds of their expressions, under nominal and each variation
+abbrev pub HaveKinds : GraphView → ℕ → List ColType → Type 0
+HaveKinds g sites kinds = (t : ℕ) (w : Option ℕ) → t < sites → (e : CheckedExpr) × IsSiteExpr g t e × (slice_get kinds (key g t w) ≡ Some e.kind)
+
+-- a slot has what the blocks of a loop take: the loop's plan, a lane for each key, of its site's kind, a list of numbers for each column,
+-- levels enough for each site, and a selection for each step
+pub record IsStateOf (j : JobView) (s : StateView) : Type 0 where
+  pub size : s.size ≡ size_for (key_count (job_graph j))
+  pub least : 1 ≤ s.size
+  pub most : s.size ≤ MAX_PLACES
+  pub plan : IsPlan j s.plan
+  pub rows : AreKeys (job_graph j) s.rows
+  pub cells : length s.cells ≡ length j.dataset.columns
+  pub cell_room : HaveCells s.size s.cells
+  pub lanes : length s.lanes ≡ key_count (job_graph j)
+  pub kinds : HaveKinds (job_graph j) (length (graph_sites (job_graph j))) (kinds_of s.lanes)
+  pub lane_room : HaveRoom s.size s.lanes
+  pub scratch : AreDeepEnough (job_graph j) s.scratch
+  pub levels : s.levels ≡ length (graph_sites (job_graph j))
+  pub kept : length s.kept ≡ length s.plan.steps
+
+-- the numbers of each column of numbers are there
+abbrev pub AreLoaded : JobView → ℕ → ℕ → List (List ℤ) → Type 0
+AreLoaded j first count cells = (col : ℕ) → kind_at j.dataset.columns col ≡ Some kind.Int → HasColumn j first count cells col
+
+-- a block of so many entries was begun at an entry: nothing is known of it, no selection was made, its filters can be tried, and all that
+-- the actions read can be served
+pub record IsBegunBlock (j : JobView) (first count : ℕ) (s : StateView) : Type 0 where
+  pub found : s.found ≡ record { limit = count; best = None }
+  pub unknown : AreUnknown count s.lanes
+  pub unmade : All (λ (k : Kept). k.limit ≡ None) s.kept
+  pub ready : (p : IsPlan j s.plan) → IsReadyBelow j first count p.chains count s.lanes s.kept
+  pub loaded : AreLoaded j first count s.cells
+  pub select : CanSelect j first count s.plan (kinds_of s.lanes) s.cells s.scratch s.levels
+  pub serve : CanServeAll j first count (kinds_of s.lanes) s.cells s.scratch s.levels

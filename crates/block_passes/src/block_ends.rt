@@ -1,0 +1,90 @@
+// Where the blocks of a cluster end.
+ghost use Rattle.std.specs.Prelude.{◌≡◌, ◌⊎◌, ◌<◌, ◌≤◌, ◌+◌, List, Some, length, map, slice_get, slice_range};
+ghost use Rattle.std.specs.List.{sum_by};
+ghost use Rattle.rdf_values.specs.Tables.{kind_at};
+ghost use Rattle.rdf_values.specs.declared.value.Value.{Value as CellValue};
+ghost use Rattle.block_laws.specs.Blocks.{elements_in, first_length, row_elements};
+
+use columns::Columns;
+use rdf_values::{ColType, Span};
+
+/// How many elements all vectors of a block may have together, unless it has but one entry.
+const MAX_ELEMENTS: u64 = 4194304;
+
+// The kind of a column.
+fn column_kind(columns: &Columns, col: u32) -> ColType
+    requires { col < length columns.now.table.columns }
+    ensures { kind_at columns.now.table.columns col ≡ Some result }
+{
+    columns.columns()[col as usize].kind
+}
+
+// How many elements a cell has.
+fn cell_elements(columns: &Columns, entry: u32, col: u32) -> u64
+    requires entry { entry < length columns.now.table.rows }
+    requires column { col < length columns.now.table.columns }
+    ensures value { (row : List CellValue) (v : CellValue) → slice_get columns.now.table.rows entry ≡ Some row → slice_get row col ≡ Some v → result ≡ elements_in v }
+    ensures few { result ≤ 4096 }
+{
+    let _table = columns.columns();
+    match column_kind(columns, col) {
+        ColType::Vect => columns.vec_at(entry, col).len() as u64,
+        _ => 0,
+    }
+}
+
+// How many elements all cells of an entry have.
+fn entry_elements(columns: &Columns, entry: u32) -> u64
+    requires entry { entry < length columns.now.table.rows }
+    ensures value { (row : List CellValue) → slice_get columns.now.table.rows entry ≡ Some row → result ≡ sum_by elements_in row }
+    ensures few { result ≤ 262144 }
+{
+    let mut elements = 0;
+    let count = columns.columns().len() as u32;
+    for col in 0..count {
+        elements += cell_elements(columns, entry, col);
+    }
+    elements
+}
+
+// How many elements so many keys of vectors may have together at an entry.
+fn key_elements(columns: &Columns, entry: u32, keys: u32) -> u64
+    requires entry { entry < length columns.now.table.rows }
+    ensures value { (row : List CellValue) → slice_get columns.now.table.rows entry ≡ Some row → result ≡ row_elements keys row }
+    ensures few { result ≤ 1125899906842624 }
+{
+    u64::from(keys) * entry_elements(columns, entry)
+}
+
+// The last end that a block may have, of so many entries at most.
+fn last_end(entries: Span, size: u32) -> u32
+    requires size { 1 ≤ size }
+    requires some { entries.lo < entries.hi }
+    ensures whole { (result ≡ entries.lo + size) ⊎ (result ≡ entries.hi) }
+    ensures within { result ≤ entries.hi }
+    ensures few { result ≤ entries.lo + size }
+    ensures some { entries.lo < result }
+{
+    if size < entries.hi - entries.lo {
+        return entries.lo + size;
+    }
+    entries.hi
+}
+
+/// The end of the block that begins with the first of some entries, of so many at most, in a loop with so many keys of vectors.
+pub(crate) fn block_end(columns: &Columns, entries: Span, size: u32, keys: u32) -> u32
+    requires size { 1 ≤ size }
+    requires some { entries.lo < entries.hi }
+    requires within { entries.hi ≤ length columns.now.table.rows }
+    ensures { result ≡ entries.lo + first_length size 4194304 (map (row_elements keys) (slice_range columns.now.table.rows entries.lo entries.hi)) }
+{
+    let mut elements = key_elements(columns, entries.lo, keys);
+    let last = last_end(entries, size);
+    for end in entries.lo + 1..last {
+        elements += key_elements(columns, end, keys);
+        if MAX_ELEMENTS < elements {
+            return end;
+        }
+    }
+    last
+}

@@ -1,0 +1,98 @@
+// The blocks of a cluster, one after the other.
+ghost use Rattle.std.specs.Prelude.{◌≡◌, ◌≢◌, ◌<◌, ◌≤◌, ◌+◌, ◌*◌, ◌-◌, ℕ, All, Err, List, OnOk, length};
+ghost use Rattle.rdf_model.specs.LoopFacts.{kinds_in};
+ghost use Rattle.cluster_tally.specs.Stages.{Stage, at_begin};
+ghost use Rattle.cluster_tally.specs.Tallies.{Holds};
+ghost use Rattle.entry_cache.specs.Caches.{IsPlainLoop};
+ghost use Rattle.entry_cache.specs.Jobs.{Fits, job_of, passes_in};
+ghost use Rattle.entry_passes.specs.Entries.{IsNoTake, facts_in, job_spans};
+ghost use Rattle.block_passes.specs.Blocks.{IsBefore, IsBlockTried};
+ghost use Rattle.block_passes.specs.Clusters.{IsClusterAnswer, at_end, span_demands};
+ghost use Rattle.block_passes.specs.States.{IsStateOf};
+
+use crate::block_ends::block_end;
+use crate::ending::try_begun;
+use crate::state::BlockState;
+use crate::stop::BlockStop;
+use crate::turn::Turn;
+use cluster_tally::Tally;
+use entry_cache::Job;
+use expr_eval::Steps;
+use rdf_values::Span;
+use std::sync::ledger::Ledger;
+
+impl BlockState {
+    /// Tries all passes over the next block of a cluster, and takes it in where none faults.
+    pub(crate) fn try_block<L: Ledger>(
+        &mut self,
+        job: &Job<'_>,
+        cluster: u32,
+        entries: Span,
+        tally: &mut Tally,
+        steps: &mut Steps<L>,
+    ) -> Result<(), BlockStop>
+        requires job { Fits job.now }
+        requires cuts { job.now.cuts.now ≡ job.now.columns.now.cuts }
+        requires state { IsStateOf (job_of job.now) self.old }
+        requires small { entries.hi - entries.lo ≤ self.old.size }
+        requires before { (watched : List ℕ) × (s : Stage) × IsBefore (job_of job.now) watched s cluster entries tally.old }
+        ensures state { IsStateOf (job_of job.now) self.new }
+        ensures tried { IsBlockTried (job_of job.now) cluster entries tally.old tally.new steps.old steps.new result }
+        ensures plain { IsPlainLoop (job_of job.now) → All IsNoTake (kinds_in (passes_in (job_of job.now))) → result ≢ Err BlockStop.Memory }
+    {
+        let over = job.columns.over(cluster);
+        self.begin(job, &over, entries);
+        let turn = Turn {
+            job,
+            plan: &self.plan,
+            rows: self.rows.as_slice(),
+            cells: &self.cells,
+            first: entries.lo,
+            count: entries.hi - entries.lo,
+            pass: 0,
+        };
+        try_begun(&turn, &mut self.work, &mut self.kept, tally, cluster, steps)
+    }
+
+    // How many entries a block has at most.
+    fn size(&self) -> u32
+        ensures { result ≡ self.now.size }
+    {
+        self.size
+    }
+
+    /// Takes the blocks of a cluster into the tally, in order, up to the first in which a pass faults, in a loop with so many keys of
+    /// vectors.
+    pub fn try_cluster<L: Ledger>(
+        &mut self,
+        job: &Job<'_>,
+        cluster: u32,
+        keys: u32,
+        tally: &mut Tally,
+        steps: &mut Steps<L>,
+    ) -> Result<(), BlockStop>
+        requires job { Fits job.now }
+        requires cuts { job.now.cuts.now ≡ job.now.columns.now.cuts }
+        requires state { IsStateOf (job_of job.now) self.old }
+        requires cluster { cluster < length (job_spans (job_of job.now)) }
+        requires begin { (watched : List ℕ) × (done : List ℕ) × Holds (facts_in (job_of job.now)) watched (at_begin done cluster) tally.old }
+        ensures answer { IsClusterAnswer (job_of job.now) cluster result }
+        ensures holds { (watched done : List ℕ) → Holds (facts_in (job_of job.now)) watched (at_begin done cluster) tally.old
+            → OnOk result (Holds (facts_in (job_of job.now)) watched (at_end (facts_in (job_of job.now)) done cluster) tally.new) }
+        ensures state { IsStateOf (job_of job.now) self.new }
+        ensures bound { steps.new ≤ steps.old + 2 * span_demands (job_of job.now) self.old.size keys cluster }
+        ensures plain { IsPlainLoop (job_of job.now) → All IsNoTake (kinds_in (passes_in (job_of job.now))) → result ≢ Err BlockStop.Memory }
+    {
+        let span = job.cuts.range(cluster);
+        let mut lo = span.lo;
+        while lo < span.hi {
+            let left = Span { lo, hi: span.hi };
+            let hi = block_end(job.columns, left, self.size(), keys);
+            match self.try_block(job, cluster, Span { lo, hi }, tally, steps) {
+                Ok(()) => lo = hi,
+                Err(stop) => return Err(stop),
+            }
+        }
+        Ok(())
+    }
+}

@@ -1,0 +1,355 @@
+// What is copied of the versions that an action reads, where it can't read them in place.
+ghost use Rattle.std.specs.Prelude.{◌≡◌, ◌<◌, ◌+◌, ℕ, Bool, ℤ, List, IfOk, OnErr, OnOk, Some, length, slice_get, slice_index_or, slice_set, true};
+ghost use Rattle.std.specs.List.{AllByRecursion};
+ghost use Rattle.rdf_values.specs.Tables.{kind_at};
+ghost use Rattle.rdf_values.specs.declared.value.ColType.{ColType as KindOf};
+ghost use Rattle.rdf_values.specs.declared.value.ColType.TheVariants as kind;
+ghost use Rattle.rdf_values.specs.declared.value.Value.TheVariants as val;
+ghost use Rattle.rdf_model.specs.Evaluation.{Gives};
+ghost use Rattle.expr_check.specs.NumKinds.{CheckedExpr};
+ghost use Rattle.graph_numbers.specs.Graphs.{IsSiteExpr, graph_sites};
+ghost use Rattle.graph_numbers.specs.Sources.{source_value};
+ghost use Rattle.expr_lanes.specs.Places.{EachPlace};
+ghost use Rattle.block_lanes.specs.Lanes.{kinds_of};
+ghost use Rattle.entry_cache.specs.Plain.{ArePlain};
+ghost use Rattle.entry_cache.specs.Jobs.{Fits, job_graph, job_of};
+ghost use Rattle.entry_cache.specs.Keys.{AreKeys, key as key_of};
+ghost use Rattle.entry_cache.specs.Store.{row_of, site_in, source_at, version_in};
+ghost use Rattle.block_cache.specs.Blocks.{AreReady};
+ghost use Rattle.graph_numbers.specs.declared.source.Source.TheVariants as source;
+ghost use Rattle.block_cache.specs.Fills.{AreSiteKinds, holds_at};
+ghost use Rattle.block_passes.specs.Copying.{AreCopied, GivesNumber, GivesVector, HasVector, IsCopyOf, IsVectorSource};
+ghost use Rattle.block_passes.specs.Inputs.{AreAtHand, ArePlainSources, AreWhole, CanServe, IsAtHand, IsPlainSource, IsWhole};
+
+use crate::elements::{SiteElement, element_at};
+use crate::inputs::source_under;
+use crate::turn::{ActionRead, Turn};
+use block_lanes::Lane;
+use entry_cache::reading::{Reading, expression, key};
+use entry_cache::rows::row_at;
+use expr_eval::Input;
+use expr_lanes::Selection;
+use graph_numbers::Source;
+use rdf_values::{ColType, Memory, Span};
+use std::alloc::Global;
+
+/// Vectors by their places: the elements of all, and where those of each place stand among them.
+#[derive(Drop)]
+pub(crate) struct CopiedVectors {
+    pub(crate) elements: Vec<i64>,
+    pub(crate) spans: Vec<Span>,
+}
+
+impl CopiedVectors {
+    /// So many places without elements.
+    fn new(alloc: Global, count: u32) -> Result<CopiedVectors, Memory>
+        ensures { IfOk result (λ v. length v.spans.items ≡ count) }
+    {
+        let spans = vec![in alloc; Span { lo: 0, hi: 0 }; count as usize]?;
+        Ok(CopiedVectors {
+            elements: Vec::new(alloc),
+            spans,
+        })
+    }
+
+    /// Copies the vector of a place.
+    fn put(&mut self, place: u32, vector: &[i64]) -> Result<(), Memory>
+        requires { place < length self.old.spans.items }
+        ensures room { OnOk result (length self.new.spans.items ≡ length self.old.spans.items) }
+        ensures own { OnOk result (HasVector self.new.elements.items self.new.spans.items place vector.now) }
+        ensures others { OnOk result ((p : ℕ) (zs : List ℤ) → (p ≡ place → ⊥) → HasVector self.old.elements.items self.old.spans.items p zs → HasVector self.new.elements.items self.new.spans.items p zs) }
+    {
+        let lo = self.elements.len();
+        self.elements.extend_from_slice(vector)?;
+        let hi = self.elements.len();
+        if hi > u32::MAX as usize {
+            return Err(Memory);
+        }
+        self.spans[place as usize] = Span {
+            lo: lo as u32,
+            hi: hi as u32,
+        };
+        Ok(())
+    }
+}
+
+/// What is copied of a version over a selection: nothing where it is read in place, or numbers or vectors by their places.
+#[derive(Drop)]
+pub(crate) enum Copied {
+    Whole,
+    Numbers(Vec<i64>),
+    Vectors(CopiedVectors),
+}
+
+/// What is copied of the versions that an action reads, in their order.
+#[derive(Drop)]
+pub(crate) struct Copies {
+    pub(crate) first: Copied,
+    pub(crate) second: Copied,
+    pub(crate) third: Copied,
+}
+
+/// The vector of a site at a place where it is held.
+fn site_vector<'s>(
+    at: &Turn<'_>,
+    lanes: &'s [Lane],
+    site: u32,
+    under: Option<u32>,
+    place: u32,
+) -> &'s [i64]
+    requires job { Fits at.now.job.now }
+    requires rows { AreKeys (job_graph (job_of at.now.job.now)) at.now.rows.now }
+    requires site { site < length (graph_sites (job_graph (job_of at.now.job.now))) }
+    requires ready { AreReady (job_of at.now.job.now) at.now.first at.now.count lanes.now }
+    requires vectors { slice_get (kinds_of lanes.now) (key_of (job_graph (job_of at.now.job.now)) site under) ≡ Some kind.Vect }
+    requires inside { place < at.now.count }
+    requires held { holds_at lanes.now (key_of (job_graph (job_of at.now.job.now)) site under) place ≡ true }
+    ensures { site_in {M = ⊥} (job_of at.now.job.now) (at.now.first + place) under site ≡ Gives (val.Vect result.now) }
+{
+    let reading = Reading {
+        job: at.job,
+        row: row_at(at.rows, at.job.graph, under),
+        entry: at.first,
+        under,
+    };
+    match lanes[key(&reading, site)].input(place) {
+        Input::Vect(zs) => zs,
+        Input::Int(_) | Input::Bool(_) | Input::Faulted(_) | Input::Missing => unreachable!(),
+    }
+}
+
+/// The vector of a column of the table, or of a site, at a place where it is at hand.
+fn vector_at<'a: 's, 's>(
+    at: &Turn<'a>,
+    lanes: &'s [Lane],
+    source: Source,
+    under: Option<u32>,
+    place: u32,
+) -> &'s [i64]
+    requires job { Fits at.now.job.now }
+    requires rows { AreKeys (job_graph (job_of at.now.job.now)) at.now.rows.now }
+    requires ready { AreReady (job_of at.now.job.now) at.now.first at.now.count lanes.now }
+    requires source { IsVectorSource (job_of at.now.job.now) under (kinds_of lanes.now) source }
+    requires inside { place < at.now.count }
+    requires hand { IsAtHand (job_of at.now.job.now) lanes.now under place source }
+    ensures { source_value {M = ⊥} (row_of (job_of at.now.job.now) (at.now.first + place)) (site_in (job_of at.now.job.now) (at.now.first + place) under) source ≡ Gives (val.Vect result.now) }
+{
+    match source {
+        Source::Cell { col } => {
+            let _entries = at.job.columns.entries();
+            at.job.columns.vec_at(at.first + place, col)
+        }
+        Source::Site { site } => site_vector(at, lanes, site, under, place),
+        Source::Element { .. } => unreachable!(),
+    }
+}
+
+/// Copies the vectors of a column of the table, or of a site, at the selected places.
+fn copy_vectors(
+    at: &Turn<'_>,
+    lanes: &[Lane],
+    selection: &Selection,
+    source: Source,
+    under: Option<u32>,
+) -> Result<CopiedVectors, Memory>
+    requires job { Fits at.now.job.now }
+    requires rows { AreKeys (job_graph (job_of at.now.job.now)) at.now.rows.now }
+    requires ready { AreReady (job_of at.now.job.now) at.now.first at.now.count lanes.now }
+    requires source { IsVectorSource (job_of at.now.job.now) under (kinds_of lanes.now) source }
+    requires inside { EachPlace selection.now (λ p. p < at.now.count) }
+    requires hand { EachPlace selection.now (λ p. IsAtHand (job_of at.now.job.now) lanes.now under p source) }
+    ensures { IfOk result (λ v. EachPlace selection.now (λ p. GivesVector v.elements.items v.spans.items p (source_value {M = ⊥} (row_of (job_of at.now.job.now) (at.now.first + p)) (site_in (job_of at.now.job.now) (at.now.first + p) under) source))) }
+{
+    let mut vectors = CopiedVectors::new(at.plan.alloc(), at.count)?;
+    let places = selection.as_slice();
+    for i in 0..places.len() {
+        let place = places[i];
+        vectors.put(place, vector_at(at, lanes, source, under, place))?;
+    }
+    Ok(vectors)
+}
+
+/// The element of a site's vector at a place where it is at hand.
+fn given_at(at: &Turn<'_>, lanes: &[Lane], of: &SiteElement, place: u32) -> i64
+    requires job { Fits at.now.job.now }
+    requires rows { AreKeys (job_graph (job_of at.now.job.now)) at.now.rows.now }
+    requires site { of.now.site < length (graph_sites (job_graph (job_of at.now.job.now))) }
+    requires ready { AreReady (job_of at.now.job.now) at.now.first at.now.count lanes.now }
+    requires inside { place < at.now.count }
+    requires hand { IsAtHand (job_of at.now.job.now) lanes.now of.now.under place (source.Element of.now.site of.now.nth of.now.tags) }
+    ensures { source_value {M = ⊥} (row_of (job_of at.now.job.now) (at.now.first + place)) (site_in (job_of at.now.job.now) (at.now.first + place) of.now.under) (source.Element of.now.site of.now.nth of.now.tags) ≡ Gives (val.Int result) }
+{
+    match element_at(at, lanes, of, place) {
+        Ok(number) => number,
+        Err(_) => unreachable!(),
+    }
+}
+
+/// Writes the number of a place.
+fn write_number(numbers: &mut Vec<i64>, place: u32, number: i64)
+    requires { place < length numbers.old.items }
+    ensures { numbers.new.items ≡ slice_set numbers.old.items place number }
+{
+    numbers[place as usize] = number;
+}
+
+/// Copies the elements of a site's vector at the selected places, where they are at hand.
+fn copy_elements(
+    at: &Turn<'_>,
+    lanes: &[Lane],
+    selection: &Selection,
+    of: &SiteElement,
+) -> Result<Vec<i64>, Memory>
+    requires job { Fits at.now.job.now }
+    requires rows { AreKeys (job_graph (job_of at.now.job.now)) at.now.rows.now }
+    requires site { of.now.site < length (graph_sites (job_graph (job_of at.now.job.now))) }
+    requires ready { AreReady (job_of at.now.job.now) at.now.first at.now.count lanes.now }
+    requires inside { EachPlace selection.now (λ p. p < at.now.count) }
+    requires hand { EachPlace selection.now (λ p. IsAtHand (job_of at.now.job.now) lanes.now of.now.under p (source.Element of.now.site of.now.nth of.now.tags)) }
+    ensures { IfOk result (λ v. EachPlace selection.now (λ p. GivesNumber v.items p (source_value {M = ⊥} (row_of (job_of at.now.job.now) (at.now.first + p)) (site_in (job_of at.now.job.now) (at.now.first + p) of.now.under) (source.Element of.now.site of.now.nth of.now.tags)))) }
+{
+    let mut numbers = vec![in at.plan.alloc(); 0; at.count as usize]?;
+    let places = selection.as_slice();
+    for i in 0..places.len() {
+        let place = places[i];
+        write_number(&mut numbers, place, given_at(at, lanes, of, place));
+    }
+    Ok(numbers)
+}
+
+/// Of which kind a site's values are.
+fn site_kind(at: &Turn<'_>, site: u32, under: Option<u32>) -> ColType
+    requires job { Fits at.now.job.now }
+    requires rows { AreKeys (job_graph (job_of at.now.job.now)) at.now.rows.now }
+    requires site { site < length (graph_sites (job_graph (job_of at.now.job.now))) }
+    ensures expr { (e : CheckedExpr) × IsSiteExpr (job_graph (job_of at.now.job.now)) site e × (result ≡ e.kind) }
+    ensures its { (kinds : List KindOf) → AreSiteKinds (job_graph (job_of at.now.job.now)) kinds → (k : KindOf) → slice_get kinds (key_of (job_graph (job_of at.now.job.now)) site under) ≡ Some k → result ≡ k }
+    ensures plain { (used : ℕ → Bool) → ArePlain (job_of at.now.job.now) used → used site ≡ true → result ≡ kind.Vect → ⊥ }
+{
+    let reading = Reading {
+        job: at.job,
+        row: row_at(at.rows, at.job.graph, under),
+        entry: at.first,
+        under,
+    };
+    expression(&reading, site).kind()
+}
+
+/// Copies the elements of a site's vector likewise, where its values are vectors.
+fn copy_tagged(
+    at: &Turn<'_>,
+    lanes: &[Lane],
+    selection: &Selection,
+    of: &SiteElement,
+) -> Result<Vec<i64>, Memory>
+    requires job { Fits at.now.job.now }
+    requires rows { AreKeys (job_graph (job_of at.now.job.now)) at.now.rows.now }
+    requires site { of.now.site < length (graph_sites (job_graph (job_of at.now.job.now))) }
+    requires ready { AreReady (job_of at.now.job.now) at.now.first at.now.count lanes.now }
+    requires vectors { (e : CheckedExpr) → IsSiteExpr (job_graph (job_of at.now.job.now)) of.now.site e → e.kind ≡ kind.Vect }
+    requires inside { EachPlace selection.now (λ p. p < at.now.count) }
+    requires hand { EachPlace selection.now (λ p. IsAtHand (job_of at.now.job.now) lanes.now of.now.under p (source.Element of.now.site of.now.nth of.now.tags)) }
+    ensures copied { IfOk result (λ v. EachPlace selection.now (λ p. GivesNumber v.items p (source_value {M = ⊥} (row_of (job_of at.now.job.now) (at.now.first + p)) (site_in (job_of at.now.job.now) (at.now.first + p) of.now.under) (source.Element of.now.site of.now.nth of.now.tags)))) }
+    ensures plain { (used : ℕ → Bool) → ArePlain (job_of at.now.job.now) used → used of.now.site ≡ true → OnErr result ⊥ }
+{
+    match site_kind(at, of.site, of.under) {
+        ColType::Vect => copy_elements(at, lanes, selection, of),
+        ColType::Int | ColType::Bool => unreachable!(),
+    }
+}
+
+/// Copies a version at the selected places, where it is at hand, unless it is read in place.
+fn copy_version(
+    at: &Turn<'_>,
+    lanes: &[Lane],
+    selection: &Selection,
+    version: u32,
+    under: Option<u32>,
+) -> Result<Copied, Memory>
+    requires job { Fits at.now.job.now }
+    requires rows { AreKeys (job_graph (job_of at.now.job.now)) at.now.rows.now }
+    requires ready { AreReady (job_of at.now.job.now) at.now.first at.now.count lanes.now }
+    requires can { (scratch levels : ℕ) × CanServe (job_of at.now.job.now) at.now.first under at.now.count (kinds_of lanes.now) at.now.cells.now scratch levels version }
+    requires inside { EachPlace selection.now (λ p. p < at.now.count) }
+    requires hand { EachPlace selection.now (λ p. IsAtHand (job_of at.now.job.now) lanes.now under p (source_at (job_of at.now.job.now) under version)) }
+    ensures copied { IfOk result (IsCopyOf (job_of at.now.job.now) at.now.first under (kinds_of lanes.now) selection.now version) }
+    ensures whole { IsWhole (job_of at.now.job.now) under (kinds_of lanes.now) (source_at (job_of at.now.job.now) under version) → OnErr result ⊥ }
+    ensures plain { (used : ℕ → Bool) → ArePlain (job_of at.now.job.now) used → IsPlainSource (job_of at.now.job.now) used (source_at (job_of at.now.job.now) under version) → OnErr result ⊥ }
+{
+    let source = source_under(at, version, under);
+    match source {
+        Source::Cell { col } => match at.job.columns.columns()[col as usize].kind {
+            ColType::Int => Ok(Copied::Whole),
+            ColType::Vect => Ok(Copied::Vectors(copy_vectors(
+                at, lanes, selection, source, under,
+            )?)),
+            ColType::Bool => unreachable!(),
+        },
+        Source::Site { site } => match site_kind(at, site, under) {
+            ColType::Int | ColType::Bool => Ok(Copied::Whole),
+            ColType::Vect => Ok(Copied::Vectors(copy_vectors(
+                at, lanes, selection, source, under,
+            )?)),
+        },
+        Source::Element { site, place, tags } => {
+            let of = SiteElement {
+                site,
+                under,
+                nth: place,
+                tags,
+            };
+            Ok(Copied::Numbers(copy_tagged(at, lanes, selection, &of)?))
+        }
+    }
+}
+
+/// Copies one of the versions that an action reads, likewise; none where there are no more.
+fn copy_input(
+    at: &Turn<'_>,
+    lanes: &[Lane],
+    selection: &Selection,
+    own: &ActionRead<'_>,
+    nth: usize,
+) -> Result<Copied, Memory>
+    requires job { Fits at.now.job.now }
+    requires rows { AreKeys (job_graph (job_of at.now.job.now)) at.now.rows.now }
+    requires ready { AreReady (job_of at.now.job.now) at.now.first at.now.count lanes.now }
+    requires can { (scratch levels : ℕ) × AllByRecursion (CanServe (job_of at.now.job.now) at.now.first own.now.under at.now.count (kinds_of lanes.now) at.now.cells.now scratch levels) own.now.inputs.now }
+    requires inside { EachPlace selection.now (λ p. p < at.now.count) }
+    requires hand { EachPlace selection.now (AreAtHand (job_of at.now.job.now) lanes.now own.now.under own.now.inputs.now) }
+    ensures copied { nth < length own.now.inputs.now → IfOk result (IsCopyOf (job_of at.now.job.now) at.now.first own.now.under (kinds_of lanes.now) selection.now (slice_index_or own.now.inputs.now nth 0)) }
+    ensures whole { AreWhole (job_of at.now.job.now) own.now.under (kinds_of lanes.now) own.now.inputs.now → OnErr result ⊥ }
+    ensures plain { (used : ℕ → Bool) → ArePlain (job_of at.now.job.now) used → ArePlainSources (job_of at.now.job.now) used own.now.under own.now.inputs.now → OnErr result ⊥ }
+{
+    match own.inputs.get(nth) {
+        Some(version) => copy_version(at, lanes, selection, *version, own.under),
+        None => Ok(Copied::Whole),
+    }
+}
+
+/// Copies the versions that an action reads at the selected places, where they are at hand; nothing of those that it reads in place.
+pub(crate) fn copy_inputs(
+    at: &Turn<'_>,
+    lanes: &[Lane],
+    selection: &Selection,
+    own: &ActionRead<'_>,
+) -> Result<Copies, Memory>
+    requires job { Fits at.now.job.now }
+    requires rows { AreKeys (job_graph (job_of at.now.job.now)) at.now.rows.now }
+    requires ready { AreReady (job_of at.now.job.now) at.now.first at.now.count lanes.now }
+    requires can { (scratch levels : ℕ) × AllByRecursion (CanServe (job_of at.now.job.now) at.now.first own.now.under at.now.count (kinds_of lanes.now) at.now.cells.now scratch levels) own.now.inputs.now }
+    requires inside { EachPlace selection.now (λ p. p < at.now.count) }
+    requires hand { EachPlace selection.now (AreAtHand (job_of at.now.job.now) lanes.now own.now.under own.now.inputs.now) }
+    ensures copied { IfOk result (AreCopied (job_of at.now.job.now) at.now.first own.now.under (kinds_of lanes.now) selection.now own.now.inputs.now) }
+    ensures whole { AreWhole (job_of at.now.job.now) own.now.under (kinds_of lanes.now) own.now.inputs.now → OnErr result ⊥ }
+    ensures plain { (used : ℕ → Bool) → ArePlain (job_of at.now.job.now) used → ArePlainSources (job_of at.now.job.now) used own.now.under own.now.inputs.now → OnErr result ⊥ }
+{
+    let first = copy_input(at, lanes, selection, own, 0)?;
+    let second = copy_input(at, lanes, selection, own, 1)?;
+    let third = copy_input(at, lanes, selection, own, 2)?;
+    Ok(Copies {
+        first,
+        second,
+        third,
+    })
+}

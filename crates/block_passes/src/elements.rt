@@ -1,0 +1,126 @@
+// The elements of a site's vector that are the values of a Vary.
+ghost use Rattle.std.specs.Prelude.{◌≡◌, ◌<◌, ◌≤◌, ◌+◌, ℕ, length, true, Some};
+ghost use Rattle.rdf_values.specs.declared.value.Value.TheVariants as val;
+ghost use Rattle.rdf_model.specs.ColumnValues.{tag_element};
+ghost use Rattle.graph_numbers.specs.Graphs.{graph_sites};
+ghost use Rattle.graph_numbers.specs.Sources.{source_value};
+ghost use Rattle.graph_numbers.specs.declared.source.Source.TheVariants as source;
+ghost use Rattle.expr_lanes.specs.Places.{EachPlace};
+ghost use Rattle.entry_cache.specs.Jobs.{Fits, job_graph, job_of};
+ghost use Rattle.entry_cache.specs.Keys.{AreKeys, key as key_of};
+ghost use Rattle.entry_cache.specs.Store.{row_of, site_in};
+ghost use Rattle.block_cache.specs.Blocks.{AreReady};
+ghost use Rattle.block_cache.specs.Fills.{fault_over, holds_at};
+ghost use Rattle.block_passes.specs.Copying.{IsNumberOf};
+ghost use Rattle.block_passes.specs.Inputs.{IsServedTo, element_fault};
+ghost use Rattle.block_passes.specs.Spends.{IsSettledAt};
+
+use crate::kept::Kept;
+use crate::turn::{Turn, Work};
+use block_cache::faults::PlaceFault;
+use block_lanes::Lane;
+use entry_cache::reading::{Reading, key};
+use entry_cache::rows::row_at;
+use expr_eval::Input;
+use expr_lanes::Selection;
+use rdf_values::EntryFault;
+
+/// The element of a site's vector at the place of a tag among so many, under nominal or a variation.
+#[derive(Clone, Copy, Debug)]
+pub(crate) struct SiteElement {
+    pub(crate) site: u32,
+    pub(crate) under: Option<u32>,
+    pub(crate) nth: u32,
+    pub(crate) tags: u32,
+}
+
+/// The element of a vector at the place of a tag among so many.
+fn tagged(zs: &[i64], nth: u32, tags: u32) -> Result<i64, EntryFault>
+    ensures { IsNumberOf (tag_element {M = ⊥} tags nth (val.Vect zs.now)) result }
+{
+    if zs.len() != tags as usize {
+        return Err(EntryFault::VaryCount);
+    }
+    match zs.get(nth as usize) {
+        Some(z) => Ok(*z),
+        None => Err(EntryFault::Index),
+    }
+}
+
+/// The element at a place of the block where the site's value is held.
+pub(crate) fn element_at(
+    at: &Turn<'_>,
+    lanes: &[Lane],
+    of: &SiteElement,
+    place: u32,
+) -> Result<i64, EntryFault>
+    requires job { Fits at.now.job.now }
+    requires rows { AreKeys (job_graph (job_of at.now.job.now)) at.now.rows.now }
+    requires site { of.now.site < length (graph_sites (job_graph (job_of at.now.job.now))) }
+    requires ready { AreReady (job_of at.now.job.now) at.now.first at.now.count lanes.now }
+    requires inside { place < at.now.count }
+    requires held { holds_at lanes.now (key_of (job_graph (job_of at.now.job.now)) of.now.site of.now.under) place ≡ true }
+    ensures { IsNumberOf (source_value {M = ⊥} (row_of (job_of at.now.job.now) (at.now.first + place)) (site_in (job_of at.now.job.now) (at.now.first + place) of.now.under) (source.Element of.now.site of.now.nth of.now.tags)) result }
+{
+    let reading = Reading {
+        job: at.job,
+        row: row_at(at.rows, at.job.graph, of.under),
+        entry: at.first,
+        under: of.under,
+    };
+    match lanes[key(&reading, of.site)].input(place) {
+        Input::Vect(zs) => tagged(zs, of.nth, of.tags),
+        Input::Int(_) | Input::Bool(_) => Ok(0),
+        Input::Faulted(_) | Input::Missing => unreachable!(),
+    }
+}
+
+/// The first of the selected places at which there isn't an element for each tag.
+fn first_without(
+    at: &Turn<'_>,
+    lanes: &[Lane],
+    selection: &Selection,
+    of: &SiteElement,
+) -> Option<PlaceFault>
+    requires job { Fits at.now.job.now }
+    requires rows { AreKeys (job_graph (job_of at.now.job.now)) at.now.rows.now }
+    requires site { of.now.site < length (graph_sites (job_graph (job_of at.now.job.now))) }
+    requires ready { AreReady (job_of at.now.job.now) at.now.first at.now.count lanes.now }
+    requires inside { EachPlace selection.now (λ p. p < at.now.count) }
+    requires held { EachPlace selection.now (λ p. holds_at lanes.now (key_of (job_graph (job_of at.now.job.now)) of.now.site of.now.under) p ≡ true) }
+    ensures { result ≡ fault_over (element_fault (job_of at.now.job.now) at.now.first of.now.under of.now.site of.now.nth of.now.tags) selection.now }
+{
+    let places = selection.as_slice();
+    for i in 0..places.len() {
+        let place = places[i];
+        match element_at(at, lanes, of, place) {
+            Ok(_) => {}
+            Err(kind) => return Some(PlaceFault { place, kind }),
+        }
+    }
+    None
+}
+
+/// Tests whether there is an element for each tag at the selected places, where the site's value is held: the first at which there isn't
+/// lowers the limit, below which the places are left.
+pub(crate) fn test_elements(at: &Turn<'_>, work: &mut Work, to: &mut Kept, of: &SiteElement)
+    requires job { Fits at.now.job.now }
+    requires rows { AreKeys (job_graph (job_of at.now.job.now)) at.now.rows.now }
+    requires site { of.now.site < length (graph_sites (job_graph (job_of at.now.job.now))) }
+    requires ready { AreReady (job_of at.now.job.now) at.now.first at.now.count work.old.lanes.items }
+    requires few { at.now.first + at.now.count ≤ 1000000 }
+    requires limit { work.old.found.limit ≤ at.now.count }
+    requires made { to.old.limit ≡ Some work.old.found.limit }
+    requires inside { EachPlace to.old.places (λ p. p < work.old.found.limit) }
+    requires settled { (p : ℕ) → p < work.old.found.limit → IsSettledAt work.old.lanes.items p }
+    requires held { EachPlace to.old.places (λ p. holds_at work.old.lanes.items (key_of (job_graph (job_of at.now.job.now)) of.now.site of.now.under) p ≡ true) }
+    ensures tested { IsServedTo (job_of at.now.job.now) at.now.first at.now.count (element_fault (job_of at.now.job.now) at.now.first of.now.under of.now.site of.now.nth of.now.tags) at.now.pass to.old.places to.new work.old.lanes.items work.old.found work.new.found }
+    ensures lanes { work.new.lanes.items ≡ work.old.lanes.items }
+    ensures scratch { length work.new.scratch.items ≡ length work.old.scratch.items }
+    ensures levels { length work.new.levels.items ≡ length work.old.levels.items }
+{
+    let _rising = to.places.as_slice();
+    let fault = first_without(at, &work.lanes, &to.places, of);
+    work.found.note(at.first, at.pass, fault);
+    let _made = to.narrow(work.found.limit);
+}

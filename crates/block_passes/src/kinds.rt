@@ -1,0 +1,33 @@
+// Of which kinds the values of a graph's keys are.
+ghost use Rattle.std.specs.Prelude.{◌≡◌, ◌++◌, IfOk, OnOk, length, replicate};
+ghost use Rattle.graph_numbers.specs.Graphs.{graph_sites};
+ghost use Rattle.entry_cache.specs.Keys.{key_count};
+ghost use Rattle.block_passes.specs.States.{HaveKinds};
+
+use node_graph::Graph;
+use rdf_values::{ColType, ListOf, Memory};
+use std::alloc::Global;
+
+// Appends a kind so many times.
+fn push_kind(kinds: &mut ListOf<ColType>, kind: ColType, count: usize) -> Result<(), Memory>
+    ensures { OnOk result (kinds.new ≡ kinds.old ++ replicate count kind) }
+{
+    for _ in 0..count {
+        kinds.push(kind)?;
+    }
+    Ok(())
+}
+
+/// The kind of each key: that of its site.
+pub(crate) fn key_kinds(alloc: Global, graph: &Graph) -> Result<ListOf<ColType>, Memory>
+    ensures many { IfOk result (λ kinds. length kinds ≡ key_count graph.now) }
+    ensures kinds { IfOk result (HaveKinds graph.now (length (graph_sites graph.now))) }
+{
+    let mut kinds = ListOf::new(alloc);
+    for site in 0..graph.sites() {
+        let depends = graph.site_depends(site);
+        let kind = graph.site(site).kind();
+        push_kind(&mut kinds, kind, 1 + depends.count() as usize)?;
+    }
+    Ok(kinds)
+}

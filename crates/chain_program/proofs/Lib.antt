@@ -1,0 +1,10 @@
+mod Accepting
+mod Chaining
+mod Commanding
+mod Joining
+mod Mapping
+mod Parting
+mod Refusing
+mod Staging
+mod Turning
+mod Writing

@@ -1,0 +1,12 @@
+// What a command stands on besides its files.
+use entry_fns::FnList;
+use std::alloc::Global;
+
+/// Threads, memory, the caller's functions, and the gate before each cluster.
+#[derive(Drop)]
+pub(crate) struct Means<'a, R, G> {
+    pub(crate) rt: &'a R,
+    pub(crate) alloc: Global,
+    pub(crate) functions: &'a FnList,
+    pub(crate) gate: &'a G,
+}
