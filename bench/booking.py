@@ -1,5 +1,6 @@
-"""The script and the runs of booking.sh: booking.py [TURNS]."""
+"""The script and the runs of booking.sh: booking.py [TURNS] [ENTRIES]."""
 import os
+import random
 import statistics
 import subprocess
 import sys
@@ -13,6 +14,8 @@ sys.path.insert(0, os.path.join(race.BENCH, "..", "tools", "cases"))
 from reference import reference_run  # noqa: E402
 
 GOAL = 0.1
+GOAL_ENTRIES, GOAL_OF_ENTRIES = 20000, 3
+SEED, BELOW = 5, 1000
 COLUMNS, VARIES, TAGS, LOCKSTEP = 64, 8, 16, 3
 DEFINES, FILTERS, REPORTS, RESULTS, PRINTS, WATCHED, STATEMENTS = 40, 24, 4, 64, 52, 8, 256
 
@@ -57,8 +60,45 @@ def script():
     return "".join(line + "\n" for line in lines).encode()
 
 
+def over_entries(turns, entries):
+    """Times the script over random entries, by one slot, and has four slots print the same; RDF_BEFORE takes turns with the program."""
+    numbers = random.Random(SEED)
+    programs = [race.rdf_program()] + ([os.environ["RDF_BEFORE"]] if os.environ.get("RDF_BEFORE") else [])
+    with tempfile.TemporaryDirectory() as folder:
+        with open(os.path.join(folder, "s.txt"), "wb") as file:
+            file.write(script())
+        with open(os.path.join(folder, "a.csv"), "w") as file:
+            print(",".join("c%d:int" % c for c in range(COLUMNS)), file=file)
+            for _ in range(entries):
+                print(",".join(str(numbers.randrange(BELOW)) for _ in range(COLUMNS)), file=file)
+
+        def run(program, slots):
+            begun = time.perf_counter()
+            done = subprocess.run([program, "s.txt", "a.csv", "--slots", str(slots)], cwd=folder,
+                                  stdin=subprocess.DEVNULL, stdout=subprocess.PIPE)
+            if done.returncode:
+                raise race.Stopped("%s ends with %d" % (program, done.returncode))
+            return time.perf_counter() - begun, done.stdout
+
+        due, best = run(programs[0], 4)[1], {}
+        for _ in range(turns):
+            for program in programs:
+                took, printed = run(program, 1)
+                if printed != due:
+                    raise race.Stopped("%s prints another output with one slot" % program)
+                best[program] = min(took, best.get(program, took))
+    for program in programs:
+        told = ""
+        if entries == GOAL_ENTRIES and program == programs[0]:
+            told = "  (goal: at most %g s; %s)" % (GOAL_OF_ENTRIES, "met" if best[program] <= GOAL_OF_ENTRIES else "missed")
+        print("%s: %d entries, best %.2f s of %d runs%s" % (program, entries, best[program], turns, told))
+    return 0
+
+
 def work(words):
     turns = race.whole_number(words[0], 100000) if words else 20
+    if len(words) > 1:
+        return over_entries(turns, race.whole_number(words[1], race.MOST_ENTRIES))
     program = race.rdf_program()
     files = {"s.txt": script(), "a.csv": ",".join("c%d:int" % c for c in range(COLUMNS)).encode() + b"\n"}
     command = ["s.txt", "a.csv"]

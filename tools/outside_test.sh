@@ -376,6 +376,7 @@ judge "1.7 MB of output through a pipe" 0 1742326
 
 rdf=$program
 run_random cases 60
+run_random blocks 100
 
 # ---- shards: rdf_shard is RDF_SHARD_PROGRAM, or crates/rdf_shard/out/rdf_shard
 

@@ -23,6 +23,7 @@ class Case:
         self.status = 0
         self.output = b""
         self.heavy = False
+        self.made = False               # its table is one that formulas make
 
     def title(self):
         return "%s: %s" % (os.path.basename(self.file), self.name)
@@ -65,6 +66,17 @@ def body(form, lines):
     return "".join(line + "\n" for line in lines).encode()
 
 
+def made_table(entries, lines):
+    """A table of so many entries, from lines `NAME:KIND = FORMULA` whose formulas give a cell in entry e."""
+    columns = [line.partition(" = ")[::2] for line in filter(None, lines)]
+    formulas = [compile(formula, formula, "eval") for _, formula in columns]
+    rows = [",".join(column for column, _ in columns)]
+    for entry in range(entries):
+        cells = [eval(formula, {"__builtins__": {}}, {"e": entry}) for formula in formulas]
+        rows.append(",".join(";".join(map(str, cell)) if isinstance(cell, list) else str(int(cell)) for cell in cells))
+    return ("\n".join(rows) + "\n").encode()
+
+
 def option_sets(text):
     """`--slots 1|2 --cluster 1|3` as the four lists of words."""
     choices = [word.split("|") for word in text.split()]
@@ -72,14 +84,15 @@ def option_sets(text):
 
 
 def rows_of(pattern, template, lines):
-    """A case for each line `TEXT => OUTPUT`: a file is the template with the text for its `@`."""
+    """A case for each line `TEXT => OUTPUT`: a file is the template with the text for its `@`, its words for `$1`.."""
     found = []
     name, _, template = template.rpartition(" <- ")
     for line in filter(None, lines):
         text, _, output = line.rpartition(" => ")
         case = copy.copy(pattern)
         case.name = "%s `%s`" % (pattern.name, text)
-        content = unescaped(template.replace("@", text).encode()) + b"\n"
+        filled = re.sub(r"\$(\d)", lambda m: text.split()[int(m[1]) - 1], template.replace("@", text))
+        content = unescaped(filled.encode()) + b"\n"
         case.files = dict(pattern.files, **{name or "s.txt": content})
         case.output = unescaped(output.encode()) + b"\n"
         found.append(case)
@@ -89,7 +102,7 @@ def rows_of(pattern, template, lines):
 def read_case_file(path):
     with open(path, encoding="utf-8", newline="\n") as file:
         lines = file.read().split("\n")[:-1]
-    tables, cases, usual, program = {}, [], [[]], "rdf"
+    tables, made, cases, usual, program = {}, set(), [], [[]], "rdf"
     at = 0
     while at < len(lines):
         line = lines[at]
@@ -105,6 +118,10 @@ def read_case_file(path):
             continue                    # what the file is about
         if line.startswith("=== table "):
             tables[rest] = body("", text)
+        elif line.startswith("=== made "):
+            name, entries = rest.split()
+            tables[name] = made_table(int(entries), text)
+            made.add(name)
         elif line.startswith("=== with "):
             usual = option_sets(rest)
         elif line.startswith("=== program "):
@@ -115,6 +132,7 @@ def read_case_file(path):
         elif mark == "---" and key in ("script", "table"):
             name = "s.txt" if key == "script" else "a.csv"
             cases[-1].files[name] = tables[rest] if rest in tables else body(rest, text)
+            cases[-1].made |= rest in made
         elif mark == "---" and key == "file":
             name, _, form = rest.partition(" ")
             cases[-1].files[name] = body(form, text)

@@ -28,6 +28,9 @@ COMPARISONS = ["<", "<=", ">", ">=", "==", "!="]
 class Script:
     """A script that mostly reads, checks and doesn't fault, line by line."""
 
+    # how often a divisor may be 0, an element or an extreme may be missing, and a Vary has one vector for its values
+    divisors, picks, vectors = 0.15, 0.1, 0.2
+
     def __init__(self, chance, columns):
         self.chance = chance
         self.nodes = {"df": dict(columns)}      # the columns that a node sees, with their kinds
@@ -60,7 +63,7 @@ class Script:
         return name or "(%s)" % self.leaf(columns, "int")       # no vector: refused
 
     def divisor(self, inner):
-        if self.chance.random() < 0.15:
+        if self.chance.random() < self.divisors:
             return "(%s)" % inner("int")
         return str(self.chance.choice([1, 2, 3, 7, 100]))
 
@@ -82,7 +85,7 @@ class Script:
         if form == 8:
             vector = inner("vect")
             pick = chance.choice(["Min(%s)", "Max(%s)", "(%s)[0]", "At(%s, 0)"]) % vector
-            return pick if chance.random() < 0.1 else "Size(%s) > 0 ? %s : -1" % (vector, pick)
+            return pick if chance.random() < self.picks else "Size(%s) > 0 ? %s : -1" % (vector, pick)
         if form == 9:
             return "square(%s)" % inner("int")
         if form == 10:
@@ -165,7 +168,7 @@ class Script:
         tags = ["down", "up", "off"][:chance.choice([1, 2, 2, 3])]
         self.variations += 1
         variation = "v%d" % self.variations
-        if len(names) == 1 and columns[names[0]] == "int" and chance.random() < 0.2:
+        if len(names) == 1 and columns[names[0]] == "int" and chance.random() < self.vectors:
             values = self.text(columns, "vect")
             if chance.random() < 0.7:
                 values = "(%s)[%s]" % (values, values) if chance.random() < 0.2 else "vec%d" % len(tags)
@@ -254,19 +257,30 @@ def shown_columns(columns):
 def random_text(chance, columns):
     """A table with these columns, at times with marks."""
     marks = [("k", "cut")] if chance.random() < 0.15 else []
-    number = lambda: chance.choice([0, 1, -1, chance.randrange(-50, 100), chance.randrange(-50, 100)])  # noqa: E731
-    lines = [",".join(":".join(c) for c in columns + marks)]
+    entries = []
     for _ in range(chance.choice([0, 1, 2, 4, 7, 12])):
-        cells = []
-        for name, kind in columns:
-            if kind == "int":
-                huge = chance.choice([2 ** 63 - 1, -2 ** 63])
-                cells.append(str(huge if chance.random() < 0.01 else number()))
-            else:
-                length = 2 if name == "vec2" else chance.choice([0, 1, 1, 2, 3])
-                cells.append(";".join(str(number()) for _ in range(length)))
-        cells += [str(int(chance.random() < 0.3)) for _ in marks]
-        lines.append(",".join(cells) if cells != [""] else '""')
+        entries.append(random_cells(chance, columns) + [str(int(chance.random() < 0.3)) for _ in marks])
+    return text_of(columns + marks, entries)
+
+
+def random_cells(chance, columns):
+    """The cells of one entry."""
+    number = lambda: chance.choice([0, 1, -1, chance.randrange(-50, 100), chance.randrange(-50, 100)])  # noqa: E731
+    cells = []
+    for name, kind in columns:
+        if kind == "int":
+            huge = chance.choice([2 ** 63 - 1, -2 ** 63])
+            cells.append(str(huge if chance.random() < 0.01 else number()))
+        else:
+            length = 2 if name == "vec2" else chance.choice([0, 1, 1, 2, 3])
+            cells.append(";".join(str(number()) for _ in range(length)))
+    return cells
+
+
+def text_of(columns, entries):
+    """The text of a table."""
+    lines = [",".join(":".join(column) for column in columns)]
+    lines += [",".join(cells) if cells != [""] else '""' for cells in entries]
     return "\n".join(lines) + "\n"
 
 
@@ -333,19 +347,28 @@ def shown(words, files):
     return told + ("--- file f.csv\n" + files["f.csv"].decode() if "f.csv" in files else "")
 
 
-def main():
-    parser = argparse.ArgumentParser(usage=__doc__)
+def usual_parser(usage):
+    parser = argparse.ArgumentParser(usage=usage)
     parser.add_argument("program", nargs="?", default=usual_program())
     parser.add_argument("count", nargs="?", type=int, default=500)
     parser.add_argument("seed", nargs="?", default="1")
     parser.add_argument("--show")
     parser.add_argument("--reference", action="store_true")
+    return parser
+
+
+def main():
+    parser = usual_parser(__doc__)
     parser.add_argument("--friends", action="store_true")
     asked = parser.parse_args()
-    with_friend = 1 if asked.friends else 0.3
+    return tried(asked, lambda seed: random_case(seed, 1 if asked.friends else 0.3), reference_run)
+
+
+def tried(asked, case_of, due):
+    """Runs the cases that are asked for; `due` gives the status and output of words over files."""
     if asked.show:
-        words, files = random_case(asked.show, with_friend)
-        status, output = reference_run(words, files)
+        words, files = case_of(asked.show)
+        status, output = due(words, files)
         print("%s--- status %d\n%s" % (shown(words, files), status, output.decode()))
         return 0
     program = os.path.abspath(asked.program)
@@ -353,8 +376,8 @@ def main():
 
     def attempt(number):
         seed = "%s/%d" % (asked.seed, number)
-        words, files = random_case(seed, with_friend)
-        wanted = reference_run(words, files)
+        words, files = case_of(seed)
+        wanted = due(words, files)
         statuses[wanted[0]] += 1
         if asked.reference:
             return None

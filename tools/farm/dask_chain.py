@@ -32,7 +32,7 @@ sys.dont_write_bytecode = True
 
 from plan import plan  # noqa: E402
 
-ENGINE_FAILED = 70                      # no scheduler, no worker, or a step whose workers were lost
+ENGINE_FAILED = 70                      # no program, no scheduler, no worker, or a step whose workers were lost
 WAIT_FOR_WORKER = 60                    # seconds
 
 
@@ -56,8 +56,11 @@ def do_step(name, words, environment, halt, parts):
     from distributed import get_worker
     if os.path.exists(halt):
         raise RuntimeError(0, "%s isn't begun" % name)
-    ran = subprocess.run(words, env={**os.environ, **environment}, stdin=subprocess.DEVNULL,
-                         stdout=subprocess.DEVNULL, stderr=subprocess.PIPE)
+    try:
+        ran = subprocess.run(words, env={**os.environ, **environment}, stdin=subprocess.DEVNULL,
+                             stdout=subprocess.DEVNULL, stderr=subprocess.PIPE)
+    except OSError as found:
+        raise RuntimeError(70, "farm: %s: %s" % (name, found)) from None
     if ran.returncode != 0:
         status = ran.returncode if ran.returncode > 0 else 128 - ran.returncode
         said = ran.stderr.decode(errors="replace").strip() or "farm: %s: status %d" % (name, status)
@@ -115,17 +118,32 @@ def tables_of(asked):
     return names
 
 
+def need_program():
+    """Without words it answers its usage: so one that has to be built first is built once, before the steps."""
+    if os.environ.get("RDF_CHAIN"):
+        os.environ["RDF_CHAIN"] = os.path.abspath(os.environ["RDF_CHAIN"])
+    ran = subprocess.run([os.path.join(FARM, "chain.sh")], env={**os.environ, "RDF_HINTS": "0"},
+                         stdin=subprocess.DEVNULL, stdout=subprocess.DEVNULL)
+    if ran.returncode != 2:
+        raise Stopped(ENGINE_FAILED, "farm: there is no program that runs")
+
+
 @contextlib.contextmanager
 def client_of(asked):
     """A client of the scheduler that is named, or of one with workers on this machine alone, which ends with it."""
+    import dask
     from distributed import Client, LocalCluster
     with contextlib.ExitStack() as stack:
         if asked.scheduler is None:
+            # A worker holds one step at a time: where it is lost, no other step counts as tried.
+            stack.enter_context(dask.config.set({"distributed.scheduler.allowed-failures": asked.tries - 1,
+                                                 "distributed.scheduler.worker-saturation": 1.0}))
             space = stack.enter_context(tempfile.TemporaryDirectory(prefix="rdf-farm-"))
+            # No extensions: that for shuffling fails with a long message where a new worker ends soon.
             cluster = stack.enter_context(LocalCluster(
                 n_workers=asked.workers or os.cpu_count(), threads_per_worker=1, host="127.0.0.1",
                 dashboard_address="127.0.0.1:0", worker_dashboard_address="127.0.0.1:0",
-                local_directory=space, silence_logs="ERROR"))
+                local_directory=space, silence_logs="ERROR", extensions={}))
             yield stack.enter_context(Client(cluster))
         else:
             try:
@@ -163,7 +181,7 @@ def do_all(client, asked, steps):
     from distributed import as_completed
     token = uuid.uuid4().hex[:12]
     halt = os.path.join(asked.work, ".halt-" + token)
-    environment = {"RDF_CHAIN": os.path.abspath(os.environ["RDF_CHAIN"])} if os.environ.get("RDF_CHAIN") else {}
+    environment = {"RDF_CHAIN": os.environ["RDF_CHAIN"]} if os.environ.get("RDF_CHAIN") else {}
     futures = {}
     for step in steps:
         words = [os.path.join(FARM, "step.sh"), step.part, *step.words(asked.script, asked.slots)]
@@ -191,16 +209,20 @@ def do_all(client, asked, steps):
 
 def why_failed(future):
     """The status and the line of a step that failed, or of the one before it that did."""
+    from distributed.scheduler import KilledWorker
     if future.status != "error":
         return ENGINE_FAILED, "farm: the scheduler is lost"
     found = future.exception()
+    if isinstance(found, KilledWorker):
+        return ENGINE_FAILED, "farm: %s: each worker that took it was lost" % found.task.rpartition("-")[0]
     if isinstance(found, RuntimeError) and len(found.args) == 2:
         return found.args
-    return ENGINE_FAILED, "farm: %s: %s" % (future.key, found)
+    return ENGINE_FAILED, "farm: %s: %s" % (future.key.rpartition("-")[0], found)
 
 
 def main():
     asked = words_of()
+    need_program()
     asked.work = os.path.abspath(asked.work)
     os.makedirs(asked.work, exist_ok=True)
     steps = plan(asked.script, asked.tables, asked.work, asked.group)
@@ -213,7 +235,9 @@ def main():
 
 
 if __name__ == "__main__":
-    signal.signal(signal.SIGTERM, lambda *_: sys.exit(143))
+    for ending in (signal.SIGTERM, signal.SIGHUP):
+        if signal.getsignal(ending) != signal.SIG_IGN:
+            signal.signal(ending, lambda number, _: sys.exit(128 + number))
     try:
         sys.exit(main())
     except Stopped as stopped:

@@ -16,12 +16,14 @@ more_option() { # NAME WORD
 }
 read_words "$@"
 command -v parallel >/dev/null || { say "there is no parallel (Debian package parallel)"; exit 70; }
+# Of other machines parallel knows the processors, or FILE tells their number.
+[ -n "$jobs" ] || [ -z "$hosts" ] || jobs=100%
 
 # A part is named after its table as it is now, so that a changed one has another part.
 name_of_part() { # NUMBER TABLE
     state=$(stat -L -c '%d %i %s %.9Y' -- "$2") || exit 5
     key=$(echo "$script_sum $state" | sha256sum | cut -c 1-16)
-    echo "$work/map-$1-${2##*/}-$key.part"
+    printf '%s\n' "$work/map-$1-${2##*/}-$key.part"
 }
 
 # Runs a step for each line of FILE: its columns are the part, its number, its table or list, and the script.
@@ -31,7 +33,7 @@ do_steps() { # FILE WORDS..
     set -- --colsep "$tab" -a "$steps" -q "$farm/step.sh" "$@"
     [ -z "$hosts" ] || set -- --sshloginfile "$hosts" --env RDF_CHAIN "$@"
     [ ! -t 2 ] || set -- --bar "$@"
-    parallel --jobs "$jobs" --retries "$tries" --halt soon,fail=1 --keep-order "$@" </dev/null || exit $?
+    run_engine parallel --jobs "${jobs:-$(nproc)}" --retries "$tries" --halt soon,fail=1 --keep-order "$@" || exit $?
 }
 
 map_all() {
@@ -39,7 +41,7 @@ map_all() {
     number=0
     while IFS= read -r table; do
         part=$(name_of_part $number "$table") || exit $?
-        echo "$part" >>"$run/parts"
+        printf '%s\n' "$part" >>"$run/parts"
         printf '%s\t%s\t%s\t%s\n' "$part" $number "$table" "$script" >>"$run/maps"
         number=$((number + 1))
     done <"$run/tables"
@@ -62,7 +64,7 @@ join_groups() { # FILES
         else
             printf '%s\t%s\t%s\t%s\n' "$part" - "$list" "$script" >>"$run/joins"
         fi
-        echo "$part" >>"$run/parts"
+        printf '%s\n' "$part" >>"$run/parts"
         first=$last
     done
     do_steps "$run/joins" {1} join {4} @{3}

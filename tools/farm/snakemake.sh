@@ -10,13 +10,14 @@ farm=$(cd "$(dirname "$0")" && pwd -P) || exit 70
 . "$farm/words.sh"
 read_words "$@"
 command -v snakemake >/dev/null || { say "there is no snakemake (Debian package snakemake)"; exit 70; }
+! grep -q '[{}]' "$run/tables" || { say "Snakemake takes no table with { or } in its name"; exit 2; }
 
 RDF_FARM_FAILED=$run/failed
 export RDF_FARM_FAILED
 # Parts are named after what they are of, and are there as wholes: they need no lock, and no look at their age.
-snakemake --snakefile "$farm/Snakefile" --directory "$work" --cores "$jobs" --retries $((tries - 1)) \
-    --nolock --rerun-incomplete --rerun-triggers mtime --forcerun printed \
-    --config "script=$script" "tables=$run/tables" "group=$group" "slots=$slots" >&2 </dev/null || {
+run_engine snakemake --snakefile "$farm/Snakefile" --directory "$work" --cores "${jobs:-$(nproc)}" \
+    --retries $((tries - 1)) --nolock --rerun-incomplete --rerun-triggers mtime \
+    --config "script=$script" "tables=$run/tables" "group=$group" "slots=$slots" >&2 || {
     [ -f "$run/failed" ] || echo 70 >"$run/failed"
     exit "$(cat "$run/failed")"
 }

@@ -48,8 +48,8 @@ if [ $status -eq 0 ] && mv -f "$new" "$out"; then
     exit 0
 fi
 line=$(head -n 1 "$new" | cut -c 1-1000)
-echo "farm: $label: status $status${line:+: $line}" >&2
+# Before anything is said: who would hear it may be gone, and the step then ends there.
 rm -f "$new"
+printf 'farm: %s\n' "$label: status $status${line:+: $line}" >&2
 [ $status -ne 0 ] || status=4
-[ -z "${RDF_FARM_FAILED:-}" ] || echo $status >"$RDF_FARM_FAILED"
 exit $status

@@ -1,6 +1,7 @@
-# The words of parallel.sh and snakemake.sh, and the names of parts. They set `farm`, the folder of this file.
+# The words of parallel.sh and snakemake.sh, and how they begin an engine. They set `farm`, the folder of this file.
 
-say() { echo "farm: $*" >&2; }
+# Names are printed as they are: an echo may take a backslash for more.
+say() { printf 'farm: %s\n' "$*" >&2; }
 
 usage() {
     say "usage: $(basename "$0") [OPTIONS] SCRIPT TABLE.."
@@ -26,7 +27,7 @@ is_number() { # WORD LEAST MOST
     [ "$1" -ge "$2" ] && [ "$1" -le "$3" ]
 }
 
-absolute() { case $1 in /*) echo "$1" ;; *) echo "$PWD/$1" ;; esac; }
+absolute() { case $1 in /*) printf '%s\n' "$1" ;; *) printf '%s\n' "$PWD/$1" ;; esac; }
 
 # A line for each table goes to `list`: a name with a line end or a tab would be none.
 note_table() { # NAME
@@ -36,13 +37,42 @@ note_table() { # NAME
     esac
     table=$(absolute "$1")
     [ -f "$table" ] || { say "no file $table"; missing=yes; }
-    echo "$table"
+    printf '%s\n' "$table"
+}
+
+# Runs an engine beside the shell, so that an end that is asked of the recipe reaches it at once.
+run_engine() { # COMMAND WORDS..
+    "$@" </dev/null &
+    engine=$!
+    wait "$engine"
+    status=$?
+    engine=
+    return $status
+}
+
+finish() {
+    if [ -n "$engine" ]; then
+        kill "$engine" 2>/dev/null
+        wait "$engine"
+    fi
+    rm -rf "$run"
+}
+
+# Steps run in other folders too. Without words the program answers its usage, with status 2: so one that has to be
+# built first is built once, before the steps.
+need_program() {
+    if [ -n "${RDF_CHAIN:-}" ]; then
+        RDF_CHAIN=$(absolute "$RDF_CHAIN")
+        export RDF_CHAIN
+    fi
+    RDF_HINTS=0 "$farm/chain.sh" </dev/null >/dev/null
+    [ $? -eq 2 ] || { say "there is no program that runs"; exit 70; }
 }
 
 # Sets work, jobs, slots, group, tries, script and count, and writes the tables' names to `$run/tables`. `run` is a
-# folder in the work folder which is there while the recipe runs.
+# folder in the work folder which is there while the recipe runs. `jobs` is empty where none are named.
 read_words() { # WORDS
-    work=farm-work jobs=$(nproc) slots=1 group=64 tries=3 more=
+    work=farm-work jobs= slots=1 group=64 tries=3 more= engine=
     tab=$(printf '\t')
     line_end='
 '
@@ -68,7 +98,7 @@ read_words() { # WORDS
     shift
     [ -f "$script" ] || { say "no file $script"; exit 5; }
     mkdir -p "$work" && work=$(cd "$work" && pwd -P) && run=$(mktemp -d "$work/.run.XXXXXX") || exit 4
-    trap 'rm -rf "$run"' EXIT
+    trap finish EXIT
     trap 'exit 129' HUP
     trap 'exit 130' INT
     trap 'exit 143' TERM
@@ -78,4 +108,5 @@ read_words() { # WORDS
     [ $missing = no ] || exit 5
     count=$(($(wc -l <"$run/tables")))
     [ "$count" -gt 0 ] || usage
+    need_program
 }

@@ -19,10 +19,11 @@ use Rattle.actions.specs.declared.batch.Sources.TheVariants.{Entry, One, Weighte
 use Rattle.actions.specs.declared.lane.Lane.{Lane}
 use Rattle.actions.specs.declared.state.State.{State}
 use Rattle.actions.specs.declared.state.State.TheVariants as state
-use Rattle.actions.specs.Batches.{fault_or_later, first_fault_in, first_lane, lane_value, numbers_in, values_at}
+use Rattle.actions.specs.Batches.{SuitsAt, fault_or_later, first_fault_in, first_lane, lane_value, numbers_in, values_at}
 use Rattle.actions.specs.Feeding.{Fed, from_cluster}
 use Rattle.actions.specs.Holding.{IsWithin}
-use Rattle.actions.specs.Parts.{first_numbers, first_scalar}
+use Rattle.actions.specs.Parts.{IsNumeric, first_numbers, first_scalar}
+use Rattle.actions.proofs.Points.{points_of_ones}
 use Rattle.actions.specs.Values.{values_from}
 
 -- ---- places
@@ -226,14 +227,27 @@ pub one_point_more : (before : List Item) (f : ℕ → Item) (ps : List ℕ) (i 
 one_point_more before f ps i item h e =
     append_assoc before (map f (take i ps)) (item ∷ []) ∙ ap (λ x. before ++ (map f (take i ps) ++ x ∷ [])) e ∙ ap (λ l. before ++ l) (sym (one_place_mapped f ps i h))
 
--- a weight of an entry without a fault
--- a histogram of numbers is filled with a point for each place
-pub number_points : (edges : List ℤ) (c : List ℕ) (o : Option (List ℕ)) (s : Sources) (x : Lane) (ps : List ℕ) (f : ℕ → ℤ) → s ≡ One x → HoldsNumbers x f
-    → flat_map (λ p. spread (kind.Histo1D edges c o) (values_at s p)) ps ≡ map (λ p. Point (f p) (pos 1)) ps
-number_points edges c o s x ps f e h =
-    same_each (λ p. spread (kind.Histo1D edges c o) (values_at s p)) (λ p. Point (f p) (pos 1) ∷ []) ps
-    (λ p. ap (λ t. spread (kind.Histo1D edges c o) (values_at t p)) e ∙ ap (λ v. spread (kind.Histo1D edges c o) (v ∷ [])) (h p))
-    ∙ singles_mapped (λ p. Point (f p) (pos 1)) ps
+-- a histogram without weights is filled with a point for each number
+pub lane_points : (edges : List ℤ) (c : List ℕ) (o : Option (List ℕ)) (s : Sources) (x : Lane) (ps : List ℕ) → s ≡ One x
+    → flat_map (λ p. spread (kind.Histo1D edges c o) (values_at s p)) ps ≡ map (λ z. Point z (pos 1)) (numbers_in x ps)
+lane_points edges c o s x [] e = refl
+lane_points edges c o s x (p ∷ ps) e =
+    ap (λ l. l ++ flat_map (λ q. spread (kind.Histo1D edges c o) (values_at s q)) ps) (ap (λ t. spread (kind.Histo1D edges c o) (values_at t p)) e ∙ points_of_ones (numbers (lane_value x p)))
+    ∙ ap (λ l. map (λ z. Point z (pos 1)) (numbers (lane_value x p)) ++ l) (lane_points edges c o s x ps e)
+    ∙ sym (map-append (λ z. Point z (pos 1)) (numbers (lane_value x p)) (numbers_in x ps))
+
+-- such a place has few numbers
+numeric_short : (v : Value) → IsNumeric v → length (numbers v) ≤ 4096
+numeric_short (val.Int z) h = lit≤ tt
+numeric_short (val.Bool b) h = absurd h
+numeric_short (val.Vect zs) h = h
+
+pub few_points : (edges : List ℤ) (c : List ℕ) (o : Option (List ℕ)) (s : Sources) (x : Lane) (ps : List ℕ) → s ≡ One x → All (SuitsAt (kind.Histo1D edges c o) s) ps → length (numbers_in x ps) ≤ length ps * 4096
+few_points edges c o s x [] e h = omega arith
+few_points edges c o s x (p ∷ ps) e h =
+    let one = numeric_short (lane_value x p) (subst (λ t. SuitsAt (kind.Histo1D edges c o) t p) e (All-head (SuitsAt (kind.Histo1D edges c o) s) p ps h)) in
+    let all = length-append (numbers (lane_value x p)) (numbers_in x ps) in
+    let rest = few_points edges c o s x ps e (All-tail (SuitsAt (kind.Histo1D edges c o) s) p ps h) in omega (arith, one, all, rest)
 
 pub weighted_points : (edges : List ℤ) (c : List ℕ) (o : Option (List ℕ)) (s : Sources) (x w : Lane) (ps : List ℕ) (f g : ℕ → ℤ) → s ≡ Weighted x w → HoldsNumbers x f → HoldsNumbers w g
     → flat_map (λ p. spread (kind.Histo1D edges c o) (values_at s p)) ps ≡ map (λ p. Point (f p) (g p)) ps

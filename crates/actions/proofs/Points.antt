@@ -1,8 +1,11 @@
 -- The points of an entry, one more at a time.
-use Rattle.std.proofs.Common.{ℕ, zero, suc, ◌≡◌, ◌+◌, ◌<◌, length, get_or, take, List, [], ◌∷◌, ◌++◌, ℤ, pos, arith, refl, ap, sym, ◌∙◌, add-one, append_assoc}
+use Rattle.std.proofs.Common.{ℕ, zero, map, suc, ◌≡◌, ◌+◌, ◌<◌, length, get_or, take, List, [], ◌∷◌, ◌++◌, ℤ, pos, arith, refl, ap, sym, ◌∙◌, add-one, append_assoc, append-nil, subst}
+use Rattle.std.specs.Prelude.{replicate}
+use Rattle.std.proofs.lemmas.List.{map-append, take_more}
 use Rattle.rdf_values.specs.declared.item.Item.{Item}
 use Rattle.rdf_values.specs.declared.item.Item.TheVariants.{Point, Point2}
 use Rattle.rdf_values.specs.Spread.{points, points2}
+use Rattle.histograms.specs.OneAxis.{Flat, HasFilled}
 
 points_next : (xs ws : List ℤ) (i : ℕ) → i < length xs → length ws ≡ length xs → points (take (suc i) xs) ws ≡ points (take i xs) ws ++ Point (get_or xs i (pos 0)) (get_or ws i (pos 0)) ∷ []
 points_next [] ws i l e = absurd (omega arith)
@@ -38,3 +41,22 @@ points2_filled xs ys ws i before x y w l d e p r q =
     append_assoc before (points2 (take i xs) ys ws) (Point2 x y w ∷ [])
     ∙ ap (λ ps. before ++ ps) (ap (λ a. points2 (take i xs) ys ws ++ Point2 a y w ∷ []) p ∙ ap (λ b. points2 (take i xs) ys ws ++ Point2 (get_or xs i (pos 0)) b w ∷ []) r
     ∙ ap (λ b. points2 (take i xs) ys ws ++ Point2 (get_or xs i (pos 0)) (get_or ys i (pos 0)) b ∷ []) q ∙ sym (points2_more xs ys ws i l d e))
+
+-- ---- points without weights
+
+-- what is filled with one more number
+pub one_filled : (xs : List ℤ) (i : ℕ) (before : List Item) (x : ℤ) → i < length xs → x ≡ get_or xs i (pos 0)
+    → (before ++ map (λ z. Point z (pos 1)) (take i xs)) ++ Point x (pos 1) ∷ [] ≡ before ++ map (λ z. Point z (pos 1)) (take (i + 1) xs)
+one_filled xs i before x l p =
+    append_assoc before (map (λ z. Point z (pos 1)) (take i xs)) (Point x (pos 1) ∷ [])
+    ∙ ap (λ ps. before ++ ps) (ap (λ a. map (λ z. Point z (pos 1)) (take i xs) ++ Point a (pos 1) ∷ []) p
+    ∙ sym (ap (map (λ z. Point z (pos 1))) (take_more xs i (pos 0) l) ∙ map-append (λ z. Point z (pos 1)) (take i xs) (get_or xs i (pos 0) ∷ [])))
+
+-- what is filled with no number
+pub none_filled : (g : Flat) → (g.edges ≡ g.edges) × (g.fills ≡ g.fills + length {A = ℤ} []) × ((before : List Item) → HasFilled g before → HasFilled g (before ++ map (λ z. Point z (pos 1)) []))
+none_filled g = (refl, omega arith, λ before h. subst (HasFilled g) (sym (append-nil before)) h)
+
+-- numbers that all weigh 1
+pub points_of_ones : (xs : List ℤ) → points xs (replicate (length xs) (pos 1)) ≡ map (λ z. Point z (pos 1)) xs
+points_of_ones [] = refl
+points_of_ones (x ∷ xs) = ap (λ ps. Point x (pos 1) ∷ ps) (points_of_ones xs)

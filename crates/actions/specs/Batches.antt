@@ -1,5 +1,5 @@
 -- What the entries of a block feed to an action.
-use Rattle.std.specs.Prelude.{ℕ, zero, ◌<◌, ◌≤◌, ⊤, Bool, true, false, List, [], ◌∷◌, length, ℤ, pos, Option, Some, None, All, slice_index_or, slice_range, flat_map}
+use Rattle.std.specs.Prelude.{ℕ, zero, ◌+◌, ◌<◌, ◌≤◌, ⊤, Bool, true, false, List, [], ◌∷◌, length, ℤ, pos, Option, Some, None, All, slice_index_or, slice_range, flat_map}
 use Rattle.std.specs.List.{range_with_len}
 use Rattle.rdf_values.specs.Spread.{feed_fault, numbers, spread}
 use Rattle.rdf_values.specs.declared.action.ActionKind.{ActionKind}
@@ -44,6 +44,7 @@ abbrev pub lane_value : Lane → ℕ → Value
 lane_value (lane.Int zs) p = val.Int (slice_index_or zs.now p (pos 0))
 lane_value (lane.Bool zs) p = val.Bool (truth_of (slice_index_or zs.now p (pos 0)))
 lane_value (lane.Vects elements spans) p = val.Vect (slice_range elements.now (span_at spans.now p).lo (span_at spans.now p).hi)
+lane_value (lane.Column vectors first) p = val.Vect (slice_index_or vectors.now (first + p) [])
 
 -- there is one at the place
 abbrev pub HasPlace : Lane → ℕ → Type 0
@@ -51,6 +52,7 @@ HasPlace (lane.Int zs) p = p < length zs.now
 HasPlace (lane.Bool zs) p = p < length zs.now
 HasPlace (lane.Vects elements spans) p =
     (p < length spans.now) × ((span_at spans.now p).lo ≤ (span_at spans.now p).hi) × ((span_at spans.now p).hi ≤ length elements.now)
+HasPlace (lane.Column vectors first) p = first + p < length vectors.now
 
 -- the values of the columns at a place, in written order
 abbrev pub values_at : Sources → ℕ → List Value

@@ -11,7 +11,7 @@ use crate::places::Places;
 use rdf_values::EntryFault;
 
 /// The lanes of an action's columns: none for a Count, then the coordinates, then the weight.
-#[derive(Clone, Copy, Debug)]
+#[derive(Clone, Copy)]
 pub enum Sources<'a> {
     Entry,
     One {
@@ -33,7 +33,7 @@ pub enum Sources<'a> {
 }
 
 /// The values of an action's columns at some places of a block.
-#[derive(Clone, Copy, Debug)]
+#[derive(Clone, Copy)]
 pub struct Batch<'a> {
     pub places: Places<'a>,
     pub sources: Sources<'a>,

@@ -57,20 +57,6 @@ pub fn fill_pairs(hist: &mut Hist2, xs: &[i64], ys: &[i64], weight: &Option<Part
     }
 }
 
-/// Fills the numbers of some places.
-pub fn fill_numbers(hist: &mut Hist1, numbers: &[i64], places: &Places<'_>)
-    requires few { length (places_of places.now) ≤ 1000000 }
-    requires there { EachPlace places.now (λ p. p < length numbers.now) }
-    requires room { hist.old.fills + length (places_of places.now) ≤ MOST_FILLS }
-    ensures edges { hist.new.edges ≡ hist.old.edges }
-    ensures fills { hist.new.fills ≡ hist.old.fills + length (places_of places.now) }
-    ensures filled { (before : List Item) → HasFilled hist.old before → HasFilled hist.new (before ++ map (λ p. Point (slice_index_or numbers.now p (pos 0)) (pos 1)) (places_of places.now)) }
-{
-    for i in 0..places.len() {
-        hist.fill(numbers[places.at(i) as usize], 1);
-    }
-}
-
 /// Fills the numbers of some places, each with its weight.
 pub fn fill_weighted(hist: &mut Hist1, numbers: &[i64], weights: &[i64], places: &Places<'_>)
     requires few { length (places_of places.now) ≤ 1000000 }

@@ -10,6 +10,7 @@ use crate::batch::Batch;
 use crate::lane::Lane;
 use crate::numbers::{Reduction, greatest_with, least_with, reduce_with, sum_with};
 use crate::places::Places;
+use histograms::Hist1;
 use rdf_values::ReduceOp;
 use std::slice;
 
@@ -88,6 +89,24 @@ impl Folds for Reduction {
     }
 }
 
+impl Folds for Hist1 {
+    ghost use Rattle.std.specs.Prelude.{◌≡◌, ◌+◌, ◌-◌, ◌*◌, ◌^◌, ◌++◌, List, length, map, pos};
+    ghost use Rattle.rdf_values.specs.declared.item.Item.{Item};
+    ghost use Rattle.rdf_values.specs.declared.item.Item.TheVariants.{Point};
+    ghost use Rattle.histograms.specs.OneAxis.{HasFilled};
+
+    ghost folded = { λ a b zs. (b.edges ≡ a.edges) × (b.fills ≡ a.fills + length zs) × ((before : List Item) → HasFilled a before → HasFilled b (before ++ map (λ z. Point z (pos 1)) zs)) };
+
+    // a histogram that takes no more fills is as large as can be
+    ghost size = { λ a. (a.fills + (2 ^ 64 - 2 ^ 40)) * 2 ^ 63 };
+
+    fn take_in(&mut self, numbers: &[i64]) {
+        for number in numbers {
+            self.fill(*number, 1);
+        }
+    }
+}
+
 // Takes in the numbers of the listed places.
 fn fold_listed<F: Folds>(folder: &mut F, numbers: &[i64], listed: &[u32])
     requires there { All (λ p. p < length numbers.now) listed.now }
@@ -112,6 +131,7 @@ pub(crate) fn fold_lane<F: Folds>(folder: &mut F, lane: &Lane<'_>, places: &Plac
         (Lane::Int(numbers), Places::First(count)) => folder.take_in(&numbers[..*count as usize]),
         (Lane::Int(numbers), Places::Listed(listed)) => fold_listed(folder, numbers, listed),
         _ => {
+            let (lane, places) = (*lane, *places);
             for i in 0..places.len() {
                 folder.take_in(lane.numbers(places.at(i)));
             }

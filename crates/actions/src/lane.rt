@@ -5,11 +5,11 @@ ghost use Rattle.actions.specs.Batches.{HasPlace, lane_value};
 ghost use Rattle.actions.specs.Parts.{part_value};
 
 use crate::items::Part;
-use rdf_values::Span;
+use rdf_values::{Span, Vects};
 use std::slice;
 
 /// The values of a column at the places of a block, each at its own place.
-#[derive(Clone, Copy, Debug)]
+#[derive(Clone, Copy)]
 pub enum Lane<'a> {
     Int(&'a [i64]),
     /// 0 for false, and 1 for true.
@@ -18,6 +18,11 @@ pub enum Lane<'a> {
     Vects {
         elements: &'a [i64],
         spans: &'a [Span],
+    },
+    /// The vectors of a table's column, and the entry at which the block's places begin.
+    Column {
+        vectors: &'a Vects,
+        first: u32,
     },
 }
 
@@ -35,6 +40,7 @@ impl<'a> Lane<'a> {
                 let span = spans[at];
                 Part::Vect(&elements[span.lo as usize..span.hi as usize])
             }
+            Lane::Column { vectors, first } => Part::Vect(vectors.at(*first as usize + at)),
         }
     }
 
@@ -51,6 +57,7 @@ impl<'a> Lane<'a> {
                 let span = spans[at];
                 &elements[span.lo as usize..span.hi as usize]
             }
+            Lane::Column { vectors, first } => vectors.at(*first as usize + at),
         }
     }
 }

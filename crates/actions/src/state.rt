@@ -4,8 +4,8 @@ ghost use Rattle.histograms.specs.Axis.{IsAxis};
 
 use crate::batch::{Batch, Sources};
 use crate::filled::Filled;
-use crate::fills::{fill_numbers, fill_pairs, fill_points, fill_weighted};
-use crate::folding::{greatest_batch, least_batch, reduce_batch, sum_batch};
+use crate::fills::{fill_pairs, fill_points, fill_weighted};
+use crate::folding::{fold_lane, greatest_batch, least_batch, reduce_batch, sum_batch};
 use crate::items::Items;
 use crate::lane::Lane;
 use crate::numbers::{
@@ -230,6 +230,7 @@ impl State {
     fn fill_at_once(&mut self, batch: &Batch<'_>) -> bool
         requires few { length (places_of batch.now.places) ≤ 1000000 }
         requires there { EachPlace batch.now.places (HasValues batch.now.sources) }
+        requires suits { EachPlace batch.now.places (SuitsAt (kind_of self.old) batch.now.sources) }
         requires no_fault { EachPlace batch.now.places (λ p. feed_fault (kind_of self.old) (values_at batch.now.sources p) ≡ None) }
         requires room { IsWithin (1000000 - length (places_of batch.now.places)) self.old }
         ensures other { result ≡ false → self.new ≡ self.old }
@@ -240,10 +241,8 @@ impl State {
     {
         if let State::Histo1D { hist, .. } = self {
             match &batch.sources {
-                Sources::One {
-                    x: Lane::Int(numbers),
-                } => {
-                    fill_numbers(hist, numbers, &batch.places);
+                Sources::One { x } => {
+                    fold_lane(hist, x, &batch.places);
                     return true;
                 }
                 Sources::Weighted {

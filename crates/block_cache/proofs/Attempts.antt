@@ -17,11 +17,11 @@ use Rattle.graph_numbers.specs.Graphs.{GraphView, graph_sites, graph_variations}
 use Rattle.graph_numbers.specs.declared.source.Source.{Source}
 use Rattle.graph_numbers.specs.declared.source.Source.TheVariants as from
 use Rattle.block_lanes.specs.Lanes.{LaneView, is_held, is_tried}
-use Rattle.entry_cache.specs.Jobs.{JobView, job_graph}
-use Rattle.entry_cache.specs.Keys.{key, key_count, keys_before, slot_at}
-use Rattle.entry_cache.specs.Store.{IsMissingSource, IsSiteOf, held_in, is_held as has_held, source_at}
-use Rattle.entry_cache.proofs.FillLaws.{there}
-use Rattle.entry_cache.proofs.KeyLaws.{key_below}
+use Rattle.loop_keys.specs.Jobs.{JobView, job_graph}
+use Rattle.loop_keys.specs.Keys.{key, key_count, keys_before, slot_at}
+use Rattle.loop_keys.specs.Store.{IsMissingSource, IsSiteOf, held_in, is_held as has_held, source_at}
+use Rattle.loop_keys.proofs.FillLaws.{there}
+use Rattle.loop_keys.proofs.KeyLaws.{key_below}
 use Rattle.block_cache.specs.Blocks.{AreReady, IsTelling, IsTriedOver, cells_at}
 use Rattle.block_cache.specs.Faults.{IsLeastFault, fault_of}
 use Rattle.block_cache.specs.Fills.{IsGrownOver, IsOnlyCalled, IsSameAt, begun_at, begun_count, holds_at, is_below, lane_begun, lane_holds, site_fault}

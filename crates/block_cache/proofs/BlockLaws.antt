@@ -8,13 +8,13 @@ use Rattle.rdf_values.specs.Tree.{NumTree}
 use Rattle.expr_check.specs.NumKinds.{CheckedExpr}
 use Rattle.graph_numbers.specs.Graphs.{IsSiteExpr}
 use Rattle.block_lanes.specs.Lanes.{LaneView}
-use Rattle.entry_cache.specs.Jobs.{JobView, IsJob, job_graph}
-use Rattle.entry_cache.specs.Keys.{key}
-use Rattle.entry_cache.specs.Store.{IsRight, IsSound, held_in, held_or_need, is_held as has_held, look_at, site_in}
-use Rattle.entry_cache.specs.declared.held.Held.{Held}
-use Rattle.entry_cache.specs.declared.held.Held.TheVariants as held
-use Rattle.entry_cache.proofs.EvaluateLaws.{found_right, needed_met, needed_missing}
-use Rattle.entry_cache.proofs.FillLaws.{HasTree, has_tree}
+use Rattle.loop_keys.specs.Jobs.{JobView, IsJob, job_graph}
+use Rattle.loop_keys.specs.Keys.{key}
+use Rattle.loop_keys.specs.Store.{IsRight, IsSound, held_in, held_or_need, is_held as has_held, look_at, site_in}
+use Rattle.loop_keys.specs.declared.held.Held.{Held}
+use Rattle.loop_keys.specs.declared.held.Held.TheVariants as held
+use Rattle.loop_keys.proofs.EvaluateLaws.{found_right, needed_met, needed_missing}
+use Rattle.loop_keys.proofs.FillLaws.{HasTree, has_tree}
 use Rattle.block_cache.specs.Blocks.{IsTelling, cells_at, held_at, held_value}
 
 -- ---- one key at a place

@@ -5,9 +5,9 @@ use Rattle.std.proofs.lemmas.Bool.{cases_eq}
 use Rattle.std.proofs.lemmas.Option.{slice_get_within}
 use Rattle.expr_lanes.specs.Places.{EachPlace, is_in}
 use Rattle.block_lanes.specs.Lanes.{LaneView, is_held, is_tried}
-use Rattle.entry_cache.specs.Jobs.{JobView, job_graph}
-use Rattle.entry_cache.specs.Keys.{key, key_count}
-use Rattle.entry_cache.specs.Store.{held_in}
+use Rattle.loop_keys.specs.Jobs.{JobView, job_graph}
+use Rattle.loop_keys.specs.Keys.{key, key_count}
+use Rattle.loop_keys.specs.Store.{held_in}
 use Rattle.block_cache.specs.Blocks.{IsBegunOver, cells_at, held_at, held_value}
 use Rattle.block_cache.specs.Fills.{IsGrownOver, IsOnlyCalled, IsSameAt, begun_at, begun_count, lane_begun}
 use Rattle.block_cache.specs.Turns.{IsBrokenOff}

@@ -16,12 +16,12 @@ use Rattle.graph_numbers.specs.Sources.{IsBelow}
 use Rattle.graph_numbers.specs.Versions.{version_count}
 use Rattle.graph_numbers.specs.declared.source.Source.{Source}
 use Rattle.graph_numbers.specs.declared.source.Source.TheVariants as from
-use Rattle.entry_cache.specs.Jobs.{JobView, IsJob, job_graph}
-use Rattle.entry_cache.specs.Plain.{ArePlain}
-use Rattle.entry_cache.specs.Store.{IsSiteOf, IsSound, IsSourceIn, MeetsAt, site_in, source_at, version_in}
-use Rattle.entry_cache.proofs.EvaluateLaws.{accepted_of, whole}
-use Rattle.entry_cache.proofs.FillLaws.{in_source}
-use Rattle.entry_cache.proofs.PlainLaws.{plain_closed}
+use Rattle.loop_keys.specs.Jobs.{JobView, IsJob, job_graph}
+use Rattle.loop_keys.specs.Plain.{ArePlain}
+use Rattle.loop_keys.specs.Store.{IsSiteOf, IsSound, IsSourceIn, MeetsAt, site_in, source_at, version_in}
+use Rattle.loop_keys.proofs.EvaluateLaws.{accepted_of, whole}
+use Rattle.loop_keys.proofs.FillLaws.{in_source}
+use Rattle.loop_keys.proofs.PlainLaws.{plain_closed}
 use Rattle.expr_lanes.specs.Depths.{depth}
 use Rattle.block_cache.specs.Fills.{AreSiteKinds, CanFill, IsLoaded, IsRankedBelow}
 

@@ -18,12 +18,12 @@ use Rattle.graph_numbers.proofs.Closing.{each_at}
 use Rattle.graph_numbers.proofs.Equations.{columns_below}
 use Rattle.graph_numbers.proofs.Meeting.{In, here, there as further}
 use Rattle.block_lanes.specs.Lanes.{LaneView, kinds_of}
-use Rattle.entry_cache.specs.Jobs.{JobView, IsJob, job_graph}
-use Rattle.entry_cache.specs.Keys.{key, key_count}
-use Rattle.entry_cache.specs.Store.{source_at}
-use Rattle.entry_cache.proofs.EvaluateLaws.{accepted_of}
-use Rattle.entry_cache.proofs.FillLaws.{there}
-use Rattle.entry_cache.proofs.RowLaws.{key_small}
+use Rattle.loop_keys.specs.Jobs.{JobView, IsJob, job_graph}
+use Rattle.loop_keys.specs.Keys.{key, key_count}
+use Rattle.loop_keys.specs.Store.{source_at}
+use Rattle.loop_keys.proofs.EvaluateLaws.{accepted_of}
+use Rattle.loop_keys.proofs.FillLaws.{there}
+use Rattle.loop_keys.proofs.RowLaws.{key_small}
 use Rattle.block_cache.specs.Blocks.{AreReady, CanTry, HasLane, HasSource, IsTriable}
 use Rattle.block_cache.specs.Fills.{CanFill, IsLoaded}
 use Rattle.block_cache.proofs.Attempts.{get_take, key_lower}

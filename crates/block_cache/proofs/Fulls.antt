@@ -7,8 +7,8 @@ use Rattle.expr_lanes.specs.Places.{EachPlace, IsSelected}
 use Rattle.expr_lanes.proofs.Sequence.{first_in, rest_in}
 use Rattle.graph_numbers.specs.Graphs.{graph_sites}
 use Rattle.block_lanes.specs.Lanes.{LaneView, is_held}
-use Rattle.entry_cache.specs.Jobs.{JobView, job_graph}
-use Rattle.entry_cache.specs.Keys.{key}
+use Rattle.loop_keys.specs.Jobs.{JobView, job_graph}
+use Rattle.loop_keys.specs.Keys.{key}
 use Rattle.block_cache.specs.Blocks.{AreReady}
 use Rattle.block_cache.specs.Fills.{IsFilledOver, holds_at, lane_holds, site_fault}
 use Rattle.block_cache.proofs.Knowns.{held_no_fault}

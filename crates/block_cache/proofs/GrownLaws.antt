@@ -5,10 +5,10 @@ use Rattle.graph_numbers.specs.declared.source.Source.{Source}
 use Rattle.graph_numbers.specs.declared.source.Source.TheVariants as from
 use Rattle.expr_lanes.specs.Places.{EachPlace, is_in}
 use Rattle.block_lanes.specs.Lanes.{LaneView}
-use Rattle.entry_cache.specs.Jobs.{JobView, job_graph}
-use Rattle.entry_cache.specs.Keys.{key, key_count}
-use Rattle.entry_cache.specs.Store.{IsClosed, IsSiteOf, IsSourceIn, MeetsAt, source_at}
-use Rattle.entry_cache.proofs.FillLaws.{grows_on, in_source}
+use Rattle.loop_keys.specs.Jobs.{JobView, job_graph}
+use Rattle.loop_keys.specs.Keys.{key, key_count}
+use Rattle.loop_keys.specs.Store.{IsClosed, IsSiteOf, IsSourceIn, MeetsAt, source_at}
+use Rattle.loop_keys.proofs.FillLaws.{grows_on, in_source}
 use Rattle.block_cache.specs.Blocks.{cells_at}
 use Rattle.block_cache.specs.Fills.{IsGrownOver, IsOnlyCalled, IsSameAt, IsSettled, begun_at, holds_at}
 use Rattle.block_cache.specs.Turns.{IsSettledTo}

@@ -8,11 +8,11 @@ use Rattle.rdf_model.specs.Evaluation.{Gives}
 use Rattle.rdf_model.specs.Results.{fault_in}
 use Rattle.graph_numbers.specs.Graphs.{graph_sites}
 use Rattle.block_lanes.specs.Lanes.{LaneView, is_held, is_tried, kinds_of, room_of, rooms_of, tried_count, value_of}
-use Rattle.entry_cache.specs.Jobs.{JobView, job_graph}
-use Rattle.entry_cache.specs.Keys.{key, key_count}
-use Rattle.entry_cache.specs.Store.{Grows, IsRight, held_in, is_held as has_held, site_in}
-use Rattle.entry_cache.specs.declared.held.Held.{Held}
-use Rattle.entry_cache.specs.declared.held.Held.TheVariants as held
+use Rattle.loop_keys.specs.Jobs.{JobView, job_graph}
+use Rattle.loop_keys.specs.Keys.{key, key_count}
+use Rattle.loop_keys.specs.Store.{Grows, IsRight, held_in, is_held as has_held, site_in}
+use Rattle.loop_keys.specs.declared.held.Held.{Held}
+use Rattle.loop_keys.specs.declared.held.Held.TheVariants as held
 use Rattle.block_cache.specs.Blocks.{AreReady, cells_at, held_at, held_value}
 use Rattle.block_cache.specs.Fills.{IsSameAt, begun_count, holds_at, lane_begun, lane_holds, site_fault}
 use Rattle.block_cache.proofs.BlockLaws.{held_of_lane, lane_held, right_value, value_held}

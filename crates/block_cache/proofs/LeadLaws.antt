@@ -23,12 +23,12 @@ use Rattle.graph_numbers.specs.Sites.{SiteAt}
 use Rattle.graph_numbers.specs.Sources.{IsBelow}
 use Rattle.graph_numbers.specs.Versions.{version_count}
 use Rattle.block_lanes.specs.Lanes.{LaneView}
-use Rattle.entry_cache.specs.Jobs.{JobView, IsJob, job_graph}
-use Rattle.entry_cache.specs.Keys.{key, key_count}
-use Rattle.entry_cache.specs.Plain.{ArePlain}
-use Rattle.entry_cache.specs.Store.{IsSiteOf, IsSourceIn, MeetsAt, site_in, source_at, version_in}
-use Rattle.entry_cache.proofs.EvaluateLaws.{accepted_of}
-use Rattle.entry_cache.proofs.FillLaws.{in_source}
+use Rattle.loop_keys.specs.Jobs.{JobView, IsJob, job_graph}
+use Rattle.loop_keys.specs.Keys.{key, key_count}
+use Rattle.loop_keys.specs.Plain.{ArePlain}
+use Rattle.loop_keys.specs.Store.{IsSiteOf, IsSourceIn, MeetsAt, site_in, source_at, version_in}
+use Rattle.loop_keys.proofs.EvaluateLaws.{accepted_of}
+use Rattle.loop_keys.proofs.FillLaws.{in_source}
 use Rattle.block_cache.specs.Fills.{CanFill, IsFilledOver, IsGrownOver, IsRankedBelow, IsSameAt, IsSpentOver, below_fault, fault_over, is_below, site_fault}
 use Rattle.block_cache.specs.Leads.{IsFilledTo, IsLead, first_read, first_read_in}
 use Rattle.block_cache.specs.Turns.{IsFaultOf, found_or}

@@ -5,7 +5,6 @@ pub mod BrokenOff
 pub mod CanFills
 pub mod CanTries
 pub mod ColumnCells
-pub mod FoldCalls
 pub mod Fulls
 pub mod GrownLaws
 pub mod Knowns

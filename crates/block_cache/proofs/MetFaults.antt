@@ -14,14 +14,14 @@ use Rattle.graph_numbers.specs.Sites.{SiteAt}
 use Rattle.graph_numbers.specs.Sources.{source_value}
 use Rattle.graph_numbers.specs.declared.source.Source.{Source}
 use Rattle.graph_numbers.specs.declared.source.Source.TheVariants as from
-use Rattle.entry_cache.specs.Jobs.{JobView, IsJob, job_graph}
-use Rattle.entry_cache.specs.Store.{IsSiteOf, IsSound, MeetsAt, row_of, site_in, source_at, version_in}
+use Rattle.loop_keys.specs.Jobs.{JobView, IsJob, job_graph}
+use Rattle.loop_keys.specs.Store.{IsSiteOf, IsSound, MeetsAt, row_of, site_in, source_at, version_in}
 use Rattle.rdf_model.specs.ColumnValues.{tag_element}
 use Rattle.rdf_model.proofs.Missing.{site_alike, alike_is}
 use Rattle.graph_numbers.specs.Graphs.{graph_under}
 use Rattle.graph_numbers.specs.Sites.{site_outcome}
 use Rattle.graph_numbers.specs.Sources.{site_value}
-use Rattle.entry_cache.proofs.EvaluateLaws.{whole}
+use Rattle.loop_keys.proofs.EvaluateLaws.{whole}
 
 module _ {M : Type 0} (k : EntryFault) where
   -- the outcomes are the same, or the former needs something and the latter faults

@@ -12,11 +12,11 @@ use Rattle.expr_lanes.specs.Places.{EachPlace, IsSelected, at_place, is_in}
 use Rattle.graph_numbers.specs.Graphs.{graph_sites}
 use Rattle.block_lanes.specs.Lanes.{LaneView, is_held, kinds_of, value_of}
 use Rattle.block_lanes.specs.Values.{value_for}
-use Rattle.entry_cache.specs.Jobs.{JobView, job_graph}
-use Rattle.entry_cache.specs.Keys.{key, key_count}
-use Rattle.entry_cache.specs.Known.{truth_in}
-use Rattle.entry_cache.specs.Store.{IsRight, held_in, site_in}
-use Rattle.entry_cache.specs.declared.held.Held.{Held}
+use Rattle.loop_keys.specs.Jobs.{JobView, job_graph}
+use Rattle.loop_keys.specs.Keys.{key, key_count}
+use Rattle.loop_keys.specs.Known.{truth_in}
+use Rattle.loop_keys.specs.Store.{IsRight, held_in, site_in}
+use Rattle.loop_keys.specs.declared.held.Held.{Held}
 use Rattle.block_cache.specs.Blocks.{AreReady, cells_at}
 use Rattle.block_cache.specs.Fills.{IsPassedOver, IsSettled, IsSpentOver, holds_at, lane_holds}
 use Rattle.block_cache.specs.Leads.{IsFilledTo}

@@ -16,9 +16,9 @@ use Rattle.graph_numbers.specs.Graphs.{graph_sites}
 use Rattle.graph_numbers.specs.declared.source.Source.{Source}
 use Rattle.graph_numbers.specs.declared.source.Source.TheVariants as from
 use Rattle.block_lanes.specs.Lanes.{LaneView}
-use Rattle.entry_cache.specs.Jobs.{JobView, IsJob, job_graph}
-use Rattle.entry_cache.specs.Keys.{key, key_count}
-use Rattle.entry_cache.specs.Store.{IsSiteOf, MeetsAt, site_in, source_at}
+use Rattle.loop_keys.specs.Jobs.{JobView, IsJob, job_graph}
+use Rattle.loop_keys.specs.Keys.{key, key_count}
+use Rattle.loop_keys.specs.Store.{IsSiteOf, MeetsAt, site_in, source_at}
 use Rattle.block_cache.specs.Blocks.{AreReady}
 use Rattle.block_cache.specs.Fills.{IsFilledOver, IsGrownOver, IsSameAt, IsSettled, IsSpentOver, below_fault, begun_at, holds_at, is_below, site_fault}
 use Rattle.block_cache.specs.Turns.{IsBrokenOff, IsFaultOf, IsResumedOver, IsSettledTo, IsUnderway, IsWaiting, found_or, left_to_begin, need_at}

@@ -1,10 +1,7 @@
 -- What is read of a version, at one place and at all.
-use Rattle.std.proofs.Common.{◌≡◌, ◌<◌, ◌+◌, ◌⊎◌, inl, inr, ℕ, zero, suc, ℤ, Bool, true, false, List, [], ◌∷◌, length, map, All, get_or, Option, Some, refl, sym, ◌∙◌, ap, subst, arith, if◌then◌else◌, slice_get}
-use Rattle.std.proofs.lemmas.Bool.{cases_eq}
-use Rattle.std.proofs.lemmas.List.{length-map}
+use Rattle.std.proofs.Common.{◌≡◌, ◌<◌, ℕ, ℤ, Bool, true, false, List, length, get_or, Option, Some, refl, sym, ◌∙◌, ap, subst, arith, if◌then◌else◌, slice_get}
 use Rattle.std.proofs.lemmas.Option.{slice_get-get_or, slice_get_within}
 use Rattle.rdf_values.specs.Tables.{kind_at}
-use Rattle.rdf_values.specs.declared.value.ColType.{ColType}
 use Rattle.rdf_values.specs.declared.value.ColType.TheVariants as kind
 use Rattle.rdf_values.specs.declared.value.Value.{Value}
 use Rattle.rdf_model.specs.Evaluation.{Gives, Needs}
@@ -14,11 +11,11 @@ use Rattle.graph_numbers.specs.Sources.{IsBelow}
 use Rattle.graph_numbers.specs.declared.source.Source.{Source}
 use Rattle.graph_numbers.specs.declared.source.Source.TheVariants as from
 use Rattle.block_lanes.specs.Lanes.{LaneView, is_held, value_of}
-use Rattle.entry_cache.specs.Jobs.{JobView, job_graph}
-use Rattle.entry_cache.specs.Keys.{key, key_under, place_of}
-use Rattle.entry_cache.specs.Store.{held_in, held_or_need, source_at}
-use Rattle.entry_cache.specs.declared.rows.Place.TheVariants as stands
-use Rattle.entry_cache.specs.declared.held.Held.TheVariants as held
+use Rattle.loop_keys.specs.Jobs.{JobView, job_graph}
+use Rattle.loop_keys.specs.Keys.{key, key_under, place_of}
+use Rattle.loop_keys.specs.Store.{held_in, held_or_need, source_at}
+use Rattle.loop_keys.specs.declared.rows.Place.TheVariants as stands
+use Rattle.loop_keys.specs.declared.held.Held.TheVariants as held
 use Rattle.block_cache.specs.Blocks.{CanRead, CanReadWhole, HasColumn, HasLane, HasNumbers, HasSource, cells_at, held_value}
 use Rattle.block_cache.proofs.BlockLaws.{held_of_lane, lane_held, value_told}
 
@@ -89,38 +86,3 @@ module _ (j : JobView) (first : ℕ) (u : Option ℕ) (count : ℕ) (lanes : Lis
       go (from.Cell n) h e = cc e
       go (from.Site s) h e = let same : key (job_graph j) s u ≡ k = cc e in (h.0, h.1, h.2, numbers h.0 (ap (slice_get lanes) (sym same) ∙ h.1))
       go (from.Element s a b) h e = cc e
-
--- ---- one version after another
-
--- what holds of the first so many versions that are read
-abbrev pub ReadTo : (ℕ → Type 0) → List (ℕ × ColType) → ℕ → Type 0
-ReadTo P kinds i = (k : ℕ) (d : ℕ × ColType) → k < i → P (get_or kinds k d).0
-
-read_at : (kinds : List (ℕ × ColType)) (k : ℕ) (d : ℕ × ColType) → k < length kinds → get_or (map (λ (c : ℕ × ColType). c.0) kinds) k 0 ≡ (get_or kinds k d).0
-read_at [] k d low = absurd (omega (arith, low))
-read_at (c ∷ kinds) zero d low = refl
-read_at (c ∷ kinds) (suc k) d low = read_at kinds k d (omega (arith, low))
-
-module _ (P : ℕ → Type 0) (kinds : List (ℕ × ColType)) (versions : List ℕ) (is : versions ≡ map (λ (c : ℕ × ColType). c.0) kinds) where
-  as_many : length versions ≡ length kinds
-  as_many = ap length is ∙ length-map kinds (λ (c : ℕ × ColType). c.0)
-
-  pub can_of : (i : ℕ) → i < length versions → All (λ (c : ℕ × ColType). P c.0) kinds → P (get_or versions i 0)
-  can_of i low each =
-      let inside : i < length kinds = omega (arith, low, as_many) in
-      subst P (sym (ap (λ (l : List ℕ). get_or l i 0) is ∙ read_at kinds i (0, kind.Int) inside)) (each i (0, kind.Int) inside)
-
-  pub read_none : ReadTo P kinds 0
-  read_none k d low = absurd (omega (arith, low))
-
-  pub read_more : (i : ℕ) → i < length versions → ReadTo P kinds i → P (get_or versions i 0) → ReadTo P kinds (i + 1)
-  read_more i low so_far here k d below = go (cases_eq k i)
-    where
-      go : (k ≡ i) ⊎ (k ≡ i → ⊥) → P (get_or kinds k d).0
-      go (inl e) =
-          let inside : i < length kinds = omega (arith, low, as_many) in
-          subst (λ (n : ℕ). P (get_or kinds n d).0) (sym e) (subst P (ap (λ (l : List ℕ). get_or l i 0) is ∙ read_at kinds i d inside) here)
-      go (inr n) = so_far k d (omega (arith, below, n))
-
-  pub read_all : (i : ℕ) → i ≡ length versions → ReadTo P kinds i → All (λ (c : ℕ × ColType). P c.0) kinds
-  read_all i all so_far k d low = so_far k d (omega (arith, all, low, as_many))

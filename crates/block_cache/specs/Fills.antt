@@ -15,10 +15,10 @@ use Rattle.graph_numbers.specs.Sites.{SiteAt}
 use Rattle.graph_numbers.specs.declared.source.Source.{Source}
 use Rattle.graph_numbers.specs.declared.source.Source.TheVariants as from
 use Rattle.block_lanes.specs.Lanes.{LaneView, is_held, is_tried, kinds_of, rooms_of, tried_count}
-use Rattle.entry_cache.specs.Jobs.{JobView, job_graph}
-use Rattle.entry_cache.specs.Keys.{key, key_count}
-use Rattle.entry_cache.specs.Known.{truth_in}
-use Rattle.entry_cache.specs.Store.{Grows, IsClosed, IsSourceIn, held_in, site_in, source_at}
+use Rattle.loop_keys.specs.Jobs.{JobView, job_graph}
+use Rattle.loop_keys.specs.Keys.{key, key_count}
+use Rattle.loop_keys.specs.Known.{truth_in}
+use Rattle.loop_keys.specs.Store.{Grows, IsClosed, IsSourceIn, held_in, site_in, source_at}
 use Rattle.block_cache.specs.Blocks.{AreReady, HasColumn, cells_at}
 use Rattle.block_cache.specs.Faults.{fault_at}
 use Rattle.block_cache.specs.declared.faults.PlaceFault.{PlaceFault}

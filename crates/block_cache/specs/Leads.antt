@@ -3,9 +3,9 @@ use Rattle.std.specs.Prelude.{◌≡◌, ℕ, true, List, Option, None, Some}
 use Rattle.rdf_values.specs.Tree.{Tree, Trees, Lit, Truth, Col, Neg, Not, Bin, Cond, Pick, Call, End, More}
 use Rattle.expr_lanes.specs.Places.{EachPlace}
 use Rattle.block_lanes.specs.Lanes.{LaneView}
-use Rattle.entry_cache.specs.Jobs.{JobView, job_graph}
-use Rattle.entry_cache.specs.Keys.{key}
-use Rattle.entry_cache.specs.Store.{IsSiteOf, MeetsAt, source_at}
+use Rattle.loop_keys.specs.Jobs.{JobView, job_graph}
+use Rattle.loop_keys.specs.Keys.{key}
+use Rattle.loop_keys.specs.Store.{IsSiteOf, MeetsAt, source_at}
 use Rattle.block_cache.specs.Blocks.{AreReady}
 use Rattle.block_cache.specs.Fills.{below_fault, fault_over, holds_at, site_fault}
 use Rattle.block_cache.specs.declared.faults.PlaceFault.{PlaceFault}

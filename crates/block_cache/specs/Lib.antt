@@ -2,5 +2,4 @@ pub mod Blocks
 pub mod Faults
 pub mod Fills
 pub mod Leads
-pub mod Folds
 pub mod Turns

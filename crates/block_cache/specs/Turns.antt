@@ -6,9 +6,9 @@ use Rattle.expr_lanes.specs.Places.{EachPlace, is_in}
 use Rattle.expr_lanes.specs.declared.TheConstants.{MAX_PLACES}
 use Rattle.graph_numbers.specs.Graphs.{graph_versions}
 use Rattle.block_lanes.specs.Lanes.{LaneView, is_tried}
-use Rattle.entry_cache.specs.Jobs.{JobView, job_graph}
-use Rattle.entry_cache.specs.Keys.{key, key_count}
-use Rattle.entry_cache.specs.Store.{IsSiteOf, MeetsAt, source_at}
+use Rattle.loop_keys.specs.Jobs.{JobView, job_graph}
+use Rattle.loop_keys.specs.Keys.{key, key_count}
+use Rattle.loop_keys.specs.Store.{IsSiteOf, MeetsAt, source_at}
 use Rattle.block_cache.specs.Blocks.{AreReady}
 use Rattle.block_cache.specs.Fills.{IsGrownOver, IsSameAt, below_fault, begun_at, begun_count, holds_at, is_below, site_fault}
 use Rattle.block_cache.specs.declared.faults.PlaceFault.{PlaceFault}

@@ -7,26 +7,23 @@ ghost use Rattle.entry_fns.specs.Lists.{functions_in};
 ghost use Rattle.expr_check.specs.NumKinds.{CallsFit, is_plain};
 ghost use Rattle.expr_lanes.specs.Depths.{depth};
 ghost use Rattle.graph_numbers.specs.Graphs.{graph_sites};
-ghost use Rattle.entry_cache.specs.Jobs.{Fits, job_graph, job_of};
-ghost use Rattle.entry_cache.specs.Keys.{IsRow, key as key_of, key_count};
-ghost use Rattle.entry_cache.specs.Plain.{ArePlain};
-ghost use Rattle.entry_cache.specs.Store.{look_at};
+ghost use Rattle.loop_keys.specs.Jobs.{Fits, job_graph, job_of};
+ghost use Rattle.loop_keys.specs.Keys.{IsRow, key as key_of, key_count};
+ghost use Rattle.loop_keys.specs.Plain.{ArePlain};
+ghost use Rattle.loop_keys.specs.Store.{look_at};
 ghost use Rattle.expr_lanes.specs.Places.{EachPlace, IsSelected};
 ghost use Rattle.block_lanes.specs.Lanes.{IsBegun, IsEvaluated, LaneView, is_held};
 ghost use Rattle.block_cache.specs.Blocks.{AreReady, CanRead, CanTry, IsBegunOver, IsTriedOver, cells_at};
 
 use crate::cells::CellLane;
-use crate::fold_values::FoldValues;
-use crate::folds::fold_call;
 use crate::site_values::SiteValues;
 use crate::view::BlockView;
-use crate::whole::is_whole;
 use arrayvec::ArrayVec;
 use block_lanes::Lane;
-use entry_cache::reading::{Reading, expression, key};
 use expr_check::Checked;
 use expr_eval::Steps;
-use expr_lanes::{MAX_PLACES, Scratch, Selection, Stopped};
+use expr_lanes::{MAX_PLACES, Scratch, Selection, Stopped, can_eval_lane};
+use loop_keys::reading::{Reading, expression, key};
 use rdf_values::Memory;
 use std::sync::ledger::Ledger;
 
@@ -64,30 +61,17 @@ fn each_own<L: Ledger>(
     ensures few { steps.new ≤ steps.old + length selection.old }
     ensures plain { is_plain expr.now.kinds expr.now.tree ≡ true → OnErr result ⊥ }
 {
-    match fold_call(expr) {
-        Some(call) => {
-            let evaluation = FoldValues {
-                block,
-                lanes: below,
-                expr,
-                call,
-            };
-            own.evaluate_each(&evaluation, selection, stops, steps)
-        }
-        None => {
-            let evaluation = SiteValues {
-                alloc: own.alloc(),
-                block,
-                lanes: below,
-                expr,
-            };
-            own.evaluate_each(&evaluation, selection, stops, steps)
-        }
-    }
+    let evaluation = SiteValues {
+        alloc: own.alloc(),
+        block,
+        lanes: below,
+        expr,
+    };
+    own.evaluate_each(&evaluation, selection, stops, steps)
 }
 
 /// Evaluates an expression at the selected places into the lane of its key, over the lanes of the keys below: at all places at once
-/// where nothing of it has to do with vectors.
+/// where it can be.
 fn try_own<L: Ledger>(
     block: &Block<'_>,
     below: &[Lane],
@@ -115,15 +99,13 @@ fn try_own<L: Ledger>(
     ensures few { steps.new ≤ steps.old + length selection.old }
     ensures plain { is_plain expr.now.kinds expr.now.tree ≡ true → OnErr result ⊥ }
 {
-    if !is_whole(block, below, expr) {
+    let view = BlockView {
+        block,
+        lanes: below,
+    };
+    if !can_eval_lane(expr, &view) {
         return each_own(block, below, own, expr, selection, stops, steps);
     }
-    let view = BlockView {
-        at: block.at,
-        count: block.count,
-        lanes: below,
-        cells: block.cells,
-    };
     let functions = block.at.job.functions;
     own.evaluate(expr, &view, functions, selection, stops, scratch, steps);
     Ok(())

@@ -41,9 +41,7 @@ impl CellLane {
         ensures column { IsColumn over.now.columns.now.table.rows entries.lo (entries.hi - entries.lo) col self.new }
         ensures room { length self.new ≡ length self.old }
     {
-        for entry in entries.lo..entries.hi {
-            self.numbers[(entry - entries.lo) as usize] = over.int_at(entry, col);
-        }
+        over.read(entries, col, self.numbers.as_mut_slice());
     }
 
     /// The numbers by their places.

@@ -11,9 +11,9 @@ ghost use Rattle.expr_check.specs.NumKinds.{CallsFit, is_plain};
 ghost use Rattle.expr_eval.specs.Answers.{scalar_outcome, scalar_value};
 ghost use Rattle.expr_eval.specs.EvalAnswers.{AnswersAs};
 ghost use Rattle.block_lanes.specs.Values.{IsScalarAnswer};
-ghost use Rattle.entry_cache.specs.Jobs.{Fits, job_graph, job_of};
-ghost use Rattle.entry_cache.specs.Keys.{IsRow, key_count};
-ghost use Rattle.entry_cache.specs.Store.{look_at};
+ghost use Rattle.loop_keys.specs.Jobs.{Fits, job_graph, job_of};
+ghost use Rattle.loop_keys.specs.Keys.{IsRow, key_count};
+ghost use Rattle.loop_keys.specs.Store.{look_at};
 ghost use Rattle.block_cache.specs.Blocks.{CanRead, cells_at};
 
 use crate::attempt::Block;

@@ -5,9 +5,10 @@ ghost use Rattle.rdf_values.specs.Functions.{fn_names};
 ghost use Rattle.rdf_model.specs.Evaluation.{Gives, Needs, evaluate as evaluate_at, call_outcome};
 ghost use Rattle.rdf_model.specs.Laws.{FitsOutcome};
 ghost use Rattle.entry_fns.specs.Lists.{functions_in};
-ghost use Rattle.expr_check.specs.NumKinds.{is_plain, is_vector, CallsFit};
+ghost use Rattle.expr_check.specs.NumKinds.{is_vector, CallsFit};
 ghost use Rattle.expr_eval.specs.Inputs.{input_outcome};
 ghost use Rattle.expr_lanes.specs.Depths.{depth};
+ghost use Rattle.expr_lanes.specs.Folds.{CanLane};
 ghost use Rattle.expr_lanes.specs.LaneInputs.{is_known, HasMarks};
 ghost use Rattle.expr_lanes.specs.Places.{EachPlace, IsSelected};
 ghost use Rattle.block_lanes.specs.Lanes.{is_held, room_of, value_of, AreNumbers, IsBegun, IsEvaluated, IsExtent, IsSameLane, IsUnknown, LaneView};
@@ -174,9 +175,8 @@ impl Lane {
         steps: &mut Steps<L>,
     )
         requires kind { expr.now.kind ≡ self.old.kind }
-        requires plain { is_plain expr.now.kinds expr.now.tree ≡ true }
         requires scalar { is_vector self.old.kind ≡ false }
-        requires can { All (λ c. I.can inputs.now c.0) expr.now.kinds }
+        requires can { CanLane (I.can inputs.now) (I.can_tell inputs.now) expr.now.tree }
         requires fit { (p : ℕ) → p < I.size inputs.now → All (λ c. FitsOutcome c.1 (I.look inputs.now p c.0)) expr.now.kinds }
         requires calls { CallsFit (fn_names (functions_in functions.now)) expr.now.tree }
         requires deep { depth expr.now.tree ≤ length scratch.old }

@@ -18,13 +18,13 @@ use Rattle.graph_numbers.specs.Versions.{version_count}
 use Rattle.graph_numbers.specs.declared.source.Source.{Source}
 use Rattle.graph_numbers.specs.declared.source.Source.TheVariants as from
 use Rattle.graph_numbers.proofs.Equations.{columns_below}
-use Rattle.entry_cache.specs.Jobs.{IsJob, JobView, job_graph}
-use Rattle.entry_cache.specs.Keys.{AreKeys, key, key_count}
-use Rattle.entry_cache.specs.Passes.{AreReadable}
-use Rattle.entry_cache.specs.Store.{IsRight, site_in, source_at}
-use Rattle.entry_cache.specs.declared.held.Held.{Held}
-use Rattle.entry_cache.specs.declared.held.Held.TheVariants as held
-use Rattle.entry_cache.proofs.EvaluateLaws.{accepted_of}
+use Rattle.loop_keys.specs.Jobs.{IsJob, JobView, job_graph}
+use Rattle.loop_keys.specs.Keys.{AreKeys, key, key_count}
+use Rattle.loop_keys.specs.Passes.{AreReadable}
+use Rattle.loop_keys.specs.Store.{IsRight, site_in, source_at}
+use Rattle.loop_keys.specs.declared.held.Held.{Held}
+use Rattle.loop_keys.specs.declared.held.Held.TheVariants as held
+use Rattle.loop_keys.proofs.EvaluateLaws.{accepted_of}
 use Rattle.block_cache.specs.Blocks.{AreReady, held_value}
 use Rattle.block_cache.specs.Fills.{CanFill, IsLoaded, holds_at, lane_begun}
 use Rattle.block_cache.proofs.BlockLaws.{held_of_lane, lane_held}

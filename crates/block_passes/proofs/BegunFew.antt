@@ -10,10 +10,10 @@ use Rattle.expr_lanes.specs.Places.{is_marked}
 use Rattle.block_lanes.specs.Lanes.{AreUnknown, IsUnknown, LaneView, tried_count}
 use Rattle.block_laws.specs.Counts.{marked_at, marked_in, row_demands}
 use Rattle.block_laws.proofs.Lanes.{marked_within}
-use Rattle.entry_cache.specs.Jobs.{JobView, passes_in}
-use Rattle.entry_cache.specs.Store.{keys_in, row_of}
-use Rattle.entry_passes.specs.Entries.{entry_demands}
-use Rattle.entry_passes.proofs.DemandCounts.{few_keys, has_all, keys_of_all}
+use Rattle.loop_keys.specs.Jobs.{JobView, passes_in}
+use Rattle.loop_keys.specs.Store.{keys_in, row_of}
+use Rattle.pass_laws.specs.Entries.{entry_demands}
+use Rattle.pass_laws.proofs.DemandCounts.{few_keys, has_all, keys_of_all}
 use Rattle.loop_pieces.proofs.Places.{range_length}
 use Rattle.block_cache.specs.Fills.{begun_at, begun_count}
 use Rattle.block_passes.specs.Blocks.{block_demands, entries_from}

@@ -5,8 +5,8 @@ use Rattle.rdf_values.specs.declared.span.Span.{Span}
 use Rattle.rdf_values.specs.declared.value.Value.{Value}
 use Rattle.cluster_tally.specs.Stages.{Stage}
 use Rattle.cluster_tally.specs.Tallies.{TallyView}
-use Rattle.entry_cache.specs.Jobs.{JobView}
-use Rattle.entry_passes.specs.Entries.{job_spans}
+use Rattle.loop_keys.specs.Jobs.{JobView}
+use Rattle.pass_laws.specs.Entries.{job_spans}
 use Rattle.block_laws.specs.Blocks.{first_length, row_elements}
 use Rattle.block_passes.specs.Blocks.{IsBefore, IsBlockOf, IsBlockTried, entries_from}
 use Rattle.block_passes.specs.declared.stop.BlockStop.{BlockStop}

@@ -10,8 +10,8 @@ use Rattle.rdf_model.specs.LoopFacts.{spreads_of}
 use Rattle.rdf_model.specs.PartialResults.{span_rows}
 use Rattle.rdf_model.specs.Results.{first_fault_from, first_of}
 use Rattle.columns.proofs.Joining.{span_within}
-use Rattle.entry_cache.specs.Jobs.{IsJob, JobView, passes_in}
-use Rattle.entry_passes.specs.Entries.{facts_in, job_spans}
+use Rattle.loop_keys.specs.Jobs.{IsJob, JobView, passes_in}
+use Rattle.pass_laws.specs.Entries.{facts_in, job_spans}
 use Rattle.cluster_tally.specs.Stages.{at_begin}
 use Rattle.cluster_tally.specs.Tallies.{Holds, TallyView}
 use Rattle.loop_pieces.specs.Whole.{begin_of, cluster_fault}
@@ -25,12 +25,6 @@ use Rattle.block_passes.specs.Blocks.{IsBefore, IsBlockAnswer, IsBlockOf, after_
 use Rattle.block_passes.specs.Clusters.{IsClusterAnswer, at_end, at_entry, demands_in, span_demands}
 use Rattle.block_passes.specs.declared.stop.BlockStop.{BlockStop}
 use Rattle.block_passes.specs.declared.stop.BlockStop.TheVariants as stop
-
--- where no vectors are evaluated a block has as many entries as any, or all that are left
-pub plain_end : (size lo hi n : ℕ) (rows : List (List Value)) → 1 ≤ size → lo ≤ hi → hi ≤ length rows → n ≡ min size (hi - lo) → lo + n ≡ lo + first_length size 4194304 (map (row_elements 0) (slice_range rows lo hi))
-plain_end size lo hi n rows some up within e =
-    let long = range_length rows lo hi up within in
-    ap (λ k. lo + k) (e ∙ ap (λ k. min size k) (sym long) ∙ sym (plain_first size 4194304 (slice_range rows lo hi) some))
 
 -- what is known before the block from an entry on: of the tally, of the faults and of the evaluations so far
 pub record IsAtBlock (j : JobView) (cluster size keys : ℕ) (span : Span) (first : TallyView) (start lo : ℕ) (tally : TallyView) (steps : ℕ) : Type 0 where

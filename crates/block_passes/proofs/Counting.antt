@@ -17,18 +17,18 @@ use Rattle.filters_report.specs.declared.flow.Counts.{Counts}
 use Rattle.cluster_tally.specs.Blocks.{BlockStage, CanNoteCounts, HoldsIn, IsWithin, block_reaches}
 use Rattle.cluster_tally.specs.Stages.{counted}
 use Rattle.cluster_tally.specs.Tallies.{TallyView}
-use Rattle.entry_cache.specs.Jobs.{IsJob, JobView, job_graph, passes_in}
-use Rattle.entry_cache.specs.Store.{site_in}
-use Rattle.entry_cache.proofs.FillLaws.{there}
-use Rattle.entry_passes.specs.Entries.{facts_in}
-use Rattle.entry_passes.specs.Plans.{covered_in}
+use Rattle.loop_keys.specs.Jobs.{IsJob, JobView, job_graph, passes_in}
+use Rattle.loop_keys.specs.Store.{site_in}
+use Rattle.loop_keys.proofs.FillLaws.{there}
+use Rattle.pass_laws.specs.Entries.{facts_in}
+use Rattle.pass_laws.specs.Plans.{covered_in}
 use Rattle.block_passes.specs.Counting.{AreCountable, IsAmid, at_filter}
 use Rattle.block_passes.specs.Plans.{IsLast, IsNamed, IsPlan, IsPlannedFilter, PlanView, through_chain}
 use Rattle.block_passes.specs.Selections.{AreKept, IsMade}
 use Rattle.block_passes.specs.Steps.{Chain}
 use Rattle.block_passes.specs.declared.kept.Kept.{Kept}
 use Rattle.block_passes.specs.declared.plan.NamedSteps.{NamedSteps}
-use Rattle.entry_passes.proofs.Covered.{covered_count}
+use Rattle.pass_laws.proofs.Covered.{covered_count}
 use Rattle.block_passes.proofs.Feeding.{counts, uncovered_counts}
 
 module _ (j : JobView) (first count : ℕ) (s : BlockStage) (amid : IsAmid j first count s) where

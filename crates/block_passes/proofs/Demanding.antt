@@ -17,15 +17,15 @@ use Rattle.graph_numbers.specs.declared.pass.Pass.{Pass as NumberedPass}
 use Rattle.graph_numbers.proofs.Closing.{IsDemanded, then_wider, wider_filters, wider_inputs}
 use Rattle.graph_numbers.proofs.Extending.{itself}
 use Rattle.graph_numbers.proofs.Reporting.{IsActionDemanded, IsFilterDemanded, filter_demanded, result_demanded}
-use Rattle.entry_cache.specs.Caches.{IsCovered}
-use Rattle.entry_cache.specs.Jobs.{IsJob, JobView, job_graph}
-use Rattle.entry_cache.specs.Keys.{demand_key}
-use Rattle.entry_cache.specs.Store.{HasPassed, HasTried, row_of, site_in}
-use Rattle.entry_cache.proofs.DemandSets.{demanded_in, demands_closed, demands_keys, in_demands}
-use Rattle.entry_cache.proofs.EvaluateLaws.{accepted_of}
-use Rattle.entry_cache.proofs.PassTies.{pass_of}
-use Rattle.entry_passes.specs.Turns.{HasAllDemands}
-use Rattle.entry_passes.proofs.ReportTies.{has_filter}
+use Rattle.loop_keys.specs.Caches.{IsCovered}
+use Rattle.loop_keys.specs.Jobs.{IsJob, JobView, job_graph}
+use Rattle.loop_keys.specs.Keys.{demand_key}
+use Rattle.loop_keys.specs.Store.{HasPassed, HasTried, row_of, site_in}
+use Rattle.loop_keys.proofs.DemandSets.{demanded_in, demands_closed, demands_keys, in_demands}
+use Rattle.loop_keys.proofs.EvaluateLaws.{accepted_of}
+use Rattle.loop_keys.proofs.PassTies.{pass_of}
+use Rattle.pass_laws.specs.Turns.{HasAllDemands}
+use Rattle.pass_laws.proofs.ReportTies.{has_filter}
 use Rattle.block_passes.specs.Demands.{Demands, IsDemandedAt}
 use Rattle.block_passes.specs.Plans.{IsActionOf, IsTried}
 use Rattle.block_passes.specs.Steps.{Chain}

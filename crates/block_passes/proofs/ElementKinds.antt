@@ -27,9 +27,9 @@ use Rattle.graph_numbers.specs.declared.source.Source.TheVariants as from
 use Rattle.graph_numbers.proofs.Extending.{further, itself}
 use Rattle.graph_numbers.proofs.Listed.{kept_at, next_at, of_joined}
 use Rattle.graph_numbers.proofs.Placing.{IsPlaced}
-use Rattle.entry_cache.specs.Jobs.{IsJob, JobView, job_graph}
-use Rattle.entry_cache.specs.Store.{source_at}
-use Rattle.entry_cache.proofs.EvaluateLaws.{accepted_of}
+use Rattle.loop_keys.specs.Jobs.{IsJob, JobView, job_graph}
+use Rattle.loop_keys.specs.Store.{source_at}
+use Rattle.loop_keys.proofs.EvaluateLaws.{accepted_of}
 use Rattle.block_passes.proofs.FilterKinds.{placed_kind}
 use Rattle.block_passes.proofs.StepLaws.{same_step}
 

@@ -23,15 +23,15 @@ use Rattle.graph_numbers.specs.Graphs.{graph_sites}
 use Rattle.graph_numbers.specs.declared.source.Source.TheVariants as from
 use Rattle.expr_lanes.specs.Places.{EachPlace, at_place, is_in}
 use Rattle.block_lanes.specs.Values.{value_for}
-use Rattle.entry_cache.proofs.FillLaws.{there}
-use Rattle.entry_cache.proofs.RowLaws.{key_small}
+use Rattle.loop_keys.proofs.FillLaws.{there}
+use Rattle.loop_keys.proofs.RowLaws.{key_small}
 use Rattle.block_lanes.specs.Lanes.{LaneView, is_held, kinds_of, value_of}
-use Rattle.entry_cache.specs.Jobs.{JobView, job_graph}
-use Rattle.entry_cache.specs.Keys.{key, key_count}
-use Rattle.entry_cache.specs.Store.{IsRight, held_element, held_in, site_in}
-use Rattle.entry_cache.specs.Store.{is_held as is_known}
-use Rattle.entry_cache.specs.declared.held.Held.{Held}
-use Rattle.entry_cache.specs.declared.held.Held.TheVariants as held
+use Rattle.loop_keys.specs.Jobs.{JobView, job_graph}
+use Rattle.loop_keys.specs.Keys.{key, key_count}
+use Rattle.loop_keys.specs.Store.{IsRight, held_element, held_in, site_in}
+use Rattle.loop_keys.specs.Store.{is_held as is_known}
+use Rattle.loop_keys.specs.declared.held.Held.{Held}
+use Rattle.loop_keys.specs.declared.held.Held.TheVariants as held
 use Rattle.block_cache.specs.Blocks.{AreReady, cells_at, held_value}
 use Rattle.block_cache.specs.Fills.{holds_at, lane_holds, site_fault}
 use Rattle.block_cache.proofs.BlockLaws.{held_of_lane, lane_held, right_value, value_told}

@@ -17,10 +17,10 @@ use Rattle.graph_numbers.specs.Outcomes.{through_sites}
 use Rattle.block_lanes.specs.Lanes.{LaneView}
 use Rattle.cluster_tally.specs.Blocks.{BlockStage, CanFeedBatch, HoldsIn, block_items}
 use Rattle.cluster_tally.specs.Tallies.{TallyView}
-use Rattle.entry_cache.specs.Jobs.{IsJob, JobView}
-use Rattle.entry_cache.specs.Store.{site_in, version_in}
-use Rattle.entry_passes.specs.Entries.{facts_in}
-use Rattle.entry_passes.specs.Turns.{actions_before}
+use Rattle.loop_keys.specs.Jobs.{IsJob, JobView}
+use Rattle.loop_keys.specs.Store.{site_in, version_in}
+use Rattle.pass_laws.specs.Entries.{facts_in}
+use Rattle.pass_laws.specs.Turns.{actions_before}
 use Rattle.block_cache.proofs.Members.{filter_short}
 use Rattle.block_passes.specs.Counting.{IsAmid}
 use Rattle.block_passes.specs.Fed.{IsFeedable}

@@ -11,14 +11,14 @@ use Rattle.actions.specs.Holding.{IsTake}
 use Rattle.block_lanes.specs.Lanes.{LaneView}
 use Rattle.cluster_tally.specs.Blocks.{BlockStage, HoldsIn, pass_done}
 use Rattle.cluster_tally.specs.Tallies.{TallyView}
-use Rattle.entry_cache.specs.Caches.{IsActionBooking, IsActionPass}
-use Rattle.entry_cache.specs.Jobs.{IsJob, JobView, passes_in}
-use Rattle.entry_cache.proofs.PassNumbers.{some_same}
-use Rattle.entry_cache.proofs.PassTies.{pass_of}
-use Rattle.entry_passes.specs.Entries.{IsNoTake, facts_in}
-use Rattle.entry_passes.specs.Turns.{actions_before}
-use Rattle.entry_passes.proofs.EntryLaws.{all_actions}
-use Rattle.entry_passes.proofs.Taken.{at_place}
+use Rattle.loop_keys.specs.Caches.{IsActionBooking, IsActionPass}
+use Rattle.loop_keys.specs.Jobs.{IsJob, JobView, passes_in}
+use Rattle.loop_keys.proofs.PassNumbers.{some_same}
+use Rattle.loop_keys.proofs.PassTies.{pass_of}
+use Rattle.pass_laws.specs.Entries.{IsNoTake, facts_in}
+use Rattle.pass_laws.specs.Turns.{actions_before}
+use Rattle.pass_laws.proofs.EntryLaws.{all_actions}
+use Rattle.pass_laws.proofs.Taken.{at_place}
 use Rattle.block_passes.specs.Clear.{IsClear}
 use Rattle.block_passes.specs.Counting.{IsAmid, at_pass}
 use Rattle.block_passes.specs.Fed.{IsFeedable}

@@ -26,16 +26,16 @@ use Rattle.graph_numbers.specs.declared.pass.Pass.{Pass as NumberedPass}
 use Rattle.loop_pieces.proofs.Places.{range_length}
 use Rattle.cluster_tally.specs.Blocks.{BlockStage, block_items, block_reaches}
 use Rattle.cluster_tally.specs.Stages.{counted}
-use Rattle.entry_cache.specs.Jobs.{IsJob, JobView, job_graph, outcome_of, pass_outcome, passes_in}
-use Rattle.entry_cache.specs.Store.{row_of, site_in, version_in}
-use Rattle.entry_cache.proofs.NamedLaws.{stopped_answer, tried_answer}
-use Rattle.entry_cache.proofs.PassTies.{get_mapped, pass_answer, pass_of}
-use Rattle.entry_cache.proofs.TableLaws.{row_there}
-use Rattle.entry_passes.specs.Entries.{facts_in, job_spans}
-use Rattle.entry_passes.specs.Turns.{actions_before}
-use Rattle.entry_passes.proofs.Covered.{cover_at}
-use Rattle.entry_passes.proofs.Taken.{at_place, covered_reach, uncovered_reach}
-use Rattle.entry_passes.specs.Plans.{covered_in}
+use Rattle.loop_keys.specs.Jobs.{IsJob, JobView, job_graph, outcome_of, pass_outcome, passes_in}
+use Rattle.loop_keys.specs.Store.{row_of, site_in, version_in}
+use Rattle.loop_keys.proofs.NamedLaws.{stopped_answer, tried_answer}
+use Rattle.loop_keys.proofs.PassTies.{get_mapped, pass_answer, pass_of}
+use Rattle.loop_keys.proofs.TableLaws.{row_there}
+use Rattle.pass_laws.specs.Entries.{facts_in, job_spans}
+use Rattle.pass_laws.specs.Turns.{actions_before}
+use Rattle.pass_laws.proofs.Covered.{cover_at}
+use Rattle.pass_laws.proofs.Taken.{at_place, covered_reach, uncovered_reach}
+use Rattle.pass_laws.specs.Plans.{covered_in}
 use Rattle.block_passes.specs.Laws as law
 use Rattle.block_passes.specs.Plans.{IsActionOf}
 use Rattle.block_passes.proofs.FirstFaults.{get_dropped, row_in_block}

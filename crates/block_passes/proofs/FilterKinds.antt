@@ -34,8 +34,8 @@ use Rattle.graph_numbers.proofs.Extending.{further, itself}
 use Rattle.graph_numbers.proofs.Listed.{kept_at, next_at, of_joined}
 use Rattle.graph_numbers.proofs.Placing.{IsPlaced}
 use Rattle.graph_numbers.proofs.VersionKinds.{kind_later, visible_kind}
-use Rattle.entry_cache.specs.Jobs.{IsJob, JobView, job_graph}
-use Rattle.entry_cache.proofs.EvaluateLaws.{accepted_of}
+use Rattle.loop_keys.specs.Jobs.{IsJob, JobView, job_graph}
+use Rattle.loop_keys.proofs.EvaluateLaws.{accepted_of}
 use Rattle.block_passes.specs.Plans.{IsTried}
 use Rattle.block_passes.specs.Steps.{Chain}
 use Rattle.block_passes.proofs.SitesThere.{all_at, not_empty}

@@ -1,5 +1,5 @@
 -- How many entries the next block has, entry by entry.
-use Rattle.std.proofs.Common.{◌≡◌, ◌⊎◌, inl, inr, ℕ, ℤ, zero, suc, ◌+◌, ◌-◌, ◌*◌, ◌<◌, ◌≤◌, Bool, true, false, ◌&&◌, List, [], ◌∷◌, length, map, take, drop, Option, Some, refl, sym, ◌∙◌, ap, subst, arith, slice_get, if◌then◌else◌}
+use Rattle.std.proofs.Common.{◌≡◌, ◌⊎◌, inl, inr, ℕ, ℤ, zero, suc, ◌+◌, ◌-◌, ◌*◌, ◌<◌, ◌≤◌, Bool, true, false, ◌&&◌, List, [], ◌∷◌, length, map, min, take, drop, Option, Some, refl, sym, ◌∙◌, ap, subst, arith, slice_get, if◌then◌else◌}
 use Rattle.std.specs.Prelude.{nat_le, option_and_then, option_map, slice_range}
 use Rattle.std.specs.List.{sum_by}
 use Rattle.std.proofs.lemmas.Bool.{le-leb, le-ltb, lt-leb, lt-ltb}
@@ -10,9 +10,10 @@ use Rattle.rdf_values.specs.declared.value.ColType.{ColType}
 use Rattle.rdf_values.specs.declared.value.ColType.TheVariants as kind
 use Rattle.rdf_values.specs.declared.value.Value.{Value}
 use Rattle.rdf_values.specs.declared.value.Value.TheVariants as val
-use Rattle.entry_cache.proofs.FillLaws.{there}
-use Rattle.loop_pieces.proofs.Places.{range_none}
+use Rattle.loop_keys.proofs.FillLaws.{there}
+use Rattle.loop_pieces.proofs.Places.{range_length, range_none}
 use Rattle.block_laws.specs.Blocks.{elements_in, first_length, more_fit, one_more_fits, row_elements}
+use Rattle.block_laws.proofs.BlockCuts.{plain_first}
 
 -- ---- the cells of an entry
 
@@ -211,3 +212,15 @@ module _ (rows : List (List Value)) (keys size most hi : ℕ) where
     stop_at end elements n at lt room is many =
         let r = there rows end (omega (arith, lt, inside)) in
         let e = is r.0 r.1 in no_more lo end elements at r.0 r.1 lt room (omega (arith, e, many))
+
+-- ---- without vectors
+
+-- where no key is of vectors a block has as many entries as any, or all that are left
+pub plain_end : (size lo hi keys end : ℕ) (rows : List (List Value)) → 1 ≤ size → lo < hi → hi ≤ length rows → keys ≡ 0 → (end ≡ lo + size) ⊎ (end ≡ hi) → end ≤ hi → end ≤ lo + size
+    → end ≡ lo + first_length size 4194304 (map (row_elements keys) (slice_range rows lo hi))
+plain_end size lo hi keys end rows some up within none whole inside short =
+    let long = range_length rows lo hi (omega (arith, up)) within in
+    let least : end - lo ≡ min size (hi - lo) = elim whole [ inl e ↦ omega (arith, e, inside, up) | inr e ↦ omega (arith, e, short, up) ] in
+    let all : end ≡ lo + (end - lo) = elim whole [ inl e ↦ omega (arith, e) | inr e ↦ omega (arith, e, up) ] in
+    all ∙ ap (λ k. lo + k) (least ∙ ap (λ k. min size k) (sym long) ∙ sym (plain_first size 4194304 (slice_range rows lo hi) some))
+    ∙ ap (λ k. lo + first_length size 4194304 (map (row_elements k) (slice_range rows lo hi))) (sym none)

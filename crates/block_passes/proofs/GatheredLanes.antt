@@ -11,7 +11,7 @@ use Rattle.actions.specs.Batches.{SuitsAt, lane_value}
 use Rattle.actions.specs.declared.batch.Sources.TheVariants.{One, Weighted, Pair, WeightedPair}
 use Rattle.actions.specs.declared.lane.Lane.{Lane}
 use Rattle.block_passes.specs.Feeds.{AreLanesOf, IsLaneOf}
-use Rattle.entry_cache.proofs.SuitsLaws.{integer_fits, numeric_fits, pair_fits, single_fits, triple_fits, weighted_fits}
+use Rattle.loop_keys.proofs.SuitsLaws.{integer_fits, numeric_fits, pair_fits, single_fits, triple_fits, weighted_fits}
 
 pub all_get : (P : ℕ → Type 0) (cs : List ℕ) (i : ℕ) → i < length cs → AllByRecursion P cs → P (get_or cs i 0)
 all_get P [] i lt h = absurd (omega (arith, lt))

@@ -16,10 +16,10 @@ use Rattle.variation_sets.specs.declared.var_set.VarSet.{VarSet}
 use Rattle.graph_numbers.specs.Graphs.{GraphView, IsSiteExpr, graph_kinds, graph_sites, graph_variations, holds_at, site_depends_at}
 use Rattle.graph_numbers.specs.Sites.{SiteAt, depends_on}
 use Rattle.graph_numbers.proofs.Listed.{kept_at, next_at}
-use Rattle.entry_cache.specs.Keys.{key, keys_before, own_keys, slot, slot_at}
-use Rattle.entry_cache.proofs.FillLaws.{there}
-use Rattle.entry_cache.proofs.KeptKeys.{members_all}
-use Rattle.entry_cache.proofs.KeyLaws.{keys_next, slot_small}
+use Rattle.loop_keys.specs.Keys.{key, keys_before, own_keys, slot, slot_at}
+use Rattle.loop_keys.proofs.FillLaws.{there}
+use Rattle.loop_keys.proofs.KeptKeys.{members_all}
+use Rattle.loop_keys.proofs.KeyLaws.{keys_next, slot_small}
 use Rattle.block_cache.specs.Fills.{AreSiteKinds}
 use Rattle.block_passes.specs.States.{HaveKinds}
 use Rattle.block_passes.proofs.StepLaws.{same_step}

@@ -5,7 +5,7 @@ use Rattle.std.proofs.lemmas.Option.{slice_get-get_or, slice_get_within}
 use Rattle.rdf_values.specs.Tables.{kind_at}
 use Rattle.rdf_values.specs.declared.column.Column.{Column}
 use Rattle.rdf_values.specs.declared.value.ColType.TheVariants as kind
-use Rattle.entry_cache.specs.Jobs.{JobView}
+use Rattle.loop_keys.specs.Jobs.{JobView}
 use Rattle.block_cache.specs.Blocks.{HasColumn, IsColumn}
 use Rattle.block_passes.specs.States.{AreLoaded}
 

@@ -4,8 +4,8 @@ use Rattle.std.specs.Prelude.{slice_set}
 use Rattle.rdf_model.specs.Results.{fault_in, is_true}
 use Rattle.expr_lanes.specs.Places.{EachPlace, is_in}
 use Rattle.block_lanes.specs.Lanes.{LaneView}
-use Rattle.entry_cache.specs.Jobs.{IsJob, JobView}
-use Rattle.entry_cache.specs.Known.{truth_in}
+use Rattle.loop_keys.specs.Jobs.{IsJob, JobView}
+use Rattle.loop_keys.specs.Known.{truth_in}
 use Rattle.block_cache.specs.Fills.{IsSpentOver}
 use Rattle.block_passes.specs.Parts.{where_passed}
 use Rattle.block_passes.specs.Plans.{IsPlan, IsTried, PlanView, through_chain}

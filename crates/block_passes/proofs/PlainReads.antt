@@ -33,14 +33,14 @@ use Rattle.graph_numbers.proofs.Extending.{Extends, itself}
 use Rattle.graph_numbers.proofs.Listed.{of_joined}
 use Rattle.graph_numbers.proofs.Passing.{AreVisible, action_visible, shorter}
 use Rattle.graph_numbers.proofs.VersionKinds.{FitsVersion, visible_fits}
-use Rattle.entry_cache.specs.Caches.{IsPlainLoop}
-use Rattle.entry_cache.specs.Jobs.{IsJob, JobView, job_graph}
-use Rattle.entry_cache.specs.Plain.{ArePlain, IsPlainVersion}
-use Rattle.entry_cache.specs.Store.{IsSourceIn, row_of, site_in, source_at}
-use Rattle.entry_cache.proofs.ColumnLaws.{fits_at}
-use Rattle.entry_cache.proofs.EvaluateLaws.{accepted_of}
-use Rattle.entry_cache.proofs.PlainLaws.{plain_expr}
-use Rattle.entry_cache.proofs.TableLaws.{not_stored}
+use Rattle.loop_keys.specs.Caches.{IsPlainLoop}
+use Rattle.loop_keys.specs.Jobs.{IsJob, JobView, job_graph}
+use Rattle.loop_keys.specs.Plain.{ArePlain, IsPlainVersion}
+use Rattle.loop_keys.specs.Store.{IsSourceIn, row_of, site_in, source_at}
+use Rattle.loop_keys.proofs.ColumnLaws.{fits_at}
+use Rattle.loop_keys.proofs.EvaluateLaws.{accepted_of}
+use Rattle.loop_keys.proofs.PlainLaws.{plain_expr}
+use Rattle.loop_keys.proofs.TableLaws.{not_stored}
 use Rattle.block_passes.specs.Inputs.{ArePlainSources, CanServe, IsPlainSource, IsServable}
 use Rattle.block_passes.specs.Tries.{IsReadOf}
 

@@ -4,11 +4,11 @@ use Rattle.std.specs.List.{AllByRecursion, list_any}
 use Rattle.std.proofs.lemmas.Option.{slice_get_within}
 use Rattle.graph_numbers.specs.Graphs.{graph_filters, graph_results}
 use Rattle.graph_numbers.specs.Results.{FilterAt}
-use Rattle.entry_cache.specs.Caches.{IsCovered}
-use Rattle.entry_cache.specs.Jobs.{IsJob, JobView, job_graph, passes_in}
-use Rattle.entry_passes.specs.Turns.{IsReportPass, is_covering, numbered_passes}
-use Rattle.entry_passes.proofs.Covered.{covered_there, passes_count}
-use Rattle.entry_passes.proofs.ReportTies.{contained_at, of_report}
+use Rattle.loop_keys.specs.Caches.{IsCovered}
+use Rattle.loop_keys.specs.Jobs.{IsJob, JobView, job_graph, passes_in}
+use Rattle.pass_laws.specs.Turns.{IsReportPass, is_covering, numbered_passes}
+use Rattle.pass_laws.proofs.Covered.{covered_there, passes_count}
+use Rattle.pass_laws.proofs.ReportTies.{contained_at, of_report}
 use Rattle.block_passes.specs.Plans.{IsPlan, IsPlannedFilter, PlanView}
 use Rattle.block_passes.specs.Tries.{IsNamedMade, IsPassMade, IsPlanMade}
 use Rattle.block_passes.specs.declared.kept.Kept.{Kept}

@@ -11,14 +11,14 @@ use Rattle.graph_numbers.specs.Results.{FilterAt, ResultAt, kind_of_booking}
 use Rattle.graph_numbers.specs.declared.pass.Pass.{Pass as NumberedPass}
 use Rattle.graph_numbers.specs.declared.result_kind.ResultKind.{ResultKind}
 use Rattle.graph_numbers.specs.declared.result_kind.ResultKind.TheVariants as what
-use Rattle.entry_cache.specs.Caches.{numbered_in}
-use Rattle.entry_cache.specs.Jobs.{IsJob, JobView, job_graph, passes_in}
-use Rattle.entry_cache.proofs.FillLaws.{there}
-use Rattle.entry_cache.proofs.PassNumbers.{result_inside, result_there}
-use Rattle.entry_passes.specs.Plans.{covered_in}
-use Rattle.entry_passes.specs.Turns.{is_covering, numbered_passes}
-use Rattle.entry_passes.proofs.Covered.{cover_at, cover_is, passes_count}
-use Rattle.entry_passes.proofs.FilterLaws.{plan_covered}
+use Rattle.loop_keys.specs.Caches.{numbered_in}
+use Rattle.loop_keys.specs.Jobs.{IsJob, JobView, job_graph, passes_in}
+use Rattle.loop_keys.proofs.FillLaws.{there}
+use Rattle.loop_keys.proofs.PassNumbers.{result_inside, result_there}
+use Rattle.pass_laws.specs.Plans.{covered_in}
+use Rattle.pass_laws.specs.Turns.{is_covering, numbered_passes}
+use Rattle.pass_laws.proofs.Covered.{cover_at, cover_is, passes_count}
+use Rattle.pass_laws.proofs.FilterLaws.{plan_covered}
 use Rattle.block_passes.specs.Plans.{AreFiltersPlanned, ArePassesPlanned, AreStepsOf, IsActionOf, IsFilterLed, IsFilterStepped, IsLast, IsNamed, IsPassLed, IsPlan, IsPlannedFilter, IsPlannedPass, IsTried}
 use Rattle.block_passes.specs.Steps.{AreSteps, Chain, IsLed, IsStep, IsStepped, longer}
 use Rattle.block_passes.specs.declared.plan.NamedSteps.{NamedSteps}

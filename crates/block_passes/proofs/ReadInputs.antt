@@ -7,10 +7,10 @@ use Rattle.rdf_values.specs.Path.{history}
 use Rattle.rdf_values.specs.declared.action.ActionKind.{ActionKind}
 use Rattle.graph_numbers.specs.Graphs.{graph_under}
 use Rattle.graph_numbers.proofs.Extending.{itself, versions_count}
-use Rattle.entry_cache.specs.Jobs.{IsJob, JobView, job_graph}
-use Rattle.entry_cache.specs.Passes.{AreReadable}
-use Rattle.entry_cache.proofs.ActionNumbers.{IsGivenBelow, IsSoundAction, IsSoundBooking, result_sound}
-use Rattle.entry_cache.proofs.EvaluateLaws.{accepted_of}
+use Rattle.loop_keys.specs.Jobs.{IsJob, JobView, job_graph}
+use Rattle.loop_keys.specs.Passes.{AreReadable}
+use Rattle.loop_keys.proofs.ActionNumbers.{IsGivenBelow, IsSoundAction, IsSoundBooking, result_sound}
+use Rattle.loop_keys.proofs.EvaluateLaws.{accepted_of}
 use Rattle.block_passes.specs.Tries.{IsReadOf}
 
 -- each version that an action reads is there, and is given by a column of the table or by a site

@@ -6,10 +6,10 @@ use Rattle.rdf_values.specs.declared.fault.EntryFault.{EntryFault}
 use Rattle.rdf_values.specs.declared.value.Value.{Value}
 use Rattle.rdf_model.specs.Results.{fault_in, first_fault_from}
 use Rattle.block_lanes.specs.Lanes.{LaneView}
-use Rattle.entry_cache.specs.Jobs.{JobView, outcome_of, passes_in}
+use Rattle.loop_keys.specs.Jobs.{JobView, outcome_of, passes_in}
 use Rattle.loop_pieces.proofs.Places.{range_length}
-use Rattle.entry_cache.specs.Store.{source_at}
-use Rattle.entry_passes.specs.Turns.{pass_fault}
+use Rattle.loop_keys.specs.Store.{source_at}
+use Rattle.pass_laws.specs.Turns.{pass_fault}
 use Rattle.block_passes.specs.Inputs.{AreAtHand}
 use Rattle.block_passes.specs.Selections.{IsReadyBelow}
 use Rattle.block_passes.specs.Spends.{Spends}

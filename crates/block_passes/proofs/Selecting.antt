@@ -6,9 +6,9 @@ use Rattle.rdf_model.specs.Results.{fault_in, is_true}
 use Rattle.expr_lanes.specs.Places.{AreRising, EachPlace, IsSelected, is_in}
 use Rattle.expr_lanes.specs.declared.TheConstants.{MAX_PLACES}
 use Rattle.block_lanes.specs.Lanes.{LaneView}
-use Rattle.entry_cache.specs.Jobs.{JobView}
-use Rattle.entry_cache.specs.Known.{truth_in}
-use Rattle.entry_cache.specs.Store.{site_in}
+use Rattle.loop_keys.specs.Jobs.{JobView}
+use Rattle.loop_keys.specs.Known.{truth_in}
+use Rattle.loop_keys.specs.Store.{site_in}
 use Rattle.block_cache.specs.Fills.{IsPassedOver, IsSpentOver, below_fault, fault_over}
 use Rattle.block_cache.specs.declared.faults.PlaceFault.{PlaceFault}
 use Rattle.block_passes.specs.Searches.{Lowers, noted, where_in}

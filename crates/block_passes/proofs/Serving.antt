@@ -8,11 +8,11 @@ use Rattle.graph_numbers.specs.declared.source.Source.{Source}
 use Rattle.graph_numbers.specs.declared.source.Source.TheVariants as from
 use Rattle.expr_lanes.specs.Places.{AreRising, EachPlace, is_in}
 use Rattle.block_lanes.specs.Lanes.{LaneView}
-use Rattle.entry_cache.specs.Jobs.{JobView, job_graph}
-use Rattle.entry_cache.specs.Keys.{key}
-use Rattle.entry_cache.specs.Store.{row_of}
+use Rattle.loop_keys.specs.Jobs.{JobView, job_graph}
+use Rattle.loop_keys.specs.Keys.{key}
+use Rattle.loop_keys.specs.Store.{row_of}
 use Rattle.rdf_values.specs.declared.value.Value.{Value}
-use Rattle.entry_passes.specs.Turns.{HasAllDemands}
+use Rattle.pass_laws.specs.Turns.{HasAllDemands}
 use Rattle.block_cache.specs.Blocks.{AreReady}
 use Rattle.block_cache.specs.Leads.{IsFilledTo}
 use Rattle.block_cache.specs.Fills.{IsSettled, IsSpentOver, holds_at, site_fault}

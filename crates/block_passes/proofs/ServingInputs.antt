@@ -12,13 +12,13 @@ use Rattle.graph_numbers.specs.declared.source.Source.{Source}
 use Rattle.graph_numbers.specs.declared.source.Source.TheVariants as from
 use Rattle.expr_lanes.specs.Places.{EachPlace, is_in}
 use Rattle.block_lanes.specs.Lanes.{LaneView}
-use Rattle.entry_cache.specs.Jobs.{JobView, job_graph}
-use Rattle.entry_cache.specs.Keys.{key, key_count}
-use Rattle.entry_cache.specs.Plain.{ArePlainVersions}
-use Rattle.entry_cache.specs.Store.{IsSourceIn, held_element, held_in, source_at, version_in}
-use Rattle.entry_cache.specs.declared.held.Held.{Held}
-use Rattle.entry_cache.specs.Store.{is_held as is_known}
-use Rattle.entry_passes.specs.Turns.{HasAllDemands}
+use Rattle.loop_keys.specs.Jobs.{JobView, job_graph}
+use Rattle.loop_keys.specs.Keys.{key, key_count}
+use Rattle.loop_keys.specs.Plain.{ArePlainVersions}
+use Rattle.loop_keys.specs.Store.{IsSourceIn, held_element, held_in, source_at, version_in}
+use Rattle.loop_keys.specs.declared.held.Held.{Held}
+use Rattle.loop_keys.specs.Store.{is_held as is_known}
+use Rattle.pass_laws.specs.Turns.{HasAllDemands}
 use Rattle.block_cache.specs.Blocks.{AreReady, cells_at}
 use Rattle.block_cache.specs.Fills.{holds_at}
 use Rattle.block_passes.specs.Inputs.{AreAtHand, CanServe, DemandsInputs, DemandsSource, IsAtHand, IsServedTo, inputs_fault, source_fault}

@@ -11,10 +11,10 @@ use Rattle.expr_lanes.specs.Places.{at_place}
 use Rattle.graph_numbers.specs.Graphs.{IsSiteExpr, graph_sites}
 use Rattle.actions.specs.Batches.{truth_of}
 use Rattle.block_lanes.specs.Lanes.{LaneView, is_held, kinds_of, value_of}
-use Rattle.entry_cache.specs.Jobs.{JobView, job_graph}
-use Rattle.entry_cache.specs.Keys.{key, key_count}
-use Rattle.entry_cache.specs.Store.{IsRight, held_in, site_in}
-use Rattle.entry_cache.specs.declared.held.Held.{Held}
+use Rattle.loop_keys.specs.Jobs.{JobView, job_graph}
+use Rattle.loop_keys.specs.Keys.{key, key_count}
+use Rattle.loop_keys.specs.Store.{IsRight, held_in, site_in}
+use Rattle.loop_keys.specs.declared.held.Held.{Held}
 use Rattle.block_cache.specs.Blocks.{AreReady, cells_at}
 use Rattle.block_cache.specs.Fills.{AreSiteKinds, holds_at, lane_holds}
 use Rattle.block_cache.proofs.BlockLaws.{held_of_lane, lane_held, right_value}

@@ -8,10 +8,10 @@ use Rattle.graph_numbers.specs.Graphs.{graph_sites, graph_under}
 use Rattle.graph_numbers.proofs.Extending.{itself}
 use Rattle.graph_numbers.proofs.Ranges.{filters_below}
 use Rattle.std.proofs.lemmas.List.Elements.{recursion_from_All}
-use Rattle.entry_cache.specs.Caches.{IsPlainLoop}
-use Rattle.entry_cache.specs.Jobs.{IsJob, JobView, job_graph}
-use Rattle.entry_cache.proofs.ActionNumbers.{IsSoundBooking, result_sound}
-use Rattle.entry_cache.proofs.EvaluateLaws.{accepted_of}
+use Rattle.loop_keys.specs.Caches.{IsPlainLoop}
+use Rattle.loop_keys.specs.Jobs.{IsJob, JobView, job_graph}
+use Rattle.loop_keys.proofs.ActionNumbers.{IsSoundBooking, result_sound}
+use Rattle.loop_keys.proofs.EvaluateLaws.{accepted_of}
 use Rattle.block_passes.specs.Plans.{IsTried}
 use Rattle.block_passes.specs.Steps.{Chain}
 

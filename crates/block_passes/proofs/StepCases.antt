@@ -5,8 +5,8 @@ use Rattle.std.specs.List.{range_with_len}
 use Rattle.std.proofs.lemmas.Option.{slice_get_within, slice_get-get_or}
 use Rattle.rdf_model.specs.Results.{fault_in}
 use Rattle.block_lanes.specs.Lanes.{LaneView}
-use Rattle.entry_cache.specs.Jobs.{JobView}
-use Rattle.entry_cache.specs.Known.{truth_in}
+use Rattle.loop_keys.specs.Jobs.{JobView}
+use Rattle.loop_keys.specs.Known.{truth_in}
 use Rattle.block_passes.specs.Parts.{where_passed}
 use Rattle.block_passes.specs.Plans.{through_chain}
 use Rattle.block_passes.specs.Searches.{Lowers}

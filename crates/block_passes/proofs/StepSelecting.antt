@@ -6,11 +6,11 @@ use Rattle.rdf_model.specs.Results.{fault_in, is_true}
 use Rattle.graph_numbers.specs.Outcomes.{through_sites}
 use Rattle.expr_lanes.specs.Places.{is_in}
 use Rattle.block_lanes.specs.Lanes.{LaneView}
-use Rattle.entry_cache.specs.Jobs.{IsJob, JobView}
-use Rattle.entry_cache.specs.Known.{truth_in}
-use Rattle.entry_cache.specs.Store.{site_in}
-use Rattle.entry_cache.proofs.TableLaws.{row_there}
-use Rattle.entry_passes.specs.Turns.{HasAllDemands}
+use Rattle.loop_keys.specs.Jobs.{IsJob, JobView}
+use Rattle.loop_keys.specs.Known.{truth_in}
+use Rattle.loop_keys.specs.Store.{site_in}
+use Rattle.loop_keys.proofs.TableLaws.{row_there}
+use Rattle.pass_laws.specs.Turns.{HasAllDemands}
 use Rattle.block_cache.specs.Fills.{IsSpentOver}
 use Rattle.block_passes.specs.Demands.{Demands}
 use Rattle.block_passes.specs.Parts.{where_passed}

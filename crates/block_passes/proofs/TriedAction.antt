@@ -15,16 +15,16 @@ use Rattle.graph_numbers.specs.Results.{ResultAt}
 use Rattle.graph_numbers.specs.declared.pass.Pass.{Pass as NumberedPass}
 use Rattle.expr_lanes.specs.Places.{EachPlace, is_in}
 use Rattle.block_lanes.specs.Lanes.{LaneView}
-use Rattle.entry_cache.specs.Jobs.{IsJob, JobView, job_graph}
-use Rattle.entry_cache.specs.Store.{site_in, version_in}
+use Rattle.loop_keys.specs.Jobs.{IsJob, JobView, job_graph}
+use Rattle.loop_keys.specs.Store.{site_in, version_in}
 use Rattle.std.proofs.lemmas.List.Elements.{recursion_from_All}
-use Rattle.entry_cache.specs.Caches.{IsPlainLoop}
-use Rattle.entry_cache.specs.Passes.{IsActionAt}
-use Rattle.entry_cache.specs.Plain.{ArePlainVersions, IsPlainVersion}
-use Rattle.entry_cache.proofs.ActionLaws.{can_act}
-use Rattle.entry_cache.proofs.PassTies.{pass_answer}
-use Rattle.entry_cache.proofs.TableLaws.{row_there}
-use Rattle.entry_passes.specs.Turns.{HasAllDemands, pass_fault}
+use Rattle.loop_keys.specs.Caches.{IsPlainLoop}
+use Rattle.loop_keys.specs.Passes.{IsActionAt}
+use Rattle.loop_keys.specs.Plain.{ArePlainVersions, IsPlainVersion}
+use Rattle.loop_keys.proofs.ActionLaws.{can_act}
+use Rattle.loop_keys.proofs.PassTies.{pass_answer}
+use Rattle.loop_keys.proofs.TableLaws.{row_there}
+use Rattle.pass_laws.specs.Turns.{HasAllDemands, pass_fault}
 use Rattle.block_passes.specs.Feeds.{CanGather, unfed}
 use Rattle.block_passes.specs.Inputs.{AreAtHand, CanServe, DemandsInputs, IsServedTo, inputs_fault}
 use Rattle.block_passes.specs.Parts.{where_passed}

@@ -12,14 +12,14 @@ use Rattle.graph_numbers.specs.Outcomes.{through_filter, through_sites}
 use Rattle.graph_numbers.specs.Results.{FilterAt, ResultAt}
 use Rattle.graph_numbers.specs.declared.pass.Pass.{Pass as NumberedPass}
 use Rattle.block_lanes.specs.Lanes.{LaneView}
-use Rattle.entry_cache.specs.Caches.{IsCovered}
-use Rattle.entry_cache.specs.Jobs.{IsJob, JobView, job_graph}
-use Rattle.entry_cache.specs.Store.{site_in}
-use Rattle.entry_cache.proofs.TableLaws.{row_there}
-use Rattle.entry_passes.specs.Plans.{covered_in}
-use Rattle.entry_passes.specs.Turns.{IsReportPass, covers_of, is_covering, numbered_passes, pass_fault}
-use Rattle.entry_passes.proofs.ReportTies.{contained_at, filter_there}
-use Rattle.entry_passes.proofs.ReportTies.{report_fault as its_fault}
+use Rattle.loop_keys.specs.Caches.{IsCovered}
+use Rattle.loop_keys.specs.Jobs.{IsJob, JobView, job_graph}
+use Rattle.loop_keys.specs.Store.{site_in}
+use Rattle.loop_keys.proofs.TableLaws.{row_there}
+use Rattle.pass_laws.specs.Plans.{covered_in}
+use Rattle.pass_laws.specs.Turns.{IsReportPass, covers_of, is_covering, numbered_passes, pass_fault}
+use Rattle.pass_laws.proofs.ReportTies.{contained_at, filter_there}
+use Rattle.pass_laws.proofs.ReportTies.{report_fault as its_fault}
 use Rattle.block_passes.specs.Parts.{where_passed}
 use Rattle.block_passes.specs.Plans.{IsActionOf, IsLast, IsNamed, IsPlan, IsPlannedFilter, PlanView, through_chain}
 use Rattle.block_passes.specs.Selections.{IsReadyBelow, IsSelectedTo}

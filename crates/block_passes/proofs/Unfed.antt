@@ -7,15 +7,16 @@ use Rattle.std.proofs.lemmas.List.Elements.{All-cons, All-nil}
 use Rattle.std.proofs.lemmas.List.FromFn.{length-range_with_len}
 use Rattle.rdf_values.specs.Spread.{feed_fault}
 use Rattle.rdf_values.specs.declared.action.ActionKind.{ActionKind}
+use Rattle.rdf_values.specs.declared.action.ActionKind.TheVariants as kind
 use Rattle.rdf_values.specs.declared.fault.EntryFault.{EntryFault}
 use Rattle.rdf_values.specs.declared.value.Value.{Value}
-use Rattle.rdf_model.specs.Evaluation.{Outcome}
+use Rattle.rdf_model.specs.Evaluation.{Outcome, Gives, Faults, Needs, ◌>>=◌, for_all}
 use Rattle.actions.specs.Batches.{HasValues, SuitsAt, fault_or_later, first_fault_in, values_at}
 use Rattle.actions.specs.declared.batch.PlaceFault.{PlaceFault as BatchFault}
 use Rattle.actions.specs.declared.batch.Sources.{Sources}
 use Rattle.expr_lanes.specs.Places.{AreRising, EachPlace, is_in}
 use Rattle.block_lanes.specs.Lanes.{LaneView}
-use Rattle.entry_cache.specs.Jobs.{JobView}
+use Rattle.loop_keys.specs.Jobs.{JobView}
 use Rattle.block_cache.specs.Blocks.{AreReady}
 use Rattle.block_cache.specs.Fills.{fault_before, fault_over}
 use Rattle.block_cache.specs.declared.faults.PlaceFault.{PlaceFault}
@@ -105,3 +106,40 @@ module _ (k : ActionKind) (s : Sources) (o : ℕ → Outcome ⊥ (List Value)) (
 
   pub first_is : (r : Option BatchFault) → r ≡ first_fault_in k s ps → of_batch r ≡ fault_over (λ p. feeding_fault k (o p)) sel
   first_is r h = ap of_batch (h ∙ ap (first_fault_in k s) e) ∙ unfed_over k s (λ p. feeding_fault k (o p)) sel (λ p i. sym (ap (feeding_fault k) (are p i).values))
+
+-- ---- an action that reads fewer than two columns
+
+nothing_weighed : (k : ActionKind) (v : Value) → feed_fault k (v ∷ []) ≡ None
+nothing_weighed kind.Count v = refl
+nothing_weighed (kind.Sum c) v = refl
+nothing_weighed (kind.Min c) v = refl
+nothing_weighed (kind.Max c) v = refl
+nothing_weighed (kind.Take c) v = refl
+nothing_weighed (kind.Reduce o c) v = refl
+nothing_weighed (kind.Histo1D edges x w) v = refl
+nothing_weighed (kind.Histo2D xs ys x y w) v = refl
+
+nothing_fed : (k : ActionKind) → feed_fault k [] ≡ None
+nothing_fed kind.Count = refl
+nothing_fed (kind.Sum c) = refl
+nothing_fed (kind.Min c) = refl
+nothing_fed (kind.Max c) = refl
+nothing_fed (kind.Take c) = refl
+nothing_fed (kind.Reduce o c) = refl
+nothing_fed (kind.Histo1D edges x w) = refl
+nothing_fed (kind.Histo2D xs ys x y w) = refl
+
+-- one value that is there can be fed
+pub few_fed : (k : ActionKind) (f : ℕ → Outcome ⊥ Value) (cs : List ℕ) → length cs < 2 → feeding_fault k (for_all f cs) ≡ None
+few_fed k f [] h = nothing_fed k
+few_fed k f (c ∷ []) h = one (f c)
+  where
+    one : (o : Outcome ⊥ Value) → feeding_fault k (o >>= λ y. (for_all f [] >>= λ ys. Gives (y ∷ ys))) ≡ None
+    one (Gives v) = nothing_weighed k v
+    one (Faults e) = refl
+    one (Needs m) = elim m [ ]
+few_fed k f (c ∷ d ∷ cs) h = absurd (omega (arith, h))
+
+pub none_over : (f : ℕ → Option EntryFault) (sel : List ℕ) → ((p : ℕ) → f p ≡ None) → None ≡ fault_over f sel
+none_over f [] h = refl
+none_over f (p ∷ sel) h = none_over f sel h ∙ sym (ap (λ o. fault_before p o (fault_over f sel)) (h p))

@@ -14,9 +14,9 @@ use Rattle.expr_lanes.specs.Places.{EachPlace, at_place}
 use Rattle.graph_numbers.specs.Graphs.{graph_sites}
 use Rattle.graph_numbers.specs.declared.source.Source.{Source}
 use Rattle.graph_numbers.specs.declared.source.Source.TheVariants as from
-use Rattle.entry_cache.specs.Jobs.{JobView, job_graph}
-use Rattle.entry_cache.specs.Keys.{key}
-use Rattle.entry_cache.specs.Store.{source_at, version_in}
+use Rattle.loop_keys.specs.Jobs.{JobView, job_graph}
+use Rattle.loop_keys.specs.Keys.{key}
+use Rattle.loop_keys.specs.Store.{source_at, version_in}
 use Rattle.block_passes.specs.Inputs.{IsWhole}
 use Rattle.block_passes.specs.declared.copies.Copied.{Copied}
 use Rattle.block_passes.specs.declared.copies.Copied.TheVariants as copied
@@ -40,12 +40,6 @@ GivesNumber numbers p o = (p < length numbers) × (o ≡ Gives (val.Int (at_plac
 
 abbrev pub GivesVector : List ℤ → List Span → ℕ → Outcome ⊥ Value → Type 0
 GivesVector elements spans p o = (vector : List ℤ) × HasVector elements spans p vector × (o ≡ Gives (val.Vect vector))
-
--- a column of vectors of the table, or a site whose lane holds vectors
-abbrev pub IsVectorSource : JobView → Option ℕ → List ColType → Source → Type 0
-IsVectorSource j u kinds (from.Cell col) = kind_at j.dataset.columns col ≡ Some kind.Vect
-IsVectorSource j u kinds (from.Site s) = (s < length (graph_sites (job_graph j))) × (slice_get kinds (key (job_graph j) s u) ≡ Some kind.Vect)
-IsVectorSource j u kinds (from.Element s k tags) = ⊥
 
 -- nothing is copied of a version that is read in place; else there is what it gives at each place of the selection
 abbrev pub IsCopyOf : JobView → ℕ → Option ℕ → List ColType → List ℕ → ℕ → Copied → Type 0

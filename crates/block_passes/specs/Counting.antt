@@ -3,7 +3,7 @@ use Rattle.std.specs.Prelude.{◌≡◌, ◌+◌, ℕ, List, Some, slice_get}
 use Rattle.graph_numbers.specs.Graphs.{graph_filters}
 use Rattle.graph_numbers.specs.Results.{FilterAt}
 use Rattle.cluster_tally.specs.Blocks.{BlockStage}
-use Rattle.entry_cache.specs.Jobs.{JobView, job_graph}
+use Rattle.loop_keys.specs.Jobs.{JobView, job_graph}
 use Rattle.block_passes.specs.Laws.{IsInCluster}
 use Rattle.block_passes.specs.Plans.{PlanView}
 use Rattle.block_passes.specs.Selections.{AreKept}

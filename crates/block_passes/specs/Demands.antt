@@ -1,7 +1,7 @@
 -- What the passes of a loop demand at the places of a block.
 use Rattle.std.specs.Prelude.{◌≡◌, ℕ, Bool, true, Option}
-use Rattle.entry_cache.specs.Jobs.{JobView}
-use Rattle.entry_cache.specs.Store.{HasAllKeys, IsClosed}
+use Rattle.loop_keys.specs.Jobs.{JobView}
+use Rattle.loop_keys.specs.Store.{HasAllKeys, IsClosed}
 
 -- a set of sites that has with each those that its evaluation meets in the entry, as the loop demands them: their keys are in a set that
 -- has all that its passes demand

@@ -3,7 +3,7 @@ use Rattle.std.specs.Prelude.{◌≡◌, ℕ, List, Option, None, Some, slice_ge
 use Rattle.rdf_values.specs.declared.action.ActionKind.{ActionKind}
 use Rattle.expr_lanes.specs.Places.{EachPlace}
 use Rattle.block_lanes.specs.Lanes.{LaneView}
-use Rattle.entry_cache.specs.Jobs.{JobView}
+use Rattle.loop_keys.specs.Jobs.{JobView}
 use Rattle.block_passes.specs.Counting.{IsOverAll}
 use Rattle.block_passes.specs.Feeds.{unfed}
 use Rattle.block_passes.specs.Inputs.{AreAtHand}

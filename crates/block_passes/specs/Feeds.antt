@@ -11,8 +11,8 @@ use Rattle.rdf_model.specs.Laws.{FitsFeed}
 use Rattle.actions.specs.Batches.{HasPlace, HasValues, SuitsAt, lane_value, values_at}
 use Rattle.actions.specs.declared.batch.Sources.{Sources}
 use Rattle.actions.specs.declared.lane.Lane.{Lane}
-use Rattle.entry_cache.specs.Jobs.{JobView}
-use Rattle.entry_cache.specs.Store.{version_in}
+use Rattle.loop_keys.specs.Jobs.{JobView}
+use Rattle.loop_keys.specs.Store.{version_in}
 use Rattle.block_passes.specs.Inputs.{CanServe}
 use Rattle.block_passes.specs.Parts.{feeding_fault}
 

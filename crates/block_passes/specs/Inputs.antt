@@ -14,9 +14,9 @@ use Rattle.graph_numbers.specs.Sources.{source_value}
 use Rattle.graph_numbers.specs.declared.source.Source.{Source}
 use Rattle.graph_numbers.specs.declared.source.Source.TheVariants as from
 use Rattle.block_lanes.specs.Lanes.{LaneView}
-use Rattle.entry_cache.specs.Jobs.{JobView, job_graph}
-use Rattle.entry_cache.specs.Keys.{key, key_count}
-use Rattle.entry_cache.specs.Store.{IsSourceIn, held_element, held_in, row_of, site_in, source_at, version_in}
+use Rattle.loop_keys.specs.Jobs.{JobView, job_graph}
+use Rattle.loop_keys.specs.Keys.{key, key_count}
+use Rattle.loop_keys.specs.Store.{IsSourceIn, held_element, held_in, row_of, site_in, source_at, version_in}
 use Rattle.block_cache.specs.Blocks.{AreReady, HasColumn, cells_at}
 use Rattle.block_cache.specs.Fills.{CanFill, holds_at}
 use Rattle.block_passes.specs.Demands.{IsDemandedAt}
@@ -42,9 +42,9 @@ AreAtHand j lanes u inputs p = AllByRecursion (λ c. IsAtHand j lanes u p (sourc
 abbrev pub IsScalarLane : List ColType → ℕ → Type 0
 IsScalarLane kinds k = slice_get kinds k ≡ Some kind.Vect → ⊥
 
--- the source is read in place: a column of numbers, or the lane of a site that holds numbers or truths
+-- the source is read in place: a column of the table, or the lane of a site that holds numbers or truths
 abbrev pub IsWhole : JobView → Option ℕ → List ColType → Source → Type 0
-IsWhole j u kinds (from.Cell col) = kind_at j.dataset.columns col ≡ Some kind.Int
+IsWhole j u kinds (from.Cell col) = ⊤
 IsWhole j u kinds (from.Site s) = IsScalarLane kinds (key (job_graph j) s u)
 IsWhole j u kinds (from.Element s k tags) = ⊥
 

@@ -14,11 +14,11 @@ use Rattle.graph_numbers.specs.Results.{FilterAt, ResultAt}
 use Rattle.graph_numbers.specs.declared.pass.Pass.{Pass as NumberedPass}
 use Rattle.cluster_tally.specs.Blocks.{BlockStage, block_items, block_reaches}
 use Rattle.cluster_tally.specs.Stages.{counted}
-use Rattle.entry_cache.specs.Jobs.{IsJob, JobView, job_graph}
-use Rattle.entry_cache.specs.Store.{site_in, version_in}
-use Rattle.entry_passes.specs.Entries.{facts_in, job_spans}
-use Rattle.entry_passes.specs.Plans.{covered_in}
-use Rattle.entry_passes.specs.Turns.{HasAllDemands, actions_before}
+use Rattle.loop_keys.specs.Jobs.{IsJob, JobView, job_graph}
+use Rattle.loop_keys.specs.Store.{site_in, version_in}
+use Rattle.pass_laws.specs.Entries.{facts_in, job_spans}
+use Rattle.pass_laws.specs.Plans.{covered_in}
+use Rattle.pass_laws.specs.Turns.{HasAllDemands, actions_before}
 use Rattle.block_passes.specs.Demands.{Demands}
 use Rattle.block_passes.specs.Plans.{IsActionOf, IsTried}
 use Rattle.block_passes.specs.Searches.{IsSearched, fault_of}

@@ -8,10 +8,10 @@ use Rattle.graph_numbers.specs.Graphs.{graph_filters, graph_results}
 use Rattle.graph_numbers.specs.Outcomes.{through_sites}
 use Rattle.graph_numbers.specs.Results.{FilterAt, ResultAt}
 use Rattle.graph_numbers.specs.declared.pass.Pass.{Pass as NumberedPass}
-use Rattle.entry_cache.specs.Caches.{IsCovered, numbered_in}
-use Rattle.entry_cache.specs.Jobs.{JobView, job_graph}
-use Rattle.entry_cache.specs.Store.{site_in}
-use Rattle.entry_passes.specs.Plans.{covered_in}
+use Rattle.loop_keys.specs.Caches.{IsCovered, numbered_in}
+use Rattle.loop_keys.specs.Jobs.{JobView, job_graph}
+use Rattle.loop_keys.specs.Store.{site_in}
+use Rattle.pass_laws.specs.Plans.{covered_in}
 use Rattle.block_passes.specs.Steps.{AreSteps, Chain, IsBegin}
 use Rattle.block_passes.specs.declared.plan.NamedSteps.{NamedSteps}
 use Rattle.block_passes.specs.declared.steps.Step.{Step}

@@ -1,10 +1,10 @@
 -- What evaluations over a block do to what is known of it.
 use Rattle.std.specs.Prelude.{◌≡◌, ◌⊎◌, ◌<◌, ◌≤◌, ◌+◌, ◌*◌, ℕ, Bool, true, List}
 use Rattle.block_lanes.specs.Lanes.{LaneView, kinds_of, rooms_of}
-use Rattle.entry_cache.specs.Jobs.{JobView, job_graph}
-use Rattle.entry_cache.specs.Keys.{key_count}
-use Rattle.entry_cache.specs.Store.{Grows}
-use Rattle.entry_passes.specs.Turns.{HasAllDemands}
+use Rattle.loop_keys.specs.Jobs.{JobView, job_graph}
+use Rattle.loop_keys.specs.Keys.{key_count}
+use Rattle.loop_keys.specs.Store.{Grows}
+use Rattle.pass_laws.specs.Turns.{HasAllDemands}
 use Rattle.block_cache.specs.Blocks.{cells_at}
 use Rattle.block_cache.specs.Fills.{begun_at, begun_count, holds_at}
 

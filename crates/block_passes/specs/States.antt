@@ -1,18 +1,18 @@
 -- What a slot of a loop reserves for its blocks.
-use Rattle.std.specs.Prelude.{◌≡◌, ◌<◌, ◌≤◌, ℕ, ℤ, List, All, Option, None, Some, length, slice_get}
+use Rattle.std.specs.Prelude.{◌≡◌, ◌<◌, ◌≤◌, ℕ, ℤ, List, All, Option, None, Some, count_by, length, slice_get}
 use Rattle.rdf_values.specs.Tables.{kind_at}
 use Rattle.rdf_values.specs.declared.value.ColType.{ColType}
 use Rattle.rdf_values.specs.declared.value.ColType.TheVariants as kind
-use Rattle.expr_check.specs.NumKinds.{CheckedExpr}
+use Rattle.expr_check.specs.NumKinds.{CheckedExpr, is_vector}
 use Rattle.expr_lanes.specs.Depths.{depth}
 use Rattle.expr_lanes.specs.declared.TheConstants.{MAX_PLACES}
 use Rattle.block_lanes.specs.Lanes.{AreUnknown, HaveRoom, LaneView, kinds_of}
 use Rattle.block_lanes.specs.Sizes.{size_for}
 use Rattle.graph_numbers.specs.Graphs.{GraphView, IsSiteExpr, graph_sites}
 use Rattle.graph_numbers.specs.Sites.{SiteAt}
-use Rattle.entry_cache.specs.Jobs.{JobView, job_graph}
-use Rattle.entry_cache.specs.Keys.{AreKeys, key, key_count}
-use Rattle.entry_cache.specs.declared.rows.Row.{Row}
+use Rattle.loop_keys.specs.Jobs.{JobView, job_graph}
+use Rattle.loop_keys.specs.Keys.{AreKeys, key, key_count}
+use Rattle.loop_keys.specs.declared.rows.Row.{Row}
 use Rattle.block_cache.specs.Blocks.{HasColumn}
 use Rattle.block_passes.specs.Plans.{IsPlan, PlanView}
 use Rattle.block_passes.specs.Selections.{CanSelect, IsReadyBelow}
@@ -44,6 +44,13 @@ HaveCells size cells = All (λ numbers. length numbers ≡ size) cells
 -- the keys of the first so many sites have the kinds of their expressions, under nominal and each variation
 abbrev pub HaveKinds : GraphView → ℕ → List ColType → Type 0
 HaveKinds g sites kinds = (t : ℕ) (w : Option ℕ) → t < sites → (e : CheckedExpr) × IsSiteExpr g t e × (slice_get kinds (key g t w) ≡ Some e.kind)
+
+-- so many keys have vectors for values
+pub record CountsVectors (g : GraphView) (vectors : ℕ) : Type 0 where
+  pub kinds : List ColType
+  pub many : length kinds ≡ key_count g
+  pub have : HaveKinds g (length (graph_sites g)) kinds
+  pub count : vectors ≡ count_by is_vector kinds
 
 -- a slot has what the blocks of a loop take: the loop's plan, a lane for each key, of its site's kind, a list of numbers for each column,
 -- levels enough for each site, and a selection for each step

@@ -10,9 +10,9 @@ use Rattle.graph_numbers.specs.Outcomes.{report_numbers, through_filter, through
 use Rattle.graph_numbers.specs.Results.{FilterAt, ResultAt}
 use Rattle.graph_numbers.specs.declared.pass.Pass.{Pass as NumberedPass}
 use Rattle.block_lanes.specs.Lanes.{LaneView}
-use Rattle.entry_cache.specs.Jobs.{JobView, job_graph}
-use Rattle.entry_cache.specs.Store.{site_in}
-use Rattle.entry_passes.specs.Turns.{IsReportPass, pass_fault}
+use Rattle.loop_keys.specs.Jobs.{JobView, job_graph}
+use Rattle.loop_keys.specs.Store.{site_in}
+use Rattle.pass_laws.specs.Turns.{IsReportPass, pass_fault}
 use Rattle.block_passes.specs.Inputs.{AreAtHand, AreWhole, CanServe}
 use Rattle.block_passes.specs.Plans.{IsActionOf, PlanView}
 use Rattle.block_passes.specs.Searches.{IsSearched, Lowers}

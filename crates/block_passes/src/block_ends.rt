@@ -48,12 +48,13 @@ fn entry_elements(columns: &Columns, entry: u32) -> u64
 }
 
 // How many elements so many keys of vectors may have together at an entry.
-fn key_elements(columns: &Columns, entry: u32, keys: u32) -> u64
+fn key_elements(columns: &Columns, entry: u32, keys: u64) -> u64
     requires entry { entry < length columns.now.table.rows }
+    requires keys { keys < 1099511627776 }
     ensures value { (row : List CellValue) → slice_get columns.now.table.rows entry ≡ Some row → result ≡ row_elements keys row }
-    ensures few { result ≤ 1125899906842624 }
+    ensures few { result ≤ 288230376151711744 }
 {
-    u64::from(keys) * entry_elements(columns, entry)
+    keys * entry_elements(columns, entry)
 }
 
 // The last end that a block may have, of so many entries at most.
@@ -72,14 +73,18 @@ fn last_end(entries: Span, size: u32) -> u32
 }
 
 /// The end of the block that begins with the first of some entries, of so many at most, in a loop with so many keys of vectors.
-pub(crate) fn block_end(columns: &Columns, entries: Span, size: u32, keys: u32) -> u32
+pub(crate) fn block_end(columns: &Columns, entries: Span, size: u32, keys: u64) -> u32
     requires size { 1 ≤ size }
+    requires keys { keys < 1099511627776 }
     requires some { entries.lo < entries.hi }
     requires within { entries.hi ≤ length columns.now.table.rows }
     ensures { result ≡ entries.lo + first_length size 4194304 (map (row_elements keys) (slice_range columns.now.table.rows entries.lo entries.hi)) }
 {
-    let mut elements = key_elements(columns, entries.lo, keys);
     let last = last_end(entries, size);
+    if keys == 0 {
+        return last;
+    }
+    let mut elements = key_elements(columns, entries.lo, keys);
     for end in entries.lo + 1..last {
         elements += key_elements(columns, end, keys);
         if MAX_ELEMENTS < elements {

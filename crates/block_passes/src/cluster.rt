@@ -1,11 +1,11 @@
 // The blocks of a cluster, one after the other.
-ghost use Rattle.std.specs.Prelude.{◌≡◌, ◌≢◌, ◌<◌, ◌≤◌, ◌+◌, ◌*◌, ◌-◌, ℕ, All, Err, List, OnOk, length};
+ghost use Rattle.std.specs.Prelude.{◌≡◌, ◌≢◌, ◌<◌, ◌≤◌, ◌+◌, ◌*◌, ◌-◌, ℕ, All, Err, List, OnOk, Some, length, slice_get};
 ghost use Rattle.rdf_model.specs.LoopFacts.{kinds_in};
 ghost use Rattle.cluster_tally.specs.Stages.{Stage, at_begin};
 ghost use Rattle.cluster_tally.specs.Tallies.{Holds};
-ghost use Rattle.entry_cache.specs.Caches.{IsPlainLoop};
-ghost use Rattle.entry_cache.specs.Jobs.{Fits, job_of, passes_in};
-ghost use Rattle.entry_passes.specs.Entries.{IsNoTake, facts_in, job_spans};
+ghost use Rattle.loop_keys.specs.Caches.{IsPlainLoop};
+ghost use Rattle.loop_keys.specs.Jobs.{Fits, job_of, passes_in};
+ghost use Rattle.pass_laws.specs.Entries.{IsNoTake, facts_in, job_spans};
 ghost use Rattle.block_passes.specs.Blocks.{IsBefore, IsBlockTried};
 ghost use Rattle.block_passes.specs.Clusters.{IsClusterAnswer, at_end, span_demands};
 ghost use Rattle.block_passes.specs.States.{IsStateOf};
@@ -16,10 +16,18 @@ use crate::state::BlockState;
 use crate::stop::BlockStop;
 use crate::turn::Turn;
 use cluster_tally::Tally;
-use entry_cache::Job;
 use expr_eval::Steps;
+use loop_keys::Job;
 use rdf_values::Span;
 use std::sync::ledger::Ledger;
+
+/// The entries of a cluster.
+fn span_of(job: &Job<'_>, cluster: u32) -> Span
+    requires { cluster < length (job_spans (job_of job.now)) }
+    ensures { slice_get (job_spans (job_of job.now)) cluster ≡ Some result }
+{
+    job.columns.cuts().range(cluster)
+}
 
 impl BlockState {
     /// Tries all passes over the next block of a cluster, and takes it in where none faults.
@@ -32,7 +40,6 @@ impl BlockState {
         steps: &mut Steps<L>,
     ) -> Result<(), BlockStop>
         requires job { Fits job.now }
-        requires cuts { job.now.cuts.now ≡ job.now.columns.now.cuts }
         requires state { IsStateOf (job_of job.now) self.old }
         requires small { entries.hi - entries.lo ≤ self.old.size }
         requires before { (watched : List ℕ) × (s : Stage) × IsBefore (job_of job.now) watched s cluster entries tally.old }
@@ -67,14 +74,14 @@ impl BlockState {
         &mut self,
         job: &Job<'_>,
         cluster: u32,
-        keys: u32,
+        keys: u64,
         tally: &mut Tally,
         steps: &mut Steps<L>,
     ) -> Result<(), BlockStop>
         requires job { Fits job.now }
-        requires cuts { job.now.cuts.now ≡ job.now.columns.now.cuts }
         requires state { IsStateOf (job_of job.now) self.old }
         requires cluster { cluster < length (job_spans (job_of job.now)) }
+        requires keys { keys < 1099511627776 }
         requires begin { (watched : List ℕ) × (done : List ℕ) × Holds (facts_in (job_of job.now)) watched (at_begin done cluster) tally.old }
         ensures answer { IsClusterAnswer (job_of job.now) cluster result }
         ensures holds { (watched done : List ℕ) → Holds (facts_in (job_of job.now)) watched (at_begin done cluster) tally.old
@@ -83,7 +90,7 @@ impl BlockState {
         ensures bound { steps.new ≤ steps.old + 2 * span_demands (job_of job.now) self.old.size keys cluster }
         ensures plain { IsPlainLoop (job_of job.now) → All IsNoTake (kinds_in (passes_in (job_of job.now))) → result ≢ Err BlockStop.Memory }
     {
-        let span = job.cuts.range(cluster);
+        let span = span_of(job, cluster);
         let mut lo = span.lo;
         while lo < span.hi {
             let left = Span { lo, hi: span.hi };

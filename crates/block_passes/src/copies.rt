@@ -11,25 +11,25 @@ ghost use Rattle.graph_numbers.specs.Graphs.{IsSiteExpr, graph_sites};
 ghost use Rattle.graph_numbers.specs.Sources.{source_value};
 ghost use Rattle.expr_lanes.specs.Places.{EachPlace};
 ghost use Rattle.block_lanes.specs.Lanes.{kinds_of};
-ghost use Rattle.entry_cache.specs.Plain.{ArePlain};
-ghost use Rattle.entry_cache.specs.Jobs.{Fits, job_graph, job_of};
-ghost use Rattle.entry_cache.specs.Keys.{AreKeys, key as key_of};
-ghost use Rattle.entry_cache.specs.Store.{row_of, site_in, source_at, version_in};
+ghost use Rattle.loop_keys.specs.Plain.{ArePlain};
+ghost use Rattle.loop_keys.specs.Jobs.{Fits, job_graph, job_of};
+ghost use Rattle.loop_keys.specs.Keys.{AreKeys, key as key_of};
+ghost use Rattle.loop_keys.specs.Store.{row_of, site_in, source_at, version_in};
 ghost use Rattle.block_cache.specs.Blocks.{AreReady};
 ghost use Rattle.graph_numbers.specs.declared.source.Source.TheVariants as source;
 ghost use Rattle.block_cache.specs.Fills.{AreSiteKinds, holds_at};
-ghost use Rattle.block_passes.specs.Copying.{AreCopied, GivesNumber, GivesVector, HasVector, IsCopyOf, IsVectorSource};
+ghost use Rattle.block_passes.specs.Copying.{AreCopied, GivesNumber, GivesVector, HasVector, IsCopyOf};
 ghost use Rattle.block_passes.specs.Inputs.{AreAtHand, ArePlainSources, AreWhole, CanServe, IsAtHand, IsPlainSource, IsWhole};
 
 use crate::elements::{SiteElement, element_at};
 use crate::inputs::source_under;
 use crate::turn::{ActionRead, Turn};
 use block_lanes::Lane;
-use entry_cache::reading::{Reading, expression, key};
-use entry_cache::rows::row_at;
 use expr_eval::Input;
 use expr_lanes::Selection;
 use graph_numbers::Source;
+use loop_keys::reading::{Reading, expression, key};
+use loop_keys::rows::row_at;
 use rdf_values::{ColType, Memory, Span};
 use std::alloc::Global;
 
@@ -118,53 +118,28 @@ fn site_vector<'s>(
     }
 }
 
-/// The vector of a column of the table, or of a site, at a place where it is at hand.
-fn vector_at<'a: 's, 's>(
-    at: &Turn<'a>,
-    lanes: &'s [Lane],
-    source: Source,
-    under: Option<u32>,
-    place: u32,
-) -> &'s [i64]
-    requires job { Fits at.now.job.now }
-    requires rows { AreKeys (job_graph (job_of at.now.job.now)) at.now.rows.now }
-    requires ready { AreReady (job_of at.now.job.now) at.now.first at.now.count lanes.now }
-    requires source { IsVectorSource (job_of at.now.job.now) under (kinds_of lanes.now) source }
-    requires inside { place < at.now.count }
-    requires hand { IsAtHand (job_of at.now.job.now) lanes.now under place source }
-    ensures { source_value {M = ⊥} (row_of (job_of at.now.job.now) (at.now.first + place)) (site_in (job_of at.now.job.now) (at.now.first + place) under) source ≡ Gives (val.Vect result.now) }
-{
-    match source {
-        Source::Cell { col } => {
-            let _entries = at.job.columns.entries();
-            at.job.columns.vec_at(at.first + place, col)
-        }
-        Source::Site { site } => site_vector(at, lanes, site, under, place),
-        Source::Element { .. } => unreachable!(),
-    }
-}
-
-/// Copies the vectors of a column of the table, or of a site, at the selected places.
+/// Copies the vectors of a site at the selected places.
 fn copy_vectors(
     at: &Turn<'_>,
     lanes: &[Lane],
     selection: &Selection,
-    source: Source,
+    site: u32,
     under: Option<u32>,
 ) -> Result<CopiedVectors, Memory>
     requires job { Fits at.now.job.now }
     requires rows { AreKeys (job_graph (job_of at.now.job.now)) at.now.rows.now }
+    requires site { site < length (graph_sites (job_graph (job_of at.now.job.now))) }
     requires ready { AreReady (job_of at.now.job.now) at.now.first at.now.count lanes.now }
-    requires source { IsVectorSource (job_of at.now.job.now) under (kinds_of lanes.now) source }
+    requires vectors { slice_get (kinds_of lanes.now) (key_of (job_graph (job_of at.now.job.now)) site under) ≡ Some kind.Vect }
     requires inside { EachPlace selection.now (λ p. p < at.now.count) }
-    requires hand { EachPlace selection.now (λ p. IsAtHand (job_of at.now.job.now) lanes.now under p source) }
-    ensures { IfOk result (λ v. EachPlace selection.now (λ p. GivesVector v.elements.items v.spans.items p (source_value {M = ⊥} (row_of (job_of at.now.job.now) (at.now.first + p)) (site_in (job_of at.now.job.now) (at.now.first + p) under) source))) }
+    requires held { EachPlace selection.now (λ p. holds_at lanes.now (key_of (job_graph (job_of at.now.job.now)) site under) p ≡ true) }
+    ensures { IfOk result (λ v. EachPlace selection.now (λ p. GivesVector v.elements.items v.spans.items p (site_in {M = ⊥} (job_of at.now.job.now) (at.now.first + p) under site))) }
 {
     let mut vectors = CopiedVectors::new(at.plan.alloc(), at.count)?;
     let places = selection.as_slice();
     for i in 0..places.len() {
         let place = places[i];
-        vectors.put(place, vector_at(at, lanes, source, under, place))?;
+        vectors.put(place, site_vector(at, lanes, site, under, place))?;
     }
     Ok(vectors)
 }
@@ -276,20 +251,11 @@ fn copy_version(
     ensures whole { IsWhole (job_of at.now.job.now) under (kinds_of lanes.now) (source_at (job_of at.now.job.now) under version) → OnErr result ⊥ }
     ensures plain { (used : ℕ → Bool) → ArePlain (job_of at.now.job.now) used → IsPlainSource (job_of at.now.job.now) used (source_at (job_of at.now.job.now) under version) → OnErr result ⊥ }
 {
-    let source = source_under(at, version, under);
-    match source {
-        Source::Cell { col } => match at.job.columns.columns()[col as usize].kind {
-            ColType::Int => Ok(Copied::Whole),
-            ColType::Vect => Ok(Copied::Vectors(copy_vectors(
-                at, lanes, selection, source, under,
-            )?)),
-            ColType::Bool => unreachable!(),
-        },
+    match source_under(at, version, under) {
+        Source::Cell { .. } => Ok(Copied::Whole),
         Source::Site { site } => match site_kind(at, site, under) {
             ColType::Int | ColType::Bool => Ok(Copied::Whole),
-            ColType::Vect => Ok(Copied::Vectors(copy_vectors(
-                at, lanes, selection, source, under,
-            )?)),
+            ColType::Vect => Ok(Copied::Vectors(copy_vectors(at, lanes, selection, site, under)?)),
         },
         Source::Element { site, place, tags } => {
             let of = SiteElement {

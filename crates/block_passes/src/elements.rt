@@ -6,9 +6,9 @@ ghost use Rattle.graph_numbers.specs.Graphs.{graph_sites};
 ghost use Rattle.graph_numbers.specs.Sources.{source_value};
 ghost use Rattle.graph_numbers.specs.declared.source.Source.TheVariants as source;
 ghost use Rattle.expr_lanes.specs.Places.{EachPlace};
-ghost use Rattle.entry_cache.specs.Jobs.{Fits, job_graph, job_of};
-ghost use Rattle.entry_cache.specs.Keys.{AreKeys, key as key_of};
-ghost use Rattle.entry_cache.specs.Store.{row_of, site_in};
+ghost use Rattle.loop_keys.specs.Jobs.{Fits, job_graph, job_of};
+ghost use Rattle.loop_keys.specs.Keys.{AreKeys, key as key_of};
+ghost use Rattle.loop_keys.specs.Store.{row_of, site_in};
 ghost use Rattle.block_cache.specs.Blocks.{AreReady};
 ghost use Rattle.block_cache.specs.Fills.{fault_over, holds_at};
 ghost use Rattle.block_passes.specs.Copying.{IsNumberOf};
@@ -19,10 +19,10 @@ use crate::kept::Kept;
 use crate::turn::{Turn, Work};
 use block_cache::faults::PlaceFault;
 use block_lanes::Lane;
-use entry_cache::reading::{Reading, key};
-use entry_cache::rows::row_at;
 use expr_eval::Input;
 use expr_lanes::Selection;
+use loop_keys::reading::{Reading, key};
+use loop_keys::rows::row_at;
 use rdf_values::EntryFault;
 
 /// The element of a site's vector at the place of a tag among so many, under nominal or a variation.

@@ -1,8 +1,8 @@
 // Of which kinds the values of a graph's keys are.
-ghost use Rattle.std.specs.Prelude.{◌≡◌, ◌++◌, IfOk, OnOk, length, replicate};
+ghost use Rattle.std.specs.Prelude.{◌≡◌, ◌<◌, ◌++◌, IfOk, OnOk, length, replicate};
 ghost use Rattle.graph_numbers.specs.Graphs.{graph_sites};
-ghost use Rattle.entry_cache.specs.Keys.{key_count};
-ghost use Rattle.block_passes.specs.States.{HaveKinds};
+ghost use Rattle.loop_keys.specs.Keys.{key_count};
+ghost use Rattle.block_passes.specs.States.{CountsVectors, HaveKinds};
 
 use node_graph::Graph;
 use rdf_values::{ColType, ListOf, Memory};
@@ -22,6 +22,7 @@ fn push_kind(kinds: &mut ListOf<ColType>, kind: ColType, count: usize) -> Result
 pub(crate) fn key_kinds(alloc: Global, graph: &Graph) -> Result<ListOf<ColType>, Memory>
     ensures many { IfOk result (λ kinds. length kinds ≡ key_count graph.now) }
     ensures kinds { IfOk result (HaveKinds graph.now (length (graph_sites graph.now))) }
+    ensures few { IfOk result (λ kinds. length kinds < 1099511627776) }
 {
     let mut kinds = ListOf::new(alloc);
     for site in 0..graph.sites() {
@@ -30,4 +31,20 @@ pub(crate) fn key_kinds(alloc: Global, graph: &Graph) -> Result<ListOf<ColType>,
         push_kind(&mut kinds, kind, 1 + depends.count() as usize)?;
     }
     Ok(kinds)
+}
+
+/// How many of a graph's keys have vectors for values.
+pub fn vector_keys(alloc: Global, graph: &Graph) -> Result<u64, Memory>
+    ensures count { IfOk result (CountsVectors graph.now) }
+    ensures few { IfOk result (λ keys. keys < 1099511627776) }
+{
+    let kinds = key_kinds(alloc, graph)?;
+    let each = kinds.as_slice();
+    let mut vectors = 0;
+    for kind in each {
+        if let ColType::Vect = *kind {
+            vectors += 1;
+        }
+    }
+    Ok(vectors)
 }

@@ -14,7 +14,7 @@ mod feed;
 pub mod found;
 mod inputs;
 pub mod kept;
-mod kinds;
+pub mod kinds;
 pub mod laws;
 mod noting;
 mod passes;
@@ -30,6 +30,7 @@ mod testing;
 pub mod turn;
 
 pub use crate::found::Found;
+pub use crate::kinds::vector_keys;
 pub use crate::plan::{LoopPlan, NamedSteps};
 pub use crate::state::BlockState;
 pub use crate::steps::Step;

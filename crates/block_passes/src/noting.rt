@@ -3,8 +3,8 @@ ghost use Rattle.std.specs.Prelude.{◌≡◌, ◌<◌, List, ℕ, length, slice
 ghost use Rattle.graph_numbers.specs.Graphs.{graph_filters};
 ghost use Rattle.cluster_tally.specs.Blocks.{BlockStage, HoldsIn, block_reaches};
 ghost use Rattle.cluster_tally.specs.Stages.{counted};
-ghost use Rattle.entry_cache.specs.Jobs.{Fits, job_graph, job_of};
-ghost use Rattle.entry_passes.specs.Entries.{facts_in};
+ghost use Rattle.loop_keys.specs.Jobs.{Fits, job_graph, job_of};
+ghost use Rattle.pass_laws.specs.Entries.{facts_in};
 ghost use Rattle.block_passes.specs.Counting.{AreCountable, IsAmid, at_filter};
 ghost use Rattle.block_passes.specs.Plans.{IsPlan};
 

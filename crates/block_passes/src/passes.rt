@@ -3,10 +3,10 @@ ghost use Rattle.std.specs.Prelude.{◌≡◌, ◌<◌, ◌≤◌, ℕ, ◌+◌,
 ghost use Rattle.rdf_model.specs.Results.{first_fault_from};
 ghost use Rattle.expr_lanes.specs.declared.TheConstants.{MAX_PLACES};
 ghost use Rattle.block_lanes.specs.Lanes.{kinds_of};
-ghost use Rattle.entry_cache.specs.Caches.{IsPlainLoop, numbered_in};
-ghost use Rattle.entry_cache.specs.Jobs.{Fits, job_graph, job_of, passes_in};
-ghost use Rattle.entry_cache.specs.Keys.{AreKeys};
-ghost use Rattle.entry_passes.specs.Turns.{IsReportPass};
+ghost use Rattle.loop_keys.specs.Caches.{IsPlainLoop, numbered_in};
+ghost use Rattle.loop_keys.specs.Jobs.{Fits, job_graph, job_of, passes_in};
+ghost use Rattle.loop_keys.specs.Keys.{AreKeys};
+ghost use Rattle.pass_laws.specs.Turns.{IsReportPass};
 ghost use Rattle.block_passes.specs.Plans.{IsPlan};
 ghost use Rattle.block_passes.specs.Selections.{AreRemade, CanSelect, IsReadyBelow};
 ghost use Rattle.block_passes.specs.Spends.{Spends};
@@ -17,9 +17,9 @@ use crate::kept::Kept;
 use crate::plan::loop_passes;
 use crate::reports::try_filters;
 use crate::turn::{ActionRead, Turn, Work};
-use entry_cache::Job;
 use expr_eval::Steps;
 use graph_numbers::{Pass, ResultKind};
+use loop_keys::Job;
 use rdf_values::Memory;
 use std::sync::ledger::Ledger;
 

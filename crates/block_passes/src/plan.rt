@@ -2,16 +2,16 @@
 ghost use Rattle.std.specs.Prelude.{◌≡◌, ◌<◌, ◌≤◌, ◌^◌, List, Bool, IfOk, Some, length, slice_get, true, nat_eq};
 ghost use Rattle.std.specs.List.{list_any};
 ghost use Rattle.graph_numbers.specs.Graphs.{graph_filters, graph_results};
-ghost use Rattle.entry_cache.specs.Caches.{numbered_in};
-ghost use Rattle.entry_cache.specs.Jobs.{Fits, job_graph, job_of, passes_in};
-ghost use Rattle.entry_passes.specs.Plans.{covered_in};
-ghost use Rattle.entry_passes.specs.Turns.{is_covering, numbered_passes};
+ghost use Rattle.loop_keys.specs.Caches.{numbered_in};
+ghost use Rattle.loop_keys.specs.Jobs.{Fits, job_graph, job_of, passes_in};
+ghost use Rattle.pass_laws.specs.Plans.{covered_in};
+ghost use Rattle.pass_laws.specs.Turns.{is_covering, numbered_passes};
 ghost use Rattle.block_passes.specs.Plans.{AreFiltersPlanned, ArePassesPlanned, IsFilterLed, IsFilterStepped, IsPassLed, IsPlan};
 ghost use Rattle.block_passes.specs.Steps.{AreSteps, Chain};
 
 use crate::steps::{Step, next_step, path_steps};
-use entry_cache::Job;
 use graph_numbers::{Pass, ResultKind};
+use loop_keys::Job;
 use rdf_values::{ListOf, Memory};
 use std::alloc::Global;
 use std::marker::Model;

@@ -1,6 +1,6 @@
 // The memory that a slot reserves for its blocks.
 ghost use Rattle.std.specs.Prelude.{◌≡◌, ◌≤◌, ◌-◌, All, IfOk, None, Some, length};
-ghost use Rattle.entry_cache.specs.Jobs.{Fits, job_of};
+ghost use Rattle.loop_keys.specs.Jobs.{Fits, job_of};
 ghost use Rattle.block_passes.specs.States.{AreLoaded, HaveCells};
 ghost use Rattle.block_passes.specs.declared.kept.Kept.{Kept as KeptPlaces};
 
@@ -8,8 +8,8 @@ use crate::kept::Kept;
 use block_cache::cells::CellLane;
 use block_cache::level::Level;
 use columns::Over;
-use entry_cache::Job;
 use expr_lanes::{Scratch, Selection};
+use loop_keys::Job;
 use rdf_values::{ColType, Memory, Span};
 use std::alloc::Global;
 

@@ -1,17 +1,21 @@
 // The lanes that an action reads.
-ghost use Rattle.std.specs.Prelude.{◌≡◌, ◌<◌, ◌+◌, ℕ, List, length, true};
+ghost use Rattle.std.specs.Prelude.{◌≡◌, ◌<◌, ◌≤◌, ◌+◌, ℕ, List, Some, length, true};
 ghost use Rattle.std.specs.List.{AllByRecursion};
 ghost use Rattle.rdf_values.specs.Bookings.{columns_of};
+ghost use Rattle.rdf_values.specs.Tables.{kind_at};
+ghost use Rattle.rdf_values.specs.declared.value.ColType.TheVariants as kind;
 ghost use Rattle.rdf_values.specs.declared.value.Value.{Value};
 ghost use Rattle.rdf_model.specs.Evaluation.{Gives, for_all};
 ghost use Rattle.rdf_model.specs.Laws.{FitsFeed};
 ghost use Rattle.graph_numbers.specs.Graphs.{graph_sites};
+ghost use Rattle.graph_numbers.specs.Sources.{source_value};
+ghost use Rattle.graph_numbers.specs.declared.source.Source.TheVariants as source;
 ghost use Rattle.block_lanes.specs.Lanes.{kinds_of};
 ghost use Rattle.expr_lanes.specs.Places.{is_in};
-ghost use Rattle.entry_cache.specs.Jobs.{Fits, job_graph, job_of};
-ghost use Rattle.entry_cache.specs.Keys.{AreKeys, key as key_of};
-ghost use Rattle.entry_cache.specs.Store.{site_in, source_at, version_in};
-ghost use Rattle.block_cache.specs.Blocks.{AreReady};
+ghost use Rattle.loop_keys.specs.Jobs.{Fits, job_graph, job_of};
+ghost use Rattle.loop_keys.specs.Keys.{AreKeys, key as key_of};
+ghost use Rattle.loop_keys.specs.Store.{row_of, site_in, source_at, version_in};
+ghost use Rattle.block_cache.specs.Blocks.{AreReady, HasColumn};
 ghost use Rattle.block_cache.specs.Fills.{AreSiteKinds, holds_at};
 ghost use Rattle.block_passes.specs.Copying.{AreCopied, IsCopyOf};
 ghost use Rattle.block_passes.specs.Feeds.{AreLanesOf, CanGather, IsLaneOf};
@@ -22,10 +26,10 @@ use crate::inputs::source_under;
 use crate::turn::{ActionRead, Turn};
 use actions::{Lane as FedLane, Sources};
 use block_lanes::Lane;
-use entry_cache::reading::{Reading, expression, key};
-use entry_cache::rows::row_at;
 use expr_lanes::Selection;
 use graph_numbers::Source;
+use loop_keys::reading::{Reading, expression, key};
+use loop_keys::rows::row_at;
 use rdf_values::{ActionKind, ColType};
 
 /// The lane of a site.
@@ -80,6 +84,25 @@ fn version_lane<'a: 's, 's>(
     }
 }
 
+/// The lane of a column of the table.
+fn cell_lane<'a>(at: &Turn<'a>, col: u32, _under: Option<u32>) -> FedLane<'a>
+    requires there { col < length at.now.job.now.columns.now.table.columns }
+    requires numbers { kind_at at.now.job.now.columns.now.table.columns col ≡ Some kind.Int → HasColumn (job_of at.now.job.now) at.now.first at.now.count at.now.cells.now col }
+    requires within { at.now.first + at.now.count ≤ length at.now.job.now.columns.now.table.rows }
+    ensures { (p : ℕ) → p < at.now.count
+        → IsLaneOf (source_value {M = ⊥} (row_of (job_of at.now.job.now) (at.now.first + p)) (site_in (job_of at.now.job.now) (at.now.first + p) _under) (source.Cell col)) result p }
+{
+    let columns = at.job.columns;
+    match columns.columns()[col as usize].kind {
+        ColType::Int => FedLane::Int(at.cells[col as usize].as_slice()),
+        ColType::Vect => FedLane::Column {
+            vectors: columns.vects(col),
+            first: at.first,
+        },
+        ColType::Bool => unreachable!(),
+    }
+}
+
 /// The lane of a version that is read in place.
 fn whole_lane<'a: 's, 's>(
     at: &Turn<'a>,
@@ -96,7 +119,7 @@ fn whole_lane<'a: 's, 's>(
         → IsLaneOf (version_in {M = ⊥} (job_of at.now.job.now) (at.now.first + p) under version) result p }
 {
     match source_under(at, version, under) {
-        Source::Cell { col } => FedLane::Int(at.cells[col as usize].as_slice()),
+        Source::Cell { col } => cell_lane(at, col, under),
         Source::Site { site } => site_lane(at, lanes, site, under),
         Source::Element { .. } => unreachable!(),
     }

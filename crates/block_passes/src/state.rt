@@ -1,6 +1,6 @@
 // What a slot of a loop reserves for its blocks.
 ghost use Rattle.std.specs.Prelude.{◌≡◌, ◌<◌, ◌≤◌, ◌-◌, IfOk, length};
-ghost use Rattle.entry_cache.specs.Jobs.{Fits, job_of};
+ghost use Rattle.loop_keys.specs.Jobs.{Fits, job_of};
 ghost use Rattle.block_passes.specs.States.{IsBegunBlock, IsStateOf};
 
 use crate::depths::deepest;
@@ -13,8 +13,8 @@ use crate::turn::Work;
 use block_cache::cells::CellLane;
 use block_lanes::{begin_block, block_size, new_lanes};
 use columns::Over;
-use entry_cache::Job;
-use entry_cache::rows::{Row, rows_of};
+use loop_keys::Job;
+use loop_keys::rows::{Row, rows_of};
 use rdf_values::{ListOf, Memory, Span};
 use std::alloc::Global;
 use std::marker::Model;

@@ -3,9 +3,9 @@ ghost use Rattle.std.specs.Prelude.{◌≡◌, ◌<◌, ◌≤◌, ◌+◌, ℕ,
 ghost use Rattle.expr_lanes.specs.Places.{EachPlace};
 ghost use Rattle.expr_lanes.specs.declared.TheConstants.{MAX_PLACES};
 ghost use Rattle.actions.specs.Batches.{places_of};
-ghost use Rattle.entry_cache.specs.Plain.{ArePlain};
-ghost use Rattle.entry_cache.specs.Jobs.{Fits, job_graph, job_of};
-ghost use Rattle.entry_cache.specs.Keys.{AreKeys};
+ghost use Rattle.loop_keys.specs.Plain.{ArePlain};
+ghost use Rattle.loop_keys.specs.Jobs.{Fits, job_graph, job_of};
+ghost use Rattle.loop_keys.specs.Keys.{AreKeys};
 ghost use Rattle.block_cache.specs.Blocks.{AreReady};
 ghost use Rattle.block_cache.specs.Fills.{fault_over};
 ghost use Rattle.block_lanes.specs.Lanes.{kinds_of};
@@ -50,6 +50,9 @@ fn first_unfed(
     ensures fault { IfOk result (λ f. f ≡ fault_over (unfed (job_of at.now.job.now) at.now.first own.now.kind.now own.now.inputs.now own.now.under) selection.now) }
     ensures plain { (used : ℕ → Bool) → ArePlain (job_of at.now.job.now) used → ArePlainSources (job_of at.now.job.now) used own.now.under own.now.inputs.now → OnErr result ⊥ }
 {
+    if own.inputs.len() < 2 {
+        return Ok(None);
+    }
     let _few = selection.len();
     let copies = copy_inputs(at, lanes, selection, own)?;
     let batch = Batch {

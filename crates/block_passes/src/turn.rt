@@ -4,9 +4,9 @@ use crate::plan::LoopPlan;
 use block_cache::cells::CellLane;
 use block_cache::level::Level;
 use block_lanes::Lane;
-use entry_cache::Job;
-use entry_cache::rows::Row;
 use expr_lanes::Scratch;
+use loop_keys::Job;
+use loop_keys::rows::Row;
 use rdf_values::ActionKind;
 
 /// A pass of a loop, and the entries of a block over which it is tried.

@@ -13,7 +13,7 @@ ghost use Rattle.chain_runs.specs.Chains.{alone, chain_loop, chain_loops};
 use crate::one_loop::run_table;
 use crate::table_run::TableRun;
 use chain_files::PartLoop;
-use entry_cache::Job;
+use loop_keys::Job;
 use rdf_outside::Gate;
 use rdf_values::{ListOf, Memory};
 use std::alloc::Global;
@@ -35,11 +35,11 @@ pub fn table_loop<R: Threads + Sync, G: Gate>(
 {
     table.graph.is_booked();
     let _columns = table.columns.columns();
+    let _cuts = table.columns.cuts();
     let job = Job {
         graph: table.graph,
         loop_index: number,
         columns: table.columns,
-        cuts: table.columns.cuts(),
         functions: table.functions,
     };
     let one = run_table(rt, alloc, &job, table.file, table.slots, gate);
@@ -47,7 +47,6 @@ pub fn table_loop<R: Threads + Sync, G: Gate>(
         graph: _,
         loop_index: _,
         columns: _,
-        cuts: _,
         functions: _,
     } = job;
     one

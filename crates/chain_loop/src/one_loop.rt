@@ -2,12 +2,12 @@
 ghost use Rattle.std.specs.Prelude.{◌≡◌, ◌<◌, ◌≤◌, IfOk};
 ghost use Rattle.rdf_values.specs.Path.{history};
 ghost use Rattle.rdf_values.specs.Words.{StatementsHaveWords};
-ghost use Rattle.entry_cache.specs.Jobs.{Fits, job_of, passes_in};
+ghost use Rattle.loop_keys.specs.Jobs.{Fits, job_of, passes_in};
 ghost use Rattle.chain_runs.specs.Chains.{alone, chain_loop, in_file};
 
 use chain_files::{ChainFault, PartLoop};
-use entry_cache::Job;
 use event_loop::{LoopEnd, run_loop};
+use loop_keys::Job;
 use rdf_outside::Gate;
 use rdf_values::{Fault, Memory};
 use shard_loop::span_lines;

@@ -69,14 +69,14 @@ cluster_at spans numbers c s h = get_of (cluster_values spans numbers) c _ (valu
 pub cluster_there : (spans : List Span) (numbers : List ℤ) (c : ℕ) (s : Span) → slice_get spans c ≡ Some s → c < length (cluster_values spans numbers)
 cluster_there spans numbers c s h = slice_get_within (cluster_values spans numbers) c _ (values_of_cluster spans numbers c s h)
 
-get_taken : (xs : List ℤ) (n i : ℕ) → i < n → slice_get (take n xs) i ≡ slice_get xs i
+pub get_taken : (xs : List ℤ) (n i : ℕ) → i < n → slice_get (take n xs) i ≡ slice_get xs i
 get_taken [] zero i l = refl
 get_taken [] (suc n) i l = refl
 get_taken (x ∷ xs) zero i l = absurd (omega (arith, l))
 get_taken (x ∷ xs) (suc n) zero l = refl
 get_taken (x ∷ xs) (suc n) (suc i) l = get_taken xs n i (omega (arith, l))
 
-get_dropped : (xs : List ℤ) (n i : ℕ) → slice_get (drop n xs) i ≡ slice_get xs (n + i)
+pub get_dropped : (xs : List ℤ) (n i : ℕ) → slice_get (drop n xs) i ≡ slice_get xs (n + i)
 get_dropped xs zero i = let e : i ≡ 0 + i = omega arith in ap (λ (k : ℕ). slice_get xs k) e
 get_dropped [] (suc n) i = let e : suc n + i ≡ suc (n + i) = omega arith in sym (ap (λ (k : ℕ). slice_get [] k) e)
 get_dropped (x ∷ xs) (suc n) i = let e : suc n + i ≡ suc (n + i) = omega arith in get_dropped xs n i ∙ sym (ap (λ (k : ℕ). slice_get (x ∷ xs) k) e)

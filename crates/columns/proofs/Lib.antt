@@ -4,5 +4,6 @@ pub mod InPieces
 pub mod Joining
 pub mod Keeping
 pub mod LowBytes
+pub mod Reading
 pub mod Tight
 pub mod Unpacking

@@ -1,7 +1,7 @@
 // Numbers in bytes.
 ghost use Rattle.std.specs.Prelude.{◌≡◌, ◌≤◌, ◌<◌, ◌+◌, ◌*◌, ◌++◌, All, FitsSigned, IfOk, drop, length, vec_capacity, vec_len};
 ghost use Rattle.std.specs.Int.{from_le_bytes, w16, w32, w64};
-ghost use Rattle.columns.specs.Packings.{number_in, packed_by};
+ghost use Rattle.columns.specs.Packings.{number_in, packed_by, values_in};
 ghost use Rattle.columns.specs.Widths.{IsWidth};
 
 use crate::packing::Packing;
@@ -49,6 +49,37 @@ pub(crate) fn number_at(bytes: &[u8], at: usize, width: u32) -> u64
         2 => two_at(bytes, at),
         4 => four_at(bytes, at),
         _ => eight_at(bytes, at),
+    }
+}
+
+// Reads numbers from their bytes: each one's difference to the least stands in so many, lowest first.
+fn read_each<const WIDTH: u32>(bytes: &[u8], least: i64, numbers: &mut [i64])
+    requires width { IsWidth WIDTH }
+    requires long { length numbers.old * WIDTH ≤ length bytes.now }
+    requires words { All (FitsSigned w64) (values_in least WIDTH (length numbers.old) bytes.now) }
+    ensures { numbers.new ≡ values_in least WIDTH (length numbers.old) bytes.now }
+{
+    for place in 0..numbers.len() {
+        let difference = number_at(bytes, place * WIDTH as usize, WIDTH);
+        numbers[place] = least.wrapping_add_unsigned(difference);
+    }
+}
+
+/// Reads numbers from their bytes, as they are packed. Each width has a loop of its own, without a call or a test for each
+/// number.
+pub(crate) fn read_packed(bytes: &[u8], packing: Packing, numbers: &mut [i64])
+    requires width { IsWidth packing.width }
+    requires long { length numbers.old * packing.width ≤ length bytes.now }
+    requires words { All (FitsSigned w64) (values_in packing.least packing.width (length numbers.old) bytes.now) }
+    ensures { numbers.new ≡ values_in packing.least packing.width (length numbers.old) bytes.now }
+{
+    let least = packing.least;
+    match packing.width {
+        0 => read_each::<0>(bytes, least, numbers),
+        1 => read_each::<1>(bytes, least, numbers),
+        2 => read_each::<2>(bytes, least, numbers),
+        4 => read_each::<4>(bytes, least, numbers),
+        _ => read_each::<8>(bytes, least, numbers),
     }
 }
 

@@ -111,8 +111,8 @@ impl Columns {
         }
     }
 
-    // The vectors of a vec column, one per entry.
-    fn vects(&self, col: u32) -> &Vects
+    /// The vectors of a vec column, one per entry.
+    pub fn vects(&self, col: u32) -> &Vects
         requires { kind_at self.now.table.columns col ≡ Some k.Vect }
         ensures { IsVectColumn self.now.table col result.now }
     {

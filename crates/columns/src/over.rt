@@ -1,5 +1,6 @@
 // The columns over one cluster.
-ghost use Rattle.std.specs.Prelude.{◌≡◌, ◌≤◌, ◌<◌, Some, length, slice_get};
+ghost use Rattle.std.specs.Prelude.{◌≡◌, ◌≤◌, ◌<◌, ◌-◌, Some, length, slice_get};
+ghost use Rattle.columns.specs.ReadInts.{AreInts};
 ghost use Rattle.rdf_values.specs.Cuts.{cut};
 ghost use Rattle.rdf_values.specs.Tables.{cell, kind_at};
 ghost use Rattle.rdf_values.specs.declared.value.ColType.TheVariants as k;
@@ -52,6 +53,25 @@ impl Over<'_> {
         self.columns
             .ints(col)
             .at(self.cluster as usize, place as usize)
+    }
+
+    /// Reads the numbers of entries of the cluster in an int column.
+    pub fn read(&self, entries: Span, col: u32, numbers: &mut [i64])
+        requires from { self.now.span.lo ≤ entries.lo }
+        requires within { entries.hi ≤ self.now.span.hi }
+        requires room { entries.hi - entries.lo ≤ length numbers.old }
+        requires column { kind_at self.now.columns.now.table.columns col ≡ Some k.Int }
+        ensures { AreInts self.now.columns.now.table entries.lo (entries.hi - entries.lo) col numbers.new }
+    {
+        if entries.lo < entries.hi {
+            let from = entries.lo - self.span.lo;
+            let count = entries.hi - entries.lo;
+            self.columns.ints(col).read(
+                self.cluster as usize,
+                from as usize,
+                &mut numbers[..count as usize],
+            );
+        }
     }
 
     /// The elements of an entry's vector in a vec column.

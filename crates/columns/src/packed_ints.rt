@@ -1,12 +1,12 @@
 // The numbers of an int column, packed.
-ghost use Rattle.std.specs.Prelude.{◌≡◌, ◌≤◌, ◌<◌, ◌++◌, [], IfOk, Some, length, slice_get, slice_index_or, slice_range};
+ghost use Rattle.std.specs.Prelude.{◌≡◌, ◌≤◌, ◌<◌, ◌+◌, ◌++◌, [], IfOk, Some, length, slice_get, slice_index_or, slice_range, drop, take};
 ghost use Rattle.rdf_values.specs.Cuts.{cut};
 ghost use Rattle.columns.specs.Blocks.{IsBlock, cluster_values};
 ghost use Rattle.columns.specs.Packings.{packed_of, packing_of};
 ghost use Rattle.table_pieces.specs.Wholes.{joined};
 
 use crate::block::Block;
-use crate::bytes::{number_at, push_packed};
+use crate::bytes::{number_at, push_packed, read_packed};
 use crate::grown::Grown;
 use crate::packing::Packing;
 use crate::pieces::{gather, in_one_piece};
@@ -113,6 +113,21 @@ impl PackedInts {
         let block = &self.blocks[cluster];
         let size = block.entries as usize * block.width as usize;
         &self.bytes[block.begin..block.begin + size]
+    }
+
+    /// Reads numbers of a cluster, from a place on.
+    pub(crate) fn read(&self, cluster: usize, from: usize, numbers: &mut [i64])
+        requires cluster { cluster < length self.now }
+        requires within { from + length numbers.old ≤ length (slice_index_or self.now cluster []) }
+        ensures { numbers.new ≡ take (length numbers.old) (drop from (slice_index_or self.now cluster [])) }
+    {
+        let block = &self.blocks[cluster];
+        let begin = block.begin + from * block.width as usize;
+        let packing = Packing {
+            least: block.least,
+            width: block.width,
+        };
+        read_packed(&self.bytes[begin..], packing, numbers);
     }
 
     /// A number of a cluster, both counted from 0.

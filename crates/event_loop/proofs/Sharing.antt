@@ -15,7 +15,7 @@ use Rattle.partial_watch.proofs.book.Book.TheSendSync as book
 use Rattle.cluster_claims.specs.contracts.claims.Claims.{the_row as claims_row}
 use Rattle.cluster_claims.proofs.claims.Claims.TheSendSync as claims
 
-pub cuts_sync : IsSync cuts_row
+cuts_sync : IsSync cuts_row
 cuts_sync = search (sendable, crosses) depth 40 fits 4000
 
 pub table_sync : IsSync columns_row
@@ -28,6 +28,6 @@ pub books_sync : IsSync (option_row book_row)
 books_sync = search (sendable, crosses, book.the_sync) depth 40 fits 4000
 
 -- what a closure captures, part by part
-pub nine_sync : (ν : Sym) (A B C D E F G H I : RattleType) → IsSync A → IsSync B → IsSync C → IsSync D → IsSync E → IsSync F → IsSync G → IsSync H → IsSync I → IsSync (TupleAt ν (A ∷ B ∷ C ∷ D ∷ E ∷ F ∷ G ∷ H ∷ I ∷ []))
-nine_sync ν A B C D E F G H I a b c d e f g h i =
-    declared_sync (type_at ν (A ∷ B ∷ C ∷ D ∷ E ∷ F ∷ G ∷ H ∷ I ∷ [])) (record { shared = a.shared }, (record { shared = b.shared }, (record { shared = c.shared }, (record { shared = d.shared }, (record { shared = e.shared }, (record { shared = f.shared }, (record { shared = g.shared }, (record { shared = h.shared }, (record { shared = i.shared }, tt)))))))))
+pub eight_sync : (ν : Sym) (A B C D E F G H : RattleType) → IsSync A → IsSync B → IsSync C → IsSync D → IsSync E → IsSync F → IsSync G → IsSync H → IsSync (TupleAt ν (A ∷ B ∷ C ∷ D ∷ E ∷ F ∷ G ∷ H ∷ []))
+eight_sync ν A B C D E F G H a b c d e f g h =
+    declared_sync (type_at ν (A ∷ B ∷ C ∷ D ∷ E ∷ F ∷ G ∷ H ∷ [])) (record { shared = a.shared }, (record { shared = b.shared }, (record { shared = c.shared }, (record { shared = d.shared }, (record { shared = e.shared }, (record { shared = f.shared }, (record { shared = g.shared }, (record { shared = h.shared }, tt))))))))

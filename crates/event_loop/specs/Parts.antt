@@ -1,16 +1,15 @@
 -- A job by its parts.
 use Rattle.std.specs.Prelude.{ℕ, List}
 use Rattle.rdf_values.specs.Functions.{Function}
-use Rattle.clusters.specs.CutsView.{CutsView}
 use Rattle.columns.specs.ColumnsView.{ColumnsView}
 use Rattle.graph_numbers.specs.Graphs.{GraphView}
-use Rattle.entry_cache.specs.Jobs.{JobView}
+use Rattle.loop_keys.specs.Jobs.{JobView}
 
--- the loop of that number of a graph, over columns and cuts, with functions
-abbrev pub job_with : GraphView → ℕ → ColumnsView → CutsView → List Function → JobView
-job_with graph number columns cuts fns = record {
+-- the loop of that number of a graph, over columns, with functions
+abbrev pub job_with : GraphView → ℕ → ColumnsView → List Function → JobView
+job_with graph number columns fns = record {
   script = graph.script;
   number = number;
   dataset = record { fns = fns; columns = columns.table.columns; rows = columns.table.rows };
-  cuts = cuts;
+  cuts = columns.cuts;
 }

@@ -1,8 +1,9 @@
 // One event loop over all clusters.
-ghost use Rattle.std.specs.Prelude.{◌≡◌, ◌<◌, ◌≤◌, IfOk};
+ghost use Rattle.std.specs.Prelude.{◌≡◌, ◌<◌, ◌≤◌, IfOk, length};
 ghost use Rattle.rdf_values.specs.Path.{history};
 ghost use Rattle.rdf_values.specs.Words.{StatementsHaveWords};
-ghost use Rattle.entry_cache.specs.Jobs.{Fits, job_of};
+ghost use Rattle.loop_keys.specs.Jobs.{Fits, job_of};
+ghost use Rattle.pass_laws.specs.Entries.{job_spans};
 ghost use Rattle.slot_state.specs.Jobs.{job_facts};
 ghost use Rattle.event_loop.specs.Ends.{HasEnded};
 
@@ -12,12 +13,20 @@ use crate::gather::{Outcome, gathered};
 use crate::seating::{opened, seated};
 use crate::workers::run_slots;
 use cluster_claims::Claims;
-use entry_cache::Job;
+use loop_keys::Job;
 use rdf_outside::Gate;
 use rdf_values::Memory;
 use slot_state::watched_in;
 use std::alloc::Global;
 use std::thread::Threads;
+
+// How many clusters the loop goes over.
+fn cluster_count(job: &Job<'_>) -> u32
+    ensures value { result ≡ length (job_spans (job_of job.now)) }
+    ensures few { (job_of job.now).cuts.entries ≤ 1000000 }
+{
+    job.columns.cuts().count()
+}
 
 /// Runs a loop over all clusters, and notes its watched results after every `watch`-th cluster.
 /// So many slots share the clusters out; no clause says how many of them ran, or when.
@@ -35,7 +44,7 @@ pub fn run_loop<R: Threads + Sync, G: Gate>(
     requires watch { 0 < watch }
     ensures { IfOk result (λ end. HasEnded (job_facts (job_of job.now)) watch end) }
 {
-    let clusters = job.cuts.count();
+    let clusters = cluster_count(job);
     let watched = watched_in(job);
     let (book, shares) = opened(alloc, watched, slots, clusters)?;
     let (claims, seats) = Claims::new(alloc, clusters, slots)?;

@@ -4,7 +4,7 @@ ghost use Rattle.std.specs.List.{All};
 ghost use Rattle.rdf_values.specs.Path.{history};
 ghost use Rattle.rdf_values.specs.Words.{StatementsHaveWords};
 ghost use Rattle.entry_fns.specs.Lists.{functions_in};
-ghost use Rattle.entry_cache.specs.Jobs.{Fits, IsJob, job_graph, job_of};
+ghost use Rattle.loop_keys.specs.Jobs.{Fits, IsJob, job_graph, job_of};
 ghost use Rattle.slot_state.specs.Jobs.{job_facts};
 ghost use Rattle.event_loop.specs.Parts.{job_with};
 ghost use Rattle.event_loop.specs.Workers.{HasNoted, HasRoom, HasRun, IsFresh};
@@ -12,8 +12,8 @@ ghost use Rattle.event_loop.specs.declared.workers.Slot.{Slot};
 ghost use Rattle.event_loop.specs.declared.workers.Finished.{Finished};
 
 use cluster_claims::{ClaimSeat, Claims};
-use entry_cache::Job;
 use expr_eval::Steps;
+use loop_keys::Job;
 use partial_watch::{Book, Share};
 use rdf_outside::Gate;
 use rdf_values::{Fault, Memory};
@@ -82,7 +82,7 @@ fn work<L: Ledger, G: Gate>(
     let mut steps: Steps<L> = Steps::open(blank);
     while let Some(cluster) = claims.claim(&mut slot.seat) {
         gate.turn(slot.seat.slot(), cluster);
-        match state.process(alloc, job, cluster, &mut steps) {
+        match state.process(job, cluster, &mut steps) {
             Ok(Progress::Done) => note(book, &mut slot.share),
             Ok(Progress::Faulted(fault)) => {
                 claims.lower(&mut slot.seat, cluster);
@@ -137,26 +137,24 @@ pub fn run_slots<R: Threads + Sync, G: Gate>(
         graph,
         loop_index,
         columns,
-        cuts,
         functions,
     } = *job;
     let finished = map_vec(
         rt,
         slots,
         &|slot: Slot| -> Finished
-            requires { (graph.now ≡ job_graph (job_with graph.now loop_index columns.now cuts.now (functions_in functions.now)))
-                × IsJob (job_with graph.now loop_index columns.now cuts.now (functions_in functions.now))
+            requires { (graph.now ≡ job_graph (job_with graph.now loop_index columns.now (functions_in functions.now)))
+                × IsJob (job_with graph.now loop_index columns.now (functions_in functions.now))
                 × StatementsHaveWords (history graph.now.script)
                 × IsFresh claims.now book.now slot
-                × (claims.now.clusters ≡ length (job_facts (job_with graph.now loop_index columns.now cuts.now (functions_in functions.now))).faults)
+                × (claims.now.clusters ≡ length (job_facts (job_with graph.now loop_index columns.now (functions_in functions.now))).faults)
                 × HasRoom claims.now.clusters book.now }
-            ensures { HasRun claims.entry.now book.entry.now (job_facts (job_with graph.entry.now loop_index columns.entry.now cuts.entry.now (functions_in functions.entry.now))) result.end result.slot }
+            ensures { HasRun claims.entry.now book.entry.now (job_facts (job_with graph.entry.now loop_index columns.entry.now (functions_in functions.entry.now))) result.end result.slot }
         {
             let job = Job {
                 graph,
                 loop_index,
                 columns,
-                cuts,
                 functions,
             };
             let finished = run_slot(alloc, &job, claims, book, slot, gate);
@@ -164,7 +162,6 @@ pub fn run_slots<R: Threads + Sync, G: Gate>(
                 graph: _,
                 loop_index: _,
                 columns: _,
-                cuts: _,
                 functions: _,
             } = job;
             finished

@@ -1,4 +1,5 @@
 pub mod Depths
+pub mod Folds
 pub mod LaneInputs
 pub mod Marks
 pub mod Places

@@ -11,7 +11,9 @@ use Rattle.rdf_values.specs.declared.value.Value.TheVariants as val
 use Rattle.rdf_values.specs.declared.value.ColType.{ColType}
 use Rattle.rdf_values.specs.declared.value.ColType.TheVariants as kind
 use Rattle.rdf_model.specs.Evaluation.{Outcome, Gives, Faults, Needs, ◌>>=◌, checked, mark, is_zero, is_set, number_operation, answer_outcome}
+use Rattle.expr_lanes.specs.declared.folds.FoldCall.{FoldCall}
 use Rattle.expr_lanes.specs.declared.scratch.Scratch.{Scratch}
+use Rattle.expr_lanes.specs.Folds.{fold_read, fold_told}
 use Rattle.expr_lanes.specs.Places.{at_place}
 
 -- the number that a lane holds for a value: 1 or 0 for a truth value
@@ -57,20 +59,25 @@ lane_call functions f zs = Gives (pos 0)
 abbrev pub one_more : Outcome ℕ ℤ → Outcome ℕ (List ℤ) → Outcome ℕ (List ℤ)
 one_more o r = o >>= λ z. r >>= λ zs. Gives (z ∷ zs)
 
+-- what a call of a fold comes to, by what each column comes to; other calls come to the other outcome
+abbrev pub fold_or : (ℕ → Outcome ℕ Value) → Option FoldCall → Outcome ℕ ℤ → Outcome ℕ ℤ
+fold_or look (Some x) o = lane_outcome (fold_told x.fold (look x.column))
+fold_or look None o = o
+
 -- with what each column comes to, and the functions
-module _ (look : ℕ → Outcome ℕ ℤ) (functions : List Function) where
+module _ (look : ℕ → Outcome ℕ Value) (functions : List Function) where
   abbrev mutual
     -- what an expression comes to
     pub lane_evaluate : NumTree → Outcome ℕ ℤ
     lane_evaluate (Lit z) = Gives z
     lane_evaluate (Truth b) = Gives (mark b)
-    lane_evaluate (Col c) = look c
+    lane_evaluate (Col c) = lane_outcome (look c)
     lane_evaluate (Neg a) = lane_evaluate a >>= λ x. checked (neg_ℤ x)
     lane_evaluate (Not a) = lane_evaluate a >>= λ x. Gives (mark (is_zero x))
     lane_evaluate (Bin o a b) = lane_operation o (lane_evaluate a) (lane_evaluate b)
     lane_evaluate (Cond c a b) = lane_evaluate c >>= λ x. if is_zero x then lane_evaluate b else lane_evaluate a
     lane_evaluate (Pick v i) = Gives (pos 0)
-    lane_evaluate (Call f args) = lane_evaluate_all args >>= lane_call functions f
+    lane_evaluate (Call f args) = fold_or look (fold_read f args) (lane_evaluate_all args >>= lane_call functions f)
 
     -- what the arguments of a call come to
     pub lane_evaluate_all : Trees ℕ Callee → Outcome ℕ (List ℤ)
@@ -79,12 +86,16 @@ module _ (look : ℕ → Outcome ℕ ℤ) (functions : List Function) where
 
 -- what an expression comes to at a place of the block
 abbrev pub lane_at : (ℕ → ℕ → Outcome ℕ Value) → List Function → NumTree → ℕ → Outcome ℕ ℤ
-lane_at look functions e p = lane_evaluate (λ c. lane_outcome (look p c)) functions e
+lane_at look functions e p = lane_evaluate (look p) functions e
 
 -- and the arguments of a call
 abbrev pub lanes_at : (ℕ → ℕ → Outcome ℕ Value) → List Function → Trees ℕ Callee → ℕ → Outcome ℕ (List ℤ)
-lanes_at look functions args p = lane_evaluate_all (λ c. lane_outcome (look p c)) functions args
+lanes_at look functions args p = lane_evaluate_all (look p) functions args
 
 -- what the left lanes of some levels hold at a place
 abbrev pub numbers_at : List Scratch → ℕ → List ℤ
 numbers_at lanes p = map (λ (s : Scratch). at_place s.left p) lanes
+
+-- a call with the numbers that the arguments come to
+abbrev pub called_at : (ℕ → ℕ → Outcome ℕ Value) → List Function → Callee → Trees ℕ Callee → ℕ → Outcome ℕ ℤ
+called_at look functions f args p = lanes_at look functions args p >>= lane_call functions f

@@ -2,19 +2,20 @@
 ghost use Rattle.std.specs.Prelude.{◌≡◌, ◌+◌, ◌<◌, ◌≤◌, ◌∷◌, true, false, length, max, IfSome};
 ghost use Rattle.rdf_values.specs.NumExprTree.{num_tree, num_trees};
 ghost use Rattle.rdf_values.specs.declared.expr.BinOp.TheVariants as op;
-ghost use Rattle.rdf_values.specs.EachColumn.{EachColumn, EachArgument};
 ghost use Rattle.rdf_values.specs.Kinds.{args_count};
 ghost use Rattle.rdf_model.specs.Evaluation.{Gives};
 ghost use Rattle.rdf_values.specs.Tree.{Neg as NegTree, Not as NotTree, Bin as BinTree, Cond as CondTree, Call as CallTree};
 ghost use Rattle.expr_eval.specs.CanCall.{CallFits, CanCall, ArgumentsCanCall};
 ghost use Rattle.expr_lanes.specs.Depths.{depth, depth_of_all, is_decider};
-ghost use Rattle.expr_lanes.specs.Marks.{lane_at, lanes_at, numbers_at, one_more};
+ghost use Rattle.expr_lanes.specs.Folds.{CanLane, CanLaneAll};
+ghost use Rattle.expr_lanes.specs.Marks.{called_at, lane_at, lanes_at, numbers_at, one_more};
 ghost use Rattle.expr_lanes.specs.Places.{at_place, EachPlace, Evaluated, HasCome, IsReady, IsSelected};
 ghost use Rattle.expr_lanes.specs.Sides.{IsAtHand, side_number, HasNumber};
 
 use crate::MAX_PLACES;
 use crate::arguments::call_lanes;
 use crate::columns::read_column;
+use crate::folds::{fold_call, fold_column};
 use crate::kernel::run;
 use crate::kernels::{Copied, Inverse, Negative};
 use crate::lane_inputs::{Known, LaneInputs};
@@ -43,7 +44,7 @@ pub(crate) fn eval_node<S: LaneInputs + Calls>(
     stops: &mut Stops,
     scratch: &mut [Scratch],
 )
-    requires can { EachColumn (S.can scope.now) (num_tree node.now) }
+    requires can { CanLane (S.can scope.now) (S.can_tell scope.now) (num_tree node.now) }
     requires calls { CanCall (S.functions scope.now) (num_tree node.now) }
     requires deep { depth (num_tree node.now) ≤ length scratch.old }
     requires ready { IsReady (S.size scope.now) selection.old lane.old stops.old.items }
@@ -106,7 +107,7 @@ fn eval_negative<S: LaneInputs + Calls>(
     level: &mut Scratch,
     deeper: &mut [Scratch],
 )
-    requires can { EachColumn (S.can scope.now) (num_tree a.now) }
+    requires can { CanLane (S.can scope.now) (S.can_tell scope.now) (num_tree a.now) }
     requires calls { CanCall (S.functions scope.now) (num_tree a.now) }
     requires deep { depth (num_tree a.now) ≤ length deeper.old }
     requires ready { IsReady (S.size scope.now) selection.old lane.old stops.old.items }
@@ -129,7 +130,7 @@ fn eval_inverse<S: LaneInputs + Calls>(
     level: &mut Scratch,
     deeper: &mut [Scratch],
 )
-    requires can { EachColumn (S.can scope.now) (num_tree a.now) }
+    requires can { CanLane (S.can scope.now) (S.can_tell scope.now) (num_tree a.now) }
     requires calls { CanCall (S.functions scope.now) (num_tree a.now) }
     requires deep { depth (num_tree a.now) ≤ length deeper.old }
     requires ready { IsReady (S.size scope.now) selection.old lane.old stops.old.items }
@@ -144,7 +145,7 @@ fn eval_inverse<S: LaneInputs + Calls>(
 
 /// A side that needs no evaluation: a number, or a column that is known everywhere.
 fn side_at_hand<'a, S: LaneInputs + Calls>(node: &NumNode, scope: &'a S) -> Option<Side<'a>>
-    requires can { EachColumn (S.can scope.now) (num_tree node.now) }
+    requires can { CanLane (S.can scope.now) (S.can_tell scope.now) (num_tree node.now) }
     ensures { IfSome result (IsAtHand (S.size scope.now) (lane_at (S.look scope.now) (S.functions scope.now) (num_tree node.now))) }
 {
     match node {
@@ -171,7 +172,7 @@ fn eval_side<'a, S: LaneInputs + Calls>(
     stops: &mut Stops,
     scratch: &mut [Scratch],
 ) -> Side<'a>
-    requires can { EachColumn (S.can scope.now) (num_tree node.now) }
+    requires can { CanLane (S.can scope.now) (S.can_tell scope.now) (num_tree node.now) }
     requires calls { CanCall (S.functions scope.now) (num_tree node.now) }
     requires deep { depth (num_tree node.now) ≤ length scratch.old }
     requires ready { IsReady (S.size scope.now) selection.old lane.old stops.old.items }
@@ -200,8 +201,8 @@ fn eval_sides<S: LaneInputs + Calls>(
     deeper: &mut [Scratch],
 )
     requires op { is_decider op ≡ false }
-    requires can_a { EachColumn (S.can scope.now) (num_tree a.now) }
-    requires can_b { EachColumn (S.can scope.now) (num_tree b.now) }
+    requires can_a { CanLane (S.can scope.now) (S.can_tell scope.now) (num_tree a.now) }
+    requires can_b { CanLane (S.can scope.now) (S.can_tell scope.now) (num_tree b.now) }
     requires calls_a { CanCall (S.functions scope.now) (num_tree a.now) }
     requires calls_b { CanCall (S.functions scope.now) (num_tree b.now) }
     requires deep { max (depth (num_tree a.now)) (depth (num_tree b.now)) ≤ length deeper.old }
@@ -224,8 +225,8 @@ fn eval_and<S: LaneInputs + Calls>(
     level: &mut Scratch,
     deeper: &mut [Scratch],
 )
-    requires can_a { EachColumn (S.can scope.now) (num_tree a.now) }
-    requires can_b { EachColumn (S.can scope.now) (num_tree b.now) }
+    requires can_a { CanLane (S.can scope.now) (S.can_tell scope.now) (num_tree a.now) }
+    requires can_b { CanLane (S.can scope.now) (S.can_tell scope.now) (num_tree b.now) }
     requires calls_a { CanCall (S.functions scope.now) (num_tree a.now) }
     requires calls_b { CanCall (S.functions scope.now) (num_tree b.now) }
     requires deep { max (depth (num_tree a.now)) (depth (num_tree b.now)) ≤ length deeper.old }
@@ -249,8 +250,8 @@ fn eval_or<S: LaneInputs + Calls>(
     level: &mut Scratch,
     deeper: &mut [Scratch],
 )
-    requires can_a { EachColumn (S.can scope.now) (num_tree a.now) }
-    requires can_b { EachColumn (S.can scope.now) (num_tree b.now) }
+    requires can_a { CanLane (S.can scope.now) (S.can_tell scope.now) (num_tree a.now) }
+    requires can_b { CanLane (S.can scope.now) (S.can_tell scope.now) (num_tree b.now) }
     requires calls_a { CanCall (S.functions scope.now) (num_tree a.now) }
     requires calls_b { CanCall (S.functions scope.now) (num_tree b.now) }
     requires deep { max (depth (num_tree a.now)) (depth (num_tree b.now)) ≤ length deeper.old }
@@ -275,9 +276,9 @@ fn eval_choice<S: LaneInputs + Calls>(
     level: &mut Scratch,
     deeper: &mut [Scratch],
 )
-    requires can_c { EachColumn (S.can scope.now) (num_tree c.now) }
-    requires can_a { EachColumn (S.can scope.now) (num_tree a.now) }
-    requires can_b { EachColumn (S.can scope.now) (num_tree b.now) }
+    requires can_c { CanLane (S.can scope.now) (S.can_tell scope.now) (num_tree c.now) }
+    requires can_a { CanLane (S.can scope.now) (S.can_tell scope.now) (num_tree a.now) }
+    requires can_b { CanLane (S.can scope.now) (S.can_tell scope.now) (num_tree b.now) }
     requires calls_c { CanCall (S.functions scope.now) (num_tree c.now) }
     requires calls_a { CanCall (S.functions scope.now) (num_tree a.now) }
     requires calls_b { CanCall (S.functions scope.now) (num_tree b.now) }
@@ -313,11 +314,34 @@ fn eval_call<S: LaneInputs + Calls>(
     stops: &mut Stops,
     scratch: &mut [Scratch],
 )
-    requires can { EachArgument (S.can scope.now) (num_trees args.now) }
+    requires can { CanLane (S.can scope.now) (S.can_tell scope.now) (CallTree callee (num_trees args.now)) }
     requires calls { CallFits (S.functions scope.now) callee (args_count (num_trees args.now)) × (args_count (num_trees args.now) ≤ 8) × ArgumentsCanCall (S.functions scope.now) (num_trees args.now) }
     requires deep { args_count (num_trees args.now) + depth_of_all (num_trees args.now) ≤ length scratch.old }
     requires ready { IsReady (S.size scope.now) selection.old lane.old stops.old.items }
     ensures { Evaluated (lane_at (S.look scope.now) (S.functions scope.now) (CallTree callee (num_trees args.now))) selection.old selection.new lane.old lane.new stops.old.items stops.new.items }
+{
+    match fold_call(callee, args) {
+        Some(call) => fold_column(call, scope, selection, lane, stops),
+        None => eval_numbers(callee, args, scope, selection, lane, stops, scratch),
+    }
+}
+
+/// Calls a function of numbers.
+#[cycle(lanes)]
+fn eval_numbers<S: LaneInputs + Calls>(
+    callee: Callee,
+    args: &NumArgs,
+    scope: &S,
+    selection: &mut Selection,
+    lane: &mut [i64],
+    stops: &mut Stops,
+    scratch: &mut [Scratch],
+)
+    requires can { CanLaneAll (S.can scope.now) (S.can_tell scope.now) (num_trees args.now) }
+    requires calls { CallFits (S.functions scope.now) callee (args_count (num_trees args.now)) × (args_count (num_trees args.now) ≤ 8) × ArgumentsCanCall (S.functions scope.now) (num_trees args.now) }
+    requires deep { args_count (num_trees args.now) + depth_of_all (num_trees args.now) ≤ length scratch.old }
+    requires ready { IsReady (S.size scope.now) selection.old lane.old stops.old.items }
+    ensures { Evaluated (called_at (S.look scope.now) (S.functions scope.now) callee (num_trees args.now)) selection.old selection.new lane.old lane.new stops.old.items stops.new.items }
 {
     let wanted = args_length(args);
     let (lanes, deeper) = scratch.split_at_mut(wanted);
@@ -335,14 +359,14 @@ fn eval_called<S: LaneInputs + Calls>(
     lanes: &mut [Scratch],
     deeper: &mut [Scratch],
 )
-    requires can { EachArgument (S.can scope.now) (num_trees args.now) }
+    requires can { CanLaneAll (S.can scope.now) (S.can_tell scope.now) (num_trees args.now) }
     requires fits { CallFits (S.functions scope.now) callee (args_count (num_trees args.now)) }
     requires few { args_count (num_trees args.now) ≤ 8 }
     requires calls { ArgumentsCanCall (S.functions scope.now) (num_trees args.now) }
     requires lanes { length lanes.old ≡ args_count (num_trees args.now) }
     requires deep { depth_of_all (num_trees args.now) ≤ length deeper.old }
     requires ready { IsReady (S.size scope.now) selection.old lane.old stops.old.items }
-    ensures { Evaluated (lane_at (S.look scope.now) (S.functions scope.now) (CallTree callee (num_trees args.now))) selection.old selection.new lane.old lane.new stops.old.items stops.new.items }
+    ensures { Evaluated (called_at (S.look scope.now) (S.functions scope.now) callee (num_trees args.now)) selection.old selection.new lane.old lane.new stops.old.items stops.new.items }
 {
     gather(args, scope, selection, stops, lanes, deeper);
     call_lanes(callee, scope, lanes, selection, lane, stops)
@@ -358,7 +382,7 @@ fn gather<S: LaneInputs + Calls>(
     lanes: &mut [Scratch],
     deeper: &mut [Scratch],
 )
-    requires can { EachArgument (S.can scope.now) (num_trees args.now) }
+    requires can { CanLaneAll (S.can scope.now) (S.can_tell scope.now) (num_trees args.now) }
     requires calls { ArgumentsCanCall (S.functions scope.now) (num_trees args.now) }
     requires lanes { length lanes.old ≡ args_count (num_trees args.now) }
     requires deep { depth_of_all (num_trees args.now) ≤ length deeper.old }
@@ -387,8 +411,8 @@ fn gather_more<S: LaneInputs + Calls>(
     lanes: &mut [Scratch],
     deeper: &mut [Scratch],
 )
-    requires can_a { EachColumn (S.can scope.now) (num_tree a.now) }
-    requires can_others { EachArgument (S.can scope.now) (num_trees others.now) }
+    requires can_a { CanLane (S.can scope.now) (S.can_tell scope.now) (num_tree a.now) }
+    requires can_others { CanLaneAll (S.can scope.now) (S.can_tell scope.now) (num_trees others.now) }
     requires calls_a { CanCall (S.functions scope.now) (num_tree a.now) }
     requires calls_others { ArgumentsCanCall (S.functions scope.now) (num_trees others.now) }
     requires lanes { length lanes.old ≡ args_count (num_trees others.now) }

@@ -2,11 +2,12 @@
 ghost use Rattle.std.specs.Prelude.{◌≡◌, ◌<◌, ◌≤◌, ℕ, true, false, length};
 ghost use Rattle.rdf_model.specs.Evaluation.{Outcome, Gives};
 ghost use Rattle.rdf_values.specs.declared.value.Value.{Value};
+ghost use Rattle.expr_eval.specs.Inputs.{input_outcome};
 ghost use Rattle.expr_lanes.specs.LaneInputs.{is_known, HasMarks};
 ghost use Rattle.expr_lanes.specs.Marks.{lane_outcome};
 ghost use Rattle.expr_lanes.specs.Places.{at_place, is_given, answered_at};
 
-use expr_eval::ScalarStop;
+use expr_eval::{Input, ScalarStop};
 
 /// The places at which a column is known.
 #[derive(Clone, Copy, Debug)]
@@ -22,12 +23,14 @@ pub struct LaneColumn<'a> {
     pub known: Known<'a>,
 }
 
-/// The columns of a block by their numbers: how many places it has, which columns can be asked for, and what each comes to at
-/// each place.
+/// The columns of a block by their numbers: how many places it has, which columns can be read as numbers, which can be told at a
+/// place, as those with vectors, and what each comes to at each place.
 pub trait LaneInputs {
     ghost size: { Self → ℕ };
 
     ghost can: { Self → ℕ → Type 0 };
+
+    ghost can_tell: { Self → ℕ → Type 0 };
 
     ghost look: { Self → ℕ → ℕ → Outcome ℕ Value };
 
@@ -45,4 +48,15 @@ pub trait LaneInputs {
         requires inside { place < size self.now }
         requires unknown { is_given (look self.now place col) ≡ false }
         ensures { lane_outcome (look self.now place col) ≡ answered_at (Err result) };
+
+    /// What is known of the column at the place.
+    fn tell(&self, col: u32, place: u32) -> Input<'_>
+        requires can { can_tell self.now col }
+        requires inside { place < size self.now }
+        ensures { input_outcome col result ≡ look self.now place col };
+
+    /// Whether the column is known to be one of numbers.
+    fn has_numbers(&self, col: u32) -> bool
+        requires { can_tell self.now col }
+        ensures { result ≡ true → can self.now col };
 }

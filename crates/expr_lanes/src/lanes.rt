@@ -1,11 +1,12 @@
 // Evaluation of an expression over a block.
-ghost use Rattle.std.specs.Prelude.{◌≡◌, ◌+◌, ◌<◌, ◌≤◌, ℕ, true, false, length, All};
+ghost use Rattle.std.specs.Prelude.{◌≡◌, ◌+◌, ◌<◌, ◌≤◌, ℕ, false, length, All};
 ghost use Rattle.rdf_values.specs.Functions.{fn_names};
 ghost use Rattle.rdf_model.specs.Evaluation.{Gives, evaluate, call_outcome};
 ghost use Rattle.rdf_model.specs.Laws.{FitsOutcome};
 ghost use Rattle.entry_fns.specs.Lists.{functions_in};
-ghost use Rattle.expr_check.specs.NumKinds.{is_plain, CallsFit};
+ghost use Rattle.expr_check.specs.NumKinds.{is_vector, CallsFit};
 ghost use Rattle.expr_lanes.specs.Depths.{depth};
+ghost use Rattle.expr_lanes.specs.Folds.{CanLane};
 ghost use Rattle.expr_lanes.specs.Places.{IsReady};
 ghost use Rattle.expr_lanes.specs.Values.{HasValues};
 
@@ -22,7 +23,7 @@ use expr_check::Checked;
 use expr_eval::{Steps, callable};
 use std::sync::ledger::Ledger;
 
-/// Evaluates an expression of which no part is a vector at the selected places of a block, in a step each. The places that
+/// Evaluates an expression at the selected places of a block, in a step each. The places that
 /// come to a value stay selected, and the lane then holds their values; each other place becomes a stop. It takes no memory.
 pub fn eval_lane<I: LaneInputs, L: Ledger>(
     expr: &Checked,
@@ -34,8 +35,8 @@ pub fn eval_lane<I: LaneInputs, L: Ledger>(
     scratch: &mut [Scratch],
     steps: &mut Steps<L>,
 )
-    requires plain { is_plain expr.now.kinds expr.now.tree ≡ true }
-    requires can { All (λ c. I.can inputs.now c.0) expr.now.kinds }
+    requires scalar { is_vector expr.now.kind ≡ false }
+    requires can { CanLane (I.can inputs.now) (I.can_tell inputs.now) expr.now.tree }
     requires fit { (p : ℕ) → p < I.size inputs.now → All (λ c. FitsOutcome c.1 (I.look inputs.now p c.0)) expr.now.kinds }
     requires calls { CallsFit (fn_names (functions_in functions.now)) expr.now.tree }
     requires deep { depth expr.now.tree ≤ length scratch.old }

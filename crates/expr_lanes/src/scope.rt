@@ -3,7 +3,7 @@ ghost use Rattle.entry_fns.specs.Lists.{functions_in};
 
 use crate::lane_inputs::{LaneColumn, LaneInputs};
 use entry_fns::FnList;
-use expr_eval::{Calls, ScalarStop};
+use expr_eval::{Calls, Input, ScalarStop};
 
 /// The columns of a block, and the functions that can be called.
 #[derive(Drop)]
@@ -17,6 +17,8 @@ impl<'a, I: LaneInputs> LaneInputs for Scope<'a, I> {
 
     ghost can = { λ s c. I.can s.inputs.now c };
 
+    ghost can_tell = { λ s c. I.can_tell s.inputs.now c };
+
     ghost look = { λ s p c. I.look s.inputs.now p c };
 
     fn column(&self, col: u32) -> LaneColumn<'_> {
@@ -25,6 +27,14 @@ impl<'a, I: LaneInputs> LaneInputs for Scope<'a, I> {
 
     fn stop(&self, col: u32, place: u32) -> ScalarStop {
         self.inputs.stop(col, place)
+    }
+
+    fn tell(&self, col: u32, place: u32) -> Input<'_> {
+        self.inputs.tell(col, place)
+    }
+
+    fn has_numbers(&self, col: u32) -> bool {
+        self.inputs.has_numbers(col)
     }
 }
 

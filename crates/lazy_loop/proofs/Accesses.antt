@@ -19,7 +19,7 @@ use Rattle.rdf_model.proofs.Turns.{loops_come_in_turn}
 use Rattle.graph_numbers.specs.Graphs.{graph_prints}
 use Rattle.graph_numbers.specs.Results.{result_number}
 use Rattle.graph_numbers.proofs.Listed.{kept_at, of_joined}
-use Rattle.entry_cache.specs.Jobs.{passes_in}
+use Rattle.loop_keys.specs.Jobs.{passes_in}
 use Rattle.loop_pieces.proofs.ClusterFaults.{first_cluster_has_first_fault}
 use Rattle.slot_state.specs.Jobs.{job_facts}
 use Rattle.event_loop.specs.Ends.{IsFilled}

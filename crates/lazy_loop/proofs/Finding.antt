@@ -13,7 +13,7 @@ use Rattle.graph_numbers.specs.Results.{ResultAt, kind_of_booking}
 use Rattle.graph_numbers.specs.declared.result_kind.ResultKind.TheVariants as what
 use Rattle.graph_numbers.proofs.Extending.{itself}
 use Rattle.graph_numbers.proofs.Listed.{next_at}
-use Rattle.entry_cache.specs.Jobs.{passes_in}
+use Rattle.loop_keys.specs.Jobs.{passes_in}
 use Rattle.loop_pieces.specs.Trails.{place_if_watched, watched_from, watched_places}
 use Rattle.node_graph.proofs.Looped.{loops_few}
 use Rattle.event_loop.specs.declared.end.FilledLoop.{FilledLoop}

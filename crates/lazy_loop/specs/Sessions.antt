@@ -15,7 +15,7 @@ use Rattle.columns.specs.ColumnsView.{ColumnsView}
 use Rattle.entry_fns.specs.Lists.{functions_in}
 use Rattle.graph_numbers.specs.Graphs.{GraphView, IsGraph, graph_prints}
 use Rattle.graph_numbers.specs.Laws.{graph_of}
-use Rattle.entry_cache.specs.Jobs.{JobView, passes_in}
+use Rattle.loop_keys.specs.Jobs.{JobView, passes_in}
 use Rattle.loop_pieces.specs.Trails.{place_if_watched}
 use Rattle.loop_pieces.specs.declared.filled_result.FilledResult.{FilledResult}
 use Rattle.loop_pieces.specs.declared.filled_result.PartialLine.{PartialLine}

@@ -17,9 +17,9 @@ use crate::kept::Kept;
 use crate::place::{Place, is_noted, place_in};
 use crate::refusal::LoopRefusal;
 use columns::Columns;
-use entry_cache::Job;
 use entry_fns::FnList;
 use event_loop::{FilledLoop, LoopEnd, run_loop};
+use loop_keys::Job;
 use loop_pieces::{FilledResult, PartialLines};
 use node_graph::Graph;
 use rdf_outside::Gate;
@@ -143,7 +143,6 @@ impl<'a> Session<'a> {
             graph: &self.graph,
             loop_index,
             columns: &self.columns,
-            cuts: self.columns.cuts(),
             functions: self.functions,
         };
         let end = run_loop(rt, alloc, &job, self.slots, self.watch, gate);
@@ -151,7 +150,6 @@ impl<'a> Session<'a> {
             graph: _,
             loop_index: _,
             columns: _,
-            cuts: _,
             functions: _,
         } = job;
         end

@@ -15,8 +15,8 @@ use Rattle.graph_numbers.specs.Graphs.{GraphView, graph_loops}
 use Rattle.graph_numbers.specs.Results.{pass_at}
 use Rattle.graph_numbers.proofs.Extending.{itself}
 use Rattle.graph_numbers.proofs.Looping.{loops_are}
-use Rattle.entry_cache.specs.Jobs.{JobView, passes_in}
-use Rattle.entry_passes.specs.Entries.{job_spans}
+use Rattle.loop_keys.specs.Jobs.{JobView, passes_in}
+use Rattle.pass_laws.specs.Entries.{job_spans}
 use Rattle.loop_pieces.specs.declared.loop_piece.LoopPiece.{LoopPiece}
 use Rattle.shard_lines.specs.declared.shard_line.ShardLine.{ShardLine}
 use Rattle.shard_files.specs.LoopsAt.{is_faulty}

@@ -5,8 +5,8 @@ ghost use Rattle.rdf_values.specs.Cuts.{cut};
 ghost use Rattle.rdf_values.specs.Functions.{fn_names};
 ghost use Rattle.rdf_values.specs.Path.{history};
 ghost use Rattle.rdf_values.specs.Words.{StatementsHaveWords};
-ghost use Rattle.entry_cache.specs.Jobs.{Fits, job_of, passes_in};
-ghost use Rattle.entry_passes.specs.Entries.{job_spans};
+ghost use Rattle.loop_keys.specs.Jobs.{Fits, job_of, passes_in};
+ghost use Rattle.pass_laws.specs.Entries.{job_spans};
 ghost use Rattle.graph_numbers.specs.Graphs.{graph_loops};
 ghost use Rattle.shard_files.specs.LoopsAt.{is_faulty};
 ghost use Rattle.shard_spans.specs.Spans.{loops_of, span_loop, span_loops};
@@ -15,8 +15,8 @@ ghost use Rattle.shard_loop.specs.LoopSpans.{cuts_of, loop_in, table_of};
 use crate::passes::span_lines;
 use crate::span_run::{Spanned, run_span};
 use columns::Columns;
-use entry_cache::Job;
 use entry_fns::FnList;
+use loop_keys::Job;
 use node_graph::Graph;
 use rdf_values::{ListOf, Memory, Span};
 use shard_files::ShardLoop;
@@ -52,11 +52,11 @@ fn loop_at(
 {
     graph.is_booked();
     let _columns = columns.columns();
+    let _cuts = columns.cuts();
     let job = Job {
         graph,
         loop_index: number,
         columns,
-        cuts: columns.cuts(),
         functions,
     };
     let one = run_loop(alloc, &job, clusters);
@@ -64,7 +64,6 @@ fn loop_at(
         graph: _,
         loop_index: _,
         columns: _,
-        cuts: _,
         functions: _,
     } = job;
     one

@@ -2,14 +2,14 @@
 ghost use Rattle.std.specs.Prelude.{◌≡◌, ◌<◌, ◌≤◌, ◌+◌, ℕ, IfOk, Some, length, map, slice_get, take};
 ghost use Rattle.rdf_values.specs.Bookings as bookings;
 ghost use Rattle.rdf_model.specs.LoopFacts.{kinds_in};
-ghost use Rattle.entry_cache.specs.Caches.{numbered_in};
-ghost use Rattle.entry_cache.specs.Jobs.{Fits, job_of, passes_in};
+ghost use Rattle.loop_keys.specs.Caches.{numbered_in};
+ghost use Rattle.loop_keys.specs.Jobs.{Fits, job_of, passes_in};
 ghost use Rattle.shard_spans.specs.Spans.{pass_line};
 ghost use Rattle.shard_loop.specs.LoopSpans.{IsSpanPiece, span_rows_of};
 
 use crate::filled_lines::{counts_at, filled_line};
-use entry_cache::Job;
 use graph_numbers::{Pass, ResultKind};
+use loop_keys::Job;
 use loop_pieces::LoopPiece;
 use rdf_values::{ListOf, Memory};
 use shard_lines::ShardLine;

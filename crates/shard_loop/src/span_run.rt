@@ -2,12 +2,12 @@
 ghost use Rattle.std.specs.Prelude.{◌≡◌, ◌<◌, ◌≤◌, IfOk, length};
 ghost use Rattle.rdf_values.specs.Path.{history};
 ghost use Rattle.rdf_values.specs.Words.{StatementsHaveWords};
-ghost use Rattle.entry_cache.specs.Jobs.{Fits, job_of};
-ghost use Rattle.entry_passes.specs.Entries.{job_spans};
+ghost use Rattle.loop_keys.specs.Jobs.{Fits, job_of};
+ghost use Rattle.pass_laws.specs.Entries.{job_spans};
 ghost use Rattle.shard_loop.specs.LoopSpans.{IsSpanned};
 
-use entry_cache::Job;
 use expr_eval::Steps;
+use loop_keys::Job;
 use loop_pieces::LoopPiece;
 use rdf_values::{Fault, Memory};
 use slot_state::{Progress, SlotState, SlotStop};
@@ -41,7 +41,7 @@ fn process_span<L: Ledger>(
     let mut state = SlotState::new(alloc, job)?;
     let mut steps: Steps<L> = Steps::open(blank);
     for cluster in lo..hi {
-        match state.process(alloc, job, cluster, &mut steps) {
+        match state.process(job, cluster, &mut steps) {
             Ok(Progress::Done) => {}
             Ok(Progress::Faulted(fault)) => return Ok(Spanned::Faulted(fault)),
             Err(SlotStop::Memory) => return Err(Memory),

@@ -21,15 +21,15 @@ use Rattle.graph_numbers.specs.declared.result_kind.ResultKind.{ResultKind}
 use Rattle.graph_numbers.specs.declared.result_kind.ResultKind.TheVariants as what
 use Rattle.graph_numbers.proofs.Listed.{of_joined}
 use Rattle.graph_numbers.proofs.Resulting.{booked_are}
-use Rattle.entry_cache.specs.Caches.{numbered_in}
-use Rattle.entry_cache.specs.Jobs.{IsJob, JobView, job_graph, passes_in}
-use Rattle.entry_cache.proofs.EvaluateLaws.{accepted_of}
-use Rattle.entry_cache.proofs.PassNumbers.{result_inside, result_there}
-use Rattle.entry_cache.proofs.PassTies.{get_mapped, of_chosen, of_mapped, pass_of}
-use Rattle.entry_passes.specs.Turns.{numbered_passes}
-use Rattle.entry_passes.proofs.Covered.{covered_count, passes_count}
-use Rattle.entry_passes.proofs.EntryLaws.{read_pass}
-use Rattle.entry_passes.proofs.PassCounts.{few_passes}
+use Rattle.loop_keys.specs.Caches.{numbered_in}
+use Rattle.loop_keys.specs.Jobs.{IsJob, JobView, job_graph, passes_in}
+use Rattle.loop_keys.proofs.EvaluateLaws.{accepted_of}
+use Rattle.loop_keys.proofs.PassNumbers.{result_inside, result_there}
+use Rattle.loop_keys.proofs.PassTies.{get_mapped, of_chosen, of_mapped, pass_of}
+use Rattle.pass_laws.specs.Turns.{numbered_passes}
+use Rattle.pass_laws.proofs.Covered.{covered_count, passes_count}
+use Rattle.pass_laws.proofs.EntryLaws.{read_pass}
+use Rattle.pass_laws.proofs.PassCounts.{few_passes}
 use Rattle.actions.specs.Holding.{HasEdges}
 use Rattle.cluster_tally.specs.Feedings.{IsFresh, place_if}
 use Rattle.cluster_tally.specs.Tallies.{CanWatch, TallyView}

@@ -1,5 +1,5 @@
 -- A slot that finished no cluster.
-use Rattle.std.proofs.Common.{◌≡◌, ◌≤◌, List, [], length, map, replicate, Some, sym, ◌∙◌, ap, subst, arith, slice_get, unwrap_or}
+use Rattle.std.proofs.Common.{◌≡◌, ◌≤◌, ◌<◌, List, [], length, map, replicate, Some, sym, ◌∙◌, ap, subst, arith, slice_get, unwrap_or}
 use Rattle.std.proofs.lemmas.List.{length-map}
 use Rattle.rdf_values.proofs.Below.{length-below}
 use Rattle.rdf_values.specs.Bookings.{Booked, Pass, named_before}
@@ -14,11 +14,10 @@ use Rattle.graph_numbers.specs.Results.{pass_at}
 use Rattle.graph_numbers.proofs.Extending.{itself}
 use Rattle.graph_numbers.proofs.Looping.{loops_are}
 use Rattle.filters_report.specs.Flows.{nothing}
-use Rattle.entry_cache.specs.Caches.{IsSized}
-use Rattle.entry_cache.specs.Jobs.{IsJob, JobView, job_graph, passes_in}
-use Rattle.entry_passes.specs.Entries.{facts_in, job_spans}
-use Rattle.entry_passes.specs.Plans.{covered_in}
-use Rattle.entry_passes.proofs.EntryLaws.{all_taken}
+use Rattle.block_passes.specs.States.{CountsVectors, IsStateOf}
+use Rattle.loop_keys.specs.Jobs.{IsJob, JobView, job_graph, passes_in}
+use Rattle.pass_laws.specs.Entries.{facts_in, job_spans}
+use Rattle.pass_laws.proofs.EntryLaws.{all_taken}
 use Rattle.cluster_tally.specs.Feedings.{IsFresh}
 use Rattle.cluster_tally.specs.Stages.{at_begin}
 use Rattle.cluster_tally.specs.Tallies.{Holds}
@@ -45,17 +44,17 @@ module _ (j : JobView) (job : IsJob j) where
       subst (λ ps. IsLoopFacts (loop_facts j.dataset (named_before (history j.script)) (job_spans j) ps)) (ap (λ o. loop_passes (history j.script) (unwrap_or o [])) (sym one.1))
       (loops_meet_limits j.dataset j.script (named_before (history j.script)) (job_spans j) j.number one.0 answers words job.table.fit job.table.few (cuts_are_in_order j.cuts.entries j.cuts.size j.cuts.marks) one.1)
 
-  pub begun : AnswerIn64Bits j.dataset.fns → StatementsHaveWords (history j.script) → (s : SlotView) → IsSized j s.cache → s.plan ≡ covered_in j → IsOfPasses j (length (passes_in j)) s.tally
+  pub begun : AnswerIn64Bits j.dataset.fns → StatementsHaveWords (history j.script) → (s : SlotView) → IsStateOf j s.blocks → CountsVectors (job_graph j) s.vectors × (s.vectors < 1099511627776) → IsOfPasses j (length (passes_in j)) s.tally
       → s.tally.flow ≡ replicate (length (named_before (history j.script))) nothing → length (job_spans j) ≤ s.room → s.done ≡ [] → s.phase ≡ Going
       → IsFreshSlot (job_facts j) s
-  begun answers words s sized plan fresh flow room none going =
+  begun answers words s state vectors fresh flow room none going =
       let all = all_taken (passes_in j) in
       let of_all = subst (λ ps. IsFresh (kinds_in ps) (watched_places (history j.script) ps) s.tally) all fresh in
       record {
         slot = record {
-          cells = sized.cells;
-          keys = sized.keys;
-          plan = plan;
+          blocks = state;
+          vectors = vectors.0;
+          few = vectors.1;
           room = (let m = length-map (below (length (job_spans j))) (cluster_fault j.dataset (job_spans j) (passes_in j)) in omega (arith, room, m, length-below (length (job_spans j))));
           holds = λ on c high. subst (λ d. Holds (facts_in j) (job_facts j).watched (at_begin d c) s.tally) (sym none)
               (fresh_holds (facts_in j) (job_facts j).watched s.tally c (is_loop_facts answers words) of_all flow);

@@ -1,5 +1,4 @@
 pub mod Accepting
 pub mod Adding
 pub mod Beginning
-pub mod ClusterTurns
 pub mod SlotLemmas

@@ -9,15 +9,15 @@ use Rattle.rdf_values.proofs.Below.{length-below, slice_get-below}
 use Rattle.rdf_values.proofs.UnionLemmas.{Rises, rises_from}
 use Rattle.rdf_values.specs.Cuts.{below}
 use Rattle.rdf_values.specs.declared.fault.Fault.{Fault}
-use Rattle.entry_cache.specs.Caches.{IsSized}
-use Rattle.entry_cache.specs.Jobs.{JobView, passes_in}
-use Rattle.entry_passes.specs.Entries.{facts_in, job_spans}
+use Rattle.block_passes.specs.Clusters.{at_end}
+use Rattle.block_passes.specs.States.{CountsVectors, IsStateOf}
+use Rattle.loop_keys.specs.Jobs.{JobView, job_graph, passes_in}
+use Rattle.pass_laws.specs.Entries.{facts_in, job_spans}
 use Rattle.cluster_tally.specs.Feedings.{IsAtEnd}
 use Rattle.cluster_tally.specs.Stages.{at_begin}
 use Rattle.cluster_tally.specs.Tallies.{Holds}
 use Rattle.cluster_tally.proofs.ListPlaces.{mapped}
 use Rattle.loop_pieces.specs.Whole.{cluster_fault}
-use Rattle.slot_state.specs.Clusters.{at_end}
 use Rattle.slot_state.specs.Jobs.{job_facts}
 use Rattle.slot_state.specs.Slots.{IsSlotOf, SlotView}
 use Rattle.slot_state.specs.declared.progress.Phase.{Phase}
@@ -66,15 +66,12 @@ cluster_within j cluster lt = omega (arith, length-map (below (length (job_spans
 -- ---- a slot of a job
 
 module _ (j : JobView) (s : SlotView) (h : IsSlotOf (job_facts j) s) where
-  pub is_sized : IsSized j s.cache
-  is_sized = record { cells = h.cells; keys = h.keys }
-
   -- one that doesn't go on
-  pub stopped : (t : SlotView) → IsSized j t.cache → t.plan ≡ s.plan → t.room ≡ s.room → (t.phase ≡ phase.Going → ⊥) → IsSlotOf (job_facts j) t
-  stopped t sized plan room ended = record {
-    cells = sized.cells;
-    keys = sized.keys;
-    plan = plan ∙ h.plan;
+  pub stopped : (t : SlotView) → IsStateOf j t.blocks → t.vectors ≡ s.vectors → t.room ≡ s.room → (t.phase ≡ phase.Going → ⊥) → IsSlotOf (job_facts j) t
+  stopped t state vectors room ended = record {
+    blocks = state;
+    vectors = subst (CountsVectors (job_graph j)) (sym vectors) h.vectors;
+    few = (let f = h.few in omega (arith, f, vectors));
     room = (let r = h.room in omega (arith, room));
     holds = λ going. absurd (ended going);
   }
@@ -87,12 +84,12 @@ module _ (j : JobView) (s : SlotView) (h : IsSlotOf (job_facts j) s) where
     has_room = let few = fewer s.done cluster begins.rises above in let r = h.room in omega arith
 
     -- after the cluster
-    pub went_on : (t : SlotView) → IsSized j t.cache → t.plan ≡ s.plan → t.room ≡ s.room → t.done ≡ s.done ++ cluster ∷ []
+    pub went_on : (t : SlotView) → IsStateOf j t.blocks → t.vectors ≡ s.vectors → t.room ≡ s.room → t.done ≡ s.done ++ cluster ∷ []
         → ((next : ℕ) → cluster < next → Holds (facts_in j) (job_facts j).watched (at_begin (s.done ++ cluster ∷ []) next) t.tally) → IsSlotOf (job_facts j) t
-    went_on t sized plan room done holds = record {
-      cells = sized.cells;
-      keys = sized.keys;
-      plan = plan ∙ h.plan;
+    went_on t state vectors room done holds = record {
+      blocks = state;
+      vectors = subst (CountsVectors (job_graph j)) (sym vectors) h.vectors;
+      few = (let f = h.few in omega (arith, f, vectors));
       room = (let r = h.room in omega (arith, room));
       holds = λ on c high. (
           let all = subst (All (λ d. d < c)) done high in

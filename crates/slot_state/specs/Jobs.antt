@@ -1,23 +1,20 @@
 -- What a loop is to give, as plain data.
-use Rattle.std.specs.Prelude.{Bool, ℕ, List, Option}
+use Rattle.std.specs.Prelude.{ℕ, List, Option}
 use Rattle.rdf_values.specs.Path.{history}
 use Rattle.rdf_values.specs.declared.fault.Fault.{Fault}
 use Rattle.rdf_model.specs.declared.loop_facts.LoopFacts.{LoopFacts}
-use Rattle.graph_numbers.specs.Graphs.{GraphView}
-use Rattle.entry_cache.specs.Jobs.{JobView, job_graph, passes_in}
-use Rattle.entry_passes.specs.Entries.{facts_in, job_spans}
-use Rattle.entry_passes.specs.Plans.{covered_in}
+use Rattle.loop_keys.specs.Jobs.{JobView, passes_in}
+use Rattle.pass_laws.specs.Entries.{facts_in, job_spans}
 use Rattle.loop_pieces.specs.Trails.{watched_places}
 use Rattle.loop_pieces.specs.Whole.{cluster_faults}
 
--- the facts of a loop, for each cluster its first fault or none, the places of the watched passes among the action passes, the
--- graph that the loop is of, and for each named filter whether a report of the loop covers it
+-- the facts of a loop, for each cluster its first fault or none, the places of the watched passes among the action passes, and what the
+-- loop works on
 pub record JobFacts : Type 0 where
   pub facts : LoopFacts
   pub faults : List (Option Fault)
   pub watched : List ℕ
-  pub graph : GraphView
-  pub covered : List Bool
+  pub job : JobView
 
 -- what the loop of a job is to give
 abbrev pub job_facts : JobView → JobFacts
@@ -25,6 +22,5 @@ job_facts j = record {
   facts = facts_in j;
   faults = cluster_faults j.dataset (job_spans j) (passes_in j);
   watched = watched_places (history j.script) (passes_in j);
-  graph = job_graph j;
-  covered = covered_in j;
+  job = j;
 }

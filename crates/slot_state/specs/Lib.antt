@@ -1,4 +1,3 @@
-pub mod Clusters
 pub mod Jobs
 pub mod Passes
 pub mod Slots

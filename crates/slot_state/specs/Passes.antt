@@ -4,7 +4,7 @@ use Rattle.rdf_values.specs.Bookings.{Pass, is_watched}
 use Rattle.rdf_values.specs.Path.{history}
 use Rattle.rdf_values.specs.declared.statement.Statement.{Statement}
 use Rattle.rdf_model.specs.LoopFacts.{kinds_in}
-use Rattle.entry_cache.specs.Jobs.{JobView, passes_in}
+use Rattle.loop_keys.specs.Jobs.{JobView, passes_in}
 use Rattle.cluster_tally.specs.Feedings.{IsFresh}
 use Rattle.cluster_tally.specs.Tallies.{TallyView}
 use Rattle.loop_pieces.specs.Trails.{watched_places}

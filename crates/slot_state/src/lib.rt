@@ -1,8 +1,7 @@
 //! One slot of an event loop: it processes clusters, one at a time, into a piece that can be joined with those of other slots.
-//! It stands on `entry_passes` and `cluster_tally`.
+//! It stands on `block_passes` and `cluster_tally`.
 #![tactic(auto)]
 
-mod cluster;
 pub mod passes;
 pub mod progress;
 pub mod state;

@@ -2,13 +2,13 @@
 ghost use Rattle.std.specs.Prelude.{◌≡◌, ◌<◌, ◌+◌, ℕ, Some, length, slice_get};
 ghost use Rattle.rdf_values.specs.Bookings as bookings;
 ghost use Rattle.rdf_values.specs.Path.{history};
-ghost use Rattle.entry_cache.specs.Caches.{numbered_in};
-ghost use Rattle.entry_cache.specs.Jobs.{Fits, job_of, passes_in};
+ghost use Rattle.loop_keys.specs.Caches.{numbered_in};
+ghost use Rattle.loop_keys.specs.Jobs.{Fits, job_of, passes_in};
 ghost use Rattle.slot_state.specs.Jobs.{job_facts};
 ghost use Rattle.slot_state.specs.Passes.{is_watched_pass, watched_before};
 
-use entry_cache::Job;
 use graph_numbers::{Pass, ResultKind};
+use loop_keys::Job;
 
 /// How many passes the loop has.
 pub(crate) fn pass_count(job: &Job<'_>) -> u32

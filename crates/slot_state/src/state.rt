@@ -3,19 +3,21 @@ ghost use Rattle.std.specs.Prelude.{◌≡◌, ◌≢◌, ◌<◌, ◌≤◌, �
 ghost use Rattle.rdf_values.specs.Path.{history};
 ghost use Rattle.rdf_values.specs.Words.{StatementsHaveWords};
 ghost use Rattle.rdf_values.specs.declared.fault.Fault.{Fault};
-ghost use Rattle.entry_cache.specs.Jobs.{Fits, job_of};
+ghost use Rattle.loop_keys.specs.Jobs.{Fits, job_graph, job_of};
+ghost use Rattle.loop_keys.specs.Keys.{key_count};
+ghost use Rattle.block_lanes.specs.Sizes.{size_for};
+ghost use Rattle.block_passes.specs.Clusters.{span_demands};
 ghost use Rattle.loop_pieces.specs.LoopPieces.{StandsFor};
 ghost use Rattle.loop_pieces.specs.Trails.{HaveTrails};
 ghost use Rattle.slot_state.specs.Jobs.{JobFacts, job_facts};
-ghost use Rattle.slot_state.specs.Slots.{IsFreshSlot, IsPlainSlot, IsSlotOf, cluster_demands};
+ghost use Rattle.slot_state.specs.Slots.{IsFreshSlot, IsPlainSlot, IsSlotOf};
 
-use crate::cluster::{ClusterStop, try_cluster};
 use crate::progress::{Phase, Progress, SlotStop};
 use crate::tallies::tally_of;
+use block_passes::{BlockState, BlockStop, vector_keys};
 use cluster_tally::Tally;
-use entry_cache::{EntryCache, Job};
-use entry_passes::EntryPlan;
 use expr_eval::Steps;
+use loop_keys::Job;
 use loop_pieces::LoopPiece;
 use rdf_values::{Fault, Memory};
 use std::alloc::Global;
@@ -26,8 +28,8 @@ use std::sync::ledger::Ledger;
 /// One slot of a loop.
 #[derive(Drop)]
 pub struct SlotState {
-    cache: EntryCache,
-    plan: EntryPlan,
+    blocks: BlockState,
+    vectors: u64,
     tally: Tally,
     // contracts alone read the finished clusters: a snapshot takes no bytes
     done: Vec<Snapshot<u32>>,
@@ -40,7 +42,7 @@ impl Model for SlotState {
 
     ghost Value = { SlotView };
 
-    ghost view = { λ s. record { cache = s.cache; plan = s.plan; tally = s.tally; room = vec_capacity s.done; done = map (λ c. c.value) s.done.items; phase = s.phase } };
+    ghost view = { λ s. record { blocks = s.blocks; vectors = s.vectors; tally = s.tally; room = vec_capacity s.done; done = map (λ c. c.value) s.done.items; phase = s.phase } };
 }
 
 impl SlotState {
@@ -51,13 +53,13 @@ impl SlotState {
         ensures { IfOk result (λ s. IsFreshSlot (job_facts (job_of job.now)) s) }
     {
         job.functions.answers_have_64_bits();
-        let cache = EntryCache::new(alloc, job)?;
-        let plan = EntryPlan::new(alloc, job)?;
+        let blocks = BlockState::new(alloc, job)?;
+        let vectors = vector_keys(alloc, job.graph)?;
         let tally = tally_of(alloc, job)?;
-        let done = Vec::with_capacity(alloc, job.cuts.count() as usize)?;
+        let done = Vec::with_capacity(alloc, job.columns.cuts().count() as usize)?;
         Ok(SlotState {
-            cache,
-            plan,
+            blocks,
+            vectors,
             tally,
             done,
             phase: Phase::Going,
@@ -67,7 +69,6 @@ impl SlotState {
     /// Processes a cluster above all that the slot finished.
     pub fn process<L: Ledger>(
         &mut self,
-        alloc: Global,
         job: &Job<'_>,
         cluster: u32,
         steps: &mut Steps<L>,
@@ -85,20 +86,15 @@ impl SlotState {
         ensures memory { result ≡ Err SlotStop.Memory → (self.new.done ≡ self.old.done) × (self.new.phase ≡ Phase.NoMemory) }
         ensures kept { self.old.phase ≡ Phase.NoMemory → result ≡ Err SlotStop.Memory }
         ensures plain { IsPlainSlot (job_of job.now) → self.old.phase ≡ Phase.Going → result ≢ Err SlotStop.Memory }
-        ensures bound { steps.new ≤ steps.old + 2 * cluster_demands (job_of job.now) cluster }
+        ensures bound { steps.new ≤ steps.old + 2 * span_demands (job_of job.now) (size_for (key_count (job_graph (job_of job.now)))) self.old.vectors cluster }
     {
         if let Phase::NoMemory = self.phase {
             return Err(SlotStop::Memory);
         }
-        match try_cluster(
-            alloc,
-            job,
-            &self.plan,
-            &mut self.cache,
-            &mut self.tally,
-            cluster,
-            steps,
-        ) {
+        match self
+            .blocks
+            .try_cluster(job, cluster, self.vectors, &mut self.tally, steps)
+        {
             Ok(()) => match self.tally.close(cluster) {
                 Ok(()) => {
                     self.done.push_reserved(Snapshot::of(&cluster));
@@ -109,11 +105,11 @@ impl SlotState {
                     Err(SlotStop::Memory)
                 }
             },
-            Err(ClusterStop::Fault(fault)) => {
+            Err(BlockStop::Fault(fault)) => {
                 self.phase = Phase::Faulted;
                 Ok(Progress::Faulted(fault))
             }
-            Err(ClusterStop::Memory) => {
+            Err(BlockStop::Memory) => {
                 self.phase = Phase::NoMemory;
                 Err(SlotStop::Memory)
             }

@@ -3,13 +3,13 @@ ghost use Rattle.std.specs.Prelude.{◌≡◌, ◌<◌, ◌+◌, IfOk, OnOk, len
 ghost use Rattle.rdf_values.specs.Bookings.{named_before};
 ghost use Rattle.rdf_values.specs.Path.{history};
 ghost use Rattle.filters_report.specs.Flows.{nothing};
-ghost use Rattle.entry_cache.specs.Jobs.{Fits, job_of, passes_in};
+ghost use Rattle.loop_keys.specs.Jobs.{Fits, job_of, passes_in};
 ghost use Rattle.slot_state.specs.Passes.{IsOfPasses};
 
 use crate::passes::{is_watched, pass_at, pass_count};
 use cluster_tally::Tally;
-use entry_cache::Job;
 use graph_numbers::ResultKind;
+use loop_keys::Job;
 use rdf_values::Memory;
 use std::alloc::Global;
 

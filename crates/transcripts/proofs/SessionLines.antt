@@ -21,7 +21,7 @@ use Rattle.graph_numbers.specs.Graphs.{graph_filters, graph_results}
 use Rattle.graph_numbers.specs.Results.{ResultAt}
 use Rattle.graph_numbers.proofs.Listed.{next_at}
 use Rattle.rdf_values.specs.Functions.{fn_names}
-use Rattle.entry_cache.specs.Jobs.{passes_in}
+use Rattle.loop_keys.specs.Jobs.{passes_in}
 use Rattle.loop_pieces.specs.LoopPieces.{StandsFor}
 use Rattle.loop_pieces.specs.PartialLines.{ArePartialLines}
 use Rattle.loop_pieces.specs.Trails.{place_if_watched}

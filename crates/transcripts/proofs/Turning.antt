@@ -19,7 +19,7 @@ use Rattle.graph_numbers.specs.Results.{ResultAt, pass_at, result_number}
 use Rattle.graph_numbers.specs.declared.pass.Pass.{Pass as NumberedPass}
 use Rattle.graph_numbers.proofs.Extending.{itself as all_of_it}
 use Rattle.graph_numbers.proofs.Resulting.{booked_are}
-use Rattle.entry_cache.specs.Jobs.{passes_in}
+use Rattle.loop_keys.specs.Jobs.{passes_in}
 use Rattle.event_loop.specs.declared.end.FilledLoop.{FilledLoop}
 use Rattle.result_text.specs.FilledLines.{passes_at}
 use Rattle.lazy_loop.specs.Sessions.{HasSameParts, IsAccessed, IsFaulted, IsFilledIn, IsKept, IsSession, SessionView, session_job}

@@ -1,8 +1,8 @@
 use Rattle.std.proofs.Common.{◌<◌, ◌++◌, refl, sym, length, get_or, arith}
-use Rattle.entry_cache.specs.Jobs.{job_graph, job_of}
-use Rattle.entry_cache.specs.Keys.{key as key_of}
-use Rattle.entry_cache.proofs.RowLaws.{key_small}
-use Rattle.entry_cache.proofs.PlainLaws.{plain_expr}
+use Rattle.loop_keys.specs.Jobs.{job_graph, job_of}
+use Rattle.loop_keys.specs.Keys.{key as key_of}
+use Rattle.loop_keys.proofs.RowLaws.{key_small}
+use Rattle.loop_keys.proofs.PlainLaws.{plain_expr}
 use Rattle.block_cache.proofs.Answering.{err_map, ok_map}
 use Rattle.block_cache.proofs.OverLaws.{begun_parts, can_read_over, fits_over, first_part, own_counts, own_part, some_part, told_below, tried_parts}
 use Rattle.block_cache.proofs.attempt.try_first.Goals as goal

@@ -1,7 +1,7 @@
 use Rattle.std.proofs.Common.{◌≡◌, ◌<◌, ◌+◌, ◌∙◌, arith, length, refl, rules}
 use Rattle.block_lanes.specs.Lanes.{kinds_of}
 use Rattle.graph_numbers.specs.Graphs.{graph_sites}
-use Rattle.entry_cache.specs.Jobs.{job_graph, job_of}
+use Rattle.loop_keys.specs.Jobs.{job_graph, job_of}
 use Rattle.block_cache.proofs.CanFills.{can_below, can_moved, met_used, some_level}
 use Rattle.block_cache.proofs.CanTries.{can_try}
 use Rattle.block_cache.proofs.UnderwayLaws.{ended_filled, ended_settled, left_lacks, left_selected, resumed_as, turn_broken, turn_lower, turn_selected, turn_settled, turn_spent, turn_waits, turned, turned_less}

@@ -1,4 +1,4 @@
-use Rattle.entry_cache.specs.Jobs.{job_of}
+use Rattle.loop_keys.specs.Jobs.{job_of}
 use Rattle.block_cache.specs.Turns.{IsUnderway, left_to_begin}
 use Rattle.block_cache.proofs.fill.+fill_site.Given as goal
 

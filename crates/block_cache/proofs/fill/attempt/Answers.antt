@@ -2,7 +2,7 @@ use Rattle.std.proofs.Common.{arith, ◌∙◌, sym, subst, List, get_or}
 use Rattle.std.specs.Prelude.{Contains}
 use Rattle.std.proofs.lemmas.List.Elements.{Contains-get_or}
 use Rattle.expr_lanes.specs.declared.stopped.Stopped.{Stopped}
-use Rattle.entry_cache.specs.Jobs.{job_of}
+use Rattle.loop_keys.specs.Jobs.{job_of}
 use Rattle.block_cache.specs.Faults.{IsLeastFault}
 use Rattle.block_cache.proofs.Attempts.{attempted_from, place_inside}
 use Rattle.block_cache.proofs.Answering.{on_err}

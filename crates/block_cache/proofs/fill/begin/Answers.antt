@@ -1,5 +1,5 @@
 use Rattle.std.proofs.Common.{ℕ, List, None, arith, subst}
-use Rattle.entry_cache.specs.Jobs.{job_of}
+use Rattle.loop_keys.specs.Jobs.{job_of}
 use Rattle.block_cache.specs.Turns.{IsResumedOver}
 use Rattle.block_cache.proofs.Answering.{err_map, if_ok}
 use Rattle.block_cache.proofs.Knowns.{kept_lacking}

@@ -1,5 +1,5 @@
 use Rattle.std.proofs.Common.{arith}
-use Rattle.entry_cache.specs.Jobs.{job_of}
+use Rattle.loop_keys.specs.Jobs.{job_of}
 use Rattle.block_cache.proofs.Fulls.{full_filled}
 use Rattle.block_cache.proofs.UnderwayLaws.{settled_if}
 use Rattle.block_cache.proofs.fill.fill.Goals as goal

@@ -1,7 +1,7 @@
 use Rattle.std.proofs.Common.{◌<◌, arith, length, rules}
 use Rattle.block_lanes.specs.Lanes.{kinds_of}
 use Rattle.graph_numbers.specs.Graphs.{graph_sites}
-use Rattle.entry_cache.specs.Jobs.{job_graph, job_of}
+use Rattle.loop_keys.specs.Jobs.{job_graph, job_of}
 use Rattle.block_cache.proofs.LeadLaws.{can_lead, lead_lower, lead_used, led_begun, led_filled, led_selected, led_spent}
 use Rattle.block_cache.proofs.leads.+fill_led.Goals as goal
 

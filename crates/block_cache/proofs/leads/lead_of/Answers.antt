@@ -1,5 +1,5 @@
 use Rattle.std.proofs.Common.{Some, ap, arith, refl, sym, ◌∙◌}
-use Rattle.entry_cache.specs.Jobs.{job_of}
+use Rattle.loop_keys.specs.Jobs.{job_of}
 use Rattle.block_cache.specs.Leads.{first_read}
 use Rattle.block_cache.proofs.LeadLaws.{lead_is, lead_lower, read_there}
 use Rattle.block_cache.proofs.leads.lead_of.Goals as goal

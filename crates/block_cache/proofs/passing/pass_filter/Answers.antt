@@ -1,5 +1,5 @@
 use Rattle.std.proofs.Common.{◌≡◌, arith, get_or}
-use Rattle.entry_cache.specs.Jobs.{job_of}
+use Rattle.loop_keys.specs.Jobs.{job_of}
 use Rattle.block_cache.proofs.PassedLaws.{filled_inside, passed_with, truth_scalar}
 use Rattle.block_cache.proofs.passing.pass_filter.Goals as goal
 

@@ -1,4 +1,4 @@
-use Rattle.entry_cache.proofs.TableLaws.{not_stored}
+use Rattle.loop_keys.proofs.TableLaws.{not_stored}
 use Rattle.block_cache.proofs.place_view.cell.Goals as goal
 
 pub unreachable-requires : goal.unreachable-requires

@@ -1,5 +1,5 @@
 use Rattle.std.proofs.Common.{◌+◌, ◌≤◌, arith}
-use Rattle.block_passes.proofs.FirstLengths.{begin_at, next_at, stop_at}
+use Rattle.block_passes.proofs.FirstLengths.{begin_at, next_at, plain_end, stop_at}
 use Rattle.block_passes.proofs.block_ends.block_end.Goals as goal
 
 pub loop-end-init : goal.loop-end-init
@@ -33,3 +33,8 @@ loop-end-preserved c =
           (omega (arith, t, w)) (omega (arith, t, f, up)) c.key_elements-elements-in-loop-end.ensures.value few;
       few = omega (arith, few);
     }
+
+pub returns-then-keys-eq0 : goal.returns-then-keys-eq0
+returns-then-keys-eq0 c =
+    let last = c.last_end-last.ensures in
+    plain_end c.args.size c.args.entries.lo c.args.entries.hi c.args.keys c.last_end-last.result c.args.columns.now.table.rows c.requires.size c.requires.some c.requires.within c.if-keys-eq0.true last.whole last.within last.few

@@ -4,8 +4,8 @@ use Rattle.expr_lanes.specs.Places.{is_in}
 use Rattle.expr_lanes.proofs.Selected.{is_in_at}
 use Rattle.graph_numbers.specs.Sources.{source_value}
 use Rattle.graph_numbers.specs.declared.source.Source.TheVariants as from
-use Rattle.entry_cache.specs.Jobs.{job_of}
-use Rattle.entry_cache.specs.Store.{row_of, site_in}
+use Rattle.loop_keys.specs.Jobs.{job_of}
+use Rattle.loop_keys.specs.Store.{row_of, site_in}
 use Rattle.block_passes.specs.Copying.{GivesNumber}
 use Rattle.block_passes.proofs.PlaceWalks.{each_at, numbers_more}
 use Rattle.block_passes.proofs.copies.copy_elements.Goals as goal

@@ -1,8 +1,8 @@
 use Rattle.std.proofs.Common.{◌≡◌, ◌+◌, ◌<◌, ℕ, get_or, length}
 use Rattle.graph_numbers.specs.Sources.{source_value}
 use Rattle.graph_numbers.specs.declared.source.Source.TheVariants as from
-use Rattle.entry_cache.specs.Jobs.{job_of}
-use Rattle.entry_cache.specs.Store.{row_of, site_in}
+use Rattle.loop_keys.specs.Jobs.{job_of}
+use Rattle.loop_keys.specs.Store.{row_of, site_in}
 use Rattle.block_passes.specs.Copying.{GivesNumber}
 use Rattle.block_passes.proofs.copies.copy_elements.Given as goal
 

@@ -1,24 +1,23 @@
 use Rattle.std.proofs.Common.{◌≡◌, ◌∙◌, ◌+◌, ◌≤◌, ℕ, List, true, ap, arith, get_or, length, subst}
 use Rattle.expr_lanes.specs.Places.{is_in}
 use Rattle.expr_lanes.proofs.Selected.{is_in_at}
-use Rattle.graph_numbers.specs.Sources.{source_value}
-use Rattle.entry_cache.specs.Jobs.{job_of}
-use Rattle.entry_cache.specs.Store.{row_of, site_in}
+use Rattle.loop_keys.specs.Jobs.{job_of}
+use Rattle.loop_keys.specs.Store.{site_in}
 use Rattle.block_passes.specs.Copying.{GivesVector}
 use Rattle.block_passes.proofs.PlaceWalks.{each_at, vectors_more}
 use Rattle.block_passes.proofs.copies.copy_vectors.Goals as goal
 
-pub vector_at-requires-clause-inside : goal.vector_at-requires-clause-inside
-vector_at-requires-clause-inside g c =
+pub site_vector-requires-clause-inside : goal.site_vector-requires-clause-inside
+site_vector-requires-clause-inside g c =
     let at : is_in (get_or c.as_slice-places.result.now c.loop-i.i 0) c.args.selection.now ≡ true =
     subst (λ (l : List ℕ). is_in (get_or c.as_slice-places.result.now c.loop-i.i 0) l ≡ true) c.as_slice-places.ensures.value (is_in_at c.as_slice-places.result.now c.loop-i.i 0 (omega arith)) in
     c.requires.inside _ at
 
-pub vector_at-requires-clause-hand : goal.vector_at-requires-clause-hand
-vector_at-requires-clause-hand g c =
+pub site_vector-requires-clause-held : goal.site_vector-requires-clause-held
+site_vector-requires-clause-held g c =
     let at : is_in (get_or c.as_slice-places.result.now c.loop-i.i 0) c.args.selection.now ≡ true =
     subst (λ (l : List ℕ). is_in (get_or c.as_slice-places.result.now c.loop-i.i 0) l ≡ true) c.as_slice-places.ensures.value (is_in_at c.as_slice-places.result.now c.loop-i.i 0 (omega arith)) in
-    c.requires.hand _ at
+    c.requires.held _ at
 
 pub put-requires : goal.put-requires
 put-requires g c =
@@ -32,12 +31,12 @@ loop-i-preserved g c =
     record {
       room = c.in_ok-put.ensures.room ∙ c.loop-i.invariant.room;
       come =
-          vectors_more (λ (p : ℕ). source_value {M = ⊥} (row_of (job_of c.args.at.now.job.now) (c.args.at.now.first + p)) (site_in {M = ⊥} (job_of c.args.at.now.job.now) (c.args.at.now.first + p) c.args.under) c.args.source) c.args.selection.now c.loop-i.i (get_or c.as_slice-places.result.now c.loop-i.i 0) here
-          c.loop-i.vectors.elements.items c.put.new.self.elements.items c.loop-i.vectors.spans.items c.put.new.self.spans.items c.vector_at.result.now c.vector_at.ensures c.in_ok-put.ensures.own c.in_ok-put.ensures.others c.loop-i.invariant.come;
+          vectors_more (λ (p : ℕ). site_in {M = ⊥} (job_of c.args.at.now.job.now) (c.args.at.now.first + p) c.args.under c.args.site) c.args.selection.now c.loop-i.i (get_or c.as_slice-places.result.now c.loop-i.i 0) here
+          c.loop-i.vectors.elements.items c.put.new.self.elements.items c.loop-i.vectors.spans.items c.put.new.self.spans.items c.site_vector.result.now c.site_vector.ensures c.in_ok-put.ensures.own c.in_ok-put.ensures.others c.loop-i.invariant.come;
     }
 
 pub returns : goal.returns
 returns g c =
     let long : length c.as_slice-places.result.now ≤ c.loop-i.i = omega arith in
     let e = ap (λ (l : List ℕ). length l) c.as_slice-places.ensures.value in
-    each_at c.args.selection.now (λ p. GivesVector c.loop-i.vectors.elements.items c.loop-i.vectors.spans.items p ((λ (p : ℕ). source_value {M = ⊥} (row_of (job_of c.args.at.now.job.now) (c.args.at.now.first + p)) (site_in {M = ⊥} (job_of c.args.at.now.job.now) (c.args.at.now.first + p) c.args.under) c.args.source) p)) (λ m lt. c.loop-i.invariant.come m (omega (arith, lt, long, e)))
+    each_at c.args.selection.now (λ p. GivesVector c.loop-i.vectors.elements.items c.loop-i.vectors.spans.items p ((λ (p : ℕ). site_in {M = ⊥} (job_of c.args.at.now.job.now) (c.args.at.now.first + p) c.args.under c.args.site) p)) (λ m lt. c.loop-i.invariant.come m (omega (arith, lt, long, e)))

@@ -1,12 +1,11 @@
 use Rattle.std.proofs.Common.{◌≡◌, ◌+◌, ◌<◌, ℕ, get_or, length}
-use Rattle.graph_numbers.specs.Sources.{source_value}
-use Rattle.entry_cache.specs.Jobs.{job_of}
-use Rattle.entry_cache.specs.Store.{row_of, site_in}
+use Rattle.loop_keys.specs.Jobs.{job_of}
+use Rattle.loop_keys.specs.Store.{site_in}
 use Rattle.block_passes.specs.Copying.{GivesVector}
 use Rattle.block_passes.proofs.copies.copy_vectors.Given as goal
 
 abbrev pub invariant-loop-i : goal.invariant-loop-i
 invariant-loop-i g l = record {
   room : length l.vectors.spans.items ≡ l.at.count;
-  come : (m : ℕ) → m < l.i → GivesVector l.vectors.elements.items l.vectors.spans.items (get_or l.selection m 0) (source_value {M = ⊥} (row_of (job_of l.at.job.now) (l.at.first + get_or l.selection m 0)) (site_in (job_of l.at.job.now) (l.at.first + get_or l.selection m 0) l.under) l.source);
+  come : (m : ℕ) → m < l.i → GivesVector l.vectors.elements.items l.vectors.spans.items (get_or l.selection m 0) (site_in {M = ⊥} (job_of l.at.job.now) (l.at.first + get_or l.selection m 0) l.under l.site);
 }

@@ -2,9 +2,9 @@ use Rattle.std.proofs.Common.{◌∙◌, Some, ap, subst, sym}
 use Rattle.rdf_values.specs.declared.value.ColType.TheVariants as kind
 use Rattle.graph_numbers.specs.declared.source.Source.{Source}
 use Rattle.block_lanes.specs.Lanes.{kinds_of}
-use Rattle.entry_cache.specs.Jobs.{job_graph, job_of}
-use Rattle.entry_cache.specs.Keys.{key}
-use Rattle.entry_cache.proofs.TableLaws.{not_stored}
+use Rattle.loop_keys.specs.Jobs.{job_graph, job_of}
+use Rattle.loop_keys.specs.Keys.{key}
+use Rattle.loop_keys.proofs.TableLaws.{not_stored}
 use Rattle.block_cache.proofs.CanTries.{got_kind}
 use Rattle.block_passes.specs.Inputs.{IsPlainSource, IsServable, IsWhole}
 use Rattle.block_passes.proofs.ElementsHeld.{kind_got, lane_there}
@@ -12,65 +12,59 @@ use Rattle.block_passes.proofs.ElementKinds.{element_kind}
 use Rattle.block_passes.proofs.PlainReads.{no_vector}
 use Rattle.block_passes.proofs.copies.copy_version.Goals as goal
 
-pub unreachable-requires : goal.unreachable-requires
-unreachable-requires g c =
+pub copy_vectors-requires-clause-vectors : goal.copy_vectors-requires-clause-vectors
+copy_vectors-requires-clause-vectors g c =
     let j = job_of c.args.at.now.job.now in
     let kinds = kinds_of c.args.lanes.now in
-    let e = c.source_under-source.ensures ∙ c.in-Cell.is in
-    let there = subst (λ (y : Source). IsServable j c.args.at.now.first c.args.under c.args.at.now.count kinds c.args.at.now.cells.now c.requires.can.0 c.requires.can.1 y) e c.requires.can.2.1 in
-    not_stored c.args.at.now.job.now.columns.now.table.columns c.columns.result.now c.columns.ensures.value c.columns.ensures.valid.header.distinct c.in-Cell.col there.0 _ c.in-Bool.is
-
-pub copy_vectors-requires-in-Vect-site_kind-clause-source : goal.copy_vectors-requires-in-Vect-site_kind-clause-source
-copy_vectors-requires-in-Vect-site_kind-clause-source g c =
-    let j = job_of c.args.at.now.job.now in
-    let kinds = kinds_of c.args.lanes.now in
-    let e = c.source_under-source.ensures ∙ c.in-Site.is in
+    let e = c.source_under.ensures ∙ c.in-Site.is in
     let there = subst (λ (y : Source). IsServable j c.args.at.now.first c.args.under c.args.at.now.count kinds c.args.at.now.cells.now c.requires.can.0 c.requires.can.1 y) e c.requires.can.2.1 in
     let lane = lane_there j c.args.at.now.first c.args.at.now.count c.args.under c.in-Site.site there.0 c.args.lanes.now c.requires.ready in
     let got = got_kind c.args.lanes.now (key (job_graph j) c.in-Site.site c.args.under) lane.0 lane.1 in
-    let is = got ∙ ap Some (sym (c.site_kind.ensures.its kinds there.1.kinds_are lane.0.kind got) ∙ c.in-Vect-site_kind.is) in
-    (there.0, is)
+    let is = got ∙ ap Some (sym (c.site_kind.ensures.its kinds there.1.kinds_are lane.0.kind got) ∙ c.in-Vect.is) in
+    is
 
-pub returns-in_err-copy_vectors-in-Vect-site_kind-clause-whole : goal.returns-in_err-copy_vectors-in-Vect-site_kind-clause-whole
-returns-in_err-copy_vectors-in-Vect-site_kind-clause-whole g c = λ whole.
+pub copy_vectors-requires-clause-site : goal.copy_vectors-requires-clause-site
+copy_vectors-requires-clause-site g c =
+    let e = c.source_under.ensures ∙ c.in-Site.is in
+    (subst (λ (y : Source). IsServable (job_of c.args.at.now.job.now) c.args.at.now.first c.args.under c.args.at.now.count (kinds_of c.args.lanes.now) c.args.at.now.cells.now c.requires.can.0 c.requires.can.1 y) e c.requires.can.2.1).0
+
+pub returns-in_err-copy_vectors-in-Vect-clause-whole : goal.returns-in_err-copy_vectors-in-Vect-clause-whole
+returns-in_err-copy_vectors-in-Vect-clause-whole g c = λ whole.
     let j = job_of c.args.at.now.job.now in
     let kinds = kinds_of c.args.lanes.now in
-    let e = c.source_under-source.ensures ∙ c.in-Site.is in
+    let e = c.source_under.ensures ∙ c.in-Site.is in
     let there = subst (λ (y : Source). IsServable j c.args.at.now.first c.args.under c.args.at.now.count kinds c.args.at.now.cells.now c.requires.can.0 c.requires.can.1 y) e c.requires.can.2.1 in
     let lane = lane_there j c.args.at.now.first c.args.at.now.count c.args.under c.in-Site.site there.0 c.args.lanes.now c.requires.ready in
     let got = got_kind c.args.lanes.now (key (job_graph j) c.in-Site.site c.args.under) lane.0 lane.1 in
-    let is = got ∙ ap Some (sym (c.site_kind.ensures.its kinds there.1.kinds_are lane.0.kind got) ∙ c.in-Vect-site_kind.is) in
+    let is = got ∙ ap Some (sym (c.site_kind.ensures.its kinds there.1.kinds_are lane.0.kind got) ∙ c.in-Vect.is) in
     absurd (subst (λ (y : Source). IsWhole j c.args.under kinds y) e whole is)
 
-pub returns-in-Int-clause-copied : goal.returns-in-Int-clause-copied
-returns-in-Int-clause-copied g c =
-    let j = job_of c.args.at.now.job.now in
-    let kinds = kinds_of c.args.lanes.now in
-    let e = c.source_under-source.ensures ∙ c.in-Cell.is in
-    let there = subst (λ (y : Source). IsServable j c.args.at.now.first c.args.under c.args.at.now.count kinds c.args.at.now.cells.now c.requires.can.0 c.requires.can.1 y) e c.requires.can.2.1 in
-    subst (λ (y : Source). IsWhole j c.args.under kinds y) (sym e) (kind_got c.args.at.now.job.now.columns.now.table.columns c.columns.result.now c.columns.ensures.value c.in-Cell.col there.0 _ kind.Int c.in-Int.is)
+pub returns-in-Cell-clause-copied : goal.returns-in-Cell-clause-copied
+returns-in-Cell-clause-copied g c =
+    let e = c.source_under.ensures ∙ c.in-Cell.is in
+    subst (λ (y : Source). IsWhole (job_of c.args.at.now.job.now) c.args.under (kinds_of c.args.lanes.now) y) (sym e) tt
 
-pub returns-in-Int-site_kind : goal.returns-in-Int-site_kind
-returns-in-Int-site_kind g c =
+pub returns-in-Int : goal.returns-in-Int
+returns-in-Int g c =
     let j = job_of c.args.at.now.job.now in
     let kinds = kinds_of c.args.lanes.now in
-    let e = c.source_under-source.ensures ∙ c.in-Site.is in
+    let e = c.source_under.ensures ∙ c.in-Site.is in
     let there = subst (λ (y : Source). IsServable j c.args.at.now.first c.args.under c.args.at.now.count kinds c.args.at.now.cells.now c.requires.can.0 c.requires.can.1 y) e c.requires.can.2.1 in
     record {
-      copied = subst (λ (y : Source). IsWhole j c.args.under kinds y) (sym e) (λ q. no_vector c.site_kind.result c.in-Int-site_kind.is (c.site_kind.ensures.its kinds there.1.kinds_are kind.Vect q));
+      copied = subst (λ (y : Source). IsWhole j c.args.under kinds y) (sym e) (λ q. no_vector c.site_kind.result c.in-Int.is (c.site_kind.ensures.its kinds there.1.kinds_are kind.Vect q));
       whole = λ w. tt;
       plain = λ used p source. tt;
     }
 
-pub returns-in_err-copy_vectors-in-Vect-site_kind-clause-plain : goal.returns-in_err-copy_vectors-in-Vect-site_kind-clause-plain
-returns-in_err-copy_vectors-in-Vect-site_kind-clause-plain g c = λ used p source.
-    let e = c.source_under-source.ensures ∙ c.in-Site.is in
-    absurd (c.site_kind.ensures.plain used p (subst (IsPlainSource (job_of c.args.at.now.job.now) used) e source) c.in-Vect-site_kind.is)
+pub returns-in_err-copy_vectors-in-Vect-clause-plain : goal.returns-in_err-copy_vectors-in-Vect-clause-plain
+returns-in_err-copy_vectors-in-Vect-clause-plain g c = λ used p source.
+    let e = c.source_under.ensures ∙ c.in-Site.is in
+    absurd (c.site_kind.ensures.plain used p (subst (IsPlainSource (job_of c.args.at.now.job.now) used) e source) c.in-Vect.is)
 
 pub copy_tagged-requires-clause-vectors : goal.copy_tagged-requires-clause-vectors
 copy_tagged-requires-clause-vectors g c = λ e its.
-    element_kind (job_of c.args.at.now.job.now) c.requires.job.job c.args.under c.args.version c.in-Element.site c.in-Element.place c.in-Element.tags (c.source_under-source.ensures ∙ c.in-Element.is) e its
+    element_kind (job_of c.args.at.now.job.now) c.requires.job.job c.args.under c.args.version c.in-Element.site c.in-Element.place c.in-Element.tags (c.source_under.ensures ∙ c.in-Element.is) e its
 
 pub returns-in_err-copy_tagged-in-Element-clause-plain : goal.returns-in_err-copy_tagged-in-Element-clause-plain
 returns-in_err-copy_tagged-in-Element-clause-plain g c = λ used p source.
-    absurd (c.in_err-copy_tagged-in-Element.ensures.plain used p (subst (IsPlainSource (job_of c.args.at.now.job.now) used) (c.source_under-source.ensures ∙ c.in-Element.is) source))
+    absurd (c.in_err-copy_tagged-in-Element.ensures.plain used p (subst (IsPlainSource (job_of c.args.at.now.job.now) used) (c.source_under.ensures ∙ c.in-Element.is) source))

@@ -1,5 +1,5 @@
 use Rattle.std.proofs.Common.{◌∙◌, sym}
-use Rattle.entry_cache.specs.Jobs.{job_of}
+use Rattle.loop_keys.specs.Jobs.{job_of}
 use Rattle.block_passes.proofs.PlainReads.{site_no_vector}
 use Rattle.block_passes.proofs.copies.site_kind.Goals as goal
 

@@ -1,7 +1,7 @@
 use Rattle.std.proofs.Common.{◌∙◌, ◌+◌, ap, arith, length, refl, slice_get, sym}
 use Rattle.std.proofs.lemmas.Option.{slice_get_read}
-use Rattle.entry_cache.specs.Jobs.{job_of}
-use Rattle.entry_cache.specs.Store.{site_in}
+use Rattle.loop_keys.specs.Jobs.{job_of}
+use Rattle.loop_keys.specs.Store.{site_in}
 use Rattle.block_passes.proofs.ElementsHeld.{input_vect, never_stops, number_of, scalar_input}
 use Rattle.block_passes.proofs.elements.element_at.Goals as goal
 

@@ -1,7 +1,7 @@
 use Rattle.std.proofs.Common.{◌≡◌, ◌∙◌, ◌<◌, ◌≤◌, ℕ, List, Some, true, ap, arith, get_or, length, subst, sym}
 use Rattle.expr_lanes.specs.Places.{is_in}
 use Rattle.expr_lanes.proofs.Selected.{is_in_at}
-use Rattle.entry_cache.specs.Jobs.{job_of}
+use Rattle.loop_keys.specs.Jobs.{job_of}
 use Rattle.block_cache.specs.Faults.{fault_at}
 use Rattle.block_passes.specs.Inputs.{element_fault}
 use Rattle.block_passes.proofs.ElementsHeld.{fault_is}

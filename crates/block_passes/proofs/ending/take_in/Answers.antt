@@ -1,7 +1,7 @@
 use Rattle.std.proofs.Common.{length, refl}
 use Rattle.rdf_model.specs.LoopFacts.{kinds_in}
 use Rattle.cluster_tally.specs.Blocks.{block_begin}
-use Rattle.entry_cache.specs.Jobs.{job_of, passes_in}
+use Rattle.loop_keys.specs.Jobs.{job_of, passes_in}
 use Rattle.block_passes.specs.Counting.{at_pass}
 use Rattle.block_passes.proofs.ClearBlocks.{all_taken, begun_amid, begun_holds}
 use Rattle.block_passes.proofs.FedPasses.{amid_pass}

@@ -1,5 +1,5 @@
-use Rattle.entry_cache.specs.Jobs.{job_of}
-use Rattle.entry_passes.specs.Entries.{facts_in}
+use Rattle.loop_keys.specs.Jobs.{job_of}
+use Rattle.pass_laws.specs.Entries.{facts_in}
 use Rattle.block_passes.proofs.Fed.{can_feed, fed_hand, fed_low, fed_memory, last_there, pass_there}
 use Rattle.block_passes.proofs.feed.feed_action.Goals as goal
 

@@ -1,5 +1,5 @@
 use Rattle.std.proofs.Common.{◌≡◌, arith, length, refl}
-use Rattle.entry_cache.specs.Jobs.{job_of, passes_in}
+use Rattle.loop_keys.specs.Jobs.{job_of, passes_in}
 use Rattle.block_passes.specs.Counting.{at_pass}
 use Rattle.block_passes.proofs.FedPasses.{amid_pass, fed_all}
 use Rattle.block_passes.proofs.feed.feed_passes.Goals as goal

@@ -1,6 +1,6 @@
 use Rattle.std.proofs.Common.{◌∙◌, subst}
-use Rattle.entry_cache.specs.Jobs.{job_of}
-use Rattle.entry_cache.specs.Store.{IsSourceIn, source_at}
+use Rattle.loop_keys.specs.Jobs.{job_of}
+use Rattle.loop_keys.specs.Store.{IsSourceIn, source_at}
 use Rattle.block_passes.proofs.Serving.{column_served, element_spends, version_spends}
 use Rattle.block_passes.proofs.inputs.serve_version.Goals as goal
 

@@ -1,11 +1,12 @@
-use Rattle.std.proofs.Common.{◌≡◌, ◌<◌, ◌+◌, ◌++◌, ◌∙◌, ap, arith, length, replicate}
+use Rattle.std.proofs.Common.{◌≡◌, ◌<◌, ◌+◌, ◌++◌, ◌∙◌, ap, arith, length, length-append, replicate}
+use Rattle.std.proofs.lemmas.List.{length-replicate}
 use Rattle.graph_numbers.specs.Graphs.{graph_sites}
-use Rattle.entry_cache.proofs.KeptKeys.{no_keys}
+use Rattle.loop_keys.proofs.KeptKeys.{no_keys}
 use Rattle.block_passes.proofs.KeyKinds.{more_kinds, more_many, no_kinds}
 use Rattle.block_passes.proofs.kinds.key_kinds.Goals as goal
 
 pub loop-site-init : goal.loop-site-init
-loop-site-init c = record { many = ap length c.new-kinds.ensures ∙ no_keys c.args.graph.now; kinds = no_kinds c.args.graph.now c.new-kinds.result }
+loop-site-init c = record { many = ap length c.new-kinds.ensures ∙ no_keys c.args.graph.now; kinds = no_kinds c.args.graph.now c.new-kinds.result; few = (let e = ap length c.new-kinds.ensures in omega (arith, e)) }
 
 pub loop-site-preserved : goal.loop-site-preserved
 loop-site-preserved c =
@@ -17,4 +18,10 @@ loop-site-preserved c =
       kinds =
           more_kinds g c.loop-site.site inside c.site_depends-depends.result c.site_depends-depends.ensures c.count.result c.count.ensures.members c.count.ensures.above c.site.result.now c.site.ensures c.loop-site.kinds c.loop-site.invariant.many c.push_kind.new.kinds are
           c.loop-site.invariant.kinds;
+      few =
+          (let so_far = c.loop-site.invariant.few in
+          let added = ap length are ∙ length-append c.loop-site.kinds (replicate (1 + c.count.result) c.site.result.now.kind) in
+          let own = length-replicate (1 + c.count.result) c.site.result.now.kind in
+          let bound = c.count.ensures.bound in
+          omega (arith, so_far, added, own, bound));
     }

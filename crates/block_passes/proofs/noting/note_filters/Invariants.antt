@@ -1,4 +1,4 @@
-use Rattle.entry_cache.specs.Jobs.{job_of}
+use Rattle.loop_keys.specs.Jobs.{job_of}
 use Rattle.block_passes.proofs.Counting.{IsNotedTo}
 use Rattle.block_passes.proofs.noting.note_filters.Given as goal
 

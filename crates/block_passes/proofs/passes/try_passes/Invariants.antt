@@ -1,5 +1,5 @@
 use Rattle.std.proofs.Common.{◌≡◌, ◌<◌, length, ℕ}
-use Rattle.entry_cache.specs.Jobs.{job_of}
+use Rattle.loop_keys.specs.Jobs.{job_of}
 use Rattle.block_passes.specs.Plans.{IsPlan}
 use Rattle.block_passes.specs.Spends.{Spends}
 use Rattle.block_passes.specs.Tries.{IsPassMade, IsSearchedTo}

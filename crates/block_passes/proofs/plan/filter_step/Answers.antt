@@ -1,5 +1,5 @@
 use Rattle.std.proofs.Common.{ap, Some, ◌∙◌}
-use Rattle.entry_cache.specs.Jobs.{job_of}
+use Rattle.loop_keys.specs.Jobs.{job_of}
 use Rattle.block_passes.proofs.PlanSteps.{covered_step, uncovered_step}
 use Rattle.block_passes.proofs.plan.filter_step.Goals as goal
 

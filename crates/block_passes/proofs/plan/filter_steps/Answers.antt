@@ -1,6 +1,6 @@
 use Rattle.std.proofs.Common.{◌≡◌, ◌++◌, ap, arith, length, ◌∙◌}
 use Rattle.graph_numbers.specs.Graphs.{GraphView, graph_filters}
-use Rattle.entry_cache.specs.Jobs.{job_graph, job_of}
+use Rattle.loop_keys.specs.Jobs.{job_graph, job_of}
 use Rattle.block_passes.proofs.PlanSteps.{filter_in, filters_begin, filters_end, filters_go_on}
 use Rattle.block_passes.proofs.plan.filter_steps.Goals as goal
 

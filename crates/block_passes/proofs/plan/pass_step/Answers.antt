@@ -1,7 +1,7 @@
 use Rattle.std.proofs.Common.{◌<◌, length, subst, sym}
 use Rattle.graph_numbers.specs.Graphs.{GraphView, graph_results}
-use Rattle.entry_cache.specs.Jobs.{job_of}
-use Rattle.entry_cache.proofs.PassNumbers.{result_inside}
+use Rattle.loop_keys.specs.Jobs.{job_of}
+use Rattle.loop_keys.proofs.PassNumbers.{result_inside}
 use Rattle.block_passes.specs.Plans.{IsPassLed}
 use Rattle.block_passes.specs.Steps.{IsLed}
 use Rattle.block_passes.proofs.PlanSteps.{if_ok, pass_led, report_led}

@@ -1,5 +1,5 @@
 use Rattle.std.proofs.Common.{List}
-use Rattle.entry_cache.specs.Jobs.{job_of}
+use Rattle.loop_keys.specs.Jobs.{job_of}
 use Rattle.block_passes.specs.Plans.{ArePassesPlanned}
 use Rattle.block_passes.specs.Steps.{AreSteps, Chain}
 use Rattle.block_passes.proofs.plan.pass_steps.Given as goal

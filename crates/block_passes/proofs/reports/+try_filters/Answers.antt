@@ -1,7 +1,7 @@
 use Rattle.std.proofs.Common.{List, subst, sym, ℕ}
 use Rattle.std.specs.List.{AllByRecursion}
 use Rattle.std.proofs.lemmas.Result.{on_ok_weaker}
-use Rattle.entry_cache.specs.Jobs.{job_of}
+use Rattle.loop_keys.specs.Jobs.{job_of}
 use Rattle.block_passes.specs.Selections.{AreRemade}
 use Rattle.block_passes.specs.Tries.{IsNamedMade, IsTriedTo, filters_fault}
 use Rattle.block_passes.proofs.Remaking.{both_ok, named_stays, remade_then}

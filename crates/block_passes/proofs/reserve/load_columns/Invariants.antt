@@ -1,5 +1,5 @@
 use Rattle.std.proofs.Common.{◌≡◌, ◌-◌, length}
-use Rattle.entry_cache.specs.Jobs.{job_of}
+use Rattle.loop_keys.specs.Jobs.{job_of}
 use Rattle.block_passes.specs.States.{HaveCells}
 use Rattle.block_passes.proofs.LoadedColumns.{AreLoadedTo}
 use Rattle.block_passes.proofs.reserve.load_columns.Given as goal

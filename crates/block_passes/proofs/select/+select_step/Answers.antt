@@ -2,7 +2,7 @@ use Rattle.std.proofs.Common.{◌≡◌, ◌∙◌, ◌++◌, List, Some, ap, ar
 use Rattle.std.specs.Prelude.{slice_set}
 use Rattle.std.proofs.lemmas.Option.{slice_get-get_or}
 use Rattle.std.proofs.lemmas.Result.{on_ok_weaker}
-use Rattle.entry_cache.specs.Jobs.{job_of}
+use Rattle.loop_keys.specs.Jobs.{job_of}
 use Rattle.block_passes.specs.Selections.{AreRemade, IsNextSelected, IsReadyBelow}
 use Rattle.block_passes.specs.declared.kept.Kept.{Kept as KeptView}
 use Rattle.block_passes.specs.declared.steps.Step.TheVariants as step

@@ -1,7 +1,7 @@
 use Rattle.std.proofs.Common.{◌≡◌, ◌∙◌, ◌+◌, ap, length, rules}
 use Rattle.rdf_values.specs.declared.action.ActionKind.TheVariants as action
-use Rattle.entry_cache.specs.Jobs.{job_of}
-use Rattle.entry_cache.specs.Store.{source_at, version_in}
+use Rattle.loop_keys.specs.Jobs.{job_of}
+use Rattle.loop_keys.specs.Store.{source_at, version_in}
 use Rattle.block_passes.specs.Inputs.{IsAtHand}
 use Rattle.block_passes.proofs.GatheredLanes.{lanes_one, lanes_pair, lanes_triple, lanes_weighted}
 use Rattle.block_passes.proofs.sources.gather.Goals as goal

@@ -1,6 +1,6 @@
 use Rattle.std.proofs.Common.{◌∙◌, arith, length, refl, sym}
 use Rattle.std.proofs.lemmas.Option.{slice_get_read}
-use Rattle.entry_cache.specs.Jobs.{job_of}
+use Rattle.loop_keys.specs.Jobs.{job_of}
 use Rattle.block_passes.proofs.SiteLanes.{bool_gives, int_gives, lane_long}
 use Rattle.block_passes.proofs.sources.site_lane.Goals as goal
 

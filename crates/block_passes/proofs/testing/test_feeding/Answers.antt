@@ -1,5 +1,5 @@
 use Rattle.std.proofs.Common.{arith}
-use Rattle.entry_cache.specs.Jobs.{job_of}
+use Rattle.loop_keys.specs.Jobs.{job_of}
 use Rattle.block_passes.specs.Feeds.{unfed}
 use Rattle.block_passes.proofs.FaultsOver.{fault_selected}
 use Rattle.block_passes.proofs.Unfed.{part_served}

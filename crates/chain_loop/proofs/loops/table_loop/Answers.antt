@@ -1,4 +1,5 @@
-use Rattle.std.proofs.Common.{◌≡◌, ◌<◌, length, subst}
+use Rattle.std.proofs.Common.{◌≡◌, ◌<◌, ◌∙◌, ap, length, subst, sym}
+use Rattle.clusters.specs.CutsView.{CutsView}
 use Rattle.entry_fns.specs.Lists.{functions_in}
 use Rattle.graph_numbers.specs.Graphs.{GraphView, IsGraph, graph_loops}
 use Rattle.rdf_values.specs.Functions.{fn_names}
@@ -14,7 +15,7 @@ run_table-one-requires-clause-job g c κs within =
       job = record {
         graph = subst IsGraph same c.is_booked.ensures;
         table = c.columns-columns.ensures.valid;
-        cuts = c.cuts.ensures.valid;
+        cuts = ap (λ (v : CutsView). v.entries) (sym c.cuts-cuts.ensures.value) ∙ c.cuts-cuts.ensures.valid;
         loop = subst (λ (h : GraphView). c.args.number < length (graph_loops h)) same c.requires.number;
       };
     }

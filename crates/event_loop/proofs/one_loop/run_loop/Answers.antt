@@ -1,6 +1,6 @@
 use Rattle.std.proofs.Common.{ℕ, sym, ◌∙◌, subst, arith}
 use Rattle.std.specs.List.{All}
-use Rattle.entry_cache.specs.Jobs.{job_of}
+use Rattle.loop_keys.specs.Jobs.{job_of}
 use Rattle.slot_state.specs.Jobs.{job_facts}
 use Rattle.event_loop.specs.Gathered.{AreFacts, HasStopped}
 use Rattle.event_loop.specs.Seated.{AreBlank}
@@ -8,10 +8,10 @@ use Rattle.event_loop.proofs.Whole.{few_clusters, facts_of, seats_ready, seats_m
 use Rattle.event_loop.proofs.one_loop.run_loop.Goals as goal
 
 pub opened-requires-clause-clusters : goal.opened-requires-clause-clusters
-opened-requires-clause-clusters g c = few_clusters (job_of c.args.job.now) c.count-clusters.result c.count-clusters.ensures.value c.count-clusters.ensures.valid.few
+opened-requires-clause-clusters g c = few_clusters (job_of c.args.job.now) c.cluster_count-clusters.result c.cluster_count-clusters.ensures.value c.cluster_count-clusters.ensures.few
 
 pub filled-requires-clause-few : goal.filled-requires-clause-few
-filled-requires-clause-few g c = few_clusters (job_of c.args.job.now) c.count-clusters.result c.count-clusters.ensures.value c.count-clusters.ensures.valid.few
+filled-requires-clause-few g c = few_clusters (job_of c.args.job.now) c.cluster_count-clusters.result c.cluster_count-clusters.ensures.value c.cluster_count-clusters.ensures.few
 
 pub run_slots-requires-clause-fresh : goal.run_slots-requires-clause-fresh
 run_slots-requires-clause-fresh g c = λ κs h.
@@ -23,7 +23,7 @@ run_slots-requires-clause-fresh g c = λ κs h.
 
 pub run_slots-requires-clause-clusters : goal.run_slots-requires-clause-clusters
 run_slots-requires-clause-clusters g c = λ κs h.
-    c.in_ok-claims.ensures.0 ∙ sym (facts_of (job_of c.args.job.now) c.count-clusters.result c.requires.job.job c.count-clusters.ensures.value).faults
+    c.in_ok-claims.ensures.0 ∙ sym (facts_of (job_of c.args.job.now) c.cluster_count-clusters.result c.requires.job.job c.cluster_count-clusters.ensures.value).faults
 
 pub gathered-requires-clause-some : goal.gathered-requires-clause-some
 gathered-requires-clause-some g c =
@@ -39,8 +39,8 @@ filled-requires-clause-done g c =
     let job = job_facts (job_of c.args.job.now) in
     let claims = c.in_ok-claims.claims in
     let book = c.in_ok-book.book in
-    let clusters = c.count-clusters.result in
-    let facts = facts_of (job_of c.args.job.now) clusters c.requires.job.job c.count-clusters.ensures.value in
+    let clusters = c.cluster_count-clusters.result in
+    let facts = facts_of (job_of c.args.job.now) clusters c.requires.job.job c.cluster_count-clusters.ensures.value in
     let finished = c.in_ok-finished.finished in
     let ok = finished.ok.0 in
     let ran : All (HasStopped claims book job) finished.items = λ k d lt. c.in_ok-finished.ensures.each k d (omega (arith, c.in_ok-finished.ensures.len)) in
@@ -52,8 +52,8 @@ returns-in-Faulted g c =
     let job = job_facts (job_of c.args.job.now) in
     let claims = c.in_ok-claims.claims in
     let book = c.in_ok-book.book in
-    let clusters = c.count-clusters.result in
-    let facts = facts_of (job_of c.args.job.now) clusters c.requires.job.job c.count-clusters.ensures.value in
+    let clusters = c.cluster_count-clusters.result in
+    let facts = facts_of (job_of c.args.job.now) clusters c.requires.job.job c.cluster_count-clusters.ensures.value in
     let finished = c.in_ok-finished.finished in
     let ok = finished.ok.0 in
     let ran : All (HasStopped claims book job) finished.items = λ k d lt. c.in_ok-finished.ensures.each k d (omega (arith, c.in_ok-finished.ensures.len)) in
@@ -65,8 +65,8 @@ returns-in_ok-filled-in-Processed g c =
     let job = job_facts (job_of c.args.job.now) in
     let claims = c.in_ok-claims.claims in
     let book = c.in_ok-book.book in
-    let clusters = c.count-clusters.result in
-    let facts = facts_of (job_of c.args.job.now) clusters c.requires.job.job c.count-clusters.ensures.value in
+    let clusters = c.cluster_count-clusters.result in
+    let facts = facts_of (job_of c.args.job.now) clusters c.requires.job.job c.cluster_count-clusters.ensures.value in
     let finished = c.in_ok-finished.finished in
     let ok = finished.ok.0 in
     let ran : All (HasStopped claims book job) finished.items = λ k d lt. c.in_ok-finished.ensures.each k d (omega (arith, c.in_ok-finished.ensures.len)) in

@@ -28,7 +28,10 @@ abbrev pub decreases-eval_choice : goal.decreases-eval_choice
 decreases-eval_choice g l = 5 * max (the_size l.c.now) (max (the_size l.a.now) (the_size l.b.now)) + 1
 
 abbrev pub decreases-eval_call : goal.decreases-eval_call
-decreases-eval_call g l = 5 * args_size l.args.now + 3
+decreases-eval_call g l = 5 * args_size l.args.now + 4
+
+abbrev pub decreases-eval_numbers : goal.decreases-eval_numbers
+decreases-eval_numbers g l = 5 * args_size l.args.now + 3
 
 abbrev pub decreases-eval_called : goal.decreases-eval_called
 decreases-eval_called g l = 5 * args_size l.args.now + 2

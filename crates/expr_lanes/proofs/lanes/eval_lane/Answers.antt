@@ -1,6 +1,5 @@
 use Rattle.rdf_model.specs.Evaluation.{evaluate, call_outcome}
 use Rattle.entry_fns.specs.Lists.{functions_in}
-use Rattle.expr_eval.proofs.KnownColumns.{known_columns}
 use Rattle.expr_lanes.specs.Marks.{lane_at}
 use Rattle.expr_lanes.proofs.Agreement.{lane_is, value_is}
 use Rattle.expr_lanes.proofs.ByValue.{by_value}
@@ -8,13 +7,13 @@ use Rattle.expr_lanes.proofs.lanes.eval_lane.Goals as goal
 
 pub eval_node-requires-clause-can : goal.eval_node-requires-clause-can
 eval_node-requires-clause-can g c =
-    rw c.callable-node.ensures.node (known_columns c.args.expr.now c.callable-node.ensures.typed (g.I.LaneInputs.can c.args.inputs.now) c.requires.can)
+    rw c.callable-node.ensures.node c.requires.can
 
 pub returns-clause-values : goal.returns-clause-values
 returns-clause-values g c =
     let ended = rw c.callable-node.ensures.node at c.eval_node.ensures in
     by_value (λ p. evaluate (g.I.LaneInputs.look c.args.inputs.now p) (call_outcome (functions_in c.args.functions.now)) c.args.expr.now.tree)
     (lane_at (g.I.LaneInputs.look c.args.inputs.now) (functions_in c.args.functions.now) c.args.expr.now.tree) c.args.expr.now.kind _ _ _ _ _ _
-    (λ p h. lane_is (functions_in c.args.functions.now) (g.I.LaneInputs.look c.args.inputs.now p) c.args.expr.now c.callable-node.ensures.typed (c.requires.fit p (c.requires.ready.selected.inside p h)) c.requires.plain)
-    (λ p h. value_is (functions_in c.args.functions.now) (g.I.LaneInputs.look c.args.inputs.now p) c.args.expr.now c.callable-node.ensures.typed (c.requires.fit p (c.requires.ready.selected.inside p h)) c.requires.plain)
+    (λ p h. lane_is (g.I.LaneInputs.can c.args.inputs.now) (g.I.LaneInputs.can_tell c.args.inputs.now) (functions_in c.args.functions.now) (g.I.LaneInputs.look c.args.inputs.now p) c.args.expr.now c.callable-node.ensures.typed (c.requires.fit p (c.requires.ready.selected.inside p h)) c.requires.scalar c.requires.can)
+    (λ p h. value_is (g.I.LaneInputs.can c.args.inputs.now) (g.I.LaneInputs.can_tell c.args.inputs.now) (functions_in c.args.functions.now) (g.I.LaneInputs.look c.args.inputs.now p) c.args.expr.now c.callable-node.ensures.typed (c.requires.fit p (c.requires.ready.selected.inside p h)) c.requires.scalar c.requires.can)
     ended

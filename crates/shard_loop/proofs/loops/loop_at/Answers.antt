@@ -1,13 +1,8 @@
-use Rattle.std.proofs.Common.{◌≡◌, ◌<◌, length, subst}
-use Rattle.std.specs.Prelude.{IfOk}
+use Rattle.std.proofs.Common.{◌≡◌, ◌<◌, ◌∙◌, ap, length, subst, sym}
 use Rattle.clusters.specs.CutsView.{CutsView}
-use Rattle.rdf_values.specs.Cuts.{cut}
 use Rattle.entry_fns.specs.Lists.{functions_in}
-use Rattle.entry_cache.specs.Jobs.{job_graph, job_of}
 use Rattle.graph_numbers.specs.Graphs.{GraphView, IsGraph, graph_loops}
 use Rattle.rdf_values.specs.Functions.{fn_names}
-use Rattle.shard_spans.specs.Spans.{span_loop}
-use Rattle.shard_loop.specs.LoopSpans.{loop_in, table_of}
 use Rattle.shard_loop.proofs.loops.loop_at.Goals as goal
 
 pub run_loop-one-requires-clause-job : goal.run_loop-one-requires-clause-job
@@ -20,12 +15,7 @@ run_loop-one-requires-clause-job g c =
       job = record {
         graph = subst IsGraph same c.is_booked.ensures;
         table = c.columns-columns.ensures.valid;
-        cuts = c.cuts.ensures.valid;
+        cuts = ap (λ (v : CutsView). v.entries) (sym c.cuts-cuts.ensures.value) ∙ c.cuts-cuts.ensures.valid;
         loop = subst (λ (h : GraphView). c.args.number < length (graph_loops h)) same c.requires.number;
       };
     }
-
-pub returns : goal.returns
-returns g c =
-    subst (λ (cuts : CutsView). IfOk c.run_loop-one.result (λ one. one ≡ span_loop (cut cuts.entries cuts.size cuts.marks) (table_of c.args.columns.now (functions_in c.args.functions.now)) c.args.clusters.lo c.args.clusters.hi (loop_in c.args.graph.now.script c.args.number)))
-    c.cuts.ensures.value c.run_loop-one.ensures

@@ -6,8 +6,8 @@ use Rattle.rdf_values.specs.Bookings.{named_before}
 use Rattle.rdf_values.specs.Path.{history}
 use Rattle.rdf_model.specs.LoopFacts.{kinds_in}
 use Rattle.actions.specs.Accumulators.{Accumulator}
-use Rattle.entry_cache.specs.Jobs.{job_of, passes_in}
-use Rattle.entry_passes.specs.Entries.{job_spans}
+use Rattle.loop_keys.specs.Jobs.{job_of, passes_in}
+use Rattle.pass_laws.specs.Entries.{job_spans}
 use Rattle.slot_state.proofs.Adding.{of_action, result_within}
 use Rattle.filters_report.specs.Flows.{nothing}
 use Rattle.shard_lines.specs.declared.shard_line.ShardLine.{ShardLine}

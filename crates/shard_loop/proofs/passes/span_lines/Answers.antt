@@ -1,6 +1,6 @@
 use Rattle.std.proofs.Common.{◌≡◌, ◌∙◌, ◌+◌, ◌≤◌, ap, arith, length, map, refl, sym}
 use Rattle.std.proofs.lemmas.List.{take_all}
-use Rattle.entry_cache.specs.Jobs.{job_of, passes_in}
+use Rattle.loop_keys.specs.Jobs.{job_of, passes_in}
 use Rattle.cluster_tally.proofs.ListPlaces.{there}
 use Rattle.shard_spans.specs.Spans.{pass_line}
 use Rattle.shard_loop.specs.LoopSpans.{span_rows_of}

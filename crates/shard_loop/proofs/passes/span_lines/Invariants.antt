@@ -1,6 +1,6 @@
 use Rattle.std.proofs.Common.{◌≡◌, ◌≤◌, ℕ, length, map, take}
 use Rattle.rdf_model.specs.LoopFacts.{kinds_in}
-use Rattle.entry_cache.specs.Jobs.{job_of, passes_in}
+use Rattle.loop_keys.specs.Jobs.{job_of, passes_in}
 use Rattle.shard_spans.specs.Spans.{pass_line}
 use Rattle.shard_loop.specs.LoopSpans.{IsSpanPiece, span_rows_of}
 use Rattle.shard_loop.proofs.passes.span_lines.Given as goal

@@ -1,4 +1,4 @@
-use Rattle.entry_cache.specs.Jobs.{job_of}
+use Rattle.loop_keys.specs.Jobs.{job_of}
 use Rattle.std.proofs.Common.{sym}
 use Rattle.slot_state.proofs.Adding.{flag_is, not_nominal, result_within}
 use Rattle.slot_state.proofs.passes.is_watched.Goals as goal

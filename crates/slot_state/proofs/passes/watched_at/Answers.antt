@@ -1,5 +1,5 @@
 use Rattle.std.proofs.Common.{◌+◌, ◌∙◌, ap, sym}
-use Rattle.entry_cache.specs.Jobs.{job_of}
+use Rattle.loop_keys.specs.Jobs.{job_of}
 use Rattle.slot_state.specs.Passes.{watched_before}
 use Rattle.slot_state.proofs.Adding.{its_pass, none_more, of_action, of_report, one_more, result_within}
 use Rattle.slot_state.proofs.passes.watched_at.Goals as goal

@@ -1,7 +1,7 @@
 use Rattle.std.proofs.Common.{◌≤◌, ◌∙◌, ◌+◌, ap, arith, length, refl}
 use Rattle.std.proofs.lemmas.List.{take_all}
 use Rattle.rdf_values.specs.Path.{history}
-use Rattle.entry_cache.specs.Jobs.{job_of, passes_in}
+use Rattle.loop_keys.specs.Jobs.{job_of, passes_in}
 use Rattle.loop_pieces.specs.Trails.{watched_places}
 use Rattle.slot_state.proofs.Adding.{watched_few}
 use Rattle.slot_state.proofs.passes.watched_in.Goals as goal

@@ -1,5 +1,5 @@
 use Rattle.std.proofs.Common.{◌≡◌, length}
-use Rattle.entry_cache.specs.Jobs.{job_of, passes_in}
+use Rattle.loop_keys.specs.Jobs.{job_of, passes_in}
 use Rattle.slot_state.specs.Passes.{watched_before}
 use Rattle.slot_state.proofs.passes.watched_in.Given as goal
 

@@ -1,6 +1,6 @@
 use Rattle.std.proofs.Common.{◌++◌, ◌∷◌, [], ◌∙◌, subst, sym, take}
 use Rattle.rdf_model.specs.LoopFacts.{kinds_in}
-use Rattle.entry_cache.specs.Jobs.{job_of, passes_in}
+use Rattle.loop_keys.specs.Jobs.{job_of, passes_in}
 use Rattle.cluster_tally.specs.Feedings.{IsFresh, place_if}
 use Rattle.slot_state.specs.Passes.{places_before}
 use Rattle.slot_state.proofs.Adding.{added, can_watch, edges, its_pass, kept, of_action, of_report, result_within}

@@ -1,18 +1,43 @@
-use Rattle.std.proofs.Common.{◌≡◌, ◌∙◌, ap, refl}
+use Rattle.std.proofs.Common.{arith, [], ◌≡◌, ◌∙◌, ap, refl}
+use Rattle.rdf_values.specs.declared.action.ActionKind.TheVariants as kind
 use Rattle.actions.specs.declared.batch.Sources.TheVariants.{One, Weighted}
 use Rattle.actions.specs.declared.lane.Lane.TheVariants as lane
 use Rattle.actions.specs.Batches.{places_of}
-use Rattle.actions.proofs.Batching.{number_points, weighted_points}
+use Rattle.actions.proofs.Batching.{few_points, lane_points, weighted_points}
+use Rattle.actions.proofs.Points.{none_filled}
 use Rattle.actions.proofs.States.{holds_flat}
 use Rattle.actions.proofs.state.State.fill_at_once.Goals as goal
 
-pub returns-in-One-Int-clause-fed : goal.returns-in-One-Int-clause-fed
-returns-in-One-Int-clause-fed c = λ t cluster fed below held.
+pub fold_lane-requires-clause-room : goal.fold_lane-requires-clause-room
+fold_lane-requires-clause-room c =
     let hist = c.in-Histo1D.hist in
-    let x_is : c.in-One-Int.x ≡ lane.Int c.in-One-Int.numbers = rw c.in-One-Int.is at c.in-One-Int.x-is in
-    rw c.in-Histo1D.is (holds_flat fed cluster below hist c.fill_numbers.new.hist c.in-Histo1D.x c.in-Histo1D.weight _ _
-    (number_points hist.edges c.in-Histo1D.x c.in-Histo1D.weight c.args.batch.now.sources (lane.Int c.in-One-Int.numbers) (places_of c.args.batch.now.places) _ (c.in-One-Int.is ∙ ap One x_is) (λ p. refl))
-    c.fill_numbers.ensures.filled (rw c.in-Histo1D.is at held))
+    let suits = rw c.in-Histo1D.is at c.requires.suits in
+    let few = few_points hist.edges c.in-Histo1D.x c.in-Histo1D.weight c.args.batch.now.sources c.in-One.x (places_of c.args.batch.now.places) c.in-One.is suits in
+    let within = rw c.in-Histo1D.is at c.requires.room in
+    let count = c.requires.few in
+    omega (arith, few, within, count)
+
+pub returns-in-One-clause-within : goal.returns-in-One-clause-within
+returns-in-One-clause-within c = λ t n w.
+    let hist = c.in-Histo1D.hist in
+    let suits = rw c.in-Histo1D.is at c.requires.suits in
+    let few = few_points hist.edges c.in-Histo1D.x c.in-Histo1D.weight c.args.batch.now.sources c.in-One.x (places_of c.args.batch.now.places) c.in-One.is suits in
+    let before = rw c.in-Histo1D.is at w in
+    let fills = (c.fold_lane.ensures.folded hist [] (none_filled hist)).1 in
+    omega (arith, few, before, fills)
+
+pub returns-in-One-clause-kind : goal.returns-in-One-clause-kind
+returns-in-One-clause-kind c =
+    let same = (c.fold_lane.ensures.folded c.in-Histo1D.hist [] (none_filled c.in-Histo1D.hist)).0 in
+    rw c.in-Histo1D.is (ap (λ edges. kind.Histo1D edges c.in-Histo1D.x c.in-Histo1D.weight) same)
+
+pub returns-in-One-clause-fed : goal.returns-in-One-clause-fed
+returns-in-One-clause-fed c = λ t cluster fed below held.
+    let hist = c.in-Histo1D.hist in
+    let ps = places_of c.args.batch.now.places in
+    rw c.in-Histo1D.is (holds_flat fed cluster below hist c.fold_lane.new.folder c.in-Histo1D.x c.in-Histo1D.weight _ _
+    (lane_points hist.edges c.in-Histo1D.x c.in-Histo1D.weight c.args.batch.now.sources c.in-One.x ps c.in-One.is)
+    (c.fold_lane.ensures.folded hist [] (none_filled hist)).2 (rw c.in-Histo1D.is at held))
 
 pub returns-in-Weighted-Int-Int-clause-fed : goal.returns-in-Weighted-Int-Int-clause-fed
 returns-in-Weighted-Int-Int-clause-fed c = λ t cluster fed below held.

@@ -2,7 +2,7 @@ use Rattle.std.proofs.Common.{arith, List, ◌-◌, ◌∙◌, ap, length, subst
 use Rattle.std.specs.Vec.{with_items}
 use Rattle.std.proofs.lemmas.List.{with_items_is}
 use Rattle.block_lanes.specs.Lanes.{kinds_of}
-use Rattle.entry_cache.specs.Jobs.{job_of}
+use Rattle.loop_keys.specs.Jobs.{job_of}
 use Rattle.block_passes.specs.Blocks.{entries_from}
 use Rattle.block_passes.specs.Plans.{IsPlan}
 use Rattle.block_passes.specs.Selections.{IsReadyBelow}

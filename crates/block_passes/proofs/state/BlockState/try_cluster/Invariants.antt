@@ -1,5 +1,5 @@
 use Rattle.std.proofs.Common.{◌≡◌, ◌-◌}
-use Rattle.entry_cache.specs.Jobs.{job_of}
+use Rattle.loop_keys.specs.Jobs.{job_of}
 use Rattle.block_passes.specs.States.{IsStateOf}
 use Rattle.block_passes.proofs.ClusterBlocks.{IsAtBlock}
 use Rattle.block_passes.proofs.state.BlockState.try_cluster.Given as goal

@@ -1,6 +1,10 @@
-use Rattle.std.proofs.Common.{ap, arith, map, refl, ℕ}
+use Rattle.std.proofs.Common.{ap, arith, length, map, refl, subst, ℕ}
 use Rattle.std.specs.declared.snapshot.Snapshot.{Snapshot}
-use Rattle.entry_cache.specs.Jobs.{job_of}
+use Rattle.rdf_values.specs.Cuts.{cut}
+use Rattle.clusters.specs.CutsView.{CutsView}
+use Rattle.block_passes.specs.States.{CountsVectors}
+use Rattle.loop_keys.specs.Jobs.{job_of}
+use Rattle.graph_numbers.specs.Graphs.{GraphView}
 use Rattle.slot_state.specs.contracts.state.SlotState.{the_view}
 use Rattle.slot_state.specs.declared.progress.Phase.TheVariants as phase
 use Rattle.slot_state.proofs.Beginning.{begun}
@@ -11,5 +15,5 @@ returns g c =
     let t = c.in_ok-tally in
     let d = c.in_ok-done in
     begun (job_of c.args.job.now) c.requires.job.job c.answers_have_64_bits.ensures c.requires.words
-    (the_view (record { cache = c.in_ok-cache.cache; plan = c.in_ok-plan.plan; tally = t.tally; done = d.done; phase = phase.Going }))
-    c.in_ok-cache.ensures.1 c.in_ok-plan.ensures t.ensures.fresh t.ensures.flow (omega (arith, d.ensures.capacity, c.count.ensures.value)) (ap (map (λ (s : Snapshot ℕ). s.value)) d.ensures.items) refl
+    (the_view (record { blocks = c.in_ok-blocks.blocks; vectors = c.in_ok-vectors.vectors; tally = t.tally; done = d.done; phase = phase.Going }))
+    c.in_ok-blocks.ensures (subst (λ (g : GraphView). CountsVectors g c.in_ok-vectors.vectors) c.requires.job.graph c.in_ok-vectors.ensures.count, c.in_ok-vectors.ensures.few) t.ensures.fresh t.ensures.flow (omega (arith, d.ensures.capacity, c.count.ensures.value, ap (λ (v : CutsView). length (cut v.entries v.size v.marks)) c.cuts.ensures.value)) (ap (map (λ (s : Snapshot ℕ). s.value)) d.ensures.items) refl

@@ -1,11 +1,11 @@
 use Rattle.std.proofs.Common.{ℕ, ◌≡◌, ◌∙◌, ◌<◌, ◌++◌, ◌∷◌, [], Err, None, Some, length, ap, arith, refl, subst, sym}
 use Rattle.std.proofs.lemmas.List.{length-map}
 use Rattle.std.specs.declared.snapshot.Snapshot.{Snapshot}
-use Rattle.entry_cache.specs.Jobs.{job_of}
-use Rattle.entry_passes.specs.Entries.{facts_in}
+use Rattle.loop_keys.specs.Jobs.{job_of}
+use Rattle.pass_laws.specs.Entries.{facts_in}
 use Rattle.cluster_tally.specs.Stages.{at_begin}
 use Rattle.cluster_tally.specs.Tallies.{Holds}
-use Rattle.slot_state.specs.Clusters.{IsClusterAnswer, at_end}
+use Rattle.block_passes.specs.Clusters.{IsClusterAnswer, at_end}
 use Rattle.slot_state.specs.Jobs.{job_facts}
 use Rattle.slot_state.specs.Slots.{SlotView}
 use Rattle.slot_state.specs.contracts.state.SlotState.{the_view}
@@ -53,8 +53,9 @@ returns-in-Ok-close-clause-slot g c =
     let here = subst (λ (s : SlotView). Holds (facts_in j) (job_facts j).watched (at_begin c.args.self.now.done c.args.cluster) s.tally) (sym c.self.view_is) begin in
     let taken = c.in-Ok.ensures.holds (job_facts j).watched c.args.self.now.done here in
     went_on j c.args.self.now c.requires.slot going c.args.cluster c.requires.cluster c.requires.above
-    (the_view (record { cache = c.try_cluster.new.cache; plan = c.self.inside.plan; tally = c.close.new.self; done = c.push_reserved.new.self; phase = c.self.inside.phase }))
-    c.try_cluster.ensures.sized (ap (λ (s : SlotView). s.plan) c.self.view_is)
+    (the_view (record { blocks = c.try_cluster.new.self; vectors = c.self.inside.vectors; tally = c.close.new.self; done = c.push_reserved.new.self; phase = c.self.inside.phase }))
+    c.try_cluster.ensures.state
+    (ap (λ (s : SlotView). s.vectors) c.self.view_is)
     (c.push_reserved.ensures.capacity ∙ ap (λ (s : SlotView). s.room) c.self.view_is)
     (seen_with c.self.inside.done.items c.push_reserved.new.self.items c.args.cluster c.of.result c.of.ensures c.push_reserved.ensures.items ∙ ap (λ (s : SlotView). s.done ++ c.args.cluster ∷ []) c.self.view_is)
     (λ next later. c.in-Ok-close.ensures.holds (facts_in j) (job_facts j).watched (at_end (facts_in j) c.args.self.now.done c.args.cluster) next taken (is_at_end j c.args.self.now.done c.args.cluster) later)

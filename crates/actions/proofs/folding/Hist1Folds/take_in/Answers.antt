@@ -1,0 +1,29 @@
+use Rattle.std.proofs.Common.{rules, arith, ◌<◌, ◌++◌, ◌∙◌, ◌≡◌, sym, subst, get_or, length, map, pos, take, w64, FitsSigned, List, ℤ, append_assoc, ap}
+use Rattle.std.proofs.lemmas.Int.{to_z-of_z}
+use Rattle.std.proofs.lemmas.List.{take_all}
+use Rattle.rdf_values.specs.declared.item.Item.{Item}
+use Rattle.rdf_values.specs.declared.item.Item.TheVariants.{Point}
+use Rattle.histograms.specs.OneAxis.{HasFilled}
+use Rattle.actions.proofs.Points.{one_filled}
+use Rattle.actions.proofs.folding.Hist1Folds.take_in.Goals as goal
+
+pub fill-requires-clause-room : goal.fill-requires-clause-room
+fill-requires-clause-room c =
+    let room = c.requires.room in
+    let fills = c.loop-number.invariant.fills in
+    let below : c.loop-number.number-index < length c.args.numbers.now = search rules in
+    omega (arith, room, fills, below)
+
+pub loop-number-preserved : goal.loop-number-preserved
+loop-number-preserved c =
+    let xs = c.args.numbers.now in
+    let i = c.loop-number.number-index in
+    let below : i < length xs = search rules in
+    let x = get_or xs i (pos 0) in
+    let fits_x : FitsSigned w64 x = search rules in
+    record {
+      edges = c.fill.ensures.edges ∙ c.loop-number.invariant.edges;
+      fills = c.fill.ensures.fills ∙ (let f = c.loop-number.invariant.fills in omega arith);
+      filled = λ before held. subst (HasFilled c.fill.new.self) (one_filled xs i before _ below (to_z-of_z w64 x fits_x))
+          (c.fill.ensures.filled (before ++ map (λ z. Point z (pos 1)) (take i xs)) (c.loop-number.invariant.filled before held));
+    }

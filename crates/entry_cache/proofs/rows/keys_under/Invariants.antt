@@ -1,6 +1,0 @@
-use Rattle.std.proofs.Common.{◌≡◌}
-use Rattle.entry_cache.specs.Keys.{AreEach, key}
-use Rattle.entry_cache.proofs.rows.keys_under.Given as goal
-
-abbrev pub invariant-loop-i : goal.invariant-loop-i
-invariant-loop-i l = AreEach (λ s k. k ≡ key l._graph s l.under) l.i l.keys

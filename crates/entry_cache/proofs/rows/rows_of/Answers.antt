@@ -1,6 +1,0 @@
-use Rattle.entry_cache.proofs.RowLaws.{more_rows}
-use Rattle.entry_cache.proofs.rows.rows_of.Goals as goal
-
-pub loop-v-preserved : goal.loop-v-preserved
-loop-v-preserved c =
-    more_rows c.args.graph.now c.loop-v.v c.loop-v.rows c.loop-v.invariant c.in_ok-row_under-2.field-0 c.in_ok-row_under-2.ensures c.push-in-loop-v.new.self c.in_ok-push-2.ensures.ok

@@ -1,5 +1,0 @@
-use Rattle.entry_cache.proofs.TableLaws.{not_stored}
-use Rattle.entry_cache.proofs.view.cell.Goals as goal
-
-pub unreachable-requires : goal.unreachable-requires
-unreachable-requires c = not_stored c.args.columns.now.table.columns c.columns.result.now c.columns.ensures.value c.columns.ensures.valid.header.distinct c.args.col c.requires.column _ c.in-Bool.is

@@ -1,8 +1,0 @@
-pub mod Caches
-pub mod Jobs
-pub mod Keys
-pub mod Known
-pub mod Passes
-pub mod Plain
-pub mod Rounds
-pub mod Store

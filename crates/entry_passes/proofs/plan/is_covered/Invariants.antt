@@ -1,9 +1,0 @@
-use Rattle.std.proofs.Common.{◌≡◌, false, take}
-use Rattle.std.specs.List.{list_any}
-use Rattle.graph_numbers.specs.Graphs.{graph_results}
-use Rattle.entry_cache.specs.Jobs.{job_graph, job_of}
-use Rattle.entry_passes.specs.Turns.{is_covering}
-use Rattle.entry_passes.proofs.plan.is_covered.Given as goal
-
-abbrev pub invariant-loop-pass : goal.invariant-loop-pass
-invariant-loop-pass g l = list_any (is_covering (graph_results (job_graph (job_of l.job))) l.filter) (take l.pass-index l.passes) ≡ false

@@ -1,0 +1,69 @@
+// Expressions that can be evaluated over a block.
+ghost use Rattle.std.specs.Prelude.{◌≡◌, true, false, All};
+ghost use Rattle.rdf_values.specs.EachColumn.{EachColumn, EachArgument};
+ghost use Rattle.rdf_values.specs.NumExprTree.{num_tree, num_trees};
+ghost use Rattle.rdf_values.specs.Tree.{Call as CallTree};
+ghost use Rattle.expr_check.specs.NumKinds.{is_vector, takes_no_vector};
+ghost use Rattle.expr_lanes.specs.Folds.{CanLane, CanLaneAll};
+
+use crate::folds::fold_call;
+use crate::lane_inputs::LaneInputs;
+use expr_check::Checked;
+use rdf_values::{Callee, ColType, NumArgs, NumNode};
+
+#[cycle(able)]
+fn is_node_able<I: LaneInputs>(node: &NumNode, inputs: &I) -> bool
+    requires { EachColumn (I.can_tell inputs.now) (num_tree node.now) }
+    ensures { result ≡ true → CanLane (I.can inputs.now) (I.can_tell inputs.now) (num_tree node.now) }
+{
+    match node {
+        NumNode::Lit(_) | NumNode::Truth(_) => true,
+        NumNode::Col(column) => inputs.has_numbers(*column),
+        NumNode::Neg(a) | NumNode::Not(a) => is_node_able(a, inputs),
+        NumNode::Bin(_, a, b) => is_node_able(a, inputs) && is_node_able(b, inputs),
+        NumNode::Cond(c, a, b) => {
+            is_node_able(c, inputs) && is_node_able(a, inputs) && is_node_able(b, inputs)
+        }
+        NumNode::Pick(_, _) => false,
+        NumNode::Call(callee, args) => is_call_able(*callee, args, inputs),
+    }
+}
+
+#[cycle(able)]
+fn is_call_able<I: LaneInputs>(callee: Callee, args: &NumArgs, inputs: &I) -> bool
+    requires { EachArgument (I.can_tell inputs.now) (num_trees args.now) }
+    ensures { result ≡ true → CanLane (I.can inputs.now) (I.can_tell inputs.now) (CallTree callee (num_trees args.now)) }
+{
+    match fold_call(callee, args) {
+        Some(_) => true,
+        None => takes_numbers(callee) && are_args_able(args, inputs),
+    }
+}
+
+#[cycle(able)]
+fn are_args_able<I: LaneInputs>(args: &NumArgs, inputs: &I) -> bool
+    requires { EachArgument (I.can_tell inputs.now) (num_trees args.now) }
+    ensures { result ≡ true → CanLaneAll (I.can inputs.now) (I.can_tell inputs.now) (num_trees args.now) }
+{
+    match args {
+        NumArgs::End => true,
+        NumArgs::More(a, rest) => is_node_able(a, inputs) && are_args_able(rest, inputs),
+    }
+}
+
+fn takes_numbers(callee: Callee) -> bool
+    ensures { result ≡ takes_no_vector callee }
+{
+    matches!(callee, Callee::Abs | Callee::Given(_))
+}
+
+/// Whether an expression can be evaluated over a block: it has to do with no vectors but columns of which a function makes a
+/// number, and each other column that it reads is one of numbers.
+pub fn can_eval_lane<I: LaneInputs>(expr: &Checked, inputs: &I) -> bool
+    requires { All (λ c. I.can_tell inputs.now c.0) expr.now.kinds }
+    ensures scalar { result ≡ true → is_vector expr.now.kind ≡ false }
+    ensures can { result ≡ true → CanLane (I.can inputs.now) (I.can_tell inputs.now) expr.now.tree }
+{
+    let node = &expr.tree().node;
+    !matches!(expr.kind(), ColType::Vect) && is_node_able(node, inputs)
+}

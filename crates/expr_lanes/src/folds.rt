@@ -1,0 +1,189 @@
+// Built-in functions of a vector that give a number.
+ghost use Rattle.std.specs.Prelude.{◌≡◌, ◌+◌, ◌<◌, ◌≤◌, ℕ, true, List, [], ◌∷◌, length};
+ghost use Rattle.std.specs.Int.{int_max, int_min};
+ghost use Rattle.rdf_values.specs.NumExprTree.{num_tree, num_trees};
+ghost use Rattle.rdf_values.specs.Tree.{End};
+ghost use Rattle.rdf_values.specs.declared.value.Value.TheVariants as val;
+ghost use Rattle.rdf_model.specs.Evaluation.{extreme_element};
+ghost use Rattle.expr_eval.specs.Answers.{number_value, sum_of};
+ghost use Rattle.expr_eval.specs.Inputs.{input_outcome};
+ghost use Rattle.expr_lanes.specs.Folds.{column_of, fold_named, fold_outcome, fold_read, fold_told, only_column};
+ghost use Rattle.expr_lanes.specs.Marks.{lane_outcome};
+ghost use Rattle.expr_lanes.specs.Places.{answered_at, Evaluated, IsReady};
+
+use crate::MAX_PLACES;
+use crate::kernel::{Kernel, run};
+use crate::lane_inputs::LaneInputs;
+use crate::selection::Selection;
+use crate::stopped::Stopped;
+use arrayvec::ArrayVec;
+use expr_eval::number::operate;
+use expr_eval::{Input, ScalarStop};
+use rdf_values::{BinOp, Callee, EntryFault, NumArgs, NumNode};
+
+/// A function of the elements of a vector.
+#[derive(Clone, Copy, Debug)]
+pub enum Fold {
+    Sum,
+    Size,
+    Least,
+    Greatest,
+}
+
+/// A call of one with a column.
+#[derive(Clone, Copy, Debug)]
+pub struct FoldCall {
+    pub fold: Fold,
+    pub column: u32,
+}
+
+/// The call of such a function with a column that a call is, if it is one.
+pub fn fold_call(callee: Callee, args: &NumArgs) -> Option<FoldCall>
+    ensures { result ≡ fold_read callee (num_trees args.now) }
+{
+    match (fold_of(callee), only_argument(args)) {
+        (Some(fold), Some(column)) => Some(FoldCall { fold, column }),
+        _ => None,
+    }
+}
+
+fn fold_of(callee: Callee) -> Option<Fold>
+    ensures { result ≡ fold_named callee }
+{
+    match callee {
+        Callee::Sum => Some(Fold::Sum),
+        Callee::Size => Some(Fold::Size),
+        Callee::Min => Some(Fold::Least),
+        Callee::Max => Some(Fold::Greatest),
+        Callee::Any | Callee::All | Callee::At | Callee::Abs | Callee::Given(_) => None,
+    }
+}
+
+/// The column that is the only argument.
+fn only_argument(args: &NumArgs) -> Option<u32>
+    ensures { result ≡ only_column (num_trees args.now) }
+{
+    match args {
+        NumArgs::End => None,
+        NumArgs::More(first, rest) => match &**rest {
+            NumArgs::End => column_in(first),
+            NumArgs::More(_, _) => None,
+        },
+    }
+}
+
+fn column_in(node: &NumNode) -> Option<u32>
+    ensures { result ≡ column_of (num_tree node.now) }
+{
+    match node {
+        NumNode::Col(column) => Some(*column),
+        NumNode::Lit(_)
+        | NumNode::Truth(_)
+        | NumNode::Neg(_)
+        | NumNode::Not(_)
+        | NumNode::Bin(_, _, _)
+        | NumNode::Cond(_, _, _)
+        | NumNode::Pick(_, _)
+        | NumNode::Call(_, _) => None,
+    }
+}
+
+/// A call of one at each place.
+#[derive(Drop)]
+struct Folded<'a, S: LaneInputs> {
+    scope: &'a S,
+    call: FoldCall,
+}
+
+impl<'a, S: LaneInputs> Kernel for Folded<'a, S> {
+    ghost can = { λ s p. (p < S.size s.scope.now) × S.can_tell s.scope.now s.call.column };
+
+    ghost gives = { λ s p. lane_outcome (fold_told s.call.fold (S.look s.scope.now p s.call.column)) };
+
+    fn at(&self, place: u32) -> Result<i64, ScalarStop> {
+        let column = self.call.column;
+        let input = self.scope.tell(column, place);
+        fold_input(self.call.fold, input, column)
+    }
+}
+
+/// Writes what the call comes to at each selected place into the lane.
+pub(crate) fn fold_column<S: LaneInputs>(
+    call: FoldCall,
+    scope: &S,
+    selection: &mut Selection,
+    lane: &mut [i64],
+    stops: &mut ArrayVec<Stopped, MAX_PLACES>,
+)
+    requires can { S.can_tell scope.now call.column }
+    requires ready { IsReady (S.size scope.now) selection.old lane.old stops.old.items }
+    ensures { Evaluated (λ p. lane_outcome (fold_told call.fold (S.look scope.now p call.column))) selection.old selection.new lane.old lane.new stops.old.items stops.new.items }
+{
+    run(&Folded { scope, call }, selection, lane, stops)
+}
+
+/// What the function comes to with what is known of a column.
+fn fold_input(fold: Fold, input: Input<'_>, column: u32) -> Result<i64, ScalarStop>
+    ensures { answered_at result ≡ lane_outcome (fold_told fold (input_outcome column input.entry)) }
+{
+    match input {
+        Input::Vect(xs) => match fold_vector(fold, xs) {
+            Ok(z) => Ok(z),
+            Err(kind) => Err(ScalarStop::Fault(kind)),
+        },
+        // What no checked expression comes to is 0, as the definition of evaluation says.
+        Input::Int(_) | Input::Bool(_) => Ok(0),
+        Input::Faulted(kind) => Err(ScalarStop::Fault(kind)),
+        Input::Missing => Err(ScalarStop::Need(column)),
+    }
+}
+
+fn fold_vector(fold: Fold, xs: &[i64]) -> Result<i64, EntryFault>
+    ensures { number_value result ≡ fold_outcome fold (val.Vect xs.now) }
+{
+    match fold {
+        Fold::Sum => sum(xs),
+        Fold::Size => Ok(xs.len() as i64),
+        Fold::Least => least(xs),
+        Fold::Greatest => greatest(xs),
+    }
+}
+
+fn sum(xs: &[i64]) -> Result<i64, EntryFault>
+    ensures { number_value result ≡ sum_of xs.now }
+{
+    let mut total = 0_i64;
+    for x in xs {
+        match operate(BinOp::Add, total, *x) {
+            Ok(next) => total = next,
+            Err(kind) => return Err(kind),
+        }
+    }
+    Ok(total)
+}
+
+fn least(xs: &[i64]) -> Result<i64, EntryFault>
+    ensures { number_value result ≡ extreme_element int_min xs.now }
+{
+    let Some((first, rest)) = xs.split_first() else {
+        return Err(EntryFault::EmptyVector);
+    };
+    let mut best = *first;
+    for x in rest {
+        best = best.min(*x);
+    }
+    Ok(best)
+}
+
+fn greatest(xs: &[i64]) -> Result<i64, EntryFault>
+    ensures { number_value result ≡ extreme_element int_max xs.now }
+{
+    let Some((first, rest)) = xs.split_first() else {
+        return Err(EntryFault::EmptyVector);
+    };
+    let mut best = *first;
+    for x in rest {
+        best = best.max(*x);
+    }
+    Ok(best)
+}

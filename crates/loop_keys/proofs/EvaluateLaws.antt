@@ -1,0 +1,177 @@
+-- One evaluation of a site over what is held: its outcome, or a version that it meets and of whose site nothing is held.
+use Rattle.std.proofs.Common.{◌≡◌, ◌≢◌, ◌⊎◌, inl, inr, ℕ, ◌<◌, Bool, true, false, List, length, Option, Some, None, refl, sym, ◌∙◌, ap, subst, arith, nat_eq, slice_get, if◌then◌else◌}
+use Rattle.std.proofs.lemmas.Bool.Decides.{Decides-eqb}
+use Rattle.std.proofs.lemmas.Option.{slice_get_within}
+use Rattle.rdf_values.specs.Path.{history}
+use Rattle.rdf_values.specs.EachColumn.{EachColumn}
+use Rattle.rdf_values.specs.Functions.{fn_names}
+use Rattle.rdf_values.specs.Kinds.{scope_of}
+use Rattle.rdf_values.specs.Verdict.{AreAccepted}
+use Rattle.rdf_values.specs.declared.value.Value.{Value}
+use Rattle.rdf_values.specs.declared.value.Value.TheVariants as val
+use Rattle.rdf_model.specs.Evaluation.{Outcome, Gives, Faults, Needs, ◌>>=◌, evaluate, call_outcome, is_need, without}
+use Rattle.rdf_model.specs.ColumnValues.{tag_element}
+use Rattle.rdf_model.specs.Demanded.{with_needs}
+use Rattle.rdf_model.proofs.Close as close
+use Rattle.rdf_model.proofs.Verdicts.{verdict_is_the_first_refusal}
+use Rattle.graph_numbers.specs.Graphs.{graph_sites, graph_under}
+use Rattle.graph_numbers.specs.Sites.{SiteAt, site_outcome}
+use Rattle.graph_numbers.specs.Sources.{IsBelow, site_value, source_value}
+use Rattle.graph_numbers.specs.Versions.{version_count}
+use Rattle.graph_numbers.specs.declared.source.Source.{Source}
+use Rattle.graph_numbers.specs.declared.source.Source.TheVariants as from
+use Rattle.graph_numbers.proofs.Equations as equations
+use Rattle.graph_numbers.proofs.Extending.{versions_count}
+use Rattle.rdf_model.proofs.KnownColumns.{each_weaker}
+use Rattle.rdf_model.proofs.Missing.{site_alike, alike_is}
+use Rattle.loop_keys.specs.Jobs.{JobView, IsJob, job_graph}
+use Rattle.loop_keys.specs.Keys.{key}
+use Rattle.loop_keys.specs.Store.{held_in, is_held, IsRight, row_of, site_in, source_at, version_in, IsSound, held_or_need, looked_source, look_at, IsMissingSource, IsMissing, MeetsAt}
+use Rattle.loop_keys.specs.declared.held.Held.{Held}
+use Rattle.loop_keys.specs.declared.held.Held.TheVariants as held
+
+pub accepted_of : (j : JobView) → IsJob j → AreAccepted (fn_names j.dataset.fns) (scope_of j.dataset.columns) (history j.script)
+accepted_of j job = (verdict_is_the_first_refusal (fn_names j.dataset.fns) j.dataset.columns j.script).0 job.graph.accepted
+
+-- nothing is missing of a site
+site_known : (j : JobView) (entry : ℕ) (u : Option ℕ) (t : ℕ) → site_in {M = ℕ} j entry u t ≡ with_needs (site_in j entry u t)
+site_known j entry u t = go (slice_get (graph_sites (job_graph j)) t)
+  where
+    go : (o : Option SiteAt) → site_value {M = ℕ} (λ x. site_outcome j.dataset.fns j.dataset.columns (row_of j entry) x (graph_under (job_graph j) u)) o
+        ≡ with_needs (site_value (λ x. site_outcome j.dataset.fns j.dataset.columns (row_of j entry) x (graph_under (job_graph j) u)) o)
+    go None = refl
+    go (Some x) = alike_is _ _ (site_alike ⊥ ℕ j.dataset.fns j.dataset.columns (row_of j entry) x.at (graph_under (job_graph j) u) x.expr)
+
+module _ (j : JobView) (job : IsJob j) (entry : ℕ) (u : Option ℕ) (cells : List Held) (sound : IsSound j entry cells) (s : ℕ) (x : SiteAt) (its : slice_get (graph_sites (job_graph j)) s ≡ Some x) where
+  -- a column is told as it is, or is missing
+  abbrev pub IsToldOf : ℕ → Type 0
+  IsToldOf c = (look_at j entry u cells c ≡ version_in j entry u c) ⊎ ((look_at j entry u cells c ≡ Needs c) × IsMissing j u cells s c)
+
+  held_is : (t : ℕ) (h : Held) → held_in cells (key (job_graph j) t u) ≡ h → IsRight (site_in j entry u t) h → (h ≡ held.Nothing) ⊎ ((c : ℕ) → held_or_need c h ≡ site_in {M = ℕ} j entry u t)
+  held_is t held.Nothing e r = inl refl
+  held_is t (held.Int z) e r = inr (λ c. ap with_needs r ∙ sym (site_known j entry u t))
+  held_is t (held.Bool b) e r = inr (λ c. ap with_needs r ∙ sym (site_known j entry u t))
+  held_is t (held.Vect zs) e r = inr (λ c. ap with_needs r ∙ sym (site_known j entry u t))
+  held_is t (held.Faulted k) e r = inr (λ c. ap with_needs r ∙ sym (site_known j entry u t))
+
+  within : s < length (graph_sites (job_graph j))
+  within = slice_get_within (graph_sites (job_graph j)) s x its
+
+  told_source : (c : ℕ) (src : Source) → IsBelow (length j.dataset.columns) s src
+      → (looked_source j entry u cells c src ≡ source_value (row_of j entry) (site_in j entry u) src) ⊎ ((looked_source j entry u cells c src ≡ Needs c) × IsMissingSource j u cells s src)
+  told_source c (from.Cell col) b = inl refl
+  told_source c (from.Site t) b = go (held_is t (held_in cells (key (job_graph j) t u)) refl (sound.each u t (let w = within in omega (arith, b, w))))
+    where
+      go : (held_in cells (key (job_graph j) t u) ≡ held.Nothing) ⊎ ((c : ℕ) → held_or_need c (held_in cells (key (job_graph j) t u)) ≡ site_in {M = ℕ} j entry u t)
+          → (held_or_need c (held_in cells (key (job_graph j) t u)) ≡ site_in {M = ℕ} j entry u t) ⊎ ((held_or_need c (held_in cells (key (job_graph j) t u)) ≡ Needs c) × ((t < s) × (held_in cells (key (job_graph j) t u) ≡ held.Nothing)))
+      go (inl e) = inr (ap (held_or_need c) e, (b, e))
+      go (inr k) = inl (k c)
+  told_source c (from.Element t i tags) b = go (held_is t (held_in cells (key (job_graph j) t u)) refl (sound.each u t (let w = within in omega (arith, b, w))))
+    where
+      go : (held_in cells (key (job_graph j) t u) ≡ held.Nothing) ⊎ ((c : ℕ) → held_or_need c (held_in cells (key (job_graph j) t u)) ≡ site_in {M = ℕ} j entry u t)
+          → ((held_or_need c (held_in cells (key (job_graph j) t u)) >>= tag_element tags i) ≡ (site_in {M = ℕ} j entry u t >>= tag_element tags i))
+          ⊎ (((held_or_need c (held_in cells (key (job_graph j) t u)) >>= tag_element tags i) ≡ Needs c) × ((t < s) × (held_in cells (key (job_graph j) t u) ≡ held.Nothing)))
+      go (inl e) = inr (ap (λ h. held_or_need c h >>= tag_element tags i) e, (b, e))
+      go (inr k) = inl (ap (λ o. o >>= tag_element tags i) (k c))
+
+  told_column : (c : ℕ) → (c < version_count j.dataset.columns (history j.script)) × IsBelow (length j.dataset.columns) s (source_at j u c) → IsToldOf c
+  told_column c b = go (told_source c (source_at j u c) b.1)
+    where
+      go : (look_at j entry u cells c ≡ version_in j entry u c) ⊎ ((look_at j entry u cells c ≡ Needs c) × IsMissingSource j u cells s (source_at j u c)) → IsToldOf c
+      go (inl e) = inl e
+      go (inr k) = inr (k.0, (subst (λ (n : ℕ). c < n) (sym (versions_count j.dataset.columns (fn_names j.dataset.fns) (history j.script))) b.0, k.1))
+
+  pub told : EachColumn IsToldOf x.tree
+  told =
+      each_weaker _ IsToldOf told_column x.tree
+      (equations.columns_below j.dataset.fns j.dataset.columns (graph_under (job_graph j) u) (history j.script) (accepted_of j job) s x its)
+
+  -- the site by its versions
+  pub whole : evaluate (version_in {M = ℕ} j entry u) (call_outcome j.dataset.fns) x.tree ≡ with_needs (site_in j entry u s)
+  whole =
+      sym (equations.site_is ℕ j.dataset.fns j.dataset.columns (row_of j entry) (graph_under (job_graph j) u) (history j.script) (accepted_of j job) s x its)
+      ∙ ap (site_value (λ x. site_outcome j.dataset.fns j.dataset.columns (row_of j entry) x (graph_under (job_graph j) u))) (sym its) ∙ site_known j entry u s
+
+  abbrev looked : Outcome ℕ Value
+  looked = evaluate (look_at j entry u cells) (call_outcome j.dataset.fns) x.tree
+
+  abbrev IsLacking : ℕ → Type 0
+  IsLacking c = (look_at j entry u cells c ≡ Needs c) × IsMissing j u cells s c
+
+  close_column : (c : ℕ) → IsToldOf c → close.Close IsLacking (look_at j entry u cells c) (version_in j entry u c)
+  close_column c (inl e) = subst (λ (o : Outcome ℕ Value). close.Close IsLacking (look_at j entry u cells c) o) e close.same
+  close_column c (inr k) = subst (λ (o : Outcome ℕ Value). close.Close IsLacking o (version_in j entry u c)) (sym k.0) (close.missing k)
+
+  closes : close.Close IsLacking looked (evaluate (version_in {M = ℕ} j entry u) (call_outcome j.dataset.fns) x.tree)
+  closes = close.evaluate_close IsLacking (look_at j entry u cells) (version_in j entry u) (call_outcome j.dataset.fns) x.tree (each_weaker IsToldOf _ close_column x.tree told)
+
+  -- an outcome that isn't held as a need
+  right_of : (h : Held) (o : Outcome ⊥ Value) → is_held h ≡ true → held_or_need 0 h ≡ with_needs o → IsRight o h
+  right_of held.Nothing o k e = cc k
+  right_of (held.Int z) (Gives v) k e = let i : val.Int z ≡ v = cc e in ap Gives i
+  right_of (held.Int z) (Faults f) k e = cc e
+  right_of (held.Bool z) (Gives v) k e = let i : val.Bool z ≡ v = cc e in ap Gives i
+  right_of (held.Bool z) (Faults f) k e = cc e
+  right_of (held.Vect z) (Gives v) k e = let i : val.Vect z ≡ v = cc e in ap Gives i
+  right_of (held.Vect z) (Faults f) k e = cc e
+  right_of (held.Faulted f) (Gives v) k e = cc e
+  right_of (held.Faulted f) (Faults g) k e = let i : f ≡ g = cc e in ap Faults i
+  right_of h (Needs m) k e = elim m [ ]
+
+  not_needed : (h : Held) (c : ℕ) → is_held h ≡ true → held_or_need 0 h ≡ Needs c → ⊥
+  not_needed held.Nothing c k e = cc k
+  not_needed (held.Int z) c k e = cc e
+  not_needed (held.Bool z) c k e = cc e
+  not_needed (held.Vect z) c k e = cc e
+  not_needed (held.Faulted z) c k e = cc e
+
+  never_needed : (o : Outcome ⊥ Value) (c : ℕ) → with_needs {M = ℕ} o ≡ Needs c → ⊥
+  never_needed (Gives v) c e = cc e
+  never_needed (Faults k) c e = cc e
+  never_needed (Needs m) c e = elim m [ ]
+
+  -- what was found is the site's outcome
+  pub found_right : (h : Held) → is_held h ≡ true → held_or_need 0 h ≡ looked → IsRight (site_in j entry u s) h
+  found_right h k e = go looked (evaluate (version_in {M = ℕ} j entry u) (call_outcome j.dataset.fns) x.tree) closes e whole
+    where
+      go : (o p : Outcome ℕ Value) → close.Close IsLacking o p → held_or_need 0 h ≡ o → p ≡ with_needs (site_in j entry u s) → IsRight (site_in j entry u s) h
+      go o p close.same q r = right_of h (site_in j entry u s) k (q ∙ r)
+      go o p (close.missing {d = d} n) q r = absurd (not_needed h d k q)
+
+  abbrev number_in : ℕ → Outcome ℕ Value → ℕ
+  number_in d (Needs c) = c
+  number_in d (Gives v) = d
+  number_in d (Faults k) = d
+
+  -- a version that was needed is missing
+  pub needed_missing : (c : ℕ) → Needs c ≡ looked → IsLacking c
+  needed_missing c e = go looked (evaluate (version_in {M = ℕ} j entry u) (call_outcome j.dataset.fns) x.tree) closes e whole
+    where
+      go : (o p : Outcome ℕ Value) → close.Close IsLacking o p → Needs c ≡ o → p ≡ with_needs (site_in j entry u s) → IsLacking c
+      go o p close.same q r = absurd (never_needed (site_in j entry u s) c (sym (q ∙ r)))
+      go o p (close.missing {d = d} n) q r = let i : d ≡ c = ap (number_in c) (sym q) in subst IsLacking i n
+
+  -- and the evaluation meets it
+  pub needed_met : (c : ℕ) → Needs c ≡ looked → MeetsAt j entry u s c
+  needed_met c e = (
+    x,
+    its,
+    go looked (evaluate (without nat_eq c (version_in {M = ℕ} j entry u)) (call_outcome j.dataset.fns) x.tree) e
+        (close.evaluate_close (λ d. d ≢ c) (look_at j entry u cells) (without nat_eq c (version_in {M = ℕ} j entry u)) (call_outcome j.dataset.fns) x.tree (each_weaker IsToldOf _ (λ d k. alone d k (nat_eq c d) refl) x.tree told)),
+  )
+    where
+      lacking : look_at j entry u cells c ≡ Needs c
+      lacking = (needed_missing c e).0
+
+      alone : (d : ℕ) → IsToldOf d → (b : Bool) → nat_eq c d ≡ b → close.Close {M = ℕ} {A = Value} (λ d. d ≢ c) (look_at j entry u cells d) (if b then Needs c else version_in {M = ℕ} j entry u d)
+      alone d k true p =
+          let i : c ≡ d = (Decides-eqb c d).0 p in
+          subst (λ (o : Outcome ℕ Value). close.Close {M = ℕ} {A = Value} (λ d. d ≢ c) o (Needs c)) (sym (ap (look_at j entry u cells) (sym i) ∙ lacking)) close.same
+      alone d (inl q) false p = subst (λ (o : Outcome ℕ Value). close.Close {M = ℕ} {A = Value} (λ d. d ≢ c) (look_at j entry u cells d) o) q close.same
+      alone d (inr q) false p =
+          subst (λ (o : Outcome ℕ Value). close.Close {M = ℕ} {A = Value} (λ d. d ≢ c) o (version_in {M = ℕ} j entry u d)) (sym q.0)
+          (close.missing (λ i. cc (sym p ∙ (Decides-eqb c d).1 (sym i))))
+
+      go : (o p : Outcome ℕ Value) → Needs c ≡ o → close.Close (λ d. d ≢ c) o p → is_need p ≡ true
+      go o p q close.same = ap is_need (sym q)
+      go o p q (close.missing {d = d} n) = absurd (n (ap (number_in c) (sym q)))

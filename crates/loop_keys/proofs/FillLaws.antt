@@ -1,0 +1,154 @@
+-- Writing an outcome, and filling one site after another.
+use Rattle.std.proofs.Common.{◌≡◌, ℕ, zero, suc, ◌+◌, ◌<◌, ◌≤◌, Bool, true, List, [], ◌∷◌, Option, Some, None, option_map, refl, sym, ◌∙◌, ap, subst, arith, length, get_or-set_same, get_or-set_other, cond, ◌⊎◌, inl, inr, slice_get}
+use Rattle.std.specs.Prelude.{slice_set}
+use Rattle.std.proofs.lemmas.Bool.{cases_eq}
+use Rattle.std.proofs.lemmas.List.Sums.{sum_by-set}
+use Rattle.rdf_values.specs.declared.value.Value.{Value}
+use Rattle.rdf_model.specs.Evaluation.{Outcome}
+use Rattle.expr_check.specs.NumKinds.{CheckedExpr}
+use Rattle.graph_numbers.specs.Graphs.{IsSiteExpr, graph_sites, graph_under, graph_variations}
+use Rattle.graph_numbers.specs.Sites.{SiteAt, site_outcome}
+use Rattle.graph_numbers.specs.Sources.{site_value}
+use Rattle.graph_numbers.specs.declared.source.Source.{Source}
+use Rattle.graph_numbers.specs.declared.source.Source.TheVariants as from
+use Rattle.loop_keys.specs.Jobs.{JobView, IsJob, job_graph}
+use Rattle.loop_keys.specs.Keys.{key, key_count, keys_before, slot, slot_at}
+use Rattle.loop_keys.specs.Store.{held_in, is_held, held_count, IsRight, row_of, site_in, IsSound, CanLook, IsSourceIn, IsSiteOf, OnlyIn, Grows, IsFilled, IsGrown}
+use Rattle.loop_keys.specs.declared.held.Held.{Held}
+use Rattle.loop_keys.specs.declared.held.Held.TheVariants.{Nothing}
+use Rattle.loop_keys.proofs.KeyLaws.{key_below, key_site, same_slot, under_in}
+
+pub there : {A : Type 0} (xs : List A) (i : ℕ) → i < length xs → (x : A) × (slice_get xs i ≡ Some x)
+there [] i lt = absurd (omega (arith, lt))
+there (x ∷ xs) zero lt = (x, refl)
+there (x ∷ xs) (suc i) lt = there xs i (omega (arith, lt))
+
+-- ---- an expression of a site
+
+module _ (j : JobView) (job : IsJob j) (entry : ℕ) (u : Option ℕ) (cells : List Held) (sound : IsSound j entry cells) (s : ℕ) (e : CheckedExpr) (its : IsSiteExpr (job_graph j) s e) where
+  abbrev pub HasTree : Type 0
+  HasTree = (x : SiteAt) × (slice_get (graph_sites (job_graph j)) s ≡ Some x) × (x.tree ≡ e.tree)
+
+  pub has_tree : HasTree
+  has_tree = go (slice_get (graph_sites (job_graph j)) s) refl its.tree
+    where
+      go : (o : Option SiteAt) → slice_get (graph_sites (job_graph j)) s ≡ o → option_map (λ (x : SiteAt). x.tree) o ≡ Some e.tree → HasTree
+      go None q k = cc k
+      go (Some x) q k = (x, q, cc k)
+
+-- ---- writing
+
+module _ (j : JobView) (entry : ℕ) (u : Option ℕ) (cells : List Held) (can : CanLook j entry cells) (sound : IsSound j entry cells) (s : ℕ) (inside : s < length (graph_sites (job_graph j)))
+    (place : ℕ) (is : place ≡ key (job_graph j) s u) (small : place < key_count (job_graph j))
+    (h : Held) (right : IsRight (site_in j entry u s) h) (held : is_held h ≡ true) (empty : held_in cells (key (job_graph j) s u) ≡ Nothing) where
+  place_inside : key (job_graph j) s u < length cells
+  place_inside = let k = can.sized in omega (arith, k, is, small)
+
+  at_same : held_in (slice_set cells (key (job_graph j) s u) h) (key (job_graph j) s u) ≡ h
+  at_same = get_or-set_same cells (key (job_graph j) s u) h Nothing place_inside
+
+  at_other : (k : ℕ) → (k ≡ key (job_graph j) s u → ⊥) → held_in (slice_set cells (key (job_graph j) s u) h) k ≡ held_in cells k
+  at_other k n = get_or-set_other cells (key (job_graph j) s u) k h Nothing n
+
+  -- a site by its number
+  abbrev key_at : ℕ → SiteAt → Option ℕ → ℕ
+  key_at t x w = keys_before (graph_variations (job_graph j)) (graph_sites (job_graph j)) t + slot (graph_variations (job_graph j)) x w
+
+  key_is : (t : ℕ) (x : SiteAt) (w : Option ℕ) → slice_get (graph_sites (job_graph j)) t ≡ Some x → key (job_graph j) t w ≡ key_at t x w
+  key_is t x w q = ap (λ o. keys_before (graph_variations (job_graph j)) (graph_sites (job_graph j)) t + slot_at (graph_variations (job_graph j)) o w) q
+
+  right_at : (w : Option ℕ) (t : ℕ) → t < length (graph_sites (job_graph j)) → key (job_graph j) t w ≡ key (job_graph j) s u → IsRight (site_in j entry w t) h
+  right_at w t lt e =
+      let x = there (graph_sites (job_graph j)) s inside in
+      let y = there (graph_sites (job_graph j)) t lt in
+      let n : t ≡ s = key_site (graph_variations (job_graph j)) (graph_sites (job_graph j)) t s y.0 x.0 w u y.1 x.1 (sym (key_is t y.0 w y.1) ∙ e ∙ key_is s x.0 u x.1) in
+      subst (λ (m : ℕ). key (job_graph j) m w ≡ key (job_graph j) s u → IsRight (site_in j entry w m) h) (sym n) (λ k. here x.0 x.1 k) e
+    where
+      here : (x : SiteAt) → slice_get (graph_sites (job_graph j)) s ≡ Some x → key (job_graph j) s w ≡ key (job_graph j) s u → IsRight (site_in j entry w s) h
+      here x q k =
+          let a : key_at s x w ≡ key_at s x u = sym (key_is s x w q) ∙ k ∙ key_is s x u q in
+          let b : slot (graph_variations (job_graph j)) x w ≡ slot (graph_variations (job_graph j)) x u = omega (arith, a) in
+          let v = value_of x q w b in
+          subst (λ (o : Outcome ⊥ Value). IsRight o h) v right
+        where
+          same_under : (v : Option ℕ) → under_in (graph_variations (job_graph j)) v ≡ graph_under (job_graph j) v
+          same_under None = refl
+          same_under (Some n) = refl
+
+          value_of : (x : SiteAt) → slice_get (graph_sites (job_graph j)) s ≡ Some x → (w : Option ℕ) → slot (graph_variations (job_graph j)) x w ≡ slot (graph_variations (job_graph j)) x u → site_in {M = ⊥} j entry u s ≡ site_in j entry w s
+          value_of x q w b =
+              let o : site_outcome j.dataset.fns j.dataset.columns (row_of j entry) {M = ⊥} x (graph_under (job_graph j) u) ≡ site_outcome j.dataset.fns j.dataset.columns (row_of j entry) x (graph_under (job_graph j) w) =
+              ap (λ v. site_outcome j.dataset.fns j.dataset.columns (row_of j entry) {M = ⊥} x v) (sym (same_under u))
+              ∙ same_slot {M = ⊥} j.dataset.fns j.dataset.columns (row_of j entry) (graph_variations (job_graph j)) x u w (sym b)
+              ∙ ap (λ v. site_outcome j.dataset.fns j.dataset.columns (row_of j entry) {M = ⊥} x v) (same_under w) in
+              ap (site_value (λ x. site_outcome j.dataset.fns j.dataset.columns (row_of j entry) x (graph_under (job_graph j) u))) q ∙ o
+              ∙ ap (site_value (λ x. site_outcome j.dataset.fns j.dataset.columns (row_of j entry) x (graph_under (job_graph j) w))) (sym q)
+
+  sound_after : IsSound j entry (slice_set cells (key (job_graph j) s u) h)
+  sound_after = record { each = λ w t lt. go w t lt (cases_eq (key (job_graph j) t w) (key (job_graph j) s u)) }
+    where
+      go : (w : Option ℕ) (t : ℕ) → t < length (graph_sites (job_graph j)) → (key (job_graph j) t w ≡ key (job_graph j) s u) ⊎ (key (job_graph j) t w ≡ key (job_graph j) s u → ⊥)
+          → IsRight (site_in j entry w t) (held_in (slice_set cells (key (job_graph j) s u) h) (key (job_graph j) t w))
+      go w t lt (inl e) = subst (λ (x : Held). IsRight (site_in j entry w t) x) (sym (ap (held_in (slice_set cells (key (job_graph j) s u) h)) e ∙ at_same)) (right_at w t lt e)
+      go w t lt (inr n) = subst (λ (x : Held). IsRight (site_in j entry w t) x) (sym (at_other (key (job_graph j) t w) n)) (sound.each w t lt)
+
+  not_here : (k : ℕ) → is_held (held_in cells k) ≡ true → k ≡ key (job_graph j) s u → ⊥
+  not_here k p e = absurd (cc (sym p ∙ ap (λ x. is_held (held_in cells x)) e ∙ ap is_held empty))
+
+  count_after : held_count (slice_set cells (key (job_graph j) s u) h) ≡ held_count cells + 1
+  count_after =
+      let e : held_count (slice_set cells (key (job_graph j) s u) h) + cond (is_held (held_in cells (key (job_graph j) s u))) 1 0 ≡ held_count cells + cond (is_held h) 1 0 =
+      sum_by-set (λ (x : Held). cond (is_held x) 1 0) cells (key (job_graph j) s u) h Nothing place_inside in
+      let p : cond (is_held (held_in cells (key (job_graph j) s u))) 1 0 ≡ ◌+◌ 0 0 = ap (λ x. cond (is_held x) 1 0) empty in
+      let q : cond (is_held h) 1 0 ≡ 0 + 1 = ap (λ b. cond b 1 0) held in
+      omega (arith, e, p, q)
+
+  -- a key of a later site is another one
+  later : (t : ℕ) (w : Option ℕ) → s < t → t < length (graph_sites (job_graph j)) → key (job_graph j) t w ≡ key (job_graph j) s u → ⊥
+  later t w l lt e =
+      let x = there (graph_sites (job_graph j)) s inside in
+      let a = key_below (graph_variations (job_graph j)) (graph_sites (job_graph j)) s t x.0 u x.1 l in
+      let b = key_is s x.0 u x.1 in
+      absurd (omega (arith, a, b, e))
+
+  only_after : (D : ℕ → Bool) → D s ≡ true → OnlyIn j u D s cells (slice_set cells (key (job_graph j) s u) h)
+  only_after D d k p = go (cases_eq k (key (job_graph j) s u))
+    where
+      go : (k ≡ key (job_graph j) s u) ⊎ (k ≡ key (job_graph j) s u → ⊥) → (is_held (held_in cells k) ≡ true) ⊎ ((t : ℕ) × (t ≤ s) × (D t ≡ true) × (k ≡ key (job_graph j) t u))
+      go (inl e) = inr (s, omega arith, d, e)
+      go (inr n) = inl (ap is_held (sym (at_other k n)) ∙ p)
+
+  at_key : IsFilled j entry u s cells (slice_set cells (key (job_graph j) s u) h) × (held_count (slice_set cells (key (job_graph j) s u) h) ≡ held_count cells + 1)
+  at_key = (
+    record {
+      sound = sound_after;
+      grows = λ k p. at_other k (not_here k p);
+      filled = ap is_held at_same ∙ held;
+      more = let c = count_after in omega (arith, c);
+      rest = λ t w l lt. at_other (key (job_graph j) t w) (later t w l lt);
+      only = λ D c d. only_after D d;
+    },
+    count_after,
+  )
+
+  -- the outcome is written at the site's key
+  pub written : (after : List Held) → after ≡ slice_set cells place h → IsFilled j entry u s cells after × (held_count after ≡ held_count cells + 1)
+  written after e =
+      subst (λ (hs : List Held). IsFilled j entry u s cells hs × (held_count hs ≡ held_count cells + 1)) (sym e)
+      (subst (λ (k : ℕ). IsFilled j entry u s cells (slice_set cells k h) × (held_count (slice_set cells k h) ≡ held_count cells + 1)) (sym is) at_key)
+
+-- ---- one site after another
+
+pub grows_on : (a b c : List Held) → Grows a b → Grows b c → Grows a c
+grows_on a b c p q k h = q k (ap is_held (p k h) ∙ h) ∙ p k h
+
+pub in_source : (D : ℕ → Bool) (t : ℕ) (x : Source) → IsSiteOf t x → IsSourceIn D x → D t ≡ true
+in_source D t (from.Cell col) i h = elim i [ ]
+in_source D t (from.Site s) i h = ap D (sym i) ∙ h
+in_source D t (from.Element s k tags) i h = ap D (sym i) ∙ h
+
+-- ---- the bound
+
+module _ (j : JobView) (entry : ℕ) (u : Option ℕ) (s : ℕ) (inside : s < length (graph_sites (job_graph j))) (a b : List Held) (grown : IsGrown j entry u s a b) (sized : length a ≡ key_count (job_graph j)) where
+  place : ℕ
+  place = key (job_graph j) s u

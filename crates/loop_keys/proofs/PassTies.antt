@@ -1,0 +1,72 @@
+-- A pass by the numbers of its result and variation: what it comes to and demands.
+use Rattle.std.proofs.Common.{◌≡◌, ℕ, zero, suc, List, [], ◌∷◌, map, Option, Some, None, option_map, refl, sym, ◌∙◌, ap, unwrap_or, slice_get}
+use Rattle.rdf_values.specs.Bookings.{Booked, Pass, bookings}
+use Rattle.rdf_values.specs.Path.{history}
+use Rattle.rdf_values.specs.Functions.{fn_names}
+use Rattle.rdf_values.specs.declared.value.Value.{Value}
+use Rattle.rdf_model.specs.EntryOutcomes.{booking_outcome}
+use Rattle.rdf_model.specs.Loops.{loop_passes, loop_results}
+use Rattle.graph_numbers.specs.Graphs.{graph_filters, graph_loops, graph_results, graph_under}
+use Rattle.graph_numbers.specs.Outcomes.{booking_numbers}
+use Rattle.graph_numbers.specs.Results.{ResultAt, pass_at}
+use Rattle.graph_numbers.specs.declared.pass.Pass.{Pass as NumberedPass}
+use Rattle.graph_numbers.proofs.Extending.{itself}
+use Rattle.graph_numbers.proofs.Looping.{loops_are}
+use Rattle.graph_numbers.proofs.Resulting.{booked_are, result_is}
+use Rattle.loop_keys.specs.Caches.{numbered_in}
+use Rattle.loop_keys.specs.Jobs.{JobView, IsJob, job_graph, passes_in, outcome_of, pass_outcome}
+use Rattle.loop_keys.specs.Store.{row_of, site_in, version_in}
+use Rattle.loop_keys.proofs.EvaluateLaws.{accepted_of}
+
+pub get_mapped : {A B : Type 0} (f : A → B) (xs : List A) (n : ℕ) (x : A) → slice_get xs n ≡ Some x → slice_get (map f xs) n ≡ Some (f x)
+get_mapped f [] n x h = cc h
+get_mapped f (y ∷ xs) zero x h = let e : y ≡ x = cc h in ap (λ z. Some (f z)) e
+get_mapped f (y ∷ xs) (suc n) x h = get_mapped f xs n x h
+
+pub of_mapped : {A B : Type 0} (f : A → B) (xs : List A) (n : ℕ) (y : B) → slice_get (map f xs) n ≡ Some y → (x : A) × (slice_get xs n ≡ Some x) × (f x ≡ y)
+of_mapped f [] n y h = cc h
+of_mapped f (x ∷ xs) zero y h = (x, refl, cc h)
+of_mapped f (x ∷ xs) (suc n) y h = of_mapped f xs n y h
+
+pub of_chosen : {A : Type 0} (o : Option (List A)) (n : ℕ) (x : A) → slice_get (unwrap_or o []) n ≡ Some x → (xs : List A) × (o ≡ Some xs) × (slice_get xs n ≡ Some x)
+of_chosen None n x h = cc h
+of_chosen (Some xs) n x h = (xs, refl, h)
+
+pub of_option : {A B : Type 0} (f : A → B) (o : Option A) (y : B) → option_map f o ≡ Some y → (x : A) × (o ≡ Some x) × (f x ≡ y)
+of_option f None y h = cc h
+of_option f (Some x) y h = (x, refl, cc h)
+
+module _ (j : JobView) (n : ℕ) (m : NumberedPass) (its : numbered_in j n ≡ Some m) where
+  -- the pass of that number is that of the script
+  pub pass_is : (p : Pass) × (slice_get (passes_in j) n ≡ Some p) × (pass_at (history j.script) m ≡ Some p)
+  pass_is =
+      let a = of_chosen (slice_get (graph_loops (job_graph j)) j.number) n m its in
+      let all = loops_are (history j.script) (history j.script) itself in
+      let b = sym (ap (λ xs. slice_get xs j.number) all) ∙ get_mapped (map (pass_at (history j.script))) (graph_loops (job_graph j)) j.number a.0 a.1 in
+      let c = of_mapped (λ results. map (λ (p : Pass). Some p) (loop_passes (history j.script) results)) (loop_results (history j.script)) j.number (map (pass_at (history j.script)) a.0) b in
+      let d = ap (λ xs. slice_get xs n) c.2 ∙ get_mapped (pass_at (history j.script)) a.0 n m a.2 in
+      let e = of_mapped (λ (p : Pass). Some p) (loop_passes (history j.script) c.0) n (pass_at (history j.script) m) d in
+      (e.0, ap (λ o. slice_get (loop_passes (history j.script) (unwrap_or o [])) n) c.1 ∙ e.1, sym e.2)
+
+  -- with its result
+  pub pass_of : (r : ResultAt) → slice_get (graph_results (job_graph j)) m.result ≡ Some r → slice_get (passes_in j) n ≡ Some (record { result = r.booked; under = graph_under (job_graph j) m.variation })
+  pass_of r its_result =
+      let p = pass_is in
+      let b = of_option (λ (b : Booked). record { result = b; under = graph_under (job_graph j) m.variation }) (slice_get (bookings (history j.script)) m.result) p.0 p.2 in
+      let c : slice_get (bookings (history j.script)) m.result ≡ Some r.booked =
+      ap (λ bs. slice_get bs m.result) (sym (booked_are j.dataset.columns (fn_names j.dataset.fns) (history j.script))) ∙ get_mapped (λ (x : ResultAt). x.booked) (graph_results (job_graph j)) m.result r its_result in
+      let e : ◌≡◌ {A = Option Booked} (Some b.0) (Some r.booked) = sym b.1 ∙ c in
+      let f : b.0 ≡ r.booked = cc e in
+      p.1 ∙ ap Some (sym b.2) ∙ ap (λ (x : Booked). Some (record { result = x; under = graph_under (job_graph j) m.variation })) f
+
+module _ (j : JobView) (job : IsJob j) (entry : ℕ) (row : List Value) (here : slice_get j.dataset.rows entry ≡ Some row)
+    (n : ℕ) (m : NumberedPass) (its : numbered_in j n ≡ Some m) (r : ResultAt) (its_result : slice_get (graph_results (job_graph j)) m.result ≡ Some r) where
+  same_row : row ≡ row_of j entry
+  same_row = ap (λ o. unwrap_or o []) (sym here)
+
+  -- what the pass comes to, by numbers
+  pub pass_answer : pass_outcome j entry n ≡ booking_numbers (site_in j entry None) (site_in j entry m.variation) (version_in j entry m.variation) (graph_filters (job_graph j)) r r.booked.booking
+  pass_answer =
+      (λ i. outcome_of j (here i) (pass_of j n m its r its_result i))
+      ∙ ap (λ (x : List Value). booking_outcome j.dataset.fns j.dataset.columns x {M = ⊥} r.booked.booking (graph_under (job_graph j) m.variation)) same_row
+      ∙ result_is ⊥ j.dataset.fns j.dataset.columns (row_of j entry) (graph_under (job_graph j) m.variation) (history j.script) (history j.script) (accepted_of j job) itself m.result r its_result

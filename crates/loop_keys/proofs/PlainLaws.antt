@@ -1,0 +1,103 @@
+-- Sites without vectors: no evaluation of them wants memory, and what they need is among them.
+use Rattle.std.proofs.Common.{◌≡◌, ℕ, Bool, true, false, ◌&&◌, not, List, [], ◌∷◌, Option, Some, None, Ok, option_map, refl, sym, ◌∙◌, ap, subst, nat_eq, slice_get, unwrap_or, if◌then◌else◌}
+use Rattle.std.specs.List.{AllByRecursion}
+use Rattle.std.proofs.lemmas.Bool.Decides.{Decides-eqb}
+use Rattle.std.proofs.lemmas.List.Elements.{recursion_from_All}
+use Rattle.rdf_values.specs.EachColumn.{EachColumn, EachArgument}
+use Rattle.rdf_values.specs.Tree.{Trees, NumTree, Lit, Truth, Col, Neg, Not, Bin, Cond, Pick, Call, End, More}
+use Rattle.rdf_values.specs.declared.num_expr.Callee.{Callee}
+use Rattle.rdf_values.specs.declared.value.ColType.{ColType}
+use Rattle.rdf_values.specs.declared.value.ColType.TheVariants as kind
+use Rattle.rdf_values.specs.declared.value.Value.{Value}
+use Rattle.rdf_model.specs.Demanded.{with_needs}
+use Rattle.rdf_model.specs.Evaluation.{Outcome, Gives, Faults, Needs, call_outcome, evaluate, is_need, without}
+use Rattle.rdf_model.proofs.Close as close
+use Rattle.expr_check.specs.NumKinds.{CheckedExpr, all_are_plain, gives_vector, is_plain, is_vector, number_kind, takes_no_vector}
+use Rattle.graph_numbers.specs.Graphs.{IsSiteExpr, graph_kinds, graph_sites}
+use Rattle.graph_numbers.specs.Sites.{SiteAt}
+use Rattle.rdf_model.proofs.KnownColumns.{each_weaker}
+use Rattle.loop_keys.specs.Jobs.{JobView, IsJob, job_graph}
+use Rattle.loop_keys.specs.Plain.{ArePlain, IsPlainVersion, is_vector_at}
+use Rattle.loop_keys.specs.Store.{IsClosed, IsSound, IsSourceIn, site_in, source_at, version_in}
+use Rattle.loop_keys.proofs.EvaluateLaws.{whole}
+
+both : (a b : Bool) → (a && b) ≡ true → (a ≡ true) × (b ≡ true)
+both true b h = (refl, h)
+both false b h = cc h
+
+-- the kinds of versions, as an expression lists them
+not_vector : (all : List ColType) (ks : List (ℕ × ColType)) (c : ℕ) → AllByRecursion (λ (k : ℕ × ColType). slice_get all k.0 ≡ Some k.1) ks → is_vector_at all c ≡ false → gives_vector (number_kind ks c) ≡ false
+not_vector all [] c h e = refl
+not_vector all (k ∷ ks) c h e = go (nat_eq k.0 c) refl (not_vector all ks c h.1 e)
+  where
+    go : (b : Bool) → nat_eq k.0 c ≡ b → gives_vector (number_kind ks c) ≡ false → gives_vector (if b then Ok k.1 else number_kind ks c) ≡ false
+    go true q next =
+        let i : k.0 ≡ c = (Decides-eqb k.0 c).0 q in
+        ap (λ (o : Option ColType). is_vector (unwrap_or o kind.Int)) (sym h.0 ∙ ap (slice_get all) i) ∙ e
+    go false q next = next
+
+module _ (ks : List (ℕ × ColType)) where
+  abbrev NoVector : ℕ → Type 0
+  NoVector c = gives_vector (number_kind ks c) ≡ false
+
+  mutual
+    plain_by : (e : NumTree) → EachColumn NoVector e → is_plain [] e ≡ true → is_plain ks e ≡ true
+    plain_by (Lit z) h p = refl
+    plain_by (Truth b) h p = refl
+    plain_by (Col c) h p = ap not h
+    plain_by (Neg a) h p = plain_by a h p
+    plain_by (Not a) h p = plain_by a h p
+    plain_by (Bin o a b) h p = let q = both (is_plain [] a) (is_plain [] b) p in λ i. plain_by a h.0 q.0 i && plain_by b h.1 q.1 i
+    plain_by (Cond c a b) h p =
+        let q = both (is_plain [] c && is_plain [] a) (is_plain [] b) p in let r = both (is_plain [] c) (is_plain [] a) q.0 in
+        λ i. plain_by c h.0 r.0 i && plain_by a h.1 r.1 i && plain_by b h.2 q.1 i
+    plain_by (Pick v i) h p = cc p
+    plain_by (Call f args) h p = let q = both (takes_no_vector f) (all_are_plain [] args) p in λ i. q.0 i && all_plain_by args h q.1 i
+
+    all_plain_by : (es : Trees ℕ Callee) → EachArgument NoVector es → all_are_plain [] es ≡ true → all_are_plain ks es ≡ true
+    all_plain_by End h p = refl
+    all_plain_by (More a rest) h p = let q = both (is_plain [] a) (all_are_plain [] rest) p in λ i. plain_by a h.0 q.0 i && all_plain_by rest h.1 q.1 i
+
+-- a plain site's expression is plain
+pub plain_expr : (j : JobView) (used : ℕ → Bool) (s : ℕ) (e : CheckedExpr) → ArePlain j used → used s ≡ true → IsSiteExpr (job_graph j) s e → is_plain e.kinds e.tree ≡ true
+plain_expr j used s e plain u its = go (slice_get (graph_sites (job_graph j)) s) refl its.tree
+  where
+    go : (o : Option SiteAt) → slice_get (graph_sites (job_graph j)) s ≡ o → option_map (λ (x : SiteAt). x.tree) o ≡ Some e.tree → is_plain e.kinds e.tree ≡ true
+    go None q k = cc k
+    go (Some x) q k =
+        let t : x.tree ≡ e.tree = cc k in
+        let p = plain s x u q in
+        subst (λ (t : NumTree). is_plain e.kinds t ≡ true) t
+        (plain_by e.kinds x.tree
+        (each_weaker (IsPlainVersion (job_graph j) used) (NoVector e.kinds)
+        (λ c v. not_vector (graph_kinds (job_graph j)) e.kinds c (recursion_from_All (λ (c : ℕ × ColType). slice_get (graph_kinds (job_graph j)) c.0 ≡ Some c.1) e.kinds its.kinds) v.0) x.tree p.columns) p.parts)
+
+-- ---- what a plain site meets
+
+known_never : (o : Outcome ⊥ Value) → is_need (with_needs {M = ℕ} o) ≡ true → ⊥
+known_never (Gives v) e = cc e
+known_never (Faults k) e = cc e
+known_never (Needs m) e = elim m [ ]
+
+module _ (j : JobView) (job : IsJob j) (entry : ℕ) (u : Option ℕ) (used : ℕ → Bool) (plain : ArePlain j used) where
+  none_held : IsSound j entry []
+  none_held = record { each = λ w s lt. tt }
+
+  met_source : (s c : ℕ) (x : SiteAt) → slice_get (graph_sites (job_graph j)) s ≡ Some x → used s ≡ true
+      → is_need (evaluate (without nat_eq c (version_in {M = ℕ} j entry u)) (call_outcome j.dataset.fns) x.tree) ≡ true → IsSourceIn used (source_at j u c)
+  met_source s c x its us met = go _ _ (close.evaluate_close N (without nat_eq c (version_in j entry u)) (version_in j entry u) (call_outcome j.dataset.fns) x.tree
+      (each_weaker (IsPlainVersion (job_graph j) used) _ (λ d v. alone d v (nat_eq c d) refl) x.tree (plain s x us its).columns)) met (whole j job entry u [] none_held s x its)
+    where
+      N : ℕ → Type 0
+      N m = IsSourceIn used (source_at j u c)
+
+      alone : (d : ℕ) → IsPlainVersion (job_graph j) used d → (b : Bool) → nat_eq c d ≡ b → close.Close {M = ℕ} {A = Value} N (if b then Needs c else version_in {M = ℕ} j entry u d) (version_in {M = ℕ} j entry u d)
+      alone d v true e = close.missing (subst (λ (n : ℕ). IsSourceIn used (source_at j u n)) (sym ((Decides-eqb c d).0 e)) (v.1 u))
+      alone d v false e = close.same
+
+      go : (o p : Outcome ℕ Value) → close.Close N o p → is_need o ≡ true → p ≡ with_needs (site_in j entry u s) → IsSourceIn used (source_at j u c)
+      go o p close.same m w = absurd (known_never (site_in j entry u s) (ap is_need (sym w) ∙ m))
+      go o p (close.missing {d = d} n) m w = n
+
+  pub plain_closed : IsClosed j entry u used
+  plain_closed = record { each = λ s c us m. met_source s c m.0 m.1 us m.2 }

@@ -1,0 +1,8 @@
+use Rattle.std.proofs.Common.{◌≡◌}
+use Rattle.graph_numbers.specs.Graphs.{graph_sources}
+use Rattle.graph_numbers.specs.Sources.{source_in}
+use Rattle.loop_keys.specs.Keys.{AreEach, key_under, place_of}
+use Rattle.loop_keys.proofs.rows.places_under.Given as goal
+
+abbrev pub invariant-loop-version : goal.invariant-loop-version
+invariant-loop-version l = AreEach (λ c p. p ≡ place_of (key_under l.graph l.under) (source_in (graph_sources l.graph l.under) c)) l.version l.places

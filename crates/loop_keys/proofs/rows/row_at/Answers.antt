@@ -1,0 +1,14 @@
+use Rattle.std.proofs.Common.{arith}
+use Rattle.loop_keys.proofs.RowLaws.{row_of_nominal, row_of_none, row_of_some}
+use Rattle.loop_keys.proofs.rows.row_at.Goals as goal
+
+pub returns-in_default : goal.returns-in_default
+returns-in_default c = row_of_nominal c.args._graph.now c.args.rows.now c.requires.rows c.args.under c.index-rows-0.result c.in_default.is c.index-rows-0.is
+
+pub returns-then-place-count : goal.returns-then-place-count
+returns-then-place-count c =
+    row_of_some c.args._graph.now c.args.rows.now c.requires.rows c.args.under c.index-rows-place.result c.in-Some.v c.in-Some.is (let t = c.if-place-count.true in omega (arith, t)) c.index-rows-place.is
+
+pub returns-else-place-count : goal.returns-else-place-count
+returns-else-place-count c =
+    row_of_none c.args._graph.now c.args.rows.now c.requires.rows c.args.under c.index-rows-0-else-place-count.result c.in-Some.v c.in-Some.is (let t = c.if-place-count.false in omega (arith, t)) c.index-rows-0-else-place-count.is

@@ -1,0 +1,200 @@
+-- What is held of the sites of an entry, and what an evaluation is told of it.
+use Rattle.std.specs.Prelude.{◌≡◌, ⊤, ◌≤◌, ◌<◌, ◌⊎◌, ℕ, zero, suc, ◌+◌, Bool, true, false, List, [], length, Option, Some, None, if◌then◌else◌, slice_get, slice_index_or, count_by, unwrap_or, MatchOption, All}
+use Rattle.rdf_values.specs.declared.value.Value.{Value}
+use Rattle.rdf_values.specs.declared.value.Value.TheVariants as val
+use Rattle.rdf_model.specs.Evaluation.{Outcome, Gives, Faults, Needs, ◌>>=◌}
+use Rattle.rdf_model.specs.Laws.{FitsOutcome}
+use Rattle.rdf_values.specs.declared.value.ColType.{ColType}
+use Rattle.expr_check.specs.NumKinds.{CheckedExpr}
+use Rattle.rdf_model.specs.ColumnValues.{tag_element}
+use Rattle.graph_numbers.specs.Graphs.{graph_sites, graph_under, graph_sources, graph_versions}
+use Rattle.graph_numbers.specs.Meets.{meets, HasFilters, HasInputs, IfPassed}
+use Rattle.graph_numbers.specs.Outcomes.{through_sites}
+use Rattle.graph_numbers.specs.Sites.{SiteAt, site_outcome}
+use Rattle.graph_numbers.specs.Sources.{IsBelow, source_in, site_value, source_value, cell_value}
+use Rattle.graph_numbers.specs.declared.source.Source.{Source}
+use Rattle.graph_numbers.specs.declared.source.Source.TheVariants as from
+use Rattle.loop_keys.specs.Jobs.{JobView, job_graph}
+use Rattle.loop_keys.specs.Keys.{key, key_count}
+use Rattle.loop_keys.specs.declared.held.Held.{Held}
+use Rattle.loop_keys.specs.declared.held.Held.TheVariants as held
+
+-- something is held
+abbrev pub is_held : Held → Bool
+is_held held.Nothing = false
+is_held h = true
+
+-- the outcome that is held
+abbrev pub held_outcome : Held → Option (Outcome ⊥ Value)
+held_outcome held.Nothing = None
+held_outcome (held.Int z) = Some (Gives (val.Int z))
+held_outcome (held.Bool b) = Some (Gives (val.Bool b))
+held_outcome (held.Vect zs) = Some (Gives (val.Vect zs))
+held_outcome (held.Faulted k) = Some (Faults k)
+
+-- what is held at a key
+abbrev pub held_in : List Held → ℕ → Held
+held_in cells k = slice_index_or cells k held.Nothing
+
+-- how many keys hold something
+abbrev pub held_count : List Held → ℕ
+held_count cells = count_by is_held cells
+
+-- nothing is held, or this outcome
+abbrev pub IsRight : Outcome ⊥ Value → Held → Type 0
+IsRight o h = MatchOption (held_outcome h) ⊤ (λ p. p ≡ o)
+
+-- ---- values by numbers
+
+-- the row of an entry
+abbrev pub row_in : List (List Value) → ℕ → List Value
+row_in rows entry = unwrap_or (slice_get rows entry) []
+
+abbrev pub row_of : JobView → ℕ → List Value
+row_of j entry = row_in j.dataset.rows entry
+
+-- what a site comes to in an entry, under nominal or a variation
+abbrev pub site_in : {M : Type 0} → JobView → ℕ → Option ℕ → ℕ → Outcome M Value
+site_in j entry u s = site_value (λ x. site_outcome j.dataset.fns j.dataset.columns (row_of j entry) x (graph_under (job_graph j) u)) (slice_get (graph_sites (job_graph j)) s)
+
+-- the source of a version
+abbrev pub source_at : JobView → Option ℕ → ℕ → Source
+source_at j u c = source_in (graph_sources (job_graph j) u) c
+
+-- what a version comes to
+abbrev pub version_in : {M : Type 0} → JobView → ℕ → Option ℕ → ℕ → Outcome M Value
+version_in j entry u c = source_value (row_of j entry) (site_in j entry u) (source_at j u c)
+
+-- what is held of each site under each variation is what it comes to in the entry
+pub record IsSound (j : JobView) (entry : ℕ) (cells : List Held) : Type 0 where
+  pub each : (u : Option ℕ) (s : ℕ) → s < length (graph_sites (job_graph j)) → IsRight (site_in j entry u s) (held_in cells (key (job_graph j) s u))
+
+-- how many of so many keys, from k on, are in the set
+abbrev pub keys_in : (ℕ → Bool) → ℕ → ℕ → ℕ
+keys_in T k zero = 0
+keys_in T k (suc n) = (if T k then 1 else 0) + keys_in T (suc k) n
+
+-- the source is no site outside the set
+abbrev pub IsSourceIn : (ℕ → Bool) → Source → Type 0
+IsSourceIn used (from.Cell col) = ⊤
+IsSourceIn used (from.Site s) = used s ≡ true
+IsSourceIn used (from.Element s k tags) = used s ≡ true
+
+-- ---- what an evaluation is told
+
+-- what is held of a version's site, or that it is missing
+abbrev pub held_or_need : ℕ → Held → Outcome ℕ Value
+held_or_need c held.Nothing = Needs c
+held_or_need c (held.Int z) = Gives (val.Int z)
+held_or_need c (held.Bool b) = Gives (val.Bool b)
+held_or_need c (held.Vect zs) = Gives (val.Vect zs)
+held_or_need c (held.Faulted k) = Faults k
+
+-- the element of what is held at the place of a tag among so many
+abbrev pub held_element : ℕ → Held → ℕ → ℕ → Outcome ℕ Value
+held_element c h k tags = held_or_need c h >>= tag_element tags k
+
+abbrev pub looked_source : JobView → ℕ → Option ℕ → List Held → ℕ → Source → Outcome ℕ Value
+looked_source j entry u cells c (from.Cell col) = cell_value (slice_get (row_of j entry) col)
+looked_source j entry u cells c (from.Site s) = held_or_need c (held_in cells (key (job_graph j) s u))
+looked_source j entry u cells c (from.Element s k tags) = held_element c (held_in cells (key (job_graph j) s u)) k tags
+
+-- what a version comes to by what is held
+abbrev pub look_at : JobView → ℕ → Option ℕ → List Held → ℕ → Outcome ℕ Value
+look_at j entry u cells c = looked_source j entry u cells c (source_at j u c)
+
+-- a cell for each key, and an entry of the table
+pub record CanLook (j : JobView) (entry : ℕ) (cells : List Held) : Type 0 where
+  pub sized : length cells ≡ key_count (job_graph j)
+  pub within : entry < length j.dataset.rows
+
+-- the source is a site with a lower number of which nothing is held
+abbrev pub IsMissingSource : JobView → Option ℕ → List Held → ℕ → Source → Type 0
+IsMissingSource j u cells s (from.Cell col) = ⊥
+IsMissingSource j u cells s (from.Site t) = (t < s) × (held_in cells (key (job_graph j) t u) ≡ held.Nothing)
+IsMissingSource j u cells s (from.Element t k tags) = (t < s) × (held_in cells (key (job_graph j) t u) ≡ held.Nothing)
+
+-- the version is there, and its site, which is below s, is missing
+abbrev pub IsMissing : JobView → Option ℕ → List Held → ℕ → ℕ → Type 0
+IsMissing j u cells s c = (c < length (graph_versions (job_graph j))) × IsMissingSource j u cells s (source_at j u c)
+
+-- the evaluation of site s meets version c
+abbrev pub MeetsAt : JobView → ℕ → Option ℕ → ℕ → ℕ → Type 0
+MeetsAt j entry u s c = (x : SiteAt) × (slice_get (graph_sites (job_graph j)) s ≡ Some x) × (meets j.dataset.fns (version_in j entry u) x c ≡ true)
+
+-- the source is that site
+abbrev pub IsSiteOf : ℕ → Source → Type 0
+IsSiteOf t (from.Cell col) = ⊥
+IsSiteOf t (from.Site s) = s ≡ t
+IsSiteOf t (from.Element s k tags) = s ≡ t
+
+-- ---- what is filled
+
+-- a set of sites has with each those that its evaluation meets
+pub record IsClosed (j : JobView) (entry : ℕ) (u : Option ℕ) (D : ℕ → Bool) : Type 0 where
+  pub each : (s c : ℕ) → D s ≡ true → MeetsAt j entry u s c → IsSourceIn D (source_at j u c)
+
+-- what is newly held is of sites of the set up to s
+abbrev pub OnlyIn : JobView → Option ℕ → (ℕ → Bool) → ℕ → List Held → List Held → Type 0
+OnlyIn j u D s before after =
+    (k : ℕ) → is_held (held_in after k) ≡ true → (is_held (held_in before k) ≡ true) ⊎ ((t : ℕ) × (t ≤ s) × (D t ≡ true) × (k ≡ key (job_graph j) t u))
+
+-- what was held is held
+abbrev pub Grows : List Held → List Held → Type 0
+Grows before after = (k : ℕ) → is_held (held_in before k) ≡ true → held_in after k ≡ held_in before k
+
+-- site s under u was filled, with others before it
+pub record IsFilled (j : JobView) (entry : ℕ) (u : Option ℕ) (s : ℕ) (before after : List Held) : Type 0 where
+  pub sound : IsSound j entry after
+  pub grows : Grows before after
+  pub filled : is_held (held_in after (key (job_graph j) s u)) ≡ true
+  pub more : held_count before < held_count after
+  pub rest : (t : ℕ) (w : Option ℕ) → s < t → t < length (graph_sites (job_graph j)) → held_in after (key (job_graph j) t w) ≡ held_in before (key (job_graph j) t w)
+  pub only : (D : ℕ → Bool) → IsClosed j entry u D → D s ≡ true → OnlyIn j u D s before after
+
+-- sites below s were filled for it, of which nothing is held yet
+pub record IsGrown (j : JobView) (entry : ℕ) (u : Option ℕ) (s : ℕ) (before after : List Held) : Type 0 where
+  pub sized : length after ≡ length before
+  pub sound : IsSound j entry after
+  pub grows : Grows before after
+  pub empty : held_in after (key (job_graph j) s u) ≡ held.Nothing
+  pub more : held_count before ≤ held_count after
+  pub rest : (t : ℕ) (w : Option ℕ) → s ≤ t → t < length (graph_sites (job_graph j)) → held_in after (key (job_graph j) t w) ≡ held_in before (key (job_graph j) t w)
+  pub only : (D : ℕ → Bool) → IsClosed j entry u D → D s ≡ true → OnlyIn j u D s before after
+
+-- ---- one evaluation
+
+-- the version is there, and is given by a column of the table or by a site
+abbrev pub IsReadable : JobView → Option ℕ → ℕ → Type 0
+IsReadable j u c = (c < length (graph_versions (job_graph j))) × IsBelow (length j.dataset.columns) (length (graph_sites (job_graph j))) (source_at j u c)
+
+-- what the evaluation of a site needs of its columns
+pub record CanEvaluate (j : JobView) (entry : ℕ) (u : Option ℕ) (cells : List Held) (e : CheckedExpr) : Type 0 where
+  pub can : All (λ (c : ℕ × ColType). IsReadable j u c.0) e.kinds
+  pub fit : All (λ (c : ℕ × ColType). FitsOutcome c.1 (look_at j entry u cells c.0)) e.kinds
+
+-- ---- several sites
+
+-- what is newly held is of sites of the set
+abbrev pub OnlyOf : JobView → Option ℕ → (ℕ → Bool) → List Held → List Held → Type 0
+OnlyOf j u D before after = (k : ℕ) → is_held (held_in after k) ≡ true → (is_held (held_in before k) ≡ true) ⊎ ((t : ℕ) × (D t ≡ true) × (k ≡ key (job_graph j) t u))
+
+-- the set of keys has those of the sites of a set
+abbrev pub HasAllKeys : JobView → Option ℕ → (ℕ → Bool) → (ℕ → Bool) → Type 0
+HasAllKeys j u D T = (t : ℕ) → D t ≡ true → T (key (job_graph j) t u) ≡ true
+
+-- the store went from one state to another, for sets of sites that meet the condition
+pub record IsServed (j : JobView) (entry : ℕ) (u : Option ℕ) (Has : (ℕ → Bool) → Type 0) (before after : List Held) (first last : ℕ) : Type 0 where
+  pub sized : length after ≡ length before
+  pub sound : IsSound j entry after
+  pub grows : Grows before after
+  pub only : (D : ℕ → Bool) → IsClosed j entry u D → Has D → OnlyOf j u D before after
+
+-- the set has the filters that are tried
+abbrev pub HasTried : JobView → ℕ → Option ℕ → List ℕ → (ℕ → Bool) → Type 0
+HasTried j entry u path D = HasFilters (λ s. D s ≡ true) (site_in j entry u) path
+
+-- the set has the filters that are tried, and what is read where they are passed
+abbrev pub HasPassed : JobView → ℕ → Option ℕ → List ℕ → List ℕ → (ℕ → Bool) → Type 0
+HasPassed j entry u path inputs D =
+    HasTried j entry u path D × IfPassed (through_sites (site_in j entry u) path) (HasInputs (λ s. D s ≡ true) (source_at j u) (version_in j entry u) inputs)

@@ -1,0 +1,30 @@
+-- What an entry gives to a loop.
+use Rattle.std.specs.Prelude.{⊤, ℕ, List, length}
+use Rattle.rdf_values.specs.Bookings.{named_before}
+use Rattle.rdf_values.specs.Cuts.{cut}
+use Rattle.rdf_values.specs.Path.{history}
+use Rattle.rdf_values.specs.declared.action.ActionKind.{ActionKind}
+use Rattle.rdf_values.specs.declared.action.ActionKind.TheVariants as kind
+use Rattle.rdf_values.specs.declared.span.Span.{Span}
+use Rattle.rdf_model.specs.Demanded.{demanded}
+use Rattle.rdf_model.specs.LoopFacts.{loop_facts}
+use Rattle.rdf_model.specs.declared.loop_facts.LoopFacts.{LoopFacts}
+use Rattle.loop_keys.specs.Jobs.{JobView, passes_in}
+use Rattle.loop_keys.specs.Store.{row_of}
+
+-- the clusters of a job
+abbrev pub job_spans : JobView → List Span
+job_spans j = cut j.cuts.entries j.cuts.size j.cuts.marks
+
+-- what its loop is to give
+abbrev pub facts_in : JobView → LoopFacts
+facts_in j = loop_facts j.dataset (named_before (history j.script)) (job_spans j) (passes_in j)
+
+-- how many evaluations its passes demand of an entry
+abbrev pub entry_demands : JobView → ℕ → ℕ
+entry_demands j entry = length (demanded j.dataset.fns j.dataset.columns (row_of j entry) (passes_in j))
+
+-- not a Take
+abbrev pub IsNoTake : ActionKind → Type 0
+IsNoTake (kind.Take c) = ⊥
+IsNoTake k = ⊤
