@@ -16,6 +16,9 @@ more_option() { # NAME WORD
 }
 read_words "$@"
 command -v parallel >/dev/null || { say "there is no parallel (Debian package parallel)"; exit 70; }
+# Without a SHELL, as in a batch job, parallel takes what other machines were to run as done.
+PARALLEL_SHELL=/bin/sh
+export PARALLEL_SHELL
 # Of other machines parallel knows the processors, or FILE tells their number.
 [ -n "$jobs" ] || [ -z "$hosts" ] || jobs=100%
 

@@ -45,6 +45,8 @@ cd "$folder" || exit 1
 mkdir home
 HOME=$folder/home XDG_CACHE_HOME=$folder/home PARALLEL_HOME=$folder/home TMPDIR=$folder
 export HOME XDG_CACHE_HOME PARALLEL_HOME TMPDIR
+# A batch job may have none.
+unset SHELL
 tests=0 failed=0
 
 # Compares the status in `status` and the bytes in `out` with what is wanted, and looks for a text in `err`.
