@@ -1,3 +1,2 @@
 pub mod Bits
 pub mod Members
-pub mod Naming

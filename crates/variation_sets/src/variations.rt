@@ -4,7 +4,6 @@ ghost use Rattle.rdf_values.specs.Verdict.{repeats};
 ghost use Rattle.variation_sets.specs.Names.{is_taken, are_too_many, named, IsVarRefusal};
 
 use crate::refusal::VarRefusal;
-use indexmap::IndexSet;
 use rdf_values::{Memory, Name};
 use std::alloc::Global;
 use std::marker::Model;
@@ -51,33 +50,21 @@ impl FullName {
     }
 }
 
-/// Variations, numbered from 0: full names in the order of their adding, and the names of the Varys that added them.
+/// Variations, numbered from 0: full names in the order of their adding.
 #[derive(Drop)]
 pub struct Variations {
     items: Vec<FullName>,
-    varies: IndexSet<Vec<u8>>,
 }
 
 impl Model for Variations {
-    ghost use Rattle.std.specs.Prelude.{◌≡◌, ◌≤◌, ℕ, List, length, bytes_eq};
-    ghost use Rattle.std.specs.List.{list_any};
+    ghost use Rattle.std.specs.Prelude.{◌≤◌, List, length};
     ghost use Rattle.rdf_values.specs.Path.{Variation};
 
     ghost Value = { List Variation };
 
     ghost view = { λ v. v.items.items };
 
-    ghost invariant = { λ v. (length v.items.items ≤ 128) × ((q : List ℕ) → list_any (λ k. bytes_eq q k.items) v.varies.keys ≡ list_any (λ f. bytes_eq f.name q) v.items.items) };
-}
-
-fn copy_bytes(alloc: Global, name: &Name) -> Result<Vec<u8>, VarRefusal>
-    ensures same { IfOk result (λ v. v.items ≡ name.now) }
-    ensures memory { IfErr result (λ e. e ≡ VarRefusal.Memory) }
-{
-    match Vec::from_slice(alloc, name.bytes()) {
-        Ok(bytes) => Ok(bytes),
-        Err(_) => Err(VarRefusal::Memory),
-    }
+    ghost invariant = { λ v. length v.items.items ≤ 128 };
 }
 
 impl Variations {
@@ -87,7 +74,6 @@ impl Variations {
     {
         Variations {
             items: Vec::new(alloc),
-            varies: IndexSet::new(alloc),
         }
     }
 
@@ -103,7 +89,8 @@ impl Variations {
     pub fn has(&self, name: &Name) -> bool
         ensures { result ≡ is_taken self.now name.now }
     {
-        self.varies.contains(name.bytes())
+        // At most 128 are searched, and while booking alone.
+        self.items.iter().any(|item| item.name().is(name))
     }
 
     /// The name of a variation's Vary.
@@ -140,17 +127,10 @@ impl Variations {
         }
         let first = self.items.len();
         let mut more = full_names(alloc, name, tags)?;
-        let vary = copy_bytes(alloc, name)?;
         if self.items.append(&mut more).is_err() {
             return Err(VarRefusal::Memory);
         }
-        match self.varies.insert(vary) {
-            Ok(_) => Ok(first as u32),
-            Err(_) => {
-                self.items.truncate(first);
-                Err(VarRefusal::Memory)
-            }
-        }
+        Ok(first as u32)
     }
 }
 
