@@ -9,7 +9,7 @@ use Rattle.std.proofs.lemmas.List.Elements.{All-append, All-cons, All-head, All-
 use Rattle.rdf_values.specs.declared.action.ActionKind.{ActionKind}
 use Rattle.rdf_values.specs.declared.action.ActionKind.TheVariants as kind
 use Rattle.rdf_values.specs.declared.item.Item.{Item}
-use Rattle.rdf_values.specs.declared.item.Item.TheVariants.{Number, Point, Single, Unit}
+use Rattle.rdf_values.specs.declared.item.Item.TheVariants.{Number, Point, Point2, Single, Unit}
 use Rattle.rdf_values.specs.declared.value.Scalar.{Scalar}
 use Rattle.rdf_values.specs.declared.value.Value.{Value}
 use Rattle.rdf_values.specs.declared.value.Value.TheVariants as val
@@ -256,3 +256,22 @@ weighted_points edges c o s x w ps f g e h k =
     (λ p. ap (λ t. spread (kind.Histo1D edges c o) (values_at t p)) e ∙ ap (λ v. spread (kind.Histo1D edges c o) (v ∷ lane_value w p ∷ [])) (h p)
     ∙ ap (λ v. spread (kind.Histo1D edges c o) (val.Int (f p) ∷ v ∷ [])) (k p))
     ∙ singles_mapped (λ p. Point (f p) (g p)) ps
+
+-- a histogram of two axes is filled with the pairs of numbers
+pub paired_points : (xs ys : List ℤ) (c d : List ℕ) (o : Option (List ℕ)) (s : Sources) (x y : Lane) (ps : List ℕ) (f g : ℕ → ℤ) → s ≡ Pair x y → HoldsNumbers x f → HoldsNumbers y g
+    → flat_map (λ p. spread (kind.Histo2D xs ys c d o) (values_at s p)) ps ≡ map (λ p. Point2 (f p) (g p) (pos 1)) ps
+paired_points xs ys c d o s x y ps f g e h k =
+    same_each (λ p. spread (kind.Histo2D xs ys c d o) (values_at s p)) (λ p. Point2 (f p) (g p) (pos 1) ∷ []) ps
+    (λ p. ap (λ t. spread (kind.Histo2D xs ys c d o) (values_at t p)) e ∙ ap (λ v. spread (kind.Histo2D xs ys c d o) (v ∷ lane_value y p ∷ [])) (h p)
+    ∙ ap (λ v. spread (kind.Histo2D xs ys c d o) (val.Int (f p) ∷ v ∷ [])) (k p))
+    ∙ singles_mapped (λ p. Point2 (f p) (g p) (pos 1)) ps
+
+-- or with these and their weights
+pub weighted_pair_points : (xs ys : List ℤ) (c d : List ℕ) (o : Option (List ℕ)) (s : Sources) (x y w : Lane) (ps : List ℕ) (f g j : ℕ → ℤ) → s ≡ WeightedPair x y w
+    → HoldsNumbers x f → HoldsNumbers y g → HoldsNumbers w j → flat_map (λ p. spread (kind.Histo2D xs ys c d o) (values_at s p)) ps ≡ map (λ p. Point2 (f p) (g p) (j p)) ps
+weighted_pair_points xs ys c d o s x y w ps f g j e h k l =
+    same_each (λ p. spread (kind.Histo2D xs ys c d o) (values_at s p)) (λ p. Point2 (f p) (g p) (j p) ∷ []) ps
+    (λ p. ap (λ t. spread (kind.Histo2D xs ys c d o) (values_at t p)) e ∙ ap (λ v. spread (kind.Histo2D xs ys c d o) (v ∷ lane_value y p ∷ lane_value w p ∷ [])) (h p)
+    ∙ ap (λ v. spread (kind.Histo2D xs ys c d o) (val.Int (f p) ∷ v ∷ lane_value w p ∷ [])) (k p)
+    ∙ ap (λ v. spread (kind.Histo2D xs ys c d o) (val.Int (f p) ∷ val.Int (g p) ∷ v ∷ [])) (l p))
+    ∙ singles_mapped (λ p. Point2 (f p) (g p) (j p)) ps

@@ -1,7 +1,7 @@
 // Filling histograms with the points of an entry.
 ghost use Rattle.std.specs.Prelude.{◌≡◌, ◌<◌, ◌≤◌, ◌+◌, ◌^◌, ◌++◌, ℕ, List, length, map, All, pos, slice_index_or};
 ghost use Rattle.rdf_values.specs.declared.item.Item.{Item};
-ghost use Rattle.rdf_values.specs.declared.item.Item.TheVariants.{Point};
+ghost use Rattle.rdf_values.specs.declared.item.Item.TheVariants.{Point, Point2};
 ghost use Rattle.rdf_values.specs.Spread.{points, points2, weights};
 ghost use Rattle.histograms.specs.Cells.{IsWeight};
 ghost use Rattle.histograms.specs.OneAxis.{HasFilled};
@@ -71,5 +71,48 @@ pub fn fill_weighted(hist: &mut Hist1, numbers: &[i64], weights: &[i64], places:
     for i in 0..places.len() {
         let place = places.at(i) as usize;
         hist.fill(numbers[place], weights[place]);
+    }
+}
+
+/// Fills the pairs of numbers of some places.
+pub fn fill_number_pairs(hist: &mut Hist2, xs: &[i64], ys: &[i64], places: &Places<'_>)
+    requires few { length (places_of places.now) ≤ 1000000 }
+    requires there { EachPlace places.now (λ p. p < length xs.now) }
+    requires paired { EachPlace places.now (λ p. p < length ys.now) }
+    requires room { hist.old.fills + length (places_of places.now) ≤ MOST_FILLS }
+    ensures x_edges { hist.new.x_edges ≡ hist.old.x_edges }
+    ensures y_edges { hist.new.y_edges ≡ hist.old.y_edges }
+    ensures fills { hist.new.fills ≡ hist.old.fills + length (places_of places.now) }
+    ensures filled { (before : List Item) → HasFilled2 hist.old before → HasFilled2 hist.new (before ++ map (λ p. Point2 (slice_index_or xs.now p (pos 0)) (slice_index_or ys.now p (pos 0)) (pos 1)) (places_of places.now)) }
+{
+    for i in 0..places.len() {
+        let place = places.at(i) as usize;
+        hist.fill(xs[place], ys[place], 1);
+    }
+}
+
+/// Fills the pairs of numbers of some places, each with its weight.
+pub fn fill_weighted_pairs(
+    hist: &mut Hist2,
+    xs: &[i64],
+    ys: &[i64],
+    weights: &[i64],
+    places: &Places<'_>,
+)
+    requires few { length (places_of places.now) ≤ 1000000 }
+    requires there { EachPlace places.now (λ p. p < length xs.now) }
+    requires paired { EachPlace places.now (λ p. p < length ys.now) }
+    requires weighed { EachPlace places.now (λ p. p < length weights.now) }
+    requires light { EachPlace places.now (λ p. IsWeight (slice_index_or weights.now p (pos 0))) }
+    requires room { hist.old.fills + length (places_of places.now) ≤ MOST_FILLS }
+    ensures x_edges { hist.new.x_edges ≡ hist.old.x_edges }
+    ensures y_edges { hist.new.y_edges ≡ hist.old.y_edges }
+    ensures fills { hist.new.fills ≡ hist.old.fills + length (places_of places.now) }
+    ensures filled { (before : List Item) → HasFilled2 hist.old before → HasFilled2 hist.new (before
+        ++ map (λ p. Point2 (slice_index_or xs.now p (pos 0)) (slice_index_or ys.now p (pos 0)) (slice_index_or weights.now p (pos 0))) (places_of places.now)) }
+{
+    for i in 0..places.len() {
+        let place = places.at(i) as usize;
+        hist.fill(xs[place], ys[place], weights[place]);
     }
 }

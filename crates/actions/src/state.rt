@@ -4,7 +4,9 @@ ghost use Rattle.histograms.specs.Axis.{IsAxis};
 
 use crate::batch::{Batch, Sources};
 use crate::filled::Filled;
-use crate::fills::{fill_pairs, fill_points, fill_weighted};
+use crate::fills::{
+    fill_number_pairs, fill_pairs, fill_points, fill_weighted, fill_weighted_pairs,
+};
 use crate::folding::{fold_lane, greatest_batch, least_batch, reduce_batch, sum_batch};
 use crate::items::Items;
 use crate::lane::Lane;
@@ -226,7 +228,7 @@ impl State {
         }
     }
 
-    // Fills a histogram of one axis with numbers, one at each place, and tells whether that was what the batch is for.
+    // Fills a histogram with numbers, one of each column at each place, and tells whether that was what the batch is for.
     fn fill_at_once(&mut self, batch: &Batch<'_>) -> bool
         requires few { length (places_of batch.now.places) ≤ 1000000 }
         requires there { EachPlace batch.now.places (HasValues batch.now.sources) }
@@ -239,8 +241,8 @@ impl State {
         ensures fed { result ≡ true → (cluster : ℕ) (fed : List Fed) → All (λ f. f.cluster ≤ cluster) fed → Holds self.old fed
             → Holds self.new (fed ++ from_cluster cluster (batch_items (kind_of self.old) batch.now)) }
     {
-        if let State::Histo1D { hist, .. } = self {
-            match &batch.sources {
+        match self {
+            State::Histo1D { hist, .. } => match &batch.sources {
                 Sources::One { x } => {
                     fold_lane(hist, x, &batch.places);
                     return true;
@@ -253,7 +255,26 @@ impl State {
                     return true;
                 }
                 _ => {}
-            }
+            },
+            State::Histo2D { hist, .. } => match &batch.sources {
+                Sources::Pair {
+                    x: Lane::Int(xs),
+                    y: Lane::Int(ys),
+                } => {
+                    fill_number_pairs(hist, xs, ys, &batch.places);
+                    return true;
+                }
+                Sources::WeightedPair {
+                    x: Lane::Int(xs),
+                    y: Lane::Int(ys),
+                    w: Lane::Int(weights),
+                } => {
+                    fill_weighted_pairs(hist, xs, ys, weights, &batch.places);
+                    return true;
+                }
+                _ => {}
+            },
+            _ => {}
         }
         false
     }

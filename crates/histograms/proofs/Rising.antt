@@ -1,5 +1,6 @@
 -- Edges that rise, and the place of a value among them.
 use Rattle.std.proofs.Common.{ℕ, zero, suc, ◌≡◌, ◌<◌, ◌≤◌, Bool, true, false, cond, ◌&&◌, length, get_or, List, [], ◌∷◌, ℤ, ◌<ℤ◌, arith, refl, sym, ◌∙◌, add-one}
+use Rattle.std.proofs.lemmas.Bool.{leb-true}
 use Rattle.std.proofs.lemmas.Int.{ints}
 use Rattle.std.proofs.lemmas.List.Sums.{sum_by-cons}
 use Rattle.std.specs.Prelude.{int_lt, int_le, count_by, nat_le}
@@ -43,6 +44,10 @@ rises_head x (y ∷ zs) h (suc k) d l =
 rises_tail : (x : ℤ) (xs : List ℤ) → rises (x ∷ xs) ≡ true → rises xs ≡ true
 rises_tail x [] h = refl
 rises_tail x (y ∷ zs) h = (both (int_lt x y) (rises (y ∷ zs)) h).1
+
+-- an axis has two edges
+pub two_of_axis : (xs : List ℤ) → are_edges xs ≡ true → 2 ≤ length xs
+two_of_axis xs h = leb-true 2 (length xs) (both (nat_le 2 (length xs)) (rises xs) h).0
 
 -- the edges of an axis rise
 pub rises_of_axis : (xs : List ℤ) → are_edges xs ≡ true → rises xs ≡ true

@@ -1,4 +1,5 @@
 pub mod Axis
+pub mod Buckets
 pub mod Cells
 pub mod OneAxis
 pub mod TwoAxes

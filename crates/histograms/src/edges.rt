@@ -3,9 +3,11 @@ ghost use Rattle.std.specs.Prelude.{◌≡◌, ◌↔◌, ◌<◌, ◌-◌, ◌^
 ghost use Rattle.rdf_values.specs.Fold.{bin};
 ghost use Rattle.rdf_values.specs.Edges.{are_edges, rises};
 ghost use Rattle.histograms.specs.Axis.{IsAxis};
+ghost use Rattle.histograms.specs.Buckets.{KeepsEdges};
 
+use crate::buckets::Buckets;
 use rdf_values::Memory;
-use std::alloc::Global;
+use std::alloc::{AllocError, Global};
 use std::marker::Model;
 
 /// Why there is no axis of some edges: `BadEdges` for fewer than two, or where they don't strictly rise.
@@ -19,6 +21,7 @@ pub enum EdgeRefusal {
 #[derive(Debug, Drop)]
 pub struct Edges {
     edges: Vec<i64>,
+    buckets: Buckets,
 }
 
 impl Model for Edges {
@@ -26,7 +29,7 @@ impl Model for Edges {
 
     ghost view = { λ a. a.edges.items };
 
-    ghost invariant = { λ a. IsAxis a.edges.items };
+    ghost invariant = { λ a. KeepsEdges a.edges.items a.buckets };
 }
 
 fn rises(edges: &[i64]) -> bool
@@ -45,10 +48,21 @@ impl Edges {
         if edges.len() < 2 || !rises(edges) {
             return Err(EdgeRefusal::BadEdges);
         }
-        match Vec::from_slice(alloc, edges) {
-            Ok(edges) => Ok(Edges { edges }),
+        match Edges::from_axis(alloc, edges) {
+            Ok(axis) => Ok(axis),
             Err(_) => Err(EdgeRefusal::Memory),
         }
+    }
+
+    fn from_axis(alloc: Global, edges: &[i64]) -> Result<Edges, AllocError>
+        requires { IsAxis edges.now }
+        ensures { IfOk result (λ axis. axis ≡ edges.now) }
+    {
+        let buckets = Buckets::new(alloc, edges)?;
+        Ok(Edges {
+            edges: Vec::from_slice(alloc, edges)?,
+            buckets,
+        })
     }
 
     /// The edges in their order.
@@ -67,6 +81,26 @@ impl Edges {
 
     /// The cell of a value: 0 for underflow, then the bins in order, the last cell for overflow.
     pub fn bin(&self, value: i64) -> u32
+        ensures value { result ≡ bin self.now value }
+        ensures within { result ≤ length self.now }
+    {
+        if value < self.buckets.first {
+            return 0;
+        }
+        if value >= self.buckets.last {
+            return self.edges.len() as u32;
+        }
+        let start = self.buckets.start(value);
+        let cell = start + u32::from(self.edges[start as usize] <= value);
+        if value < self.edges[cell as usize] {
+            cell
+        } else {
+            self.halve(value)
+        }
+    }
+
+    // The cell of a value, by halving: for where more edges than one lie in its bucket.
+    fn halve(&self, value: i64) -> u32
         ensures value { result ≡ bin self.now value }
         ensures within { result ≤ length self.now }
     {

@@ -2,6 +2,7 @@
 //! It stands on `rdf_values`, whose definitions say what a cell holds.
 #![tactic(auto)]
 
+mod buckets;
 pub mod cell_sum;
 pub mod edges;
 pub mod hist1;

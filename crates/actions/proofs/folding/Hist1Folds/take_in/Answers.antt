@@ -1,7 +1,5 @@
-use Rattle.std.proofs.Common.{rules, arith, ◌<◌, ◌++◌, ◌∙◌, ◌≡◌, sym, subst, get_or, length, map, pos, take, w64, FitsSigned, List, ℤ, append_assoc, ap}
+use Rattle.std.proofs.Common.{rules, arith, ◌<◌, ◌++◌, ◌∙◌, subst, get_or, length, map, pos, take, w64, FitsSigned}
 use Rattle.std.proofs.lemmas.Int.{to_z-of_z}
-use Rattle.std.proofs.lemmas.List.{take_all}
-use Rattle.rdf_values.specs.declared.item.Item.{Item}
 use Rattle.rdf_values.specs.declared.item.Item.TheVariants.{Point}
 use Rattle.histograms.specs.OneAxis.{HasFilled}
 use Rattle.actions.proofs.Points.{one_filled}

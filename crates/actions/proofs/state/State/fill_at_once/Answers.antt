@@ -1,11 +1,11 @@
 use Rattle.std.proofs.Common.{arith, [], ◌≡◌, ◌∙◌, ap, refl}
 use Rattle.rdf_values.specs.declared.action.ActionKind.TheVariants as kind
-use Rattle.actions.specs.declared.batch.Sources.TheVariants.{One, Weighted}
+use Rattle.actions.specs.declared.batch.Sources.TheVariants.{Pair, Weighted, WeightedPair}
 use Rattle.actions.specs.declared.lane.Lane.TheVariants as lane
 use Rattle.actions.specs.Batches.{places_of}
-use Rattle.actions.proofs.Batching.{few_points, lane_points, weighted_points}
+use Rattle.actions.proofs.Batching.{few_points, lane_points, paired_points, weighted_pair_points, weighted_points}
 use Rattle.actions.proofs.Points.{none_filled}
-use Rattle.actions.proofs.States.{holds_flat}
+use Rattle.actions.proofs.States.{holds_flat, holds_square}
 use Rattle.actions.proofs.state.State.fill_at_once.Goals as goal
 
 pub fold_lane-requires-clause-room : goal.fold_lane-requires-clause-room
@@ -47,3 +47,25 @@ returns-in-Weighted-Int-Int-clause-fed c = λ t cluster fed below held.
     rw c.in-Histo1D.is (holds_flat fed cluster below hist c.fill_weighted.new.hist c.in-Histo1D.x c.in-Histo1D.weight _ _
     (weighted_points hist.edges c.in-Histo1D.x c.in-Histo1D.weight c.args.batch.now.sources (lane.Int c.in-Weighted-Int-Int.numbers) (lane.Int c.in-Weighted-Int-Int.weights) (places_of c.args.batch.now.places) _ _ (c.in-Weighted-Int-Int.is ∙ (λ i. Weighted (x_is i) (w_is i))) (λ p. refl) (λ p. refl))
     c.fill_weighted.ensures.filled (rw c.in-Histo1D.is at held))
+
+pub returns-in-Pair-Int-Int-clause-fed : goal.returns-in-Pair-Int-Int-clause-fed
+returns-in-Pair-Int-Int-clause-fed c = λ t cluster fed below held.
+    let hist = c.in-Histo2D.hist in
+    let x_is : c.in-Pair-Int-Int.x ≡ lane.Int c.in-Pair-Int-Int.xs = rw c.in-Pair-Int-Int.is at c.in-Pair-Int-Int.x-is in
+    let y_is : c.in-Pair-Int-Int.y ≡ lane.Int c.in-Pair-Int-Int.ys = rw c.in-Pair-Int-Int.is at c.in-Pair-Int-Int.y-is in
+    rw c.in-Histo2D.is (holds_square fed cluster below hist c.fill_number_pairs.new.hist c.in-Histo2D.x c.in-Histo2D.y c.in-Histo2D.weight _ _
+    (paired_points hist.x_edges hist.y_edges c.in-Histo2D.x c.in-Histo2D.y c.in-Histo2D.weight c.args.batch.now.sources (lane.Int c.in-Pair-Int-Int.xs) (lane.Int c.in-Pair-Int-Int.ys) (places_of c.args.batch.now.places) _ _
+    (c.in-Pair-Int-Int.is ∙ (λ i. Pair (x_is i) (y_is i))) (λ p. refl) (λ p. refl))
+    c.fill_number_pairs.ensures.filled (rw c.in-Histo2D.is at held))
+
+pub returns-in-WeightedPair-Int-Int-Int-clause-fed : goal.returns-in-WeightedPair-Int-Int-Int-clause-fed
+returns-in-WeightedPair-Int-Int-Int-clause-fed c = λ t cluster fed below held.
+    let hist = c.in-Histo2D.hist in
+    let from = c.in-WeightedPair-Int-Int-Int in
+    let x_is : from.x ≡ lane.Int from.xs = rw from.is at from.x-is in
+    let y_is : from.y ≡ lane.Int from.ys = rw from.is at from.y-is in
+    let w_is : from.w ≡ lane.Int from.weights = rw from.is at from.w-is in
+    rw c.in-Histo2D.is (holds_square fed cluster below hist c.fill_weighted_pairs.new.hist c.in-Histo2D.x c.in-Histo2D.y c.in-Histo2D.weight _ _
+    (weighted_pair_points hist.x_edges hist.y_edges c.in-Histo2D.x c.in-Histo2D.y c.in-Histo2D.weight c.args.batch.now.sources (lane.Int from.xs) (lane.Int from.ys) (lane.Int from.weights) (places_of c.args.batch.now.places) _ _ _
+    (from.is ∙ (λ i. WeightedPair (x_is i) (y_is i) (w_is i))) (λ p. refl) (λ p. refl) (λ p. refl))
+    c.fill_weighted_pairs.ensures.filled (rw c.in-Histo2D.is at held))

@@ -1,14 +1,84 @@
-use Rattle.std.proofs.Common.{◌≡◌, rules, ◌∙◌, sym, ap, true}
-use Rattle.std.specs.Prelude.{int_le}
-use Rattle.std.proofs.lemmas.List.Sorted.{IsPartitionPoint-from_clause}
-use Rattle.rdf_values.specs.Fold.{bin}
-use Rattle.rdf_values.specs.Edges.{rises}
-use Rattle.histograms.proofs.Rising.{rises_of_axis, partitioned_by_rise, count_by-partition}
+use Rattle.std.proofs.Common.{◌≡◌, ◌∙◌, length, arith, rules, sym, w64, FitsSigned, vec_len}
+use Rattle.std.proofs.lemmas.Int.{to_z-of_z}
+use Rattle.histograms.proofs.Rising.{rises_of_axis, two_of_axis}
+use Rattle.histograms.proofs.Starts.{bin-above, bin-found, bin-reached, bucket-within, exceeds_it, is_at_most, is_below, not_below, reached-cell, reached-start}
 use Rattle.histograms.proofs.edges.Edges.bin.Goals as goal
 
-pub returns-clause-value : goal.returns-clause-value
-returns-clause-value c =
-    let rise : rises c.as_slice.result.now ≡ true = ap rises c.as_slice.ensures.value ∙ rises_of_axis c.self.inside.edges.items c.self.invariant.rise in
-    let point = IsPartitionPoint-from_clause (λ e. int_le e c.args.value) _ _ c.partition_point.ensures.partitioned (partitioned_by_rise _ c.args.value rise) (λ a r q k. search rules) in
-    let counted = count_by-partition (λ e. int_le e c.args.value) _ _ c.partition_point.ensures.bound point in
-    sym (ap (λ edges. bin edges c.args.value) (sym c.self.view_is ∙ sym c.as_slice.ensures.value) ∙ counted)
+pub returns-then-value-self-clause-value : goal.returns-then-value-self-clause-value
+returns-then-value-self-clause-value c =
+    let two = two_of_axis c.self.inside.edges.items c.self.invariant.axis.rise in
+    let rise = rises_of_axis c.self.inside.edges.items c.self.invariant.axis.rise in
+    let first : FitsSigned w64 c.self.inside.buckets.first = search rules in
+    rw (← c.self.view_is)
+    (sym (bin-found c.self.inside.edges.items c.args.value 0 rise (omega arith) (λ k l. absurd (omega arith)) (rw c.self.invariant.buckets.first (is_below _ _ c.ranges.value first c.if-value-self.true))))
+
+pub returns-then-value-self-2-clause-value : goal.returns-then-value-self-2-clause-value
+returns-then-value-self-2-clause-value c =
+    let two = two_of_axis c.self.inside.edges.items c.self.invariant.axis.rise in
+    let rise = rises_of_axis c.self.inside.edges.items c.self.invariant.axis.rise in
+    let last : FitsSigned w64 c.self.inside.buckets.last = search rules in
+    let size : vec_len c.self.inside.edges ≡ length c.self.inside.edges.items = search rules in
+    rw (← c.self.view_is)
+    (c.len.ensures ∙ size ∙ sym (bin-above c.self.inside.edges.items c.args.value rise (omega arith) (rw c.self.invariant.buckets.last (is_at_most _ _ last c.ranges.value c.if-value-self-2.true))))
+
+pub start-start-requires-clause-bucket : goal.start-start-requires-clause-bucket
+start-start-requires-clause-bucket c =
+    let first : FitsSigned w64 c.self.inside.buckets.first = search rules in
+    let last : FitsSigned w64 c.self.inside.buckets.last = search rules in
+    let low = not_below _ _ c.ranges.value first c.if-value-self.false in
+    let high = exceeds_it _ _ last c.ranges.value c.if-value-self-2.false in
+    rw (to_z-of_z w64 c.args.value c.ranges.value) (bucket-within c.self.inside.edges.items c.self.inside.buckets c.args.value c.self.invariant low high)
+
+pub index-requires : goal.index-requires
+index-requires c =
+    let first : FitsSigned w64 c.self.inside.buckets.first = search rules in
+    let last : FitsSigned w64 c.self.inside.buckets.last = search rules in
+    let low = not_below _ _ c.ranges.value first c.if-value-self.false in
+    let high = exceeds_it _ _ last c.ranges.value c.if-value-self-2.false in
+    let size : vec_len c.self.inside.edges ≡ length c.self.inside.edges.items = search rules in
+    rw size (reached-start c.self.inside.edges.items c.self.inside.buckets c.args.value c.start-start.result c.self.invariant low high c.ranges.value c.start-start.ensures).within
+
+pub overflow_add-cell : goal.overflow_add-cell
+overflow_add-cell c =
+    let first : FitsSigned w64 c.self.inside.buckets.first = search rules in
+    let last : FitsSigned w64 c.self.inside.buckets.last = search rules in
+    let low = not_below _ _ c.ranges.value first c.if-value-self.false in
+    let high = exceeds_it _ _ last c.ranges.value c.if-value-self-2.false in
+    let edge : FitsSigned w64 c.index.result.now = search rules in
+    let reached = reached-cell c.self.inside.edges.items c.self.inside.buckets c.args.value c.start-start.result c.from.result c.index.result.now c.self.invariant low high c.ranges.value edge c.start-start.ensures c.index.ensures c.from.ensures in
+    let within = reached.within in
+    let few = c.self.invariant.axis.few in
+    record { fits = omega arith }
+
+pub index-requires-2 : goal.index-requires-2
+index-requires-2 c =
+    let first : FitsSigned w64 c.self.inside.buckets.first = search rules in
+    let last : FitsSigned w64 c.self.inside.buckets.last = search rules in
+    let low = not_below _ _ c.ranges.value first c.if-value-self.false in
+    let high = exceeds_it _ _ last c.ranges.value c.if-value-self-2.false in
+    let edge : FitsSigned w64 c.index.result.now = search rules in
+    let reached = reached-cell c.self.inside.edges.items c.self.inside.buckets c.args.value c.start-start.result c.from.result c.index.result.now c.self.invariant low high c.ranges.value edge c.start-start.ensures c.index.ensures c.from.ensures in
+    let size : vec_len c.self.inside.edges ≡ length c.self.inside.edges.items = search rules in
+    rw size reached.within
+
+pub returns-then-value-index-clause-value : goal.returns-then-value-index-clause-value
+returns-then-value-index-clause-value c =
+    let first : FitsSigned w64 c.self.inside.buckets.first = search rules in
+    let last : FitsSigned w64 c.self.inside.buckets.last = search rules in
+    let low = not_below _ _ c.ranges.value first c.if-value-self.false in
+    let high = exceeds_it _ _ last c.ranges.value c.if-value-self-2.false in
+    let edge : FitsSigned w64 c.index.result.now = search rules in
+    let reached = reached-cell c.self.inside.edges.items c.self.inside.buckets c.args.value c.start-start.result c.from.result c.index.result.now c.self.invariant low high c.ranges.value edge c.start-start.ensures c.index.ensures c.from.ensures in
+    let above : FitsSigned w64 c.index-2.result.now = search rules in
+    rw (← c.self.view_is) (bin-reached c.self.inside.edges.items c.args.value _ c.index-2.result.now c.self.invariant.axis.rise reached c.index-2.ensures (is_below _ _ c.ranges.value above c.if-value-index.true))
+
+pub returns-then-value-index-clause-within : goal.returns-then-value-index-clause-within
+returns-then-value-index-clause-within c =
+    let first : FitsSigned w64 c.self.inside.buckets.first = search rules in
+    let last : FitsSigned w64 c.self.inside.buckets.last = search rules in
+    let low = not_below _ _ c.ranges.value first c.if-value-self.false in
+    let high = exceeds_it _ _ last c.ranges.value c.if-value-self-2.false in
+    let edge : FitsSigned w64 c.index.result.now = search rules in
+    let reached = reached-cell c.self.inside.edges.items c.self.inside.buckets c.args.value c.start-start.result c.from.result c.index.result.now c.self.invariant low high c.ranges.value edge c.start-start.ensures c.index.ensures c.from.ensures in
+    let within = reached.within in
+    rw (← c.self.view_is) (omega arith)

@@ -1,0 +1,161 @@
+-- Where the buckets of an axis begin, and the cell that is found by them.
+use mir.Val.{bool_byte}
+use Rattle.std.proofs.Common.{ℕ, ◌≡◌, ◌<◌, ◌≤◌, ◌+◌, ◌-◌, inl, inr, Bool, true, false, length, get_or, List, [], ℤ, pos, ◌-ℤ◌, ◌<ℤ◌, ◌≤ℤ◌, FitsSigned, w64, to_z, of_z, arith, refl, sym, subst, ◌∙◌, ap}
+use Rattle.std.proofs.Math.Pow.{shr_mono}
+use Rattle.std.proofs.lemmas.Int.{ints, to_z-of_z}
+use Rattle.std.proofs.lemmas.Bool.{cases_Bool, cases_lt, false_from_ne_true}
+use Rattle.std.proofs.lemmas.List.{get_or_default}
+use Rattle.std.specs.Prelude.{int_le, int_lt, unsigned_abs}
+use Rattle.rdf_values.specs.Fold.{bin}
+use Rattle.rdf_values.specs.Edges.{are_edges, rises}
+use Rattle.histograms.specs.Buckets.{AreStarts, KeepsEdges, bucket_of}
+use Rattle.histograms.specs.declared.buckets.Buckets.{Buckets}
+use Rattle.histograms.proofs.Rising.{count_by-partition, partitioned_by_rise, rises_of_axis, two_of_axis}
+
+-- a greater number is in no bucket below
+pub bucket_of-mono : (first : ℤ) (shift : ℕ) (a b : ℤ) → first ≤ℤ a → a ≤ℤ b → bucket_of first shift a ≤ bucket_of first shift b
+bucket_of-mono first shift a b l m =
+    let further : unsigned_abs (a -ℤ first) ≤ unsigned_abs (b -ℤ first) = grind (arith, ints) in
+    shr_mono shift further
+
+pub starts-none : (bucket : ℕ → ℕ) (edges : ℕ) → AreStarts bucket edges [] 0
+starts-none bucket edges = record {
+  cells = λ b l. absurd (omega arith);
+  below = λ b k l. absurd (omega arith);
+  reached = λ k l. absurd (omega arith);
+}
+
+-- one more edge is in place, by which more buckets may begin
+pub starts-more : (bucket : ℕ → ℕ) (edges : ℕ) (starts more : List ℕ) (i : ℕ) → i < edges → AreStarts bucket edges starts i
+    → ((b : ℕ) → b < length starts → get_or more b 0 ≡ get_or starts b 0) → ((b : ℕ) → length starts ≤ b → b < length more → get_or more b 0 ≡ i)
+    → length starts ≤ length more → bucket i < length more → AreStarts bucket edges more (i + 1)
+starts-more bucket edges starts more i within so_far kept begun longer reached = record {
+  cells = λ b l. elim (cases_lt b (length starts)) [
+    | inl old ↦ subst (λ c. c < edges) (sym (kept b old)) (so_far.cells b old)
+    | inr new ↦ subst (λ c. c < edges) (sym (begun b new l)) within
+  ];
+  below = λ b k l m. elim (cases_lt b (length starts)) [
+    | inl old ↦ so_far.below b k old (subst (λ c. k < c) (kept b old) m)
+    | inr new ↦ let at : k < i = subst (λ c. k < c) (begun b new l) m in let low = so_far.reached k at in omega arith
+  ];
+  reached = λ k l. elim (cases_lt k i) [
+    | inl old ↦ let low = so_far.reached k old in omega arith
+    | inr new ↦ let same : k ≡ i = omega arith in rw same reached
+  ];
+}
+
+passes : (a b : ℤ) → a ≤ℤ b → int_le a b ≡ true
+passes a b l = grind (arith, ints)
+
+exceeds : (a b : ℤ) → b <ℤ a → int_le a b ≡ true → ⊥
+exceeds a b l p = grind (arith, ints)
+
+-- the cell of a number at or above each edge before a place and below the one there
+pub bin-found : (edges : List ℤ) (v : ℤ) (i : ℕ) → rises edges ≡ true → i < length edges → ((k : ℕ) → k < i → get_or edges k (pos 0) ≤ℤ v) → v <ℤ get_or edges i (pos 0) → bin edges v ≡ i
+bin-found edges v i rise l below above = count_by-partition (λ e. int_le e v) edges i (omega arith) (
+  (λ k d _ m. rw (get_or_default edges k d (pos 0) (omega arith)) (passes (get_or edges k (pos 0)) v (below k m))),
+  (λ k d m n. rw (get_or_default edges k d (pos 0) n)
+      (false_from_ne_true (int_le (get_or edges k (pos 0)) v) (λ p. exceeds (get_or edges i (pos 0)) v above (partitioned_by_rise edges v rise i k (pos 0) m n p)))),
+)
+
+-- that of a number at or above the last edge
+pub bin-above : (edges : List ℤ) (v : ℤ) → rises edges ≡ true → 0 < length edges → get_or edges (length edges - 1) (pos 0) ≤ℤ v → bin edges v ≡ length edges
+bin-above edges v rise l above = count_by-partition (λ e. int_le e v) edges (length edges) (omega arith) (
+  (λ k d _ m. rw (get_or_default edges k d (pos 0) m)
+      (partitioned_by_rise edges v rise k (length edges - 1) (pos 0) (omega arith) (omega arith) (passes (get_or edges (length edges - 1) (pos 0)) v above))),
+  (λ k d m n. absurd (omega arith)),
+)
+
+passed : (a b : ℤ) → int_le a b ≡ true → a ≤ℤ b
+passed a b p = grind (arith, ints)
+
+failed : (a b : ℤ) → int_le a b ≡ false → b ≤ℤ a
+failed a b p = grind (arith, ints)
+
+below-is_at_most : (a b : ℤ) → a <ℤ b → a ≤ℤ b
+below-is_at_most a b l = grind (arith, ints)
+
+below-itself : (a b : ℤ) → a ≤ℤ b → b <ℤ a → ⊥
+below-itself a b l m = grind (arith, ints)
+
+-- a number below the last edge has a bucket
+pub bucket-within : (edges : List ℤ) (kept : Buckets) (v : ℤ) → KeepsEdges edges kept → kept.first ≤ℤ v → v <ℤ kept.last → bucket_of kept.first kept.shift v < length kept.starts.items
+bucket-within edges kept v keeps low high =
+    let two = two_of_axis edges keeps.axis.rise in
+    let most = bucket_of-mono kept.first kept.shift v kept.last low (below-is_at_most v kept.last high) in
+    let last = subst (λ e. bucket_of kept.first kept.shift e < length kept.starts.items) keeps.buckets.last (keeps.buckets.starts.reached (length edges - 1) (omega arith)) in
+    omega arith
+
+-- the edges in the buckets below a number's are below it
+start-below : (edges : List ℤ) (kept : Buckets) (v : ℤ) → KeepsEdges edges kept → kept.first ≤ℤ v → v <ℤ kept.last
+    → (k : ℕ) → k < get_or kept.starts.items (bucket_of kept.first kept.shift v) 0 → get_or edges k (pos 0) ≤ℤ v
+start-below edges kept v keeps low high k l = elim (cases_Bool (int_le (get_or edges k (pos 0)) v)) [
+  | inl p ↦ passed (get_or edges k (pos 0)) v p
+  | inr p ↦
+      let above = bucket_of-mono kept.first kept.shift v (get_or edges k (pos 0)) low (failed (get_or edges k (pos 0)) v p) in
+      let under = keeps.buckets.starts.below (bucket_of kept.first kept.shift v) k (bucket-within edges kept v keeps low high) l in
+      absurd (omega arith)
+]
+
+-- a cell at whose place an edge stands, and none of the edges before it is above a number
+pub record IsReached (edges : List ℤ) (v : ℤ) (cell : ℕ) : Type 0 where
+  pub within : cell < length edges
+  pub below : (k : ℕ) → k < cell → get_or edges k (pos 0) ≤ℤ v
+
+-- the cell with which a number's bucket begins
+pub reached-start : (edges : List ℤ) (kept : Buckets) (v : ℤ) (start : ℕ) → KeepsEdges edges kept → kept.first ≤ℤ v → v <ℤ kept.last → FitsSigned w64 v
+    → start ≡ get_or kept.starts.items (bucket_of kept.first kept.shift (to_z w64 (of_z w64 v))) 0 → IsReached edges v start
+reached-start edges kept v start keeps low high fits is =
+    let begins : start ≡ get_or kept.starts.items (bucket_of kept.first kept.shift v) 0 = is ∙ ap (λ z. get_or kept.starts.items (bucket_of kept.first kept.shift z) 0) (to_z-of_z w64 v fits) in
+    record {
+      within = rw begins (keeps.buckets.starts.cells (bucket_of kept.first kept.shift v) (bucket-within edges kept v keeps low high));
+      below = λ k l. start-below edges kept v keeps low high k (subst (λ c. k < c) begins l);
+    }
+
+below-by : (edges : List ℤ) (v : ℤ) (start : ℕ) (p : Bool) → int_le (get_or edges start (pos 0)) v ≡ p → IsReached edges v start → (k : ℕ) → k < start + bool_byte p → get_or edges k (pos 0) ≤ℤ v
+below-by edges v start true at so_far k l = elim (cases_lt k start) [
+  | inl under ↦ so_far.below k under
+  | inr here ↦ let same : k ≡ start = omega arith in rw same (passed (get_or edges start (pos 0)) v at)
+]
+below-by edges v start false at so_far k l = so_far.below k (omega arith)
+
+-- where each edge below a cell is at most a number below the last edge, the cell has an edge
+within-by : (edges : List ℤ) (v : ℤ) (cell : ℕ) → 0 < length edges → ((k : ℕ) → k < cell → get_or edges k (pos 0) ≤ℤ v) → v <ℤ get_or edges (length edges - 1) (pos 0) → cell < length edges
+within-by edges v cell some below high = elim (cases_lt cell (length edges)) [
+  | inl within ↦ within
+  | inr over ↦ absurd (below-itself (get_or edges (length edges - 1) (pos 0)) v (below (length edges - 1) (omega arith)) high)
+]
+
+-- the next cell, where the edge at this one is at most the number
+reached-next : (edges : List ℤ) (kept : Buckets) (v : ℤ) (start one : ℕ) (e : ℤ) → KeepsEdges edges kept → v <ℤ kept.last → FitsSigned w64 v → FitsSigned w64 e → IsReached edges v start
+    → e ≡ get_or edges start e → one ≡ bool_byte (int_le (to_z w64 (of_z w64 e)) (to_z w64 (of_z w64 v))) → IsReached edges v (start + one)
+reached-next edges kept v start one e keeps high fits edge so_far at is =
+    let two = two_of_axis edges keeps.axis.rise in
+    let here : e ≡ get_or edges start (pos 0) = at ∙ get_or_default edges start e (pos 0) so_far.within in
+    let more : one ≡ bool_byte (int_le (get_or edges start (pos 0)) v) = is ∙ rw (to_z-of_z w64 e edge, to_z-of_z w64 v fits) (ap (λ z. bool_byte (int_le z v)) here) in
+    let below = below-by edges v start _ refl so_far in
+    rw more record { within = within-by edges v _ (omega arith) below (rw keeps.buckets.last high); below = below }
+
+-- the cell to which the test of one edge leads from where a number's bucket begins
+pub reached-cell : (edges : List ℤ) (kept : Buckets) (v : ℤ) (start one : ℕ) (e : ℤ) → KeepsEdges edges kept → kept.first ≤ℤ v → v <ℤ kept.last → FitsSigned w64 v → FitsSigned w64 e
+    → start ≡ get_or kept.starts.items (bucket_of kept.first kept.shift (to_z w64 (of_z w64 v))) 0 → e ≡ get_or edges start e → one ≡ bool_byte (int_le (to_z w64 (of_z w64 e)) (to_z w64 (of_z w64 v)))
+    → IsReached edges v (start + one)
+reached-cell edges kept v start one e keeps low high fits edge begins at is = reached-next edges kept v start one e keeps high fits edge (reached-start edges kept v start keeps low high fits begins) at is
+
+-- a cell at whose edge a number is below it is that number's
+pub bin-reached : (edges : List ℤ) (v : ℤ) (cell : ℕ) (e : ℤ) → are_edges edges ≡ true → IsReached edges v cell → e ≡ get_or edges cell e → v <ℤ e → cell ≡ bin edges v
+bin-reached edges v cell e rise so_far at high =
+    sym (bin-found edges v cell (rises_of_axis edges rise) so_far.within so_far.below (subst (λ z. v <ℤ z) (at ∙ get_or_default edges cell e (pos 0) so_far.within) high))
+
+-- a test of numbers of 64 bits, as the code makes it
+pub is_below : (a b : ℤ) → FitsSigned w64 a → FitsSigned w64 b → int_lt (to_z w64 (of_z w64 a)) (to_z w64 (of_z w64 b)) ≡ true → a <ℤ b
+is_below a b f g h = let e = rw (to_z-of_z w64 a f, to_z-of_z w64 b g) at h in grind (arith, ints)
+
+pub not_below : (a b : ℤ) → FitsSigned w64 a → FitsSigned w64 b → int_lt (to_z w64 (of_z w64 a)) (to_z w64 (of_z w64 b)) ≡ false → b ≤ℤ a
+not_below a b f g h = let e = rw (to_z-of_z w64 a f, to_z-of_z w64 b g) at h in grind (arith, ints)
+
+pub is_at_most : (a b : ℤ) → FitsSigned w64 a → FitsSigned w64 b → int_le (to_z w64 (of_z w64 a)) (to_z w64 (of_z w64 b)) ≡ true → a ≤ℤ b
+is_at_most a b f g h = let e = rw (to_z-of_z w64 a f, to_z-of_z w64 b g) at h in grind (arith, ints)
+
+pub exceeds_it : (a b : ℤ) → FitsSigned w64 a → FitsSigned w64 b → int_le (to_z w64 (of_z w64 a)) (to_z w64 (of_z w64 b)) ≡ false → b <ℤ a
+exceeds_it a b f g h = let e = rw (to_z-of_z w64 a f, to_z-of_z w64 b g) at h in grind (arith, ints)

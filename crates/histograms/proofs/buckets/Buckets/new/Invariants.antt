@@ -1,0 +1,6 @@
+use Rattle.std.proofs.Common.{length}
+use Rattle.histograms.specs.Buckets.{AreStarts, bucket_of_edge}
+use Rattle.histograms.proofs.buckets.Buckets.new.Given as goal
+
+abbrev pub invariant-loop-cell : goal.invariant-loop-cell
+invariant-loop-cell l = AreStarts (bucket_of_edge l.first l.shift l.edges) (length l.edges) l.starts.items l.cell
