@@ -108,23 +108,62 @@ impl<'a, S: LaneInputs> Kernel for Folded<'a, S> {
     }
 }
 
-/// The same where the column's vectors stand in one list.
+/// A function of a column's vectors at each place, where these stand in one list.
 #[derive(Drop)]
 struct FoldedList<'a, S: LaneInputs> {
+    fold: Fold,
+    column: u32,
     scope: &'a S,
-    call: FoldCall,
     list: LaneVectors<'a>,
 }
 
-impl<'a, S: LaneInputs> Kernel for FoldedList<'a, S> {
-    ghost can = { λ s p. IsVectorAt s.list.vectors.now (s.list.first + p) (S.look s.scope.now p s.call.column) };
+impl<'a, S: LaneInputs> FoldedList<'a, S> {
+    /// The same with another function.
+    #[inline(always)]
+    fn with(&self, fold: Fold) -> FoldedList<'a, S>
+        ensures fold { result.fold ≡ fold }
+        ensures column { result.column ≡ self.now.column }
+        ensures scope { result.scope.now ≡ self.now.scope.now }
+        ensures list { result.list ≡ self.now.list }
+    {
+        FoldedList {
+            fold,
+            column: self.column,
+            scope: self.scope,
+            list: self.list,
+        }
+    }
+}
 
-    ghost gives = { λ s p. lane_outcome (fold_told s.call.fold (S.look s.scope.now p s.call.column)) };
+impl<'a, S: LaneInputs> Kernel for FoldedList<'a, S> {
+    ghost can = { λ s p. IsVectorAt s.list.vectors.now (s.list.first + p) (S.look s.scope.now p s.column) };
+
+    ghost gives = { λ s p. lane_outcome (fold_told s.fold (S.look s.scope.now p s.column)) };
 
     #[inline(always)]
     fn at(&self, place: u32) -> Result<i64, ScalarStop> {
         let entry = self.list.first as usize + place as usize;
-        fold_elements(self.call.fold, self.list.vectors.at(entry))
+        fold_elements(self.fold, self.list.vectors.at(entry))
+    }
+}
+
+/// Writes what the function comes to at each selected place into the lane. As an operator, each function is a constant of a loop of
+/// its own.
+fn fold_list<S: LaneInputs>(
+    of: &FoldedList<'_, S>,
+    selection: &mut Selection,
+    lane: &mut [i64],
+    stops: &mut ArrayVec<Stopped, MAX_PLACES>,
+)
+    requires can { (p : ℕ) → p < S.size of.now.scope.now → IsVectorAt of.now.list.vectors.now (of.now.list.first + p) (S.look of.now.scope.now p of.now.column) }
+    requires ready { IsReady (S.size of.now.scope.now) selection.old lane.old stops.old.items }
+    ensures { Evaluated (λ p. lane_outcome (fold_told of.now.fold (S.look of.now.scope.now p of.now.column))) selection.old selection.new lane.old lane.new stops.old.items stops.new.items }
+{
+    match of.fold {
+        Fold::Sum => run(&of.with(Fold::Sum), selection, lane, stops),
+        Fold::Size => run(&of.with(Fold::Size), selection, lane, stops),
+        Fold::Least => run(&of.with(Fold::Least), selection, lane, stops),
+        Fold::Greatest => run(&of.with(Fold::Greatest), selection, lane, stops),
     }
 }
 
@@ -141,7 +180,16 @@ pub(crate) fn fold_column<S: LaneInputs>(
     ensures { Evaluated (λ p. lane_outcome (fold_told call.fold (S.look scope.now p call.column))) selection.old selection.new lane.old lane.new stops.old.items stops.new.items }
 {
     match scope.vectors(call.column) {
-        Some(list) => run(&FoldedList { scope, call, list }, selection, lane, stops),
+        Some(list) => {
+            let FoldCall { fold, column } = call;
+            let of = &FoldedList {
+                fold,
+                column,
+                scope,
+                list,
+            };
+            fold_list(of, selection, lane, stops)
+        }
         None => run(&Folded { scope, call }, selection, lane, stops),
     }
 }
