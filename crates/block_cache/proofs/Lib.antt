@@ -17,5 +17,6 @@ pub mod OverLaws
 pub mod PassedLaws
 pub mod LeadLaws
 pub mod StopLists
+pub mod TableVectors
 pub mod UnderwayLaws
 pub mod Wholes

@@ -54,35 +54,38 @@ outside_range n p h =
       | inr high ↦ high
     ]
 
--- ---- a block that is covered
+-- ---- places that are covered
+
+-- what is written of the first places is written of those that are selected
+pub dense_values : (f : ℕ → Outcome ℕ ℤ) (n : ℕ) (sel : List ℕ) (after : List ℤ) → sel ≡ range_with_len 0 n → ((p : ℕ) → p < n → f p ≡ Gives (at_place after p)) → EachPlace sel (λ p. f p ≡ Gives (at_place after p))
+dense_values f n sel after dense values p h = values p (below_range n p (subst (λ (l : List ℕ). is_in p l ≡ true) dense h))
+
+pub dense_others : (n : ℕ) (sel : List ℕ) (before after : List ℤ) → sel ≡ range_with_len 0 n → ((p : ℕ) → n ≤ p → at_place after p ≡ at_place before p) → (p : ℕ) → is_in p sel ≡ false → at_place after p ≡ at_place before p
+dense_others n sel before after dense others p h = others p (outside_range n p (subst (λ (l : List ℕ). is_in p l ≡ false) dense h))
 
 -- no place stops
-pub covered : (f : ℕ → Outcome ℕ ℤ) (n : ℕ) (sel : List ℕ) (before after : List ℤ) (stops : List Stopped) → sel ≡ range_with_len 0 n → ((p : ℕ) → p < n → f p ≡ Gives (at_place after p)) → ((p : ℕ) → n ≤ p → at_place after p ≡ at_place before p)
-    → Evaluated f sel sel before after stops stops
-covered f n sel before after stops dense values others =
-    let same : EachPlace sel (λ p. told (at_place after) p ≡ f p) = λ p h. sym (values p (below_range n p (subst (λ (l : List ℕ). is_in p l ≡ true) dense h))) in
+pub covered : (f : ℕ → Outcome ℕ ℤ) (sel : List ℕ) (before after : List ℤ) (stops : List Stopped) → EachPlace sel (λ p. f p ≡ Gives (at_place after p)) → ((p : ℕ) → is_in p sel ≡ false → at_place after p ≡ at_place before p) → Evaluated f sel sel before after stops stops
+covered f sel before after stops values others =
+    let same : EachPlace sel (λ p. told (at_place after) p ≡ f p) = λ p h. sym (values p h) in
     let come = come_alike f (told (at_place after)) sel sel (at_place after) stops stops same (come_told (at_place after) sel stops) in
     record {
       left_in = come.left_in;
       values = come.values;
-      others = λ p h. others p (outside_range n p (subst (λ (l : List ℕ). is_in p l ≡ false) dense h));
+      others = others;
       joined = come.joined;
     }
 
 -- one does: what was written until then is written over, or is of no place that is left
-pub sifted_anew : (f : ℕ → Outcome ℕ ℤ) (n : ℕ) (sel left : List ℕ) (before middle after : List ℤ) (stops more : List Stopped) → sel ≡ range_with_len 0 n → ((p : ℕ) → n ≤ p → at_place middle p ≡ at_place before p)
-    → Evaluated f sel left middle after stops more → Evaluated f sel left before after stops more
-sifted_anew f n sel left before middle after stops more dense others e = record {
-  left_in = e.left_in;
-  values = e.values;
-  others = λ p h. e.others p h ∙ others p (outside_range n p (subst (λ (l : List ℕ). is_in p l ≡ false) dense h));
-  joined = e.joined;
-}
-
--- the lane was not written before, and the selection is seen as it is
-pub as_before : (f : ℕ → Outcome ℕ ℤ) (sel given left : List ℕ) (before middle after : List ℤ) (stops more : List Stopped) → given ≡ sel → middle ≡ before → Evaluated f given left middle after stops more → Evaluated f sel left before after stops more
-as_before f sel given left before middle after stops more same unwritten e =
-    subst (λ (l : List ℕ). Evaluated f l left before after stops more) same (subst (λ (l : List ℤ). Evaluated f given left l after stops more) unwritten e)
+pub sifted_anew : (f : ℕ → Outcome ℕ ℤ) (sel given left : List ℕ) (before middle after : List ℤ) (stops more : List Stopped) → given ≡ sel → ((p : ℕ) → is_in p sel ≡ false → at_place middle p ≡ at_place before p) → Evaluated f given left middle after stops more
+    → Evaluated f sel left before after stops more
+sifted_anew f sel given left before middle after stops more same others e =
+    let here : Evaluated f sel left middle after stops more = subst (λ (l : List ℕ). Evaluated f l left middle after stops more) same e in
+    record {
+      left_in = here.left_in;
+      values = here.values;
+      others = λ p h. here.others p h ∙ others p h;
+      joined = here.joined;
+    }
 
 -- ---- what each place of such a selection has, the first have
 

@@ -8,12 +8,13 @@ ghost use Rattle.rdf_model.specs.Evaluation.{extreme_element};
 ghost use Rattle.expr_eval.specs.Answers.{number_value, sum_of};
 ghost use Rattle.expr_eval.specs.Inputs.{input_outcome};
 ghost use Rattle.expr_lanes.specs.Folds.{column_of, fold_named, fold_outcome, fold_read, fold_told, only_column};
+ghost use Rattle.expr_lanes.specs.LaneInputs.{IsVectorAt};
 ghost use Rattle.expr_lanes.specs.Marks.{lane_outcome};
 ghost use Rattle.expr_lanes.specs.Places.{answered_at, Evaluated, IsReady};
 
 use crate::MAX_PLACES;
 use crate::kernel::{Kernel, run};
-use crate::lane_inputs::LaneInputs;
+use crate::lane_inputs::{LaneInputs, LaneVectors};
 use crate::selection::Selection;
 use crate::stopped::Stopped;
 use arrayvec::ArrayVec;
@@ -107,6 +108,65 @@ impl<'a, S: LaneInputs> Kernel for Folded<'a, S> {
     }
 }
 
+/// A function of a column's vectors at each place, where these stand in one list.
+#[derive(Drop)]
+struct FoldedList<'a, S: LaneInputs> {
+    fold: Fold,
+    column: u32,
+    scope: &'a S,
+    list: LaneVectors<'a>,
+}
+
+impl<'a, S: LaneInputs> FoldedList<'a, S> {
+    /// The same with another function.
+    #[inline(always)]
+    fn with(&self, fold: Fold) -> FoldedList<'a, S>
+        ensures fold { result.fold ≡ fold }
+        ensures column { result.column ≡ self.now.column }
+        ensures scope { result.scope.now ≡ self.now.scope.now }
+        ensures list { result.list ≡ self.now.list }
+    {
+        FoldedList {
+            fold,
+            column: self.column,
+            scope: self.scope,
+            list: self.list,
+        }
+    }
+}
+
+impl<'a, S: LaneInputs> Kernel for FoldedList<'a, S> {
+    ghost can = { λ s p. IsVectorAt s.list.vectors.now (s.list.first + p) (S.look s.scope.now p s.column) };
+
+    ghost gives = { λ s p. lane_outcome (fold_told s.fold (S.look s.scope.now p s.column)) };
+
+    #[inline(always)]
+    fn at(&self, place: u32) -> Result<i64, ScalarStop> {
+        let entry = self.list.first as usize + place as usize;
+        fold_elements(self.fold, self.list.vectors.at(entry))
+    }
+}
+
+/// Writes what the function comes to at each selected place into the lane. As an operator, each function is a constant of a loop of
+/// its own.
+fn fold_list<S: LaneInputs>(
+    of: &FoldedList<'_, S>,
+    selection: &mut Selection,
+    lane: &mut [i64],
+    stops: &mut ArrayVec<Stopped, MAX_PLACES>,
+)
+    requires can { (p : ℕ) → p < S.size of.now.scope.now → IsVectorAt of.now.list.vectors.now (of.now.list.first + p) (S.look of.now.scope.now p of.now.column) }
+    requires ready { IsReady (S.size of.now.scope.now) selection.old lane.old stops.old.items }
+    ensures { Evaluated (λ p. lane_outcome (fold_told of.now.fold (S.look of.now.scope.now p of.now.column))) selection.old selection.new lane.old lane.new stops.old.items stops.new.items }
+{
+    match of.fold {
+        Fold::Sum => run(&of.with(Fold::Sum), selection, lane, stops),
+        Fold::Size => run(&of.with(Fold::Size), selection, lane, stops),
+        Fold::Least => run(&of.with(Fold::Least), selection, lane, stops),
+        Fold::Greatest => run(&of.with(Fold::Greatest), selection, lane, stops),
+    }
+}
+
 /// Writes what the call comes to at each selected place into the lane.
 pub(crate) fn fold_column<S: LaneInputs>(
     call: FoldCall,
@@ -119,7 +179,19 @@ pub(crate) fn fold_column<S: LaneInputs>(
     requires ready { IsReady (S.size scope.now) selection.old lane.old stops.old.items }
     ensures { Evaluated (λ p. lane_outcome (fold_told call.fold (S.look scope.now p call.column))) selection.old selection.new lane.old lane.new stops.old.items stops.new.items }
 {
-    run(&Folded { scope, call }, selection, lane, stops)
+    match scope.vectors(call.column) {
+        Some(list) => {
+            let FoldCall { fold, column } = call;
+            let of = &FoldedList {
+                fold,
+                column,
+                scope,
+                list,
+            };
+            fold_list(of, selection, lane, stops)
+        }
+        None => run(&Folded { scope, call }, selection, lane, stops),
+    }
 }
 
 /// What the function comes to with what is known of a column.
@@ -127,10 +199,7 @@ fn fold_input(fold: Fold, input: Input<'_>, column: u32) -> Result<i64, ScalarSt
     ensures { answered_at result ≡ lane_outcome (fold_told fold (input_outcome column input.entry)) }
 {
     match input {
-        Input::Vect(xs) => match fold_vector(fold, xs) {
-            Ok(z) => Ok(z),
-            Err(kind) => Err(ScalarStop::Fault(kind)),
-        },
+        Input::Vect(xs) => fold_elements(fold, xs),
         // What no checked expression comes to is 0, as the definition of evaluation says.
         Input::Int(_) | Input::Bool(_) => Ok(0),
         Input::Faulted(kind) => Err(ScalarStop::Fault(kind)),
@@ -138,6 +207,18 @@ fn fold_input(fold: Fold, input: Input<'_>, column: u32) -> Result<i64, ScalarSt
     }
 }
 
+/// What the function comes to with a vector.
+#[inline(always)]
+fn fold_elements(fold: Fold, xs: &[i64]) -> Result<i64, ScalarStop>
+    ensures { answered_at result ≡ lane_outcome (fold_outcome fold (val.Vect xs.now)) }
+{
+    match fold_vector(fold, xs) {
+        Ok(z) => Ok(z),
+        Err(kind) => Err(ScalarStop::Fault(kind)),
+    }
+}
+
+#[inline(always)]
 fn fold_vector(fold: Fold, xs: &[i64]) -> Result<i64, EntryFault>
     ensures { number_value result ≡ fold_outcome fold (val.Vect xs.now) }
 {

@@ -1,7 +1,7 @@
 // One operation over the places of a selection.
-ghost use Rattle.std.specs.Prelude.{◌≡◌, ◌+◌, ◌<◌, ◌≤◌, ℕ, ℤ, true, length, take};
+ghost use Rattle.std.specs.Prelude.{◌≡◌, ◌+◌, ◌<◌, ◌≤◌, ℕ, ℤ, true, false, length, take};
 ghost use Rattle.rdf_model.specs.Evaluation.{Outcome, Gives};
-ghost use Rattle.expr_lanes.specs.Places.{answered_at, at_place, EachPlace, Evaluated};
+ghost use Rattle.expr_lanes.specs.Places.{answered_at, at_place, is_in, EachPlace, Evaluated};
 
 use crate::MAX_PLACES;
 use crate::selection::Selection;
@@ -37,6 +37,38 @@ fn cover<K: Kernel>(kernel: &K, count: usize, lane: &mut [i64]) -> bool
         }
     }
     true
+}
+
+/// Writes what each place of the list comes to into the lane, up to one that comes to no value. Answers whether there is none.
+#[inline(always)]
+fn cover_listed<K: Kernel>(kernel: &K, places: &[u32], lane: &mut [i64]) -> bool
+    requires can { EachPlace places.now (λ p. K.can kernel.now p) }
+    requires inside { EachPlace places.now (λ p. p < length lane.old) }
+    ensures values { result ≡ true → EachPlace places.now (λ p. K.gives kernel.now p ≡ Gives (at_place lane.new p)) }
+    ensures others { (p : ℕ) → is_in p places.now ≡ false → at_place lane.new p ≡ at_place lane.old p }
+{
+    for place in places {
+        match kernel.at(*place) {
+            Ok(number) => lane[*place as usize] = number,
+            Err(_) => return false,
+        }
+    }
+    true
+}
+
+/// The same over the places of a selection.
+#[inline(always)]
+fn cover_selected<K: Kernel>(kernel: &K, selection: &Selection, lane: &mut [i64]) -> bool
+    requires can { EachPlace selection.now (λ p. K.can kernel.now p) }
+    requires inside { EachPlace selection.now (λ p. p < length lane.old) }
+    ensures values { result ≡ true → EachPlace selection.now (λ p. K.gives kernel.now p ≡ Gives (at_place lane.new p)) }
+    ensures others { (p : ℕ) → is_in p selection.now ≡ false → at_place lane.new p ≡ at_place lane.old p }
+{
+    if selection.is_dense {
+        cover(kernel, selection.count, lane)
+    } else {
+        cover_listed(kernel, selection.as_slice(), lane)
+    }
 }
 
 /// Writes what each selected place comes to into the lane, moves the places that came to a value to the front, and answers
@@ -84,11 +116,10 @@ pub(crate) fn run<K: Kernel>(
     requires room { length stops.old.items + length selection.old ≤ MAX_PLACES }
     ensures { Evaluated (K.gives kernel.now) selection.old selection.new lane.old lane.new stops.old.items stops.new.items }
 {
-    let count = selection.count;
-    // Nearly always no place of a block stops: then there is nothing to move.
-    if selection.is_dense && cover(kernel, count, lane) {
+    // Nearly always no place stops: then there is nothing to move.
+    if cover_selected(kernel, selection, lane) {
         return;
     }
-    selection.count = sift(kernel, &mut selection.places, count, lane, stops);
+    selection.count = sift(kernel, &mut selection.places, selection.count, lane, stops);
     selection.is_dense = false;
 }

@@ -1,13 +1,14 @@
 // What an evaluation over a block reads its columns from.
-ghost use Rattle.std.specs.Prelude.{◌≡◌, ◌<◌, ◌≤◌, ℕ, true, false, length};
+ghost use Rattle.std.specs.Prelude.{◌≡◌, ◌<◌, ◌≤◌, ◌+◌, ℕ, true, false, length, IfSome};
 ghost use Rattle.rdf_model.specs.Evaluation.{Outcome, Gives};
 ghost use Rattle.rdf_values.specs.declared.value.Value.{Value};
 ghost use Rattle.expr_eval.specs.Inputs.{input_outcome};
-ghost use Rattle.expr_lanes.specs.LaneInputs.{is_known, HasMarks};
+ghost use Rattle.expr_lanes.specs.LaneInputs.{is_known, HasMarks, IsVectorAt};
 ghost use Rattle.expr_lanes.specs.Marks.{lane_outcome};
 ghost use Rattle.expr_lanes.specs.Places.{at_place, is_given, answered_at};
 
 use expr_eval::{Input, ScalarStop};
+use rdf_values::Vects;
 
 /// The places at which a column is known.
 #[derive(Clone, Copy, Debug)]
@@ -21,6 +22,13 @@ pub enum Known<'a> {
 pub struct LaneColumn<'a> {
     pub numbers: &'a [i64],
     pub known: Known<'a>,
+}
+
+/// A column over a block whose vectors stand in one list: the vector of the first place, and then those of the others.
+#[derive(Clone, Copy)]
+pub struct LaneVectors<'a> {
+    pub vectors: &'a Vects,
+    pub first: u32,
 }
 
 /// The columns of a block by their numbers: how many places it has, which columns can be read as numbers, which can be told at a
@@ -54,6 +62,11 @@ pub trait LaneInputs {
         requires can { can_tell self.now col }
         requires inside { place < size self.now }
         ensures { input_outcome col result ≡ look self.now place col };
+
+    /// The column's vectors, if they stand in one list.
+    fn vectors(&self, col: u32) -> Option<LaneVectors<'_>>
+        requires { can_tell self.now col }
+        ensures { IfSome result (λ l. (p : ℕ) → p < size self.now → IsVectorAt l.vectors.now (l.first + p) (look self.now p col)) };
 
     /// Whether the column is known to be one of numbers.
     fn has_numbers(&self, col: u32) -> bool

@@ -25,7 +25,7 @@ pub mod stopped;
 
 pub use crate::able::can_eval_lane;
 pub use crate::folds::{Fold, FoldCall, fold_call};
-pub use crate::lane_inputs::{Known, LaneColumn, LaneInputs};
+pub use crate::lane_inputs::{Known, LaneColumn, LaneInputs, LaneVectors};
 pub use crate::lanes::eval_lane;
 pub use crate::scratch::{Scratch, is_deep_enough};
 pub use crate::selection::Selection;

@@ -1,7 +1,7 @@
 // What expressions are evaluated with.
 ghost use Rattle.entry_fns.specs.Lists.{functions_in};
 
-use crate::lane_inputs::{LaneColumn, LaneInputs};
+use crate::lane_inputs::{LaneColumn, LaneInputs, LaneVectors};
 use entry_fns::FnList;
 use expr_eval::{Calls, Input, ScalarStop};
 
@@ -31,6 +31,10 @@ impl<'a, I: LaneInputs> LaneInputs for Scope<'a, I> {
 
     fn tell(&self, col: u32, place: u32) -> Input<'_> {
         self.inputs.tell(col, place)
+    }
+
+    fn vectors(&self, col: u32) -> Option<LaneVectors<'_>> {
+        self.inputs.vectors(col)
     }
 
     fn has_numbers(&self, col: u32) -> bool {
