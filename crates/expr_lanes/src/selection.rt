@@ -130,9 +130,7 @@ fn copy_places(from: &[u32], count: usize, to: &mut [u32])
     requires to { count ≤ length to.old }
     ensures { take count to.new ≡ take count from.now }
 {
-    for i in 0..count {
-        to[i] = from[i];
-    }
+    to[..count].copy_from_slice(&from[..count]);
 }
 
 /// Numbers the first places from 0 on.
