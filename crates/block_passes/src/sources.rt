@@ -33,7 +33,12 @@ use loop_keys::rows::row_at;
 use rdf_values::{ActionKind, ColType};
 
 /// The lane of a site.
-pub(crate) fn site_lane<'s>(at: &Turn<'_>, lanes: &'s [Lane], site: u32, under: Option<u32>) -> FedLane<'s>
+pub(crate) fn site_lane<'s>(
+    at: &Turn<'_>,
+    lanes: &'s [Lane],
+    site: u32,
+    under: Option<u32>,
+) -> FedLane<'s>
     requires job { Fits at.now.job.now }
     requires rows { AreKeys (job_graph (job_of at.now.job.now)) at.now.rows.now }
     requires site { site < length (graph_sites (job_graph (job_of at.now.job.now))) }
