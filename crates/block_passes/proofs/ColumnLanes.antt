@@ -1,5 +1,5 @@
 -- The vectors of a table's column, as a lane.
-use Rattle.std.proofs.Common.{◌≡◌, ◌<◌, ◌≤◌, ◌∙◌, ℕ, ℤ, List, [], length, Option, None, Some, get_or, map, slice_get, sym, ap, arith}
+use Rattle.std.proofs.Common.{◌≡◌, ◌<◌, ℕ, ℤ, List, [], length, Option, None, Some, get_or, map, slice_get, ap, arith}
 use Rattle.std.specs.Prelude.{option_and_then, unwrap_or}
 use Rattle.std.proofs.lemmas.Option.{slice_get-get_or}
 use Rattle.rdf_values.proofs.KeptLemmas.{cell_of_column, column_length}

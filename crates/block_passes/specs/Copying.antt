@@ -1,21 +1,15 @@
 -- What is copied of the versions that an action reads, where it can't read them in place.
-use Rattle.std.specs.Prelude.{◌≡◌, ◌<◌, ◌≤◌, ◌+◌, ℕ, ℤ, List, Option, Some, Result, Ok, Err, length, slice_get, slice_index_or}
+use Rattle.std.specs.Prelude.{◌≡◌, ◌<◌, ◌≤◌, ◌+◌, ℕ, ℤ, List, Option, Result, Ok, Err, length, slice_index_or}
 use Rattle.std.specs.List.{slice_range}
 use Rattle.rdf_values.specs.declared.fault.EntryFault.{EntryFault}
 use Rattle.rdf_values.specs.declared.span.Span.{Span}
-use Rattle.rdf_values.specs.Tables.{kind_at}
 use Rattle.rdf_values.specs.declared.value.ColType.{ColType}
-use Rattle.rdf_values.specs.declared.value.ColType.TheVariants as kind
 use Rattle.rdf_values.specs.declared.value.Value.{Value}
 use Rattle.rdf_values.specs.declared.value.Value.TheVariants as val
 use Rattle.rdf_model.specs.Evaluation.{Outcome, Gives, Faults}
 use Rattle.actions.specs.Batches.{span_at}
 use Rattle.expr_lanes.specs.Places.{EachPlace, at_place}
-use Rattle.graph_numbers.specs.Graphs.{graph_sites}
-use Rattle.graph_numbers.specs.declared.source.Source.{Source}
-use Rattle.graph_numbers.specs.declared.source.Source.TheVariants as from
-use Rattle.loop_keys.specs.Jobs.{JobView, job_graph}
-use Rattle.loop_keys.specs.Keys.{key}
+use Rattle.loop_keys.specs.Jobs.{JobView}
 use Rattle.loop_keys.specs.Store.{source_at, version_in}
 use Rattle.block_passes.specs.Inputs.{IsWhole}
 use Rattle.block_passes.specs.declared.copies.Copied.{Copied}

@@ -22,6 +22,7 @@ ghost use Rattle.block_passes.specs.Inputs.{ArePlainSources, AreWhole};
 ghost use Rattle.block_passes.specs.Tries.{AreAllWhole, CanServeAll, IsReadOf};
 
 use crate::copies::copy_inputs;
+use crate::in_place::lanes_in_place;
 use crate::kept::Kept;
 use crate::passes::action_read;
 use crate::plan::loop_passes;
@@ -69,12 +70,13 @@ pub(crate) fn feed_action(
 {
     let last = at.plan.last_step(at.pass);
     let selection = &kept[last as usize].places;
+    let places = batch_places(selection);
+    if let Some(sources) = lanes_in_place(at, lanes, own) {
+        return tally.feed_batch(to.place, to.cluster, &Batch { places, sources });
+    }
     let copies = copy_inputs(at, lanes, selection, own)?;
-    let batch = Batch {
-        places: batch_places(selection),
-        sources: gather(at, lanes, selection, &copies, own),
-    };
-    tally.feed_batch(to.place, to.cluster, &batch)
+    let sources = gather(at, lanes, selection, &copies, own);
+    tally.feed_batch(to.place, to.cluster, &Batch { places, sources })
 }
 
 /// Feeds a pass, before which there are so many of actions, and says how many there are behind it.

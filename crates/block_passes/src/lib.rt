@@ -12,6 +12,7 @@ mod elements;
 mod ending;
 mod feed;
 pub mod found;
+mod in_place;
 mod inputs;
 pub mod kept;
 pub mod kinds;

@@ -33,7 +33,12 @@ use loop_keys::rows::row_at;
 use rdf_values::{ActionKind, ColType};
 
 /// The lane of a site.
-fn site_lane<'s>(at: &Turn<'_>, lanes: &'s [Lane], site: u32, under: Option<u32>) -> FedLane<'s>
+pub(crate) fn site_lane<'s>(
+    at: &Turn<'_>,
+    lanes: &'s [Lane],
+    site: u32,
+    under: Option<u32>,
+) -> FedLane<'s>
     requires job { Fits at.now.job.now }
     requires rows { AreKeys (job_graph (job_of at.now.job.now)) at.now.rows.now }
     requires site { site < length (graph_sites (job_graph (job_of at.now.job.now))) }
@@ -85,7 +90,7 @@ fn version_lane<'a: 's, 's>(
 }
 
 /// The lane of a column of the table.
-fn cell_lane<'a>(at: &Turn<'a>, col: u32, _under: Option<u32>) -> FedLane<'a>
+pub(crate) fn cell_lane<'a>(at: &Turn<'a>, col: u32, _under: Option<u32>) -> FedLane<'a>
     requires there { col < length at.now.job.now.columns.now.table.columns }
     requires numbers { kind_at at.now.job.now.columns.now.table.columns col ≡ Some kind.Int → HasColumn (job_of at.now.job.now) at.now.first at.now.count at.now.cells.now col }
     requires within { at.now.first + at.now.count ≤ length at.now.job.now.columns.now.table.rows }

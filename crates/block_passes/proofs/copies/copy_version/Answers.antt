@@ -4,10 +4,9 @@ use Rattle.graph_numbers.specs.declared.source.Source.{Source}
 use Rattle.block_lanes.specs.Lanes.{kinds_of}
 use Rattle.loop_keys.specs.Jobs.{job_graph, job_of}
 use Rattle.loop_keys.specs.Keys.{key}
-use Rattle.loop_keys.proofs.TableLaws.{not_stored}
 use Rattle.block_cache.proofs.CanTries.{got_kind}
 use Rattle.block_passes.specs.Inputs.{IsPlainSource, IsServable, IsWhole}
-use Rattle.block_passes.proofs.ElementsHeld.{kind_got, lane_there}
+use Rattle.block_passes.proofs.ElementsHeld.{lane_there}
 use Rattle.block_passes.proofs.ElementKinds.{element_kind}
 use Rattle.block_passes.proofs.PlainReads.{no_vector}
 use Rattle.block_passes.proofs.copies.copy_version.Goals as goal
