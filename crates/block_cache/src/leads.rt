@@ -81,12 +81,7 @@ fn is_held(block: &Block<'_>, lanes: &[Lane], site: u32, selection: &Selection) 
 }
 
 /// The site of what a site's evaluation reads first, unless its value is held at each selected place.
-fn lead_of(
-    block: &Block<'_>,
-    lanes: &[Lane],
-    site: u32,
-    selection: &Selection,
-) -> Option<u32>
+fn lead_of(block: &Block<'_>, lanes: &[Lane], site: u32, selection: &Selection) -> Option<u32>
     requires job { Fits block.now.at.now.job.now }
     requires row { IsRow (job_graph (job_of block.now.at.now.job.now)) block.now.at.now.under block.now.at.now.row.now }
     requires site { site < length (graph_sites (job_graph (job_of block.now.at.now.job.now))) }
