@@ -2,14 +2,14 @@
 ghost use Rattle.std.specs.Prelude.{◌≡◌, ◌<◌, ℕ, Bool, true, [], length, IfOk, IfSome, OnErr, OnOk};
 ghost use Rattle.rdf_values.specs.NumExprTree.{num_tree, num_trees};
 ghost use Rattle.graph_numbers.specs.Graphs.{graph_sites, graph_versions};
-ghost use Rattle.expr_lanes.specs.Places.{IsSelected};
+ghost use Rattle.expr_lanes.specs.Places.{EachPlace, IsSelected};
 ghost use Rattle.block_lanes.specs.Lanes.{kinds_of};
 ghost use Rattle.loop_keys.specs.Jobs.{Fits, job_graph, job_of};
-ghost use Rattle.loop_keys.specs.Keys.{IsRow, key_count};
+ghost use Rattle.loop_keys.specs.Keys.{IsRow, key as key_of};
 ghost use Rattle.loop_keys.specs.Plain.{ArePlain};
 ghost use Rattle.loop_keys.specs.Store.{IsSiteOf, source_at};
 ghost use Rattle.block_cache.specs.Blocks.{AreReady};
-ghost use Rattle.block_cache.specs.Fills.{CanFill, IsSettled, IsSpentOver};
+ghost use Rattle.block_cache.specs.Fills.{CanFill, IsSettled, IsSpentOver, holds_at};
 ghost use Rattle.block_cache.specs.Leads.{IsFilledTo, IsLead, first_read, first_read_in};
 
 use crate::attempt::Block;
@@ -69,17 +69,29 @@ fn site_of(at: &Reading<'_>, version: u32) -> Option<u32>
     }
 }
 
-/// The site of what a site's evaluation reads first, unless its value is held all over the block.
-fn lead_of(block: &Block<'_>, lanes: &[Lane], site: u32) -> Option<u32>
+/// Whether a site's value is held at each selected place.
+fn is_held(block: &Block<'_>, lanes: &[Lane], site: u32, selection: &Selection) -> bool
+    requires row { IsRow (job_graph (job_of block.now.at.now.job.now)) block.now.at.now.under block.now.at.now.row.now }
+    requires site { site < length (graph_sites (job_graph (job_of block.now.at.now.job.now))) }
+    requires ready { AreReady (job_of block.now.at.now.job.now) block.now.at.now.entry block.now.count lanes.now }
+    requires inside { EachPlace selection.now (λ p. p < block.now.count) }
+    ensures { result ≡ true → EachPlace selection.now (λ p. holds_at lanes.now (key_of (job_graph (job_of block.now.at.now.job.now)) site block.now.at.now.under) p ≡ true) }
+{
+    lanes[key(block.at, site)].holds_all(selection)
+}
+
+/// The site of what a site's evaluation reads first, unless its value is held at each selected place.
+fn lead_of(block: &Block<'_>, lanes: &[Lane], site: u32, selection: &Selection) -> Option<u32>
     requires job { Fits block.now.at.now.job.now }
     requires row { IsRow (job_graph (job_of block.now.at.now.job.now)) block.now.at.now.under block.now.at.now.row.now }
     requires site { site < length (graph_sites (job_graph (job_of block.now.at.now.job.now))) }
-    requires many { length lanes.now ≡ key_count (job_graph (job_of block.now.at.now.job.now)) }
+    requires ready { AreReady (job_of block.now.at.now.job.now) block.now.at.now.entry block.now.count lanes.now }
+    requires inside { EachPlace selection.now (λ p. p < block.now.count) }
     ensures { IfSome result (IsLead (job_of block.now.at.now.job.now) block.now.at.now.under site) }
 {
     let version = first_read(&expression(block.at, site).tree().node)?;
     let lead = site_of(block.at, version)?;
-    if lanes[key(block.at, lead)].is_full() {
+    if is_held(block, lanes, lead, selection) {
         None
     } else {
         Some(lead)
@@ -87,7 +99,7 @@ fn lead_of(block: &Block<'_>, lanes: &[Lane], site: u32) -> Option<u32>
 }
 
 /// Fills a site at the selected places of a block as `fill` does, and before it the site of what its evaluation reads first, so that this
-/// isn't begun anew for that. Left are the places below the first fault.
+/// isn't begun anew for that. Left are the places below the first fault. A site that is held there already is filled at once.
 pub fn fill_led<L: Ledger>(
     block: &Block<'_>,
     lanes: &mut [Lane],
@@ -110,7 +122,10 @@ pub fn fill_led<L: Ledger>(
     ensures plain { (used : ℕ → Bool) → ArePlain (job_of block.now.at.now.job.now) used → used site ≡ true → OnErr result ⊥ }
 {
     let _rising = selection.as_slice();
-    let Some(lead) = lead_of(block, lanes, site) else {
+    if is_held(block, lanes, site, selection) {
+        return Ok(None);
+    }
+    let Some(lead) = lead_of(block, lanes, site, selection) else {
         return fill(block, lanes, site, selection, levels, scratch, steps);
     };
     let under = fill_led(block, lanes, lead, selection, levels, scratch, steps)?;

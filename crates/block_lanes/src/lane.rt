@@ -14,7 +14,7 @@ ghost use Rattle.expr_lanes.specs.Places.{EachPlace, IsSelected};
 ghost use Rattle.block_lanes.specs.Lanes.{is_held, room_of, value_of, AreNumbers, IsBegun, IsEvaluated, IsExtent, IsSameLane, IsUnknown, LaneView};
 
 use crate::each_place::each_place;
-use crate::marks::{clear_first, mark};
+use crate::marks::{are_marked, clear_first, mark};
 use crate::place_values::PlaceValues;
 use crate::values::Values;
 use crate::vectors::Vectors;
@@ -131,6 +131,14 @@ impl Lane {
         ensures { result ≡ true → (p : ℕ) → p < self.now.count → is_held self.now p ≡ true }
     {
         matches!(self.extent, Extent::All)
+    }
+
+    /// Whether each selected place is known to hold a value.
+    pub fn holds_all(&self, selection: &Selection) -> bool
+        requires { EachPlace selection.now (λ p. p < self.now.count) }
+        ensures { result ≡ true → EachPlace selection.now (λ p. is_held self.now p ≡ true) }
+    {
+        self.is_full() || are_marked(selection, &self.held)
     }
 
     /// What is known of the key at a place.

@@ -1,5 +1,5 @@
 // Marks of places.
-ghost use Rattle.std.specs.Prelude.{◌≡◌, ◌<◌, ◌≤◌, ◌+◌, ℕ, ◌||◌, not, false, length, count_by};
+ghost use Rattle.std.specs.Prelude.{◌≡◌, ◌<◌, ◌≤◌, ◌+◌, ℕ, ◌||◌, not, true, false, length, count_by};
 ghost use Rattle.std.specs.List.{range_with_len};
 ghost use Rattle.expr_lanes.specs.Places.{is_in, is_marked, AreRising, EachPlace};
 
@@ -49,4 +49,18 @@ pub(crate) fn mark(selection: &Selection, marks: &mut [bool])
         Some(count) => mark_first(count, marks),
         None => mark_listed(selection.as_slice(), marks),
     }
+}
+
+/// Whether each selected place is marked.
+pub(crate) fn are_marked(selection: &Selection, marks: &[bool]) -> bool
+    requires { EachPlace selection.now (λ p. p < length marks.now) }
+    ensures { result ≡ true → EachPlace selection.now (λ p. is_marked marks.now p ≡ true) }
+{
+    let places = selection.as_slice();
+    for place in places {
+        if !marks[*place as usize] {
+            return false;
+        }
+    }
+    true
 }

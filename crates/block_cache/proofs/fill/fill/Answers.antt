@@ -1,6 +1,6 @@
 use Rattle.std.proofs.Common.{arith}
 use Rattle.loop_keys.specs.Jobs.{job_of}
-use Rattle.block_cache.proofs.Fulls.{full_filled}
+use Rattle.block_cache.proofs.Fulls.{full_holds, held_filled}
 use Rattle.block_cache.proofs.UnderwayLaws.{settled_if}
 use Rattle.block_cache.proofs.fill.fill.Goals as goal
 
@@ -10,5 +10,6 @@ returns-clause-settled g c =
 
 pub returns-then-is_full-clause-filled : goal.returns-then-is_full-clause-filled
 returns-then-is_full-clause-filled g c =
-    full_filled (job_of c.args.block.now.at.now.job.now) c.args.block.now.at.now.entry c.args.block.now.at.now.under c.args.block.now.count c.args.site c.requires.site c.args.selection.now c.args.lanes.now c.requires.ready c.requires.selected c.key.result c.index-lanes-key.result c.key.ensures.key
-    (omega (arith, c.key.ensures.small, c.requires.ready.many)) (c.is_full.ensures c.if-is_full.true) c.args.steps.now
+    held_filled (job_of c.args.block.now.at.now.job.now) c.args.block.now.at.now.entry c.args.block.now.at.now.under c.args.block.now.count c.args.site c.requires.site c.args.selection.now c.args.lanes.now c.requires.ready c.requires.selected
+    (full_holds (job_of c.args.block.now.at.now.job.now) c.args.block.now.at.now.entry c.args.block.now.at.now.under c.args.block.now.count c.args.site c.args.selection.now c.args.lanes.now c.key.result c.index-lanes-key.result c.key.ensures.key (omega (arith, c.key.ensures.small, c.requires.ready.many)) c.requires.ready c.requires.selected (c.is_full.ensures c.if-is_full.true))
+    c.args.steps.now
