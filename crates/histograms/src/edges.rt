@@ -99,7 +99,8 @@ impl Edges {
         }
     }
 
-    // The cell of a value, by halving: for where more edges than one lie in its bucket.
+    // The cell of a value, by halving: for where more edges than one lie in its bucket. It stands apart, so that `bin` is short.
+    #[inline(never)]
     fn halve(&self, value: i64) -> u32
         ensures value { result ≡ bin self.now value }
         ensures within { result ≤ length self.now }

@@ -52,6 +52,7 @@ impl Hist2 {
     }
 
     /// Adds a weight to the cell of a pair of values.
+    #[inline(always)]
     pub fn fill(&mut self, x: i64, y: i64, weight: i64)
         requires weight { IsWeight weight }
         requires room { self.old.fills < MOST_FILLS }
