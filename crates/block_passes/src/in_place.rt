@@ -139,11 +139,13 @@ pub(crate) fn lanes_in_place<'a: 's, 's>(
         | ActionKind::Reduce(..)
         | ActionKind::Histo1D { weight: None, .. } => one_in_place(at, lanes, own),
         ActionKind::Histo1D {
-            weight: Some(_), ..
+            weight: Some(_),
+            ..
         } => weighted_in_place(at, lanes, own),
         ActionKind::Histo2D { weight: None, .. } => pair_in_place(at, lanes, own),
         ActionKind::Histo2D {
-            weight: Some(_), ..
+            weight: Some(_),
+            ..
         } => weighted_pair_in_place(at, lanes, own),
     }
 }
