@@ -22,13 +22,17 @@ use Rattle.graph_numbers.specs.Graphs.{graph_sites, graph_under, graph_versions}
 use Rattle.graph_numbers.specs.Sites.{SiteAt}
 use Rattle.graph_numbers.specs.Sources.{IsBelow}
 use Rattle.graph_numbers.specs.Versions.{version_count}
+use Rattle.graph_numbers.specs.declared.source.Source.{Source}
+use Rattle.graph_numbers.specs.declared.source.Source.TheVariants as from
 use Rattle.block_lanes.specs.Lanes.{LaneView}
 use Rattle.loop_keys.specs.Jobs.{JobView, IsJob, job_graph}
-use Rattle.loop_keys.specs.Keys.{key, key_count}
+use Rattle.loop_keys.specs.Keys.{key, key_count, place_of}
 use Rattle.loop_keys.specs.Plain.{ArePlain}
 use Rattle.loop_keys.specs.Store.{IsSiteOf, IsSourceIn, MeetsAt, site_in, source_at, version_in}
+use Rattle.loop_keys.specs.declared.rows.Place.TheVariants as stands
 use Rattle.loop_keys.proofs.EvaluateLaws.{accepted_of}
 use Rattle.loop_keys.proofs.FillLaws.{in_source}
+use Rattle.loop_keys.proofs.RowLaws.{key_small}
 use Rattle.block_cache.specs.Fills.{CanFill, IsFilledOver, IsGrownOver, IsRankedBelow, IsSameAt, IsSpentOver, below_fault, fault_over, is_below, site_fault}
 use Rattle.block_cache.specs.Leads.{IsFilledTo, IsLead, first_read, first_read_in}
 use Rattle.block_cache.specs.Turns.{IsFaultOf, found_or}
@@ -39,6 +43,18 @@ use Rattle.block_cache.proofs.Knowns.{held_no_fault}
 use Rattle.block_cache.proofs.Members.{below_among, below_in, below_low, below_short, fault_first, over_first}
 use Rattle.block_cache.proofs.MetFaults.{met_fault}
 use Rattle.block_cache.proofs.UnderwayLaws.{below_both, below_found, faults_of}
+
+-- ---- where what is read stands
+
+pub key_site : (f : ℕ → ℕ) (x : Source) (k : ℕ) → place_of f x ≡ stands.Key k → (t : ℕ) × IsSiteOf t x × (k ≡ f t)
+key_site f (from.Cell col) k e = cc e
+key_site f (from.Site s) k e = (s, refl, cc e)
+key_site f (from.Element s i n) k e = cc e
+
+pub element_site : (f : ℕ → ℕ) (x : Source) (k i n : ℕ) → place_of f x ≡ stands.Element k i n → (t : ℕ) × IsSiteOf t x × (k ≡ f t)
+element_site f (from.Cell col) k i n e = cc e
+element_site f (from.Site s) k i n e = cc e
+element_site f (from.Element s a b) k i n e = (s, refl, cc e)
 
 -- ---- what is read first is met
 
@@ -127,6 +143,9 @@ module _ (j : JobView) (job : IsJob j) (u : Option ℕ) (s t : ℕ) (lead : IsLe
   lead_lower =
       let met = lead.met 0 in
       ranked (λ n. n) s t (source_at j u lead.version) lead.source (met_each j job 0 u s lead.version (λ d. IsRankedBelow (λ n. n) s (source_at j u d)) met (falls_by_number j job u s met.0 met.1))
+
+  pub lead_key : s < length (graph_sites (job_graph j)) → key (job_graph j) t u < key_count (job_graph j)
+  lead_key inside = let low = lead_lower in key_small (job_graph j) t u (omega (arith, low, inside))
 
   -- it can be filled where the site can
   pub can_lead : (first count : ℕ) (kinds : List ColType) (cells : List (List ℤ)) (scratch levels : ℕ) → CanFill j first u count kinds cells scratch levels s → CanFill j first u count kinds cells scratch levels t

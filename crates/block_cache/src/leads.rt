@@ -20,7 +20,8 @@ use block_lanes::Lane;
 use expr_eval::Steps;
 use expr_lanes::{Scratch, Selection};
 use graph_numbers::Source;
-use loop_keys::reading::{Reading, expression, key, source_of};
+use loop_keys::reading::{Reading, expression, key, place, source_of};
+use loop_keys::rows::Place;
 use rdf_values::{Memory, NumArgs, NumNode};
 use std::sync::ledger::Ledger;
 
@@ -69,15 +70,27 @@ fn site_of(at: &Reading<'_>, version: u32) -> Option<u32>
     }
 }
 
-/// Whether a site's value is held at each selected place.
-fn is_held(block: &Block<'_>, lanes: &[Lane], site: u32, selection: &Selection) -> bool
-    requires row { IsRow (job_graph (job_of block.now.at.now.job.now)) block.now.at.now.under block.now.at.now.row.now }
-    requires site { site < length (graph_sites (job_graph (job_of block.now.at.now.job.now))) }
+/// The key of that site.
+fn key_read(at: &Reading<'_>, version: u32) -> Option<usize>
+    requires row { IsRow (job_graph (job_of at.now.job.now)) at.now.under at.now.row.now }
+    requires version { version < length (graph_versions (job_graph (job_of at.now.job.now))) }
+    ensures { IfSome result (λ k. (t : ℕ) × IsSiteOf t (source_at (job_of at.now.job.now) at.now.under version) × (k ≡ key_of (job_graph (job_of at.now.job.now)) t at.now.under)) }
+{
+    match place(at, version) {
+        Place::Cell { .. } => None,
+        Place::Key { key } => Some(key),
+        Place::Element { key, .. } => Some(key),
+    }
+}
+
+/// Whether a key's value is held at each selected place.
+fn is_held(block: &Block<'_>, lanes: &[Lane], key: usize, selection: &Selection) -> bool
+    requires key { key < length lanes.now }
     requires ready { AreReady (job_of block.now.at.now.job.now) block.now.at.now.entry block.now.count lanes.now }
     requires inside { EachPlace selection.now (λ p. p < block.now.count) }
-    ensures { result ≡ true → EachPlace selection.now (λ p. holds_at lanes.now (key_of (job_graph (job_of block.now.at.now.job.now)) site block.now.at.now.under) p ≡ true) }
+    ensures { result ≡ true → EachPlace selection.now (λ p. holds_at lanes.now key p ≡ true) }
 {
-    lanes[key(block.at, site)].holds_all(selection)
+    lanes[key].holds_all(selection)
 }
 
 /// The site of what a site's evaluation reads first, unless its value is held at each selected place.
@@ -90,12 +103,11 @@ fn lead_of(block: &Block<'_>, lanes: &[Lane], site: u32, selection: &Selection) 
     ensures { IfSome result (IsLead (job_of block.now.at.now.job.now) block.now.at.now.under site) }
 {
     let version = first_read(&expression(block.at, site).tree().node)?;
-    let lead = site_of(block.at, version)?;
-    if is_held(block, lanes, lead, selection) {
-        None
-    } else {
-        Some(lead)
+    let key = key_read(block.at, version)?;
+    if is_held(block, lanes, key, selection) {
+        return None;
     }
+    site_of(block.at, version)
 }
 
 /// Fills a site at the selected places of a block as `fill` does, and before it the site of what its evaluation reads first, so that this
@@ -122,7 +134,7 @@ pub fn fill_led<L: Ledger>(
     ensures plain { (used : ℕ → Bool) → ArePlain (job_of block.now.at.now.job.now) used → used site ≡ true → OnErr result ⊥ }
 {
     let _rising = selection.as_slice();
-    if is_held(block, lanes, site, selection) {
+    if is_held(block, lanes, key(block.at, site), selection) {
         return Ok(None);
     }
     let Some(lead) = lead_of(block, lanes, site, selection) else {

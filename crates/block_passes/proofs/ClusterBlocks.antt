@@ -1,11 +1,10 @@
 -- The blocks of a cluster, one after the other.
-use Rattle.std.proofs.Common.{◌≡◌, ℕ, ◌+◌, ◌-◌, ◌*◌, ◌<◌, ◌≤◌, List, length, map, Option, None, Some, refl, sym, ap, ◌∙◌, subst, arith, min, slice_get}
+use Rattle.std.proofs.Common.{◌≡◌, ℕ, ◌+◌, ◌-◌, ◌*◌, ◌<◌, ◌≤◌, List, length, map, Option, None, Some, refl, sym, ap, ◌∙◌, subst, arith, slice_get}
 use Rattle.std.specs.Prelude.{Err, slice_range}
 use Rattle.std.proofs.lemmas.List.{length-map}
 use Rattle.rdf_values.proofs.Leading.{cuts_lead}
 use Rattle.rdf_values.specs.declared.fault.Fault.{Fault}
 use Rattle.rdf_values.specs.declared.span.Span.{Span}
-use Rattle.rdf_values.specs.declared.value.Value.{Value}
 use Rattle.rdf_model.specs.LoopFacts.{spreads_of}
 use Rattle.rdf_model.specs.PartialResults.{span_rows}
 use Rattle.rdf_model.specs.Results.{first_fault_from, first_of}
@@ -18,7 +17,7 @@ use Rattle.loop_pieces.specs.Whole.{begin_of, cluster_fault}
 use Rattle.loop_pieces.proofs.Places.{range_length, range_none}
 use Rattle.block_laws.specs.Blocks.{IsFirst, first_length, row_elements}
 use Rattle.block_laws.specs.Counts.{cluster_demands}
-use Rattle.block_laws.proofs.BlockCuts.{first_is, lengths_same, plain_first}
+use Rattle.block_laws.proofs.BlockCuts.{first_is, lengths_same}
 use Rattle.block_laws.proofs.BlockFaults.{block_then_rest, is_first_fault}
 use Rattle.block_laws.proofs.Costs.{count_goes_on}
 use Rattle.block_passes.specs.Blocks.{IsBefore, IsBlockAnswer, IsBlockOf, after_block, block_demands, block_rows}

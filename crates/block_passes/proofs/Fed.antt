@@ -1,5 +1,5 @@
 -- A block's batch is what its places feed to an action's pass.
-use Rattle.std.proofs.Common.{◌≡◌, ◌<◌, ◌+◌, ℕ, Bool, true, List, length, Option, Some, None, sym, ◌∙◌, ap, subst, arith, get_or, slice_get}
+use Rattle.std.proofs.Common.{◌≡◌, ◌<◌, ◌+◌, ℕ, Bool, true, List, length, Option, Some, None, refl, sym, ◌∙◌, ap, subst, arith, get_or, slice_get}
 use Rattle.std.specs.Prelude.{All, OnErr, Result, flat_map}
 use Rattle.std.specs.List.{filter, range_with_len}
 use Rattle.std.proofs.lemmas.List.FromFn.{length-range_with_len}
@@ -23,7 +23,7 @@ use Rattle.pass_laws.specs.Entries.{facts_in}
 use Rattle.pass_laws.specs.Turns.{actions_before}
 use Rattle.block_cache.proofs.Members.{filter_short}
 use Rattle.block_passes.specs.Counting.{IsAmid}
-use Rattle.block_passes.specs.Fed.{IsFeedable}
+use Rattle.block_passes.specs.Fed.{CanFeedAny, IsFeedable}
 use Rattle.block_passes.specs.Feeds.{AreLanesOf}
 use Rattle.block_passes.specs.Inputs.{AreAtHand}
 use Rattle.block_passes.specs.Parts.{feeding_fault}
@@ -137,8 +137,14 @@ module _ (j : JobView) (job : IsJob j) (first count : ℕ) (pass : ℕ) (k : Act
             fed = its_items ∙ ap (block_items (facts_in j) s) (sym is);
           }
 
-          -- only a Take wants memory
-          pub fed_memory : (watched : List ℕ) (place cluster : ℕ) (t : TallyView) (r : Result (Unit {0}) Memory) → place ≡ actions_before j pass → s.cluster ≡ cluster → s.passes ≡ place → HoldsIn (facts_in j) watched s t
-              → ((can : CanFeedBatch (facts_in j) watched s t place cluster batch) → OnErr r (IsTake can.kind)) → OnErr r (IsTake k)
-          unfolding can_feed
-          fed_memory watched place cluster t r is its at_pass holds h = h (can_feed watched place cluster t is its at_pass holds)
+      -- so is each batch of what the action reads
+
+      module _ (lanes : List LaneView) (feedable : IsFeedable j first count lanes kept last k inputs u) (d : Kept) where
+        pub feeds_any : (s : BlockStage) (amid : IsAmid j first count s) (watched : List ℕ) (place cluster : ℕ) (t : TallyView) → place ≡ actions_before j pass → s.cluster ≡ cluster → s.passes ≡ place → HoldsIn (facts_in j) watched s t
+            → CanFeedAny j first count lanes k inputs u (get_or kept last d).places (facts_in j) watched s t place cluster
+        unfolding can_feed
+        feeds_any s amid watched place cluster t is its at_pass holds b of = (can_feed lanes feedable d b of.places of.gathered s amid watched place cluster t is its at_pass holds, refl)
+
+-- only a Take wants memory
+pub only_takes : (k kind : ActionKind) → kind ≡ k → (r : Result (Unit {0}) Memory) → OnErr r (IsTake kind) → OnErr r (IsTake k)
+only_takes k kind is r h = subst (λ (x : ActionKind). OnErr r (IsTake x)) is h

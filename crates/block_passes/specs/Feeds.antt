@@ -11,9 +11,10 @@ use Rattle.rdf_model.specs.Laws.{FitsFeed}
 use Rattle.actions.specs.Batches.{HasPlace, HasValues, SuitsAt, lane_value, values_at}
 use Rattle.actions.specs.declared.batch.Sources.{Sources}
 use Rattle.actions.specs.declared.lane.Lane.{Lane}
+use Rattle.block_lanes.specs.Lanes.{LaneView}
 use Rattle.loop_keys.specs.Jobs.{JobView}
 use Rattle.loop_keys.specs.Store.{version_in}
-use Rattle.block_passes.specs.Inputs.{CanServe}
+use Rattle.block_passes.specs.Inputs.{AreAtHand, CanServe}
 use Rattle.block_passes.specs.Parts.{feeding_fault}
 
 -- the lane has what the outcome gives at the place
@@ -26,6 +27,11 @@ pub record AreLanesOf (o : Outcome ⊥ (List Value)) (k : ActionKind) (s : Sourc
   pub there : HasValues s p
   pub values : o ≡ Gives (values_at s p)
   pub suits : SuitsAt k s p
+
+-- the lanes are of all that an action reads, at each place of a block at which that is at hand
+abbrev pub AreInPlace : JobView → ℕ → ℕ → List LaneView → ActionKind → List ℕ → Option ℕ → Sources → Type 0
+AreInPlace j first count lanes k inputs u sources =
+    (p : ℕ) → p < count → AreAtHand j lanes u inputs p → AreLanesOf (for_all (version_in {M = ⊥} j (first + p) u) inputs) k sources p
 
 -- the fault of feeding an action what it reads, at a place of a block that begins at this entry
 abbrev pub unfed : JobView → ℕ → ActionKind → List ℕ → Option ℕ → ℕ → Option EntryFault

@@ -1,6 +1,8 @@
 // Feeding what the passes of a block give.
 ghost use Rattle.std.specs.Prelude.{◌≡◌, ◌<◌, ◌≤◌, ◌+◌, ℕ, All, Bool, List, IfOk, OnErr, OnOk, length, slice_get, Some};
 ghost use Rattle.rdf_model.specs.LoopFacts.{kinds_in};
+ghost use Rattle.rdf_model.specs.declared.loop_facts.LoopFacts.{LoopFacts};
+ghost use Rattle.expr_lanes.specs.Places.{EachPlace};
 ghost use Rattle.expr_lanes.specs.declared.TheConstants.{MAX_PLACES};
 ghost use Rattle.block_lanes.specs.Lanes.{kinds_of};
 ghost use Rattle.cluster_tally.specs.Blocks.{BlockStage, HoldsIn, pass_done};
@@ -14,11 +16,11 @@ ghost use Rattle.pass_laws.specs.Turns.{actions_before};
 ghost use Rattle.block_cache.specs.Blocks.{AreReady};
 ghost use Rattle.block_passes.specs.Clear.{IsClear};
 ghost use Rattle.block_passes.specs.Counting.{IsAmid, at_pass};
-ghost use Rattle.block_passes.specs.Fed.{IsFeedable};
+ghost use Rattle.block_passes.specs.Fed.{CanFeedAny, IsFeedable};
 ghost use Rattle.block_passes.specs.Feeds.{CanGather};
 ghost use Rattle.block_passes.specs.Plans.{IsPlan};
 ghost use Rattle.block_passes.specs.Selections.{AreKept};
-ghost use Rattle.block_passes.specs.Inputs.{ArePlainSources, AreWhole};
+ghost use Rattle.block_passes.specs.Inputs.{AreAtHand, ArePlainSources, AreWhole};
 ghost use Rattle.block_passes.specs.Tries.{AreAllWhole, CanServeAll, IsReadOf};
 
 use crate::copies::copy_inputs;
@@ -32,6 +34,7 @@ use crate::turn::{ActionRead, Turn};
 use actions::Batch;
 use block_lanes::Lane;
 use cluster_tally::Tally;
+use expr_lanes::Selection;
 use graph_numbers::Pass;
 use rdf_values::Memory;
 
@@ -40,6 +43,34 @@ use rdf_values::Memory;
 pub(crate) struct FedPass {
     pub(crate) place: u32,
     pub(crate) cluster: u32,
+}
+
+/// Feeds an action's pass with copies of what it reads at the selected places, at which that is at hand.
+#[inline(never)]
+fn feed_copies(
+    at: &Turn<'_>,
+    lanes: &[Lane],
+    selection: &Selection,
+    tally: &mut Tally,
+    own: &ActionRead<'_>,
+    to: FedPass,
+) -> Result<(), Memory>
+    requires job { Fits at.now.job.now }
+    requires rows { AreKeys (job_graph (job_of at.now.job.now)) at.now.rows.now }
+    requires ready { AreReady (job_of at.now.job.now) at.now.first at.now.count lanes.now }
+    requires can { CanGather (job_of at.now.job.now) at.now.first at.now.count (kinds_of lanes.now) at.now.cells.now own.now.kind.now own.now.inputs.now own.now.under }
+    requires inside { EachPlace selection.now (λ p. p < at.now.count) }
+    requires hand { EachPlace selection.now (AreAtHand (job_of at.now.job.now) lanes.now own.now.under own.now.inputs.now) }
+    requires feed { (f : LoopFacts) × (watched : List ℕ) × (s : BlockStage) × CanFeedAny (job_of at.now.job.now) at.now.first at.now.count lanes.now own.now.kind.now own.now.inputs.now own.now.under selection.now f watched s tally.old to.place to.cluster }
+    ensures holds { (f : LoopFacts) (watched : List ℕ) (s : BlockStage) → CanFeedAny (job_of at.now.job.now) at.now.first at.now.count lanes.now own.now.kind.now own.now.inputs.now own.now.under selection.now f watched s tally.old to.place to.cluster
+        → OnOk result (HoldsIn f watched (pass_done s) tally.new) }
+    ensures memory { AreWhole (job_of at.now.job.now) own.now.under (kinds_of lanes.now) own.now.inputs.now → OnErr result (IsTake own.now.kind.now) }
+    ensures plain { (used : ℕ → Bool) → ArePlain (job_of at.now.job.now) used → ArePlainSources (job_of at.now.job.now) used own.now.under own.now.inputs.now → OnErr result (IsTake own.now.kind.now) }
+{
+    let copies = copy_inputs(at, lanes, selection, own)?;
+    let places = batch_places(selection);
+    let sources = gather(at, lanes, selection, &copies, own);
+    tally.feed_batch(to.place, to.cluster, &Batch { places, sources })
 }
 
 /// Feeds an action's pass with what it reads at the places of its last step, where it can be fed with all of that.
@@ -70,12 +101,10 @@ pub(crate) fn feed_action(
 {
     let last = at.plan.last_step(at.pass);
     let selection = &kept[last as usize].places;
+    let Some(sources) = lanes_in_place(at, lanes, own) else {
+        return feed_copies(at, lanes, selection, tally, own, to);
+    };
     let places = batch_places(selection);
-    if let Some(sources) = lanes_in_place(at, lanes, own) {
-        return tally.feed_batch(to.place, to.cluster, &Batch { places, sources });
-    }
-    let copies = copy_inputs(at, lanes, selection, own)?;
-    let sources = gather(at, lanes, selection, &copies, own);
     tally.feed_batch(to.place, to.cluster, &Batch { places, sources })
 }
 

@@ -1,13 +1,13 @@
 // The lanes that an action reads, where all of them are read in place: nearly always.
-ghost use Rattle.std.specs.Prelude.{◌≡◌, ◌<◌, ◌≤◌, ◌+◌, ℕ, IfSome, length};
-ghost use Rattle.rdf_model.specs.Evaluation.{for_all};
+ghost use Rattle.std.specs.Prelude.{◌≡◌, ◌<◌, ◌≤◌, ◌+◌, ℕ, ℤ, IfSome, List, None, Some, length};
+ghost use Rattle.rdf_values.specs.declared.action.ActionKind.TheVariants as action;
 ghost use Rattle.block_lanes.specs.Lanes.{kinds_of};
 ghost use Rattle.loop_keys.specs.Jobs.{Fits, job_graph, job_of};
 ghost use Rattle.loop_keys.specs.Keys.{AreKeys};
 ghost use Rattle.loop_keys.specs.Store.{source_at, version_in};
 ghost use Rattle.block_cache.specs.Blocks.{AreReady};
-ghost use Rattle.block_passes.specs.Feeds.{AreLanesOf, CanGather, IsLaneOf};
-ghost use Rattle.block_passes.specs.Inputs.{AreAtHand, CanServe, IsAtHand};
+ghost use Rattle.block_passes.specs.Feeds.{AreInPlace, CanGather, IsLaneOf};
+ghost use Rattle.block_passes.specs.Inputs.{CanServe, IsAtHand};
 
 use crate::copies::site_kind;
 use crate::inputs::source_under;
@@ -42,6 +42,82 @@ fn lane_in_place<'a: 's, 's>(
     }
 }
 
+/// The lane of the only version that an action reads, unless it has to be copied.
+#[inline(never)]
+fn one_in_place<'a: 's, 's>(
+    at: &Turn<'a>,
+    lanes: &'s [Lane],
+    own: &ActionRead<'_>,
+) -> Option<Sources<'s>>
+    requires job { Fits at.now.job.now }
+    requires rows { AreKeys (job_graph (job_of at.now.job.now)) at.now.rows.now }
+    requires ready { AreReady (job_of at.now.job.now) at.now.first at.now.count lanes.now }
+    requires can { CanGather (job_of at.now.job.now) at.now.first at.now.count (kinds_of lanes.now) at.now.cells.now own.now.kind.now own.now.inputs.now own.now.under }
+    requires one { length own.now.inputs.now ≡ 1 }
+    ensures { IfSome result (AreInPlace (job_of at.now.job.now) at.now.first at.now.count lanes.now own.now.kind.now own.now.inputs.now own.now.under) }
+{
+    let x = lane_in_place(at, lanes, own.inputs[0], own.under)?;
+    Some(Sources::One { x })
+}
+
+/// The lanes of a histogram's variable and weight, likewise.
+#[inline(never)]
+fn weighted_in_place<'a: 's, 's>(
+    at: &Turn<'a>,
+    lanes: &'s [Lane],
+    own: &ActionRead<'_>,
+) -> Option<Sources<'s>>
+    requires job { Fits at.now.job.now }
+    requires rows { AreKeys (job_graph (job_of at.now.job.now)) at.now.rows.now }
+    requires ready { AreReady (job_of at.now.job.now) at.now.first at.now.count lanes.now }
+    requires can { CanGather (job_of at.now.job.now) at.now.first at.now.count (kinds_of lanes.now) at.now.cells.now own.now.kind.now own.now.inputs.now own.now.under }
+    requires kind { (edges : List ℤ) × (x w : List ℕ) × (own.now.kind.now ≡ action.Histo1D edges x (Some w)) }
+    ensures { IfSome result (AreInPlace (job_of at.now.job.now) at.now.first at.now.count lanes.now own.now.kind.now own.now.inputs.now own.now.under) }
+{
+    let x = lane_in_place(at, lanes, own.inputs[0], own.under)?;
+    let w = lane_in_place(at, lanes, own.inputs[1], own.under)?;
+    Some(Sources::Weighted { x, w })
+}
+
+/// The lanes of the variables of a histogram in two dimensions, likewise.
+#[inline(never)]
+fn pair_in_place<'a: 's, 's>(
+    at: &Turn<'a>,
+    lanes: &'s [Lane],
+    own: &ActionRead<'_>,
+) -> Option<Sources<'s>>
+    requires job { Fits at.now.job.now }
+    requires rows { AreKeys (job_graph (job_of at.now.job.now)) at.now.rows.now }
+    requires ready { AreReady (job_of at.now.job.now) at.now.first at.now.count lanes.now }
+    requires can { CanGather (job_of at.now.job.now) at.now.first at.now.count (kinds_of lanes.now) at.now.cells.now own.now.kind.now own.now.inputs.now own.now.under }
+    requires kind { (xs ys : List ℤ) × (x y : List ℕ) × (own.now.kind.now ≡ action.Histo2D xs ys x y None) }
+    ensures { IfSome result (AreInPlace (job_of at.now.job.now) at.now.first at.now.count lanes.now own.now.kind.now own.now.inputs.now own.now.under) }
+{
+    let x = lane_in_place(at, lanes, own.inputs[0], own.under)?;
+    let y = lane_in_place(at, lanes, own.inputs[1], own.under)?;
+    Some(Sources::Pair { x, y })
+}
+
+/// The lanes of such a histogram's variables and weight, likewise.
+#[inline(never)]
+fn weighted_pair_in_place<'a: 's, 's>(
+    at: &Turn<'a>,
+    lanes: &'s [Lane],
+    own: &ActionRead<'_>,
+) -> Option<Sources<'s>>
+    requires job { Fits at.now.job.now }
+    requires rows { AreKeys (job_graph (job_of at.now.job.now)) at.now.rows.now }
+    requires ready { AreReady (job_of at.now.job.now) at.now.first at.now.count lanes.now }
+    requires can { CanGather (job_of at.now.job.now) at.now.first at.now.count (kinds_of lanes.now) at.now.cells.now own.now.kind.now own.now.inputs.now own.now.under }
+    requires kind { (xs ys : List ℤ) × (x y w : List ℕ) × (own.now.kind.now ≡ action.Histo2D xs ys x y (Some w)) }
+    ensures { IfSome result (AreInPlace (job_of at.now.job.now) at.now.first at.now.count lanes.now own.now.kind.now own.now.inputs.now own.now.under) }
+{
+    let x = lane_in_place(at, lanes, own.inputs[0], own.under)?;
+    let y = lane_in_place(at, lanes, own.inputs[1], own.under)?;
+    let w = lane_in_place(at, lanes, own.inputs[2], own.under)?;
+    Some(Sources::WeightedPair { x, y, w })
+}
+
 /// The lanes of all versions that an action reads, at places at which they are at hand, unless one of them has to be copied.
 pub(crate) fn lanes_in_place<'a: 's, 's>(
     at: &Turn<'a>,
@@ -52,11 +128,8 @@ pub(crate) fn lanes_in_place<'a: 's, 's>(
     requires rows { AreKeys (job_graph (job_of at.now.job.now)) at.now.rows.now }
     requires ready { AreReady (job_of at.now.job.now) at.now.first at.now.count lanes.now }
     requires can { CanGather (job_of at.now.job.now) at.now.first at.now.count (kinds_of lanes.now) at.now.cells.now own.now.kind.now own.now.inputs.now own.now.under }
-    ensures { IfSome result (λ sources. (p : ℕ) → p < at.now.count → AreAtHand (job_of at.now.job.now) lanes.now own.now.under own.now.inputs.now p
-        → AreLanesOf (for_all (version_in {M = ⊥} (job_of at.now.job.now) (at.now.first + p) own.now.under) own.now.inputs.now) own.now.kind.now sources p) }
+    ensures { IfSome result (AreInPlace (job_of at.now.job.now) at.now.first at.now.count lanes.now own.now.kind.now own.now.inputs.now own.now.under) }
 {
-    let inputs = own.inputs;
-    let under = own.under;
     match own.kind {
         ActionKind::Count => Some(Sources::Entry),
         ActionKind::Sum(_)
@@ -64,31 +137,15 @@ pub(crate) fn lanes_in_place<'a: 's, 's>(
         | ActionKind::Max(_)
         | ActionKind::Take(_)
         | ActionKind::Reduce(..)
-        | ActionKind::Histo1D { weight: None, .. } => {
-            let x = lane_in_place(at, lanes, inputs[0], under)?;
-            Some(Sources::One { x })
-        }
+        | ActionKind::Histo1D { weight: None, .. } => one_in_place(at, lanes, own),
         ActionKind::Histo1D {
             weight: Some(_),
             ..
-        } => {
-            let x = lane_in_place(at, lanes, inputs[0], under)?;
-            let w = lane_in_place(at, lanes, inputs[1], under)?;
-            Some(Sources::Weighted { x, w })
-        }
-        ActionKind::Histo2D { weight: None, .. } => {
-            let x = lane_in_place(at, lanes, inputs[0], under)?;
-            let y = lane_in_place(at, lanes, inputs[1], under)?;
-            Some(Sources::Pair { x, y })
-        }
+        } => weighted_in_place(at, lanes, own),
+        ActionKind::Histo2D { weight: None, .. } => pair_in_place(at, lanes, own),
         ActionKind::Histo2D {
             weight: Some(_),
             ..
-        } => {
-            let x = lane_in_place(at, lanes, inputs[0], under)?;
-            let y = lane_in_place(at, lanes, inputs[1], under)?;
-            let w = lane_in_place(at, lanes, inputs[2], under)?;
-            Some(Sources::WeightedPair { x, y, w })
-        }
+        } => weighted_pair_in_place(at, lanes, own),
     }
 }

@@ -35,6 +35,7 @@ pub(crate) fn batch_places(selection: &Selection) -> Places<'_>
 }
 
 /// The first of the selected places at which an action can't be fed what it reads, where all of that is at hand.
+#[inline(never)]
 fn first_unfed(
     at: &Turn<'_>,
     lanes: &[Lane],
@@ -50,9 +51,6 @@ fn first_unfed(
     ensures fault { IfOk result (λ f. f ≡ fault_over (unfed (job_of at.now.job.now) at.now.first own.now.kind.now own.now.inputs.now own.now.under) selection.now) }
     ensures plain { (used : ℕ → Bool) → ArePlain (job_of at.now.job.now) used → ArePlainSources (job_of at.now.job.now) used own.now.under own.now.inputs.now → OnErr result ⊥ }
 {
-    if own.inputs.len() < 2 {
-        return Ok(None);
-    }
     let _few = selection.len();
     let copies = copy_inputs(at, lanes, selection, own)?;
     let batch = Batch {
@@ -90,6 +88,10 @@ pub(crate) fn test_feeding(
     ensures plain { (used : ℕ → Bool) → ArePlain (job_of at.now.job.now) used → ArePlainSources (job_of at.now.job.now) used own.now.under own.now.inputs.now → OnErr result ⊥ }
 {
     let _rising = to.places.as_slice();
+    // A single value that is there can be fed.
+    if own.inputs.len() < 2 {
+        return Ok(());
+    }
     let fault = first_unfed(at, &work.lanes, &to.places, own)?;
     work.found.note(at.first, at.pass, fault);
     let _made = to.narrow(work.found.limit);

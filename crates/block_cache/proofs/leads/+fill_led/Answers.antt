@@ -1,13 +1,15 @@
-use Rattle.std.proofs.Common.{◌<◌, arith, length, rules}
+use Rattle.std.proofs.Common.{◌≡◌, ◌<◌, arith, length, rules, subst, true}
 use Rattle.block_lanes.specs.Lanes.{kinds_of}
 use Rattle.graph_numbers.specs.Graphs.{graph_sites}
+use Rattle.expr_lanes.specs.Places.{EachPlace}
 use Rattle.loop_keys.specs.Jobs.{job_graph, job_of}
+use Rattle.block_cache.specs.Fills.{holds_at}
 use Rattle.block_cache.proofs.Fulls.{held_filled_to}
 use Rattle.block_cache.proofs.LeadLaws.{can_lead, lead_lower, lead_used, led_begun, led_filled, led_selected, led_spent}
 use Rattle.block_cache.proofs.leads.+fill_led.Goals as goal
 
 pub returns-then-is_held-clause-filled : goal.returns-then-is_held-clause-filled
-returns-then-is_held-clause-filled g t c = held_filled_to (job_of c.args.block.now.at.now.job.now) c.args.block.now.at.now.entry c.args.block.now.at.now.under c.args.block.now.count c.args.site c.requires.site c.args.selection.now c.args.lanes.now c.requires.ready c.requires.selected (c.is_held.ensures c.if-is_held.true)
+returns-then-is_held-clause-filled g t c = held_filled_to (job_of c.args.block.now.at.now.job.now) c.args.block.now.at.now.entry c.args.block.now.at.now.under c.args.block.now.count c.args.site c.requires.site c.args.selection.now c.args.lanes.now c.requires.ready c.requires.selected (subst (λ k. EachPlace c.args.selection.now (λ p. holds_at c.args.lanes.now k p ≡ true)) c.key.ensures.key (c.is_held.ensures c.if-is_held.true))
 
 pub fill_led-requires : goal.fill_led-requires
 fill_led-requires g t c κs within =

@@ -1,36 +1,12 @@
-use Rattle.std.proofs.Common.{◌≡◌, ◌∙◌, ◌+◌, ap, length, rules}
+use Rattle.std.proofs.Common.{◌∙◌, ap}
 use Rattle.rdf_values.specs.declared.action.ActionKind.TheVariants as action
-use Rattle.loop_keys.specs.Jobs.{job_of}
-use Rattle.loop_keys.specs.Store.{source_at, version_in}
-use Rattle.block_passes.specs.Inputs.{IsAtHand}
-use Rattle.block_passes.proofs.GatheredLanes.{lanes_one, lanes_pair, lanes_triple, lanes_weighted}
 use Rattle.block_passes.proofs.in_place.lanes_in_place.Goals as goal
-use Rattle.block_passes.proofs.in_place.lanes_in_place.Goals.{in-Sum-1, in-Min-1, in-Max-1, in-Take-1, in-Reduce-1, in-Histo1D+in-None-1}
 
-pub returns-in_ok-w-in-Histo1D-default-default-Some : goal.returns-in_ok-w-in-Histo1D-default-default-Some
-returns-in_ok-w-in-Histo1D-default-default-Some g c = λ p low hand.
-    let j = job_of c.args.at.now.job.now in
-    lanes_weighted (version_in {M = ⊥} j (c.args.at.now.first + p) c.args.own.now.under) c.args.own.now.inputs.now (λ v. IsAtHand j c.args.lanes.now c.args.own.now.under p (source_at j c.args.own.now.under v)) hand p c.args.own.now.kind.now c.requires.can.many (λ vs e. c.requires.can.fits p vs low e) c.in-Histo1D-default-default-Some.x_edges c.in-Histo1D-default-default-Some.x c.in-Histo1D-default-default-Some.weight-0 (c.in-Histo1D-default-default-Some.is ∙ ap (action.Histo1D c.in-Histo1D-default-default-Some.x_edges c.in-Histo1D-default-default-Some.x) (rw c.in-Histo1D-default-default-Some.is at c.in-Histo1D-default-default-Some.weight-is)) c.in_ok-x-in-Histo1D-default-default-Some.x c.in_ok-w-in-Histo1D-default-default-Some.w (λ h. c.in_ok-x-in-Histo1D-default-default-Some.ensures p low h) (λ h. c.in_ok-w-in-Histo1D-default-default-Some.ensures p low h)
+pub weighted_in_place-requires-clause-kind : goal.weighted_in_place-requires-clause-kind
+weighted_in_place-requires-clause-kind g c = (c.in-Histo1D-default-default-Some.x_edges, c.in-Histo1D-default-default-Some.x, c.in-Histo1D-default-default-Some.weight-0, c.in-Histo1D-default-default-Some.is ∙ ap (action.Histo1D c.in-Histo1D-default-default-Some.x_edges c.in-Histo1D-default-default-Some.x) (rw c.in-Histo1D-default-default-Some.is at c.in-Histo1D-default-default-Some.weight-is))
 
-pub returns-in_ok-y-in-Histo2D-default-default-default-default-None : goal.returns-in_ok-y-in-Histo2D-default-default-default-default-None
-returns-in_ok-y-in-Histo2D-default-default-default-default-None g c = λ p low hand.
-    let j = job_of c.args.at.now.job.now in
-    lanes_pair (version_in {M = ⊥} j (c.args.at.now.first + p) c.args.own.now.under) c.args.own.now.inputs.now (λ v. IsAtHand j c.args.lanes.now c.args.own.now.under p (source_at j c.args.own.now.under v)) hand p c.args.own.now.kind.now c.requires.can.many (λ vs e. c.requires.can.fits p vs low e) c.in-Histo2D-default-default-default-default-None.x_edges c.in-Histo2D-default-default-default-default-None.y_edges c.in-Histo2D-default-default-default-default-None.x c.in-Histo2D-default-default-default-default-None.y (c.in-Histo2D-default-default-default-default-None.is ∙ ap (action.Histo2D c.in-Histo2D-default-default-default-default-None.x_edges c.in-Histo2D-default-default-default-default-None.y_edges c.in-Histo2D-default-default-default-default-None.x c.in-Histo2D-default-default-default-default-None.y) (rw c.in-Histo2D-default-default-default-default-None.is at c.in-Histo2D-default-default-default-default-None.weight-is)) c.in_ok-x-in-Histo2D-default-default-default-default-None.x c.in_ok-y-in-Histo2D-default-default-default-default-None.y (λ h. c.in_ok-x-in-Histo2D-default-default-default-default-None.ensures p low h) (λ h. c.in_ok-y-in-Histo2D-default-default-default-default-None.ensures p low h)
+pub pair_in_place-requires-clause-kind : goal.pair_in_place-requires-clause-kind
+pair_in_place-requires-clause-kind g c = (c.in-Histo2D-default-default-default-default-None.x_edges, c.in-Histo2D-default-default-default-default-None.y_edges, c.in-Histo2D-default-default-default-default-None.x, c.in-Histo2D-default-default-default-default-None.y, c.in-Histo2D-default-default-default-default-None.is ∙ ap (action.Histo2D c.in-Histo2D-default-default-default-default-None.x_edges c.in-Histo2D-default-default-default-default-None.y_edges c.in-Histo2D-default-default-default-default-None.x c.in-Histo2D-default-default-default-default-None.y) (rw c.in-Histo2D-default-default-default-default-None.is at c.in-Histo2D-default-default-default-default-None.weight-is))
 
-pub returns-in_ok-w-in-Histo2D-default-default-default-default-Some : goal.returns-in_ok-w-in-Histo2D-default-default-default-default-Some
-returns-in_ok-w-in-Histo2D-default-default-default-default-Some g c = λ p low hand.
-    let j = job_of c.args.at.now.job.now in
-    lanes_triple (version_in {M = ⊥} j (c.args.at.now.first + p) c.args.own.now.under) c.args.own.now.inputs.now (λ v. IsAtHand j c.args.lanes.now c.args.own.now.under p (source_at j c.args.own.now.under v)) hand p c.args.own.now.kind.now c.requires.can.many (λ vs e. c.requires.can.fits p vs low e) c.in-Histo2D-default-default-default-default-Some.x_edges c.in-Histo2D-default-default-default-default-Some.y_edges c.in-Histo2D-default-default-default-default-Some.x c.in-Histo2D-default-default-default-default-Some.y c.in-Histo2D-default-default-default-default-Some.weight-0 (c.in-Histo2D-default-default-default-default-Some.is ∙ ap (action.Histo2D c.in-Histo2D-default-default-default-default-Some.x_edges c.in-Histo2D-default-default-default-default-Some.y_edges c.in-Histo2D-default-default-default-default-Some.x c.in-Histo2D-default-default-default-default-Some.y) (rw c.in-Histo2D-default-default-default-default-Some.is at c.in-Histo2D-default-default-default-default-Some.weight-is)) c.in_ok-x-in-Histo2D-default-default-default-default-Some.x c.in_ok-y-in-Histo2D-default-default-default-default-Some.y c.in_ok-w-in-Histo2D-default-default-default-default-Some.w (λ h. c.in_ok-x-in-Histo2D-default-default-default-default-Some.ensures p low h) (λ h. c.in_ok-y-in-Histo2D-default-default-default-default-Some.ensures p low h) (λ h. c.in_ok-w-in-Histo2D-default-default-default-default-Some.ensures p low h)
-
-pub returns-in_ok-x-in-Sum : goal.returns-in_ok-x-in-Sum
-returns-in_ok-x-in-Sum g c = λ p low hand.
-    let j = job_of c.args.at.now.job.now in
-    let one : length c.args.own.now.inputs.now ≡ 1 = elim c.in-Sum-1.branch [
-      | in-Sum-1 w ↦ search rules
-      | in-Min-1 w ↦ search rules
-      | in-Max-1 w ↦ search rules
-      | in-Take-1 w ↦ search rules
-      | in-Reduce-1 w ↦ search rules
-      | in-Histo1D+in-None-1 w ↦ search rules
-    ] in
-    lanes_one (version_in {M = ⊥} j (c.args.at.now.first + p) c.args.own.now.under) c.args.own.now.inputs.now (λ v. IsAtHand j c.args.lanes.now c.args.own.now.under p (source_at j c.args.own.now.under v)) hand p c.args.own.now.kind.now c.requires.can.many (λ vs e. c.requires.can.fits p vs low e) one c.in_ok-x-in-Sum.x (λ h. c.in_ok-x-in-Sum.ensures p low h)
+pub weighted_pair_in_place-requires-clause-kind : goal.weighted_pair_in_place-requires-clause-kind
+weighted_pair_in_place-requires-clause-kind g c = (c.in-Histo2D-default-default-default-default-Some.x_edges, c.in-Histo2D-default-default-default-default-Some.y_edges, c.in-Histo2D-default-default-default-default-Some.x, c.in-Histo2D-default-default-default-default-Some.y, c.in-Histo2D-default-default-default-default-Some.weight-0, c.in-Histo2D-default-default-default-default-Some.is ∙ ap (action.Histo2D c.in-Histo2D-default-default-default-default-Some.x_edges c.in-Histo2D-default-default-default-default-Some.y_edges c.in-Histo2D-default-default-default-default-Some.x c.in-Histo2D-default-default-default-default-Some.y) (rw c.in-Histo2D-default-default-default-default-Some.is at c.in-Histo2D-default-default-default-default-Some.weight-is))

@@ -1,8 +1,9 @@
-use Rattle.std.proofs.Common.{arith}
+use Rattle.std.proofs.Common.{◌+◌, None, arith, inl, refl}
 use Rattle.loop_keys.specs.Jobs.{job_of}
+use Rattle.loop_keys.specs.Store.{version_in}
 use Rattle.block_passes.specs.Feeds.{unfed}
 use Rattle.block_passes.proofs.FaultsOver.{fault_selected}
-use Rattle.block_passes.proofs.Unfed.{part_served}
+use Rattle.block_passes.proofs.Unfed.{few_fed, none_over, part_served}
 use Rattle.block_passes.proofs.testing.test_feeding.Goals as goal
 
 pub note-requires : goal.note-requires
@@ -21,3 +22,11 @@ returns-clause-tested g c =
 
 pub returns-in_err-fault-clause-plain : goal.returns-in_err-fault-clause-plain
 returns-in_err-fault-clause-plain g c = λ used p sources. absurd (c.in_err-fault.ensures.plain used p sources)
+
+pub returns-then-own-lt2-clause-tested : goal.returns-then-own-lt2-clause-tested
+returns-then-own-lt2-clause-tested g c =
+    part_served (job_of c.args.at.now.job.now) c.args.at.now.first c.args.at.now.count (unfed (job_of c.args.at.now.job.now) c.args.at.now.first c.args.own.now.kind.now c.args.own.now.inputs.now c.args.own.now.under) c.args.at.now.pass c.args.to.now c.args.to.now c.args.work.now.lanes.items c.args.work.now.found c.args.work.now.found
+    None c.requires.ready c.requires.settled c.as_slice-rising.ensures.rising c.requires.inside
+    (none_over (unfed (job_of c.args.at.now.job.now) c.args.at.now.first c.args.own.now.kind.now c.args.own.now.inputs.now c.args.own.now.under) c.args.to.now.places
+    (λ p. few_fed c.args.own.now.kind.now (version_in {M = ⊥} (job_of c.args.at.now.job.now) (c.args.at.now.first + p) c.args.own.now.under) c.args.own.now.inputs.now (omega arith)))
+    refl c.requires.made (inl (omega arith, refl))
