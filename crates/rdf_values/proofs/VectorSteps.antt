@@ -1,13 +1,13 @@
 -- The elements of a vector's text, part by part.
 use Rattle.std.proofs.Common.{◌≡◌, ◌<◌, ◌≤◌, ◌+◌, ◌-◌, ◌∙◌, ℕ, ℤ, List, [], ◌∷◌, ◌++◌, length, take, Bool, true, false, None, Some, Option, Result, Ok, Err, ap, append_assoc, arith, refl, suc, sym, length-append}
 use Rattle.std.specs.Borrow.{Bor}
-use Rattle.std.specs.Prelude.{IfOk, MatchOption, nat_le, if◌then◌else◌}
+use Rattle.std.specs.Prelude.{IfOk, nat_le, if◌then◌else◌}
 use Rattle.std.specs.List.{slice_split}
 use Rattle.std.proofs.lemmas.List.{append-nil}
 use Rattle.std.proofs.Math.Seq.{take-append_seam}
 use Rattle.std.proofs.lemmas.Bool.Decides.{nat_tests}
 use Rattle.rdf_values.specs.Integers.{integer_of}
-use Rattle.rdf_values.specs.Kept.{AreRead}
+use Rattle.rdf_values.specs.Elements.{AreRead, HasNoElement, IsElement}
 use Rattle.rdf_values.specs.declared.memory.Memory.{Memory}
 use Rattle.rdf_values.specs.TableText.{integers_of, is_semicolon, option_cons, vector_of}
 
@@ -75,11 +75,14 @@ vector_end read h =
     let within : nat_le (length read + 0) 4096 ≡ true = grind (arith, nat_tests) in
     rw (within, append-nil read) refl
 
-pub parts_first : (o : Option (Bor (List ℕ))) (parts : List (List ℕ)) (part : List ℕ) (size : ℕ)
-    → MatchOption o (parts ≡ part ∷ []) (λ rest. (parts ≡ part ∷ slice_split is_semicolon rest.now) × (length rest.now < size))
-    → (parts ≡ part ∷ parts_of o) × (size_of o < suc size)
-parts_first None parts part size h = (h, omega arith)
-parts_first (Some rest) parts part size h = (h.0, omega arith)
+-- the first element and the parts behind it
+element_parts : (text : List ℕ) (n : ℤ) (after : Option (Bor (List ℕ))) → IsElement text n after → (part : List ℕ) × (slice_split is_semicolon text ≡ part ∷ parts_of after) × (integer_of part ≡ Some n)
+element_parts text n None h = h
+element_parts text n (Some rest) h = (h.0, h.1, h.2)
+
+pub element_shorter : (text : List ℕ) (n : ℤ) (after : Option (Bor (List ℕ))) → IsElement text n after → size_of after < suc (length text)
+element_shorter text n None h = omega arith
+element_shorter text n (Some rest) h = omega (arith, h.3)
 
 -- ---- elements behind others
 
@@ -96,20 +99,24 @@ reading_empty text old h = ([], vector_empty text h, sym (append-nil old))
 pub reading_start : (text : List ℕ) (old : List ℤ) → 0 < length text → Reading (vector_of text) (slice_split is_semicolon text) old old
 reading_start text old h = record { read = []; left = vector_start text h; few = omega arith; added = sym (append-nil old) }
 
-pub reading_bad : (spelt : Option (List ℤ)) (part : List ℕ) (parts : List (List ℕ)) (old now : List ℤ) → Reading spelt (part ∷ parts) old now → integer_of part ≡ None → spelt ≡ None
-reading_bad spelt part parts old now r e = r.left ∙ vector_bad r.read part parts e
+pub reading_bad : (spelt : Option (List ℤ)) (text : List ℕ) (old now : List ℤ) → Reading spelt (slice_split is_semicolon text) old now → HasNoElement text → spelt ≡ None
+reading_bad spelt text old now r e = r.left ∙ ap (vector_from r.read) e.2 ∙ vector_bad r.read e.0 e.1 e.3
 
-pub reading_long : (spelt : Option (List ℤ)) (part : List ℕ) (parts : List (List ℕ)) (old now : List ℤ) → Reading spelt (part ∷ parts) old now → 4096 ≤ length now - length old → spelt ≡ None
-reading_long spelt part parts old now r h = r.left ∙ vector_long r.read part parts (omega (arith, ap length r.added, length-append old r.read))
+pub reading_long : (spelt : Option (List ℤ)) (text : List ℕ) (old now : List ℤ) (n : ℤ) (after : Option (Bor (List ℕ))) → Reading spelt (slice_split is_semicolon text) old now → IsElement text n after → 4096 ≤ length now - length old → spelt ≡ None
+reading_long spelt text old now n after r e h =
+    let first = element_parts text n after e in
+    r.left ∙ ap (vector_from r.read) first.1 ∙ vector_long r.read first.0 (parts_of after) (omega (arith, ap length r.added, length-append old r.read))
 
-pub reading_more : (spelt : Option (List ℤ)) (part : List ℕ) (parts : List (List ℕ)) (old now : List ℤ) (n : ℤ) → Reading spelt (part ∷ parts) old now → integer_of part ≡ Some n → length now - length old < 4096
-    → Reading spelt parts old (now ++ n ∷ [])
-reading_more spelt part parts old now n r e h = record {
-  read = r.read ++ n ∷ [];
-  left = r.left ∙ vector_more r.read part parts n e;
-  few = omega (arith, ap length r.added, length-append old r.read, length-append r.read (n ∷ []));
-  added = ap (λ t. t ++ n ∷ []) r.added ∙ append_assoc old r.read (n ∷ []);
-}
+pub reading_more : (spelt : Option (List ℤ)) (text : List ℕ) (old now : List ℤ) (n : ℤ) (after : Option (Bor (List ℕ))) → Reading spelt (slice_split is_semicolon text) old now → IsElement text n after → length now - length old < 4096
+    → Reading spelt (parts_of after) old (now ++ n ∷ [])
+reading_more spelt text old now n after r e h =
+    let first = element_parts text n after e in
+    record {
+      read = r.read ++ n ∷ [];
+      left = r.left ∙ ap (vector_from r.read) first.1 ∙ vector_more r.read first.0 (parts_of after) n first.2;
+      few = omega (arith, ap length r.added, length-append old r.read, length-append r.read (n ∷ []));
+      added = ap (λ t. t ++ n ∷ []) r.added ∙ append_assoc old r.read (n ∷ []);
+    }
 
 pub reading_end : (spelt : Option (List ℤ)) (old now : List ℤ) → Reading spelt [] old now → AreRead spelt true old now
 reading_end spelt old now r = (r.read, r.left ∙ vector_end r.read r.few, r.added)

@@ -1,10 +1,10 @@
 // Elements from the text of a vector.
 ghost use Rattle.std.specs.Prelude.{◌≡◌, ◌<◌, ◌≤◌, [], ◌∷◌, IfOk, length, position, take, MatchOption};
 ghost use Rattle.std.specs.List.{slice_split};
-ghost use Rattle.rdf_values.specs.Kept.{AreRead};
+ghost use Rattle.rdf_values.specs.Elements.{AreRead, HasNoElement, IsElement};
 ghost use Rattle.rdf_values.specs.TableText.{is_semicolon, vector_of};
 
-use crate::integer::read_integer;
+use crate::integer::{leading_integer, read_any_integer};
 use crate::memory::Memory;
 
 const MAX_ELEMENTS: usize = 4096;
@@ -26,6 +26,36 @@ fn first_part(text: &[u8]) -> (&[u8], Option<&[u8]>)
     }
 }
 
+// The first element of a vector's text, and what stands after the `;` behind it, by a search for the `;`.
+#[cold]
+#[inline(never)]
+fn any_element(text: &[u8]) -> Option<(i64, Option<&[u8]>)>
+    ensures { MatchOption result (HasNoElement text.now) (λ found. IsElement text.now found.0 found.1) }
+{
+    let (part, after) = first_part(text);
+    match read_any_integer(part) {
+        Some(element) => Some((element, after)),
+        None => None,
+    }
+}
+
+// The first element of a vector's text, and what stands after the `;` behind it.
+#[inline(always)]
+fn first_element(text: &[u8]) -> Option<(i64, Option<&[u8]>)>
+    ensures { MatchOption result (HasNoElement text.now) (λ found. IsElement text.now found.0 found.1) }
+{
+    let Some((element, end)) = leading_integer(text) else {
+        return any_element(text);
+    };
+    if end == text.len() {
+        return Some((element, None));
+    }
+    if text[end] == b';' {
+        return Some((element, Some(&text[end + 1..])));
+    }
+    any_element(text)
+}
+
 /// Appends the elements of the vector that a text spells; `false` where it spells none. Then, and after want of memory,
 /// some of them may be appended.
 pub(crate) fn read_elements(text: &[u8], elements: &mut Vec<i64>) -> Result<bool, Memory>
@@ -38,8 +68,7 @@ pub(crate) fn read_elements(text: &[u8], elements: &mut Vec<i64>) -> Result<bool
     let begin = elements.len();
     let mut rest = Some(text);
     while let Some(left) = rest {
-        let (part, after) = first_part(left);
-        let Some(element) = read_integer(part) else {
+        let Some((element, after)) = first_element(left) else {
             return Ok(false);
         };
         if elements.len() - begin >= MAX_ELEMENTS {
