@@ -26,9 +26,12 @@ written_push (x ∷ xs) n m b w d = go (is_ascii_digit x) w (λ v. written_push 
     go true w next = next w
     go false w next = cc w
 
-pub front_more : (text : List ℕ) (i n digit : ℕ) → i < length text → i < 18 → written_after 0 (take i text) ≡ Some n → n < 10 ^ i → IsDigit (get_or text i 0) (Some digit)
-    → (written_after 0 (take (i + 1) text) ≡ Some (n * 10 + digit)) × (n * 10 + digit < 10 ^ (i + 1))
-front_more text i n digit h l w f d = (rw (take_more text i 0 h, d.1) (written_push (take i text) 0 n (get_or text i 0) w d.0), (one_more_digit i n digit l f d.2).0)
+pub front_more : (text rest : List ℕ) (b i n digit : ℕ) → text ≡ b ∷ rest → i < length rest → i < 17 → written_after 0 (take (i + 1) text) ≡ Some n → n < 10 ^ (i + 1) → IsDigit (get_or rest i 0) (Some digit)
+    → (written_after 0 (take (i + 1 + 1) text) ≡ Some (n * 10 + digit)) × (n * 10 + digit < 10 ^ (i + 1 + 1))
+front_more text rest b i n digit e h l w f d =
+    let long : i + 1 < length text = rw e (omega (arith, h)) in
+    let next : get_or text (i + 1) 0 ≡ get_or rest i 0 = rw (e, add-one) refl in
+    (rw (take_more text (i + 1) 0 long, next, d.1) (written_push (take (i + 1) text) 0 n (get_or rest i 0) w d.0), (one_more_digit (i + 1) n digit (omega arith) f d.2).0)
 
 -- ---- where the digits end
 
@@ -39,11 +42,11 @@ canonical : (text rest : List ℕ) (b i : ℕ) → text ≡ b ∷ rest → 0 < i
 canonical text rest b zero e h n = absurd (omega arith)
 canonical text rest b (suc i) e h n = rw (e, n) refl
 
-pub front_found : (text rest : List ℕ) (b first i n : ℕ) → text ≡ b ∷ rest → IsDigit b (Some first) → first ≢ 0 → 0 < i → i ≤ length text → i ≤ 18 → written_after 0 (take i text) ≡ Some n → n < 10 ^ i → AreLeading text n i
+pub front_found : (text rest : List ℕ) (b first i n : ℕ) → text ≡ b ∷ rest → IsDigit b (Some first) → first ≢ 0 → 0 < i → i ≤ suc (length rest) → i ≤ 18 → written_after 0 (take i text) ≡ Some n → n < 10 ^ i → AreLeading text n i
 front_found text rest b first i n e d z h l few w f =
     let most : 10 ^ i ≤ 10 ^ 18 = pow-le-pow_right {n = 10} (omega arith) few in
     let all : 10 ^ 18 ≡ 1000000000000000000 = refl in
-    record { within = l; canonical = canonical text rest b i e h (not_zero b first d z); written = w; few = omega (arith, most, all) }
+    record { within = rw e l; canonical = canonical text rest b i e h (not_zero b first d z); written = w; few = omega (arith, most, all) }
 
 -- ---- what the digits write
 
@@ -64,12 +67,22 @@ leading_magnitude text n count most h m =
     let few = h.few in
     rw h.canonical (up_to (take count text) n most h.written (omega (arith, few)))
 
-pub leading_positive : (text rest : List ℕ) (b count n : ℕ) (z : ℤ) → text ≡ b ∷ rest → (b == 45) ≡ false → AreLeading text n count → positive (Some n) ≡ Some z → IsLeading text z count
+not_minus : (b n : ℕ) (ds : List ℕ) → written_after 0 (b ∷ ds) ≡ Some n → (b == 45) ≡ false
+not_minus b n ds w = go (is_ascii_digit b) refl w
+  where
+    go : (t : Bool) → is_ascii_digit b ≡ t → (if t && all_ascii_digits ds then Some (digits_value_after 10 (0 * 10 + digit_value b) ds) else None) ≡ Some n → (b == 45) ≡ false
+    go true q w = grind (arith, nat_tests)
+    go false q w = cc w
+
+pub leading_positive : (text : List ℕ) (count n : ℕ) (z : ℤ) → AreLeading text n count → positive (Some n) ≡ Some z → IsLeading text z count
 unfolding integer_of
-leading_positive text rest b zero n z e plus h p = cc h.canonical
-leading_positive text rest b (suc count) n z e plus h p =
-    let magnitude = rw e at (leading_magnitude text n (suc count) 9223372036854775807 h (omega arith)) in
-    record { within = h.within; spelt = rw (e, plus, magnitude) p }
+leading_positive [] zero n z h p = cc h.canonical
+leading_positive [] (suc count) n z h p = cc h.canonical
+leading_positive (b ∷ bs) zero n z h p = cc h.canonical
+leading_positive (b ∷ bs) (suc count) n z h p =
+    let plus : (b == 45) ≡ false = not_minus b n (take count bs) h.written in
+    let magnitude : magnitude_of 9223372036854775807 (b ∷ take count bs) ≡ Some n = leading_magnitude (b ∷ bs) n (suc count) 9223372036854775807 h (omega arith) in
+    record { within = h.within; spelt = rw (plus, magnitude) p }
 
 pub leading_negative : (text rest : List ℕ) (b count n : ℕ) (z : ℤ) → text ≡ b ∷ rest → (b == 45) ≡ true → AreLeading rest n count → negative (Some n) ≡ Some z → IsLeading text z (count + 1)
 unfolding integer_of

@@ -27,8 +27,7 @@ fn first_part(text: &[u8]) -> (&[u8], Option<&[u8]>)
 }
 
 // The first element of a vector's text, and what stands after the `;` behind it, by a search for the `;`.
-#[cold]
-#[inline(never)]
+#[inline(always)]
 fn any_element(text: &[u8]) -> Option<(i64, Option<&[u8]>)>
     ensures { MatchOption result (HasNoElement text.now) (λ found. IsElement text.now found.0 found.1) }
 {
@@ -65,13 +64,13 @@ pub(crate) fn read_elements(text: &[u8], elements: &mut Vec<i64>) -> Result<bool
     if text.is_empty() {
         return Ok(true);
     }
-    let begin = elements.len();
+    let most = elements.len() + MAX_ELEMENTS;
     let mut rest = Some(text);
     while let Some(left) = rest {
         let Some((element, after)) = first_element(left) else {
             return Ok(false);
         };
-        if elements.len() - begin >= MAX_ELEMENTS {
+        if elements.len() >= most {
             return Ok(false);
         }
         elements.push(element)?;

@@ -12,8 +12,8 @@ loop-rest-init c = grind (arith, reading_start, nat_tests)
 pub returns-in_default-first_element-clause-read : goal.returns-in_default-first_element-clause-read
 returns-in_default-first_element-clause-read c = reading_bad _ c.in-Some.left.now _ _ (rw c.in-Some.is at c.loop-rest.invariant) c.in_default-first_element.ensures
 
-pub returns-then-len-begin-ge-MAX_ELEMENTS-clause-read : goal.returns-then-len-begin-ge-MAX_ELEMENTS-clause-read
-returns-then-len-begin-ge-MAX_ELEMENTS-clause-read c = reading_long _ c.in-Some.left.now _ _ _ _ (rw c.in-Some.is at c.loop-rest.invariant) c.in-Some-first_element.ensures (search rules)
+pub returns-then-len-most-clause-read : goal.returns-then-len-most-clause-read
+returns-then-len-most-clause-read c = reading_long _ c.in-Some.left.now _ _ _ _ (rw c.in-Some.is at c.loop-rest.invariant) c.in-Some-first_element.ensures (search rules)
 
 pub loop-rest-preserved : goal.loop-rest-preserved
 loop-rest-preserved c =
