@@ -26,7 +26,8 @@ fn first_part(text: &[u8]) -> (&[u8], Option<&[u8]>)
     }
 }
 
-// The first element of a vector's text, and what stands after the `;` behind it, by a search for the `;`.
+// The first element of a vector's text, and what stands after the `;` behind it, by a search for the `;`. It is no call
+// of its own, since the place for such an answer would be cleared before each element.
 #[inline(always)]
 fn any_element(text: &[u8]) -> Option<(i64, Option<&[u8]>)>
     ensures { MatchOption result (HasNoElement text.now) (λ found. IsElement text.now found.0 found.1) }
