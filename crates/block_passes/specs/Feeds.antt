@@ -11,7 +11,7 @@ use Rattle.rdf_model.specs.Laws.{FitsFeed}
 use Rattle.actions.specs.Batches.{HasPlace, HasValues, SuitsAt, lane_value, values_at}
 use Rattle.actions.specs.declared.batch.Sources.{Sources}
 use Rattle.actions.specs.declared.lane.Lane.{Lane}
-use Rattle.block_lanes.specs.Lanes.{LaneView}
+use Rattle.block_lanes.specs.Lanes.{LaneView, value_of}
 use Rattle.loop_keys.specs.Jobs.{JobView}
 use Rattle.loop_keys.specs.Store.{version_in}
 use Rattle.block_passes.specs.Inputs.{AreAtHand, CanServe}
@@ -21,6 +21,10 @@ use Rattle.block_passes.specs.Parts.{feeding_fault}
 pub record IsLaneOf (o : Outcome ⊥ Value) (l : Lane) (p : ℕ) : Type 0 where
   pub there : HasPlace l p
   pub value : o ≡ Gives (lane_value l p)
+
+-- the lane has what is held of a key at each place of its block
+abbrev pub HasHeld : LaneView → Lane → Type 0
+HasHeld l fed = (p : ℕ) → p < l.count → HasPlace fed p × (lane_value fed p ≡ value_of l p)
 
 -- so have the lanes of all that an action reads, and it takes these values
 pub record AreLanesOf (o : Outcome ⊥ (List Value)) (k : ActionKind) (s : Sources) (p : ℕ) : Type 0 where

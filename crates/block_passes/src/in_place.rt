@@ -1,46 +1,17 @@
 // The lanes that an action reads, where all of them are read in place: nearly always.
-ghost use Rattle.std.specs.Prelude.{◌≡◌, ◌<◌, ◌≤◌, ◌+◌, ℕ, ℤ, IfSome, List, None, Some, length};
+ghost use Rattle.std.specs.Prelude.{◌≡◌, ℤ, ℕ, IfSome, List, None, Some, length};
 ghost use Rattle.rdf_values.specs.declared.action.ActionKind.TheVariants as action;
 ghost use Rattle.block_lanes.specs.Lanes.{kinds_of};
 ghost use Rattle.loop_keys.specs.Jobs.{Fits, job_graph, job_of};
 ghost use Rattle.loop_keys.specs.Keys.{AreKeys};
-ghost use Rattle.loop_keys.specs.Store.{source_at, version_in};
 ghost use Rattle.block_cache.specs.Blocks.{AreReady};
-ghost use Rattle.block_passes.specs.Feeds.{AreInPlace, CanGather, IsLaneOf};
-ghost use Rattle.block_passes.specs.Inputs.{CanServe, IsAtHand};
+ghost use Rattle.block_passes.specs.Feeds.{AreInPlace, CanGather};
 
-use crate::copies::site_kind;
-use crate::inputs::source_under;
-use crate::sources::{cell_lane, site_lane};
+use crate::sources::lane_in_place;
 use crate::turn::{ActionRead, Turn};
-use actions::{Lane as FedLane, Sources};
+use actions::Sources;
 use block_lanes::Lane;
-use graph_numbers::Source;
-use rdf_values::{ActionKind, ColType};
-
-/// The lane of a version, unless it is a site's vectors or an element of these.
-fn lane_in_place<'a: 's, 's>(
-    at: &Turn<'a>,
-    lanes: &'s [Lane],
-    version: u32,
-    under: Option<u32>,
-) -> Option<FedLane<'s>>
-    requires job { Fits at.now.job.now }
-    requires rows { AreKeys (job_graph (job_of at.now.job.now)) at.now.rows.now }
-    requires ready { AreReady (job_of at.now.job.now) at.now.first at.now.count lanes.now }
-    requires can { (scratch levels : ℕ) × CanServe (job_of at.now.job.now) at.now.first under at.now.count (kinds_of lanes.now) at.now.cells.now scratch levels version }
-    ensures { IfSome result (λ lane. (p : ℕ) → p < at.now.count → IsAtHand (job_of at.now.job.now) lanes.now under p (source_at (job_of at.now.job.now) under version)
-        → IsLaneOf (version_in {M = ⊥} (job_of at.now.job.now) (at.now.first + p) under version) lane p) }
-{
-    match source_under(at, version, under) {
-        Source::Cell { col } => Some(cell_lane(at, col, under)),
-        Source::Site { site } => match site_kind(at, site, under) {
-            ColType::Int | ColType::Bool => Some(site_lane(at, lanes, site, under)),
-            ColType::Vect => None,
-        },
-        Source::Element { .. } => None,
-    }
-}
+use rdf_values::ActionKind;
 
 /// The lane of the only version that an action reads, unless it has to be copied.
 #[inline(never)]
