@@ -18,7 +18,7 @@ use crate::in_place::lanes_in_place;
 use crate::kept::Kept;
 use crate::sources::gather;
 use crate::turn::{ActionRead, Turn, Work};
-use actions::{Batch, PlaceFault as BatchFault, Places};
+use actions::{Batch, PlaceFault as BatchFault, Places, Sources};
 use block_cache::faults::PlaceFault;
 use block_lanes::Lane;
 use expr_lanes::Selection;
@@ -84,12 +84,15 @@ fn first_unfed(
     ensures fault { IfOk result (λ f. f ≡ fault_over (unfed (job_of at.now.job.now) at.now.first own.now.kind.now own.now.inputs.now own.now.under) selection.now) }
     ensures plain { (used : ℕ → Bool) → ArePlain (job_of at.now.job.now) used → ArePlainSources (job_of at.now.job.now) used own.now.under own.now.inputs.now → OnErr result ⊥ }
 {
-    let Some(sources) = lanes_in_place(at, lanes, own) else {
-        return first_unfed_copy(at, lanes, selection, own);
-    };
     let _few = selection.len();
-    let places = batch_places(selection);
-    Ok(placed(Batch { places, sources }.first_fault()))
+    let mut batch = Batch {
+        places: batch_places(selection),
+        sources: Sources::Entry,
+    };
+    if !lanes_in_place(at, lanes, own, &mut batch.sources) {
+        return first_unfed_copy(at, lanes, selection, own);
+    }
+    Ok(placed(batch.first_fault()))
 }
 
 /// Tests whether an action can be fed what it reads at the selected places, where all of that is at hand: the first at which it can't
