@@ -256,6 +256,7 @@ pub(crate) fn serve_inputs<L: Ledger>(
         return Ok(());
     };
     match serve_version(at, work, to, *version, under, steps) {
+        Ok(()) if rest.is_empty() => Ok(()),
         Ok(()) => serve_inputs(at, work, to, rest, under, steps),
         Err(Memory) => Err(Memory),
     }
