@@ -88,24 +88,25 @@ pub version_held : (j : JobView) (lanes : List LaneView) (u : Option ℕ) (s : �
     → EachPlace sel (λ p. IsAtHand j lanes u p x)
 version_held j lanes u s x e sel h p i = subst (λ (y : Source). IsAtHand j lanes u p y) (sym e) (h p i)
 
--- a column never faults
-module _ (j : JobView) (first count : ℕ) (u : Option ℕ) (col : ℕ) (x : Source) (e : x ≡ from.Cell col) where
-  no_fault : (p : ℕ) → p < count → source_fault j first u x p ≡ None
-  no_fault p lt = ap (λ (y : Source). source_fault j first u y p) e ∙ none (slice_get (row_of j (first + p)) col)
+-- what faults at no selected place lowers nothing
+pub none_served : (j : JobView) (first count : ℕ) (u : Option ℕ) (x : Source) (pass : ℕ) (to : Kept) (lanes : List LaneView) (s : Found) → AreReady j first count lanes → to.limit ≡ Some s.limit → EachPlace to.places (λ p. p < s.limit) → ((p : ℕ) → p < s.limit → IsSettledAt lanes p)
+    → EachPlace to.places (λ p. source_fault j first u x p ≡ None) → IsServedTo j first count (source_fault j first u x) pass to.places to lanes s s
+none_served j first count u x pass to lanes s ready made inside settled none = record {
+  ready = ready;
+  settled = settled;
+  lowers = none_lowers (where_in (source_fault j first u x) to.places) first pass s (λ p lt. selected_or_none (source_fault j first u x) to.places p (none p));
+  its_limit = made;
+  left = sym (kept_whole (λ p. nat_lt p s.limit) to.places (λ p i. (Decides-ltb p s.limit).1 (inside p i)));
+}
+
+-- a column is at hand, and never faults
+module _ (j : JobView) (first : ℕ) (u : Option ℕ) (col : ℕ) (x : Source) (e : x ≡ from.Cell col) where
+  pub column_clear : (sel : List ℕ) → EachPlace sel (λ p. source_fault j first u x p ≡ None)
+  column_clear sel p i = ap (λ (y : Source). source_fault j first u y p) e ∙ none (slice_get (row_of j (first + p)) col)
     where
       none : (o : Option Value) → fault_in (cell_value {M = ⊥} o) ≡ None
       none None = refl
       none (Some v) = refl
-
-  pub column_served : (pass : ℕ) (to : Kept) (lanes : List LaneView) (s : Found) → AreReady j first count lanes → s.limit ≤ count → to.limit ≡ Some s.limit → EachPlace to.places (λ p. p < s.limit) → ((p : ℕ) → p < s.limit → IsSettledAt lanes p)
-      → IsServedTo j first count (source_fault j first u x) pass to.places to lanes s s
-  column_served pass to lanes s ready le made inside settled = record {
-    ready = ready;
-    settled = settled;
-    lowers = none_lowers (where_in (source_fault j first u x) to.places) first pass s (λ p lt. selected_or_none (source_fault j first u x) to.places p (λ i. no_fault p (omega (arith, lt, le))));
-    its_limit = made;
-    left = sym (kept_whole (λ p. nat_lt p s.limit) to.places (λ p i. (Decides-ltb p s.limit).1 (inside p i)));
-  }
 
   pub column_held : (lanes : List LaneView) (sel : List ℕ) → EachPlace sel (λ p. IsAtHand j lanes u p x)
   column_held lanes sel p i = subst (λ (y : Source). IsAtHand j lanes u p y) (sym e) tt

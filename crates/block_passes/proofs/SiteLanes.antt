@@ -1,25 +1,34 @@
 -- What the lane of a site has at a place.
-use Rattle.std.proofs.Common.{◌≡◌, ◌<◌, ◌≤◌, ◌+◌, ℕ, zero, suc, ℤ, pos, negsuc, true, List, length, Option, Some, refl, sym, ◌∙◌, ap, subst, slice_get, arith}
+use Rattle.std.proofs.Common.{◌≡◌, ◌<◌, ◌≤◌, ◌+◌, ℕ, zero, suc, ℤ, pos, negsuc, true, List, length, Option, Some, refl, sym, ◌∙◌, ap, subst, slice_get, arith, IfSome, None}
 use Rattle.std.proofs.lemmas.Option.{get_or_from_slice_get, slice_get_within}
 use Rattle.rdf_values.specs.declared.value.ColType.{ColType}
 use Rattle.rdf_values.specs.declared.value.ColType.TheVariants as kind
 use Rattle.rdf_values.specs.declared.value.Value.TheVariants as val
 use Rattle.rdf_model.specs.Evaluation.{Gives, is_set}
-use Rattle.expr_check.specs.NumKinds.{CheckedExpr}
 use Rattle.block_lanes.specs.Values.{value_for}
-use Rattle.expr_lanes.specs.Places.{at_place}
-use Rattle.graph_numbers.specs.Graphs.{IsSiteExpr, graph_sites}
+use Rattle.expr_lanes.specs.Places.{EachPlace, at_place}
+use Rattle.graph_numbers.specs.Graphs.{graph_sites}
+use Rattle.graph_numbers.specs.Sources.{source_value}
+use Rattle.graph_numbers.specs.declared.source.Source.{Source}
+use Rattle.graph_numbers.specs.declared.source.Source.TheVariants as from
 use Rattle.actions.specs.Batches.{truth_of}
+use Rattle.actions.specs.declared.lane.Lane.{Lane}
 use Rattle.block_lanes.specs.Lanes.{LaneView, is_held, kinds_of, value_of}
 use Rattle.loop_keys.specs.Jobs.{JobView, job_graph}
-use Rattle.loop_keys.specs.Keys.{key, key_count}
-use Rattle.loop_keys.specs.Store.{IsRight, held_in, site_in}
+use Rattle.loop_keys.specs.Keys.{key, key_count, key_under, place_of}
+use Rattle.loop_keys.specs.Store.{IsRight, held_in, row_of, site_in}
 use Rattle.loop_keys.specs.declared.held.Held.{Held}
+use Rattle.loop_keys.specs.declared.rows.Place.TheVariants as stands
+use Rattle.loop_keys.proofs.FillLaws.{there}
+use Rattle.loop_keys.proofs.RowLaws.{key_small}
 use Rattle.block_cache.specs.Blocks.{AreReady, cells_at}
-use Rattle.block_cache.specs.Fills.{AreSiteKinds, holds_at, lane_holds}
+use Rattle.block_cache.specs.Fills.{holds_at, lane_holds}
 use Rattle.block_cache.proofs.BlockLaws.{held_of_lane, lane_held, right_value}
 use Rattle.block_cache.proofs.CanTries.{got_kind}
+use Rattle.block_cache.proofs.Knowns.{held_no_fault}
 use Rattle.block_cache.proofs.OverLaws.{held_true}
+use Rattle.block_passes.specs.Feeds.{HasHeld, IsLaneOf}
+use Rattle.block_passes.specs.Inputs.{IsAtHand, IsServable, IsWhole, source_fault}
 
 -- a mark counts as true alike
 same_truth : (z : ℤ) → is_set z ≡ truth_of z
@@ -27,32 +36,93 @@ same_truth (pos zero) = refl
 same_truth (pos (suc n)) = refl
 same_truth (negsuc n) = refl
 
-module _ (j : JobView) (first count : ℕ) (u : Option ℕ) (s : ℕ) (inside : s < length (graph_sites (job_graph j))) (lanes : List LaneView) (ready : AreReady j first count lanes) (kinds : AreSiteKinds (job_graph j) (kinds_of lanes))
-    (e : CheckedExpr) (its : IsSiteExpr (job_graph j) s e) (k : ℕ) (same : k ≡ key (job_graph j) s u) (l : LaneView) (there : slice_get lanes k ≡ Some l) (numbers : List ℤ) (are : numbers ≡ l.numbers) where
-  at : slice_get lanes (key (job_graph j) s u) ≡ Some l
-  at = ap (slice_get lanes) (sym same) ∙ there
-
-  gives_value : (p : ℕ) → p < count → holds_at lanes (key (job_graph j) s u) p ≡ true → site_in {M = ⊥} j (first + p) u s ≡ Gives (value_of l p)
+-- what is held of a site is its value
+module _ (j : JobView) (first count : ℕ) (u : Option ℕ) (s : ℕ) (inside : s < length (graph_sites (job_graph j))) (lanes : List LaneView) (ready : AreReady j first count lanes) (l : LaneView) (at : slice_get lanes (key (job_graph j) s u) ≡ Some l) where
+  pub gives_value : (p : ℕ) → p < count → holds_at lanes (key (job_graph j) s u) p ≡ true → site_in {M = ⊥} j (first + p) u s ≡ Gives (value_of l p)
   gives_value p low holds =
       let held : is_held l p ≡ true = ap (λ o. lane_holds o p) (sym at) ∙ holds in
       let cell : held_in (cells_at (key_count (job_graph j)) lanes p) (key (job_graph j) s u) ≡ lane_held (Some l) p = held_of_lane (key_count (job_graph j)) lanes p (key (job_graph j) s u) ∙ ap (λ o. lane_held o p) at in
       right_value (site_in j (first + p) u s) (value_of l p) (subst (λ (h : Held). IsRight (site_in j (first + p) u s) h) (cell ∙ held_true l p held) ((ready.sound p low).each u s inside))
 
-  its_kind : (t : ColType) → e.kind ≡ t → l.kind ≡ t
-  its_kind t is = sym (kinds s u e l.kind its (got_kind lanes (key (job_graph j) s u) l at)) ∙ is
+-- a lane of numbers or truths has what is held of its key
+module _ (lanes : List LaneView) (k : ℕ) (r : LaneView) (its : slice_get lanes k ≡ Some r) (numbers : List ℤ) (are : numbers ≡ r.numbers) (long : r.count ≤ length numbers) where
+  same_lane : (l : LaneView) → slice_get lanes k ≡ Some l → r ≡ l
+  same_lane l at = let e : ◌≡◌ {A = Option LaneView} (Some r) (Some l) = sym its ∙ at in cc e
 
-  pub int_gives : e.kind ≡ kind.Int → (p : ℕ) → p < count → holds_at lanes (key (job_graph j) s u) p ≡ true → site_in {M = ⊥} j (first + p) u s ≡ Gives (val.Int (at_place numbers p))
-  int_gives is p low holds =
-      gives_value p low holds ∙ ap (λ t. Gives (value_for t l.vectors (at_place l.numbers p))) (its_kind kind.Int is) ∙ ap (λ (zs : List ℤ). Gives (val.Int (at_place zs p))) (sym are)
+  inside : (l : LaneView) → slice_get lanes k ≡ Some l → (p : ℕ) → p < l.count → p < length numbers
+  inside l at p low = let e = ap (λ (x : LaneView). x.count) (same_lane l at) in omega (arith, e, long, low)
 
-  pub bool_gives : e.kind ≡ kind.Bool → (p : ℕ) → p < count → holds_at lanes (key (job_graph j) s u) p ≡ true → site_in {M = ⊥} j (first + p) u s ≡ Gives (val.Bool (truth_of (at_place numbers p)))
-  bool_gives is p low holds =
-      gives_value p low holds ∙ ap (λ t. Gives (value_for t l.vectors (at_place l.numbers p))) (its_kind kind.Bool is) ∙ ap (λ (zs : List ℤ). Gives (val.Bool (is_set (at_place zs p)))) (sym are)
-      ∙ ap (λ b. Gives (val.Bool b)) (same_truth (at_place numbers p))
+  pub int_held : r.kind ≡ kind.Int → (l : LaneView) → slice_get lanes k ≡ Some l → (p : ℕ) → p < l.count → (p < length numbers) × (val.Int (at_place numbers p) ≡ value_of l p)
+  int_held is l at p low = (
+    inside l at p low,
+    ap (λ (zs : List ℤ). val.Int (at_place zs p)) are ∙ ap (λ t. value_for t r.vectors (at_place r.numbers p)) (sym is) ∙ ap (λ (x : LaneView). value_of x p) (same_lane l at),
+  )
 
-  -- it has that place
-  pub lane_long : l.count ≤ length numbers → (p : ℕ) → p < count → p < length numbers
-  lane_long long p low =
-      let c = ready.counts k l (slice_get_within lanes k l there) in
-      let e = ap (λ (x : LaneView). x.count) (get_or_from_slice_get lanes k l l there) in
-      omega (arith, c, e, long, low)
+  pub bool_held : r.kind ≡ kind.Bool → (l : LaneView) → slice_get lanes k ≡ Some l → (p : ℕ) → p < l.count → (p < length numbers) × (val.Bool (truth_of (at_place numbers p)) ≡ value_of l p)
+  bool_held is l at p low = (
+    inside l at p low,
+    ap val.Bool (sym (same_truth (at_place numbers p))) ∙ ap (λ (zs : List ℤ). val.Bool (is_set (at_place zs p))) are ∙ ap (λ t. value_for t r.vectors (at_place r.numbers p)) (sym is) ∙ ap (λ (x : LaneView). value_of x p) (same_lane l at),
+  )
+
+pub vector_kind : (lanes : List LaneView) (k : ℕ) (r : LaneView) → slice_get lanes k ≡ Some r → r.kind ≡ kind.Vect → slice_get (kinds_of lanes) k ≡ Some kind.Vect
+vector_kind lanes k r there is = got_kind lanes k r there ∙ ap Some is
+
+-- ---- where a version stands
+
+pub cell_source : (f : ℕ → ℕ) (x : Source) (col : ℕ) → place_of f x ≡ stands.Cell col → x ≡ from.Cell col
+cell_source f (from.Cell c) col e = let same : c ≡ col = cc e in ap from.Cell same
+cell_source f (from.Site s) col e = cc e
+cell_source f (from.Element s i n) col e = cc e
+
+pub key_source : (f : ℕ → ℕ) (x : Source) (k : ℕ) → place_of f x ≡ stands.Key k → (s : ℕ) × (x ≡ from.Site s) × (f s ≡ k)
+key_source f (from.Cell c) k e = cc e
+key_source f (from.Site s) k e = (s, refl, cc e)
+key_source f (from.Element s i n) k e = cc e
+
+pub element_source : (f : ℕ → ℕ) (x : Source) (k i n : ℕ) → place_of f x ≡ stands.Element k i n → (s : ℕ) × (x ≡ from.Element s i n)
+element_source f (from.Cell c) k i n e = cc e
+element_source f (from.Site s) k i n e = cc e
+element_source f (from.Element s a b) k i n e = let first : a ≡ i = cc e in let second : b ≡ n = cc e in (s, λ t. from.Element s (first t) (second t))
+
+-- a site that is read
+module _ (j : JobView) (first count : ℕ) (u : Option ℕ) (kinds : List ColType) (cells : List (List ℤ)) (scratch levels : ℕ) (x : Source) (can : IsServable j first u count kinds cells scratch levels x) (k : ℕ) (stood : place_of (key_under (job_graph j) u) x ≡ stands.Key k) where
+  pub site_is : (s : ℕ) × (x ≡ from.Site s) × (key (job_graph j) s u ≡ k)
+  site_is = key_source (key_under (job_graph j) u) x k stood
+
+  pub site_inside : site_is.0 < length (graph_sites (job_graph j))
+  site_inside = (subst (IsServable j first u count kinds cells scratch levels) site_is.1 can).0
+
+  pub key_inside : (lanes : List LaneView) → AreReady j first count lanes → k < length lanes
+  key_inside lanes ready = let many = ready.many in let small = key_small (job_graph j) site_is.0 u site_inside in let same = site_is.2 in omega (arith, many, small, same)
+
+  pub lane_gives : (lanes : List LaneView) → AreReady j first count lanes → (fed : Lane) → ((l : LaneView) → slice_get lanes k ≡ Some l → HasHeld l fed) → (p : ℕ) → p < count → IsAtHand j lanes u p x
+      → IsLaneOf (source_value {M = ⊥} (row_of j (first + p)) (site_in j (first + p) u) x) fed p
+  lane_gives lanes ready fed has p low hand =
+      let got = there lanes k (key_inside lanes ready) in
+      let l = got.0 in
+      let has_p = has l got.1 p (let c = ready.counts k l (slice_get_within lanes k l got.1) in let e = ap (λ (y : LaneView). y.count) (get_or_from_slice_get lanes k l l got.1) in omega (arith, c, e, low)) in
+      let at : slice_get lanes (key (job_graph j) site_is.0 u) ≡ Some l = ap (slice_get lanes) site_is.2 ∙ got.1 in
+      let holds : holds_at lanes (key (job_graph j) site_is.0 u) p ≡ true = subst (IsAtHand j lanes u p) site_is.1 hand in
+      record {
+        there = has_p.0;
+        value = ap (source_value {M = ⊥} (row_of j (first + p)) (site_in j (first + p) u)) site_is.1 ∙ gives_value j first count u site_is.0 site_inside lanes ready l at p low holds ∙ ap Gives (sym has_p.1);
+      }
+
+  pub lanes_give : (lanes : List LaneView) → AreReady j first count lanes → (o : Option Lane) → ((l : LaneView) → slice_get lanes k ≡ Some l → IfSome o (HasHeld l))
+      → IfSome o (λ fed. (p : ℕ) → p < count → IsAtHand j lanes u p x → IsLaneOf (source_value {M = ⊥} (row_of j (first + p)) (site_in j (first + p) u) x) fed p)
+  lanes_give lanes ready None has = tt
+  lanes_give lanes ready (Some fed) has = lane_gives lanes ready fed has
+
+  pub no_vectors : IsWhole j u kinds x → slice_get kinds k ≡ Some kind.Vect → ⊥
+  no_vectors whole vector = subst (IsWhole j u kinds) site_is.1 whole (ap (slice_get kinds) site_is.2 ∙ vector)
+
+  -- where its value is held it is at hand, and faults not
+  module _ (lanes : List LaneView) (sel : List ℕ) (held : EachPlace sel (λ p. holds_at lanes k p ≡ true)) where
+    holds : EachPlace sel (λ p. holds_at lanes (key (job_graph j) site_is.0 u) p ≡ true)
+    holds p i = ap (λ n. holds_at lanes n p) site_is.2 ∙ held p i
+
+    pub hand_held : EachPlace sel (λ p. IsAtHand j lanes u p x)
+    hand_held p i = subst (IsAtHand j lanes u p) (sym site_is.1) (holds p i)
+
+    pub hand_clear : AreReady j first count lanes → EachPlace sel (λ p. p < count) → EachPlace sel (λ p. source_fault j first u x p ≡ None)
+    hand_clear ready low p i = ap (λ (y : Source). source_fault j first u y p) site_is.1 ∙ held_no_fault j first u count site_is.0 site_inside lanes ready p (low p i) (holds p i)

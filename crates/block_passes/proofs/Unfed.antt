@@ -20,7 +20,7 @@ use Rattle.loop_keys.specs.Jobs.{JobView}
 use Rattle.block_cache.specs.Blocks.{AreReady}
 use Rattle.block_cache.specs.Fills.{fault_before, fault_over}
 use Rattle.block_cache.specs.declared.faults.PlaceFault.{PlaceFault}
-use Rattle.block_passes.specs.Feeds.{AreLanesOf}
+use Rattle.block_passes.specs.Feeds.{AreLanesOf, of_batch}
 use Rattle.block_passes.specs.Inputs.{IsServedTo}
 use Rattle.block_passes.specs.Parts.{feeding_fault}
 use Rattle.block_passes.specs.Searches.{Lowers, noted, where_in}
@@ -47,11 +47,6 @@ all_places P (p ∷ sel) h =
     or_true false = refl
 
 -- ---- the first fault
-
--- a fault of a batch as one of a place
-abbrev pub of_batch : Option BatchFault → Option PlaceFault
-of_batch None = None
-of_batch (Some x) = Some (record { place = x.place; kind = x.kind })
 
 before_later : (p : ℕ) (o : Option EntryFault) (r : Option BatchFault) → of_batch (fault_or_later p o r) ≡ fault_before p o (of_batch r)
 before_later p (Some k) r = refl

@@ -193,7 +193,7 @@ fn copy_elements(
 }
 
 /// Of which kind a site's values are.
-pub(crate) fn site_kind(at: &Turn<'_>, site: u32, under: Option<u32>) -> ColType
+fn site_kind(at: &Turn<'_>, site: u32, under: Option<u32>) -> ColType
     requires job { Fits at.now.job.now }
     requires rows { AreKeys (job_graph (job_of at.now.job.now)) at.now.rows.now }
     requires site { site < length (graph_sites (job_graph (job_of at.now.job.now))) }

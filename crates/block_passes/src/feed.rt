@@ -31,7 +31,7 @@ use crate::plan::loop_passes;
 use crate::sources::gather;
 use crate::testing::batch_places;
 use crate::turn::{ActionRead, Turn};
-use actions::Batch;
+use actions::{Batch, Sources};
 use block_lanes::Lane;
 use cluster_tally::Tally;
 use expr_lanes::Selection;
@@ -101,11 +101,14 @@ pub(crate) fn feed_action(
 {
     let last = at.plan.last_step(at.pass);
     let selection = &kept[last as usize].places;
-    let Some(sources) = lanes_in_place(at, lanes, own) else {
-        return feed_copies(at, lanes, selection, tally, own, to);
+    let mut batch = Batch {
+        places: batch_places(selection),
+        sources: Sources::Entry,
     };
-    let places = batch_places(selection);
-    tally.feed_batch(to.place, to.cluster, &Batch { places, sources })
+    if !lanes_in_place(at, lanes, own, &mut batch.sources) {
+        return feed_copies(at, lanes, selection, tally, own, to);
+    }
+    tally.feed_batch(to.place, to.cluster, &batch)
 }
 
 /// Feeds a pass, before which there are so many of actions, and says how many there are behind it.

@@ -1,151 +1,151 @@
 // The lanes that an action reads, where all of them are read in place: nearly always.
-ghost use Rattle.std.specs.Prelude.{◌≡◌, ◌<◌, ◌≤◌, ◌+◌, ℕ, ℤ, IfSome, List, None, Some, length};
+ghost use Rattle.std.specs.Prelude.{◌≡◌, ℤ, ℕ, List, None, Some, length, true};
 ghost use Rattle.rdf_values.specs.declared.action.ActionKind.TheVariants as action;
 ghost use Rattle.block_lanes.specs.Lanes.{kinds_of};
 ghost use Rattle.loop_keys.specs.Jobs.{Fits, job_graph, job_of};
 ghost use Rattle.loop_keys.specs.Keys.{AreKeys};
-ghost use Rattle.loop_keys.specs.Store.{source_at, version_in};
 ghost use Rattle.block_cache.specs.Blocks.{AreReady};
-ghost use Rattle.block_passes.specs.Feeds.{AreInPlace, CanGather, IsLaneOf};
-ghost use Rattle.block_passes.specs.Inputs.{CanServe, IsAtHand};
+ghost use Rattle.block_passes.specs.Feeds.{AreInPlace, CanGather};
 
-use crate::copies::site_kind;
-use crate::inputs::source_under;
-use crate::sources::{cell_lane, site_lane};
+use crate::sources::lane_in_place;
 use crate::turn::{ActionRead, Turn};
-use actions::{Lane as FedLane, Sources};
+use actions::Sources;
 use block_lanes::Lane;
-use graph_numbers::Source;
-use rdf_values::{ActionKind, ColType};
+use rdf_values::ActionKind;
 
-/// The lane of a version, unless it is a site's vectors or an element of these.
-fn lane_in_place<'a: 's, 's>(
-    at: &Turn<'a>,
-    lanes: &'s [Lane],
-    version: u32,
-    under: Option<u32>,
-) -> Option<FedLane<'s>>
-    requires job { Fits at.now.job.now }
-    requires rows { AreKeys (job_graph (job_of at.now.job.now)) at.now.rows.now }
-    requires ready { AreReady (job_of at.now.job.now) at.now.first at.now.count lanes.now }
-    requires can { (scratch levels : ℕ) × CanServe (job_of at.now.job.now) at.now.first under at.now.count (kinds_of lanes.now) at.now.cells.now scratch levels version }
-    ensures { IfSome result (λ lane. (p : ℕ) → p < at.now.count → IsAtHand (job_of at.now.job.now) lanes.now under p (source_at (job_of at.now.job.now) under version)
-        → IsLaneOf (version_in {M = ⊥} (job_of at.now.job.now) (at.now.first + p) under version) lane p) }
-{
-    match source_under(at, version, under) {
-        Source::Cell { col } => Some(cell_lane(at, col, under)),
-        Source::Site { site } => match site_kind(at, site, under) {
-            ColType::Int | ColType::Bool => Some(site_lane(at, lanes, site, under)),
-            ColType::Vect => None,
-        },
-        Source::Element { .. } => None,
-    }
-}
-
-/// The lane of the only version that an action reads, unless it has to be copied.
+/// Takes the lane of the only version that an action reads, and says whether it could: not where it has to be copied.
 #[inline(never)]
 fn one_in_place<'a: 's, 's>(
     at: &Turn<'a>,
     lanes: &'s [Lane],
     own: &ActionRead<'_>,
-) -> Option<Sources<'s>>
+    to: &mut Sources<'s>,
+) -> bool
     requires job { Fits at.now.job.now }
     requires rows { AreKeys (job_graph (job_of at.now.job.now)) at.now.rows.now }
     requires ready { AreReady (job_of at.now.job.now) at.now.first at.now.count lanes.now }
     requires can { CanGather (job_of at.now.job.now) at.now.first at.now.count (kinds_of lanes.now) at.now.cells.now own.now.kind.now own.now.inputs.now own.now.under }
     requires one { length own.now.inputs.now ≡ 1 }
-    ensures { IfSome result (AreInPlace (job_of at.now.job.now) at.now.first at.now.count lanes.now own.now.kind.now own.now.inputs.now own.now.under) }
+    ensures { result ≡ true → AreInPlace (job_of at.now.job.now) at.now.first at.now.count lanes.now own.now.kind.now own.now.inputs.now own.now.under to.new }
 {
-    let x = lane_in_place(at, lanes, own.inputs[0], own.under)?;
-    Some(Sources::One { x })
+    let Some(x) = lane_in_place(at, lanes, own.inputs[0], own.under) else {
+        return false;
+    };
+    *to = Sources::One { x };
+    true
 }
 
-/// The lanes of a histogram's variable and weight, likewise.
+/// Takes the lanes of a histogram's variable and weight, likewise.
 #[inline(never)]
 fn weighted_in_place<'a: 's, 's>(
     at: &Turn<'a>,
     lanes: &'s [Lane],
     own: &ActionRead<'_>,
-) -> Option<Sources<'s>>
+    to: &mut Sources<'s>,
+) -> bool
     requires job { Fits at.now.job.now }
     requires rows { AreKeys (job_graph (job_of at.now.job.now)) at.now.rows.now }
     requires ready { AreReady (job_of at.now.job.now) at.now.first at.now.count lanes.now }
     requires can { CanGather (job_of at.now.job.now) at.now.first at.now.count (kinds_of lanes.now) at.now.cells.now own.now.kind.now own.now.inputs.now own.now.under }
     requires kind { (edges : List ℤ) × (x w : List ℕ) × (own.now.kind.now ≡ action.Histo1D edges x (Some w)) }
-    ensures { IfSome result (AreInPlace (job_of at.now.job.now) at.now.first at.now.count lanes.now own.now.kind.now own.now.inputs.now own.now.under) }
+    ensures { result ≡ true → AreInPlace (job_of at.now.job.now) at.now.first at.now.count lanes.now own.now.kind.now own.now.inputs.now own.now.under to.new }
 {
-    let x = lane_in_place(at, lanes, own.inputs[0], own.under)?;
-    let w = lane_in_place(at, lanes, own.inputs[1], own.under)?;
-    Some(Sources::Weighted { x, w })
+    let Some(x) = lane_in_place(at, lanes, own.inputs[0], own.under) else {
+        return false;
+    };
+    let Some(w) = lane_in_place(at, lanes, own.inputs[1], own.under) else {
+        return false;
+    };
+    *to = Sources::Weighted { x, w };
+    true
 }
 
-/// The lanes of the variables of a histogram in two dimensions, likewise.
+/// Takes the lanes of the variables of a histogram in two dimensions, likewise.
 #[inline(never)]
 fn pair_in_place<'a: 's, 's>(
     at: &Turn<'a>,
     lanes: &'s [Lane],
     own: &ActionRead<'_>,
-) -> Option<Sources<'s>>
+    to: &mut Sources<'s>,
+) -> bool
     requires job { Fits at.now.job.now }
     requires rows { AreKeys (job_graph (job_of at.now.job.now)) at.now.rows.now }
     requires ready { AreReady (job_of at.now.job.now) at.now.first at.now.count lanes.now }
     requires can { CanGather (job_of at.now.job.now) at.now.first at.now.count (kinds_of lanes.now) at.now.cells.now own.now.kind.now own.now.inputs.now own.now.under }
     requires kind { (xs ys : List ℤ) × (x y : List ℕ) × (own.now.kind.now ≡ action.Histo2D xs ys x y None) }
-    ensures { IfSome result (AreInPlace (job_of at.now.job.now) at.now.first at.now.count lanes.now own.now.kind.now own.now.inputs.now own.now.under) }
+    ensures { result ≡ true → AreInPlace (job_of at.now.job.now) at.now.first at.now.count lanes.now own.now.kind.now own.now.inputs.now own.now.under to.new }
 {
-    let x = lane_in_place(at, lanes, own.inputs[0], own.under)?;
-    let y = lane_in_place(at, lanes, own.inputs[1], own.under)?;
-    Some(Sources::Pair { x, y })
+    let Some(x) = lane_in_place(at, lanes, own.inputs[0], own.under) else {
+        return false;
+    };
+    let Some(y) = lane_in_place(at, lanes, own.inputs[1], own.under) else {
+        return false;
+    };
+    *to = Sources::Pair { x, y };
+    true
 }
 
-/// The lanes of such a histogram's variables and weight, likewise.
+/// Takes the lanes of such a histogram's variables and weight, likewise.
 #[inline(never)]
 fn weighted_pair_in_place<'a: 's, 's>(
     at: &Turn<'a>,
     lanes: &'s [Lane],
     own: &ActionRead<'_>,
-) -> Option<Sources<'s>>
+    to: &mut Sources<'s>,
+) -> bool
     requires job { Fits at.now.job.now }
     requires rows { AreKeys (job_graph (job_of at.now.job.now)) at.now.rows.now }
     requires ready { AreReady (job_of at.now.job.now) at.now.first at.now.count lanes.now }
     requires can { CanGather (job_of at.now.job.now) at.now.first at.now.count (kinds_of lanes.now) at.now.cells.now own.now.kind.now own.now.inputs.now own.now.under }
     requires kind { (xs ys : List ℤ) × (x y w : List ℕ) × (own.now.kind.now ≡ action.Histo2D xs ys x y (Some w)) }
-    ensures { IfSome result (AreInPlace (job_of at.now.job.now) at.now.first at.now.count lanes.now own.now.kind.now own.now.inputs.now own.now.under) }
+    ensures { result ≡ true → AreInPlace (job_of at.now.job.now) at.now.first at.now.count lanes.now own.now.kind.now own.now.inputs.now own.now.under to.new }
 {
-    let x = lane_in_place(at, lanes, own.inputs[0], own.under)?;
-    let y = lane_in_place(at, lanes, own.inputs[1], own.under)?;
-    let w = lane_in_place(at, lanes, own.inputs[2], own.under)?;
-    Some(Sources::WeightedPair { x, y, w })
+    let Some(x) = lane_in_place(at, lanes, own.inputs[0], own.under) else {
+        return false;
+    };
+    let Some(y) = lane_in_place(at, lanes, own.inputs[1], own.under) else {
+        return false;
+    };
+    let Some(w) = lane_in_place(at, lanes, own.inputs[2], own.under) else {
+        return false;
+    };
+    *to = Sources::WeightedPair { x, y, w };
+    true
 }
 
-/// The lanes of all versions that an action reads, at places at which they are at hand, unless one of them has to be copied.
+/// Takes the lanes of all versions that an action reads, at places at which they are at hand, and says whether it could: not where one
+/// of them has to be copied. They are put where they are fed from, since to move them costs as much as to feed an entry.
 pub(crate) fn lanes_in_place<'a: 's, 's>(
     at: &Turn<'a>,
     lanes: &'s [Lane],
     own: &ActionRead<'_>,
-) -> Option<Sources<'s>>
+    to: &mut Sources<'s>,
+) -> bool
     requires job { Fits at.now.job.now }
     requires rows { AreKeys (job_graph (job_of at.now.job.now)) at.now.rows.now }
     requires ready { AreReady (job_of at.now.job.now) at.now.first at.now.count lanes.now }
     requires can { CanGather (job_of at.now.job.now) at.now.first at.now.count (kinds_of lanes.now) at.now.cells.now own.now.kind.now own.now.inputs.now own.now.under }
-    ensures { IfSome result (AreInPlace (job_of at.now.job.now) at.now.first at.now.count lanes.now own.now.kind.now own.now.inputs.now own.now.under) }
+    ensures { result ≡ true → AreInPlace (job_of at.now.job.now) at.now.first at.now.count lanes.now own.now.kind.now own.now.inputs.now own.now.under to.new }
 {
     match own.kind {
-        ActionKind::Count => Some(Sources::Entry),
+        ActionKind::Count => {
+            *to = Sources::Entry;
+            true
+        }
         ActionKind::Sum(_)
         | ActionKind::Min(_)
         | ActionKind::Max(_)
         | ActionKind::Take(_)
         | ActionKind::Reduce(..)
-        | ActionKind::Histo1D { weight: None, .. } => one_in_place(at, lanes, own),
+        | ActionKind::Histo1D { weight: None, .. } => one_in_place(at, lanes, own, to),
         ActionKind::Histo1D {
             weight: Some(_),
             ..
-        } => weighted_in_place(at, lanes, own),
-        ActionKind::Histo2D { weight: None, .. } => pair_in_place(at, lanes, own),
+        } => weighted_in_place(at, lanes, own, to),
+        ActionKind::Histo2D { weight: None, .. } => pair_in_place(at, lanes, own, to),
         ActionKind::Histo2D {
             weight: Some(_),
             ..
-        } => weighted_pair_in_place(at, lanes, own),
+        } => weighted_pair_in_place(at, lanes, own, to),
     }
 }

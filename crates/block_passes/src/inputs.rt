@@ -1,5 +1,5 @@
 // Filling what an action reads.
-ghost use Rattle.std.specs.Prelude.{◌≡◌, ◌<◌, ◌≤◌, ◌+◌, ℕ, Bool, OnOk, Some, length, true, OnErr};
+ghost use Rattle.std.specs.Prelude.{◌≡◌, ◌<◌, ◌≤◌, ◌+◌, ℕ, Bool, None, OnOk, Some, length, true, OnErr};
 ghost use Rattle.std.specs.List.{AllByRecursion};
 ghost use Rattle.graph_numbers.specs.Graphs.{graph_sites, graph_versions};
 ghost use Rattle.graph_numbers.specs.declared.source.Source.TheVariants as source;
@@ -21,14 +21,56 @@ use crate::kept::Kept;
 use crate::turn::{Turn, Work};
 use block_cache::attempt::Block;
 use block_cache::leads::fill_led;
+use block_lanes::Lane;
 use expr_eval::Steps;
+use expr_lanes::Selection;
 use graph_numbers::Source;
-use loop_keys::reading::{Reading, source_of};
-use loop_keys::rows::row_at;
+use loop_keys::reading::{Reading, place, source_of};
+use loop_keys::rows::{Place, row_at};
 use rdf_values::Memory;
 use std::sync::ledger::Ledger;
 
+/// Whether a key's value is held at each selected place.
+fn is_held(at: &Turn<'_>, lanes: &[Lane], key: usize, selection: &Selection) -> bool
+    requires key { key < length lanes.now }
+    requires ready { AreReady (job_of at.now.job.now) at.now.first at.now.count lanes.now }
+    requires inside { EachPlace selection.now (λ p. p < at.now.count) }
+    ensures { result ≡ true → EachPlace selection.now (λ p. holds_at lanes.now key p ≡ true) }
+{
+    lanes[key].holds_all(selection)
+}
+
+/// Whether a version is seen to be at hand at each selected place, and to fault at none.
+fn is_at_hand(
+    at: &Turn<'_>,
+    lanes: &[Lane],
+    selection: &Selection,
+    version: u32,
+    under: Option<u32>,
+) -> bool
+    requires job { Fits at.now.job.now }
+    requires rows { AreKeys (job_graph (job_of at.now.job.now)) at.now.rows.now }
+    requires ready { AreReady (job_of at.now.job.now) at.now.first at.now.count lanes.now }
+    requires can { (scratch levels : ℕ) × CanServe (job_of at.now.job.now) at.now.first under at.now.count (kinds_of lanes.now) at.now.cells.now scratch levels version }
+    requires inside { EachPlace selection.now (λ p. p < at.now.count) }
+    ensures held { result ≡ true → EachPlace selection.now (λ p. IsAtHand (job_of at.now.job.now) lanes.now under p (source_at (job_of at.now.job.now) under version)) }
+    ensures clear { result ≡ true → EachPlace selection.now (λ p. source_fault (job_of at.now.job.now) at.now.first under (source_at (job_of at.now.job.now) under version) p ≡ None) }
+{
+    let reading = Reading {
+        job: at.job,
+        row: row_at(at.rows, at.job.graph, under),
+        entry: at.first,
+        under,
+    };
+    match place(&reading, version) {
+        Place::Cell { .. } => true,
+        Place::Key { key } => is_held(at, lanes, key, selection),
+        Place::Element { .. } => false,
+    }
+}
+
 /// Fills a site at the places of a selection, up to the first at which it faults, which lowers the limit; the places below it are left.
+#[inline(never)]
 fn serve_site<L: Ledger>(
     at: &Turn<'_>,
     work: &mut Work,
@@ -102,6 +144,7 @@ pub(crate) fn source_under(at: &Turn<'_>, version: u32, under: Option<u32>) -> S
 }
 
 /// Fills the site of an element likewise, and tests whether there is one for each tag.
+#[inline(never)]
 fn serve_element<L: Ledger>(
     at: &Turn<'_>,
     work: &mut Work,
@@ -163,6 +206,9 @@ fn serve_version<L: Ledger>(
     ensures levels { length work.new.levels.items ≡ length work.old.levels.items }
     ensures plain { (used : ℕ → Bool) → ArePlain (job_of at.now.job.now) used → IsSourceIn used (source_at (job_of at.now.job.now) under version) → OnErr result ⊥ }
 {
+    if is_at_hand(at, &work.lanes, &to.places, version, under) {
+        return Ok(());
+    }
     match source_under(at, version, under) {
         Source::Cell { .. } => Ok(()),
         Source::Site { site } => serve_site(at, work, to, site, under, steps),
@@ -210,6 +256,7 @@ pub(crate) fn serve_inputs<L: Ledger>(
         return Ok(());
     };
     match serve_version(at, work, to, *version, under, steps) {
+        Ok(()) if rest.is_empty() => Ok(()),
         Ok(()) => serve_inputs(at, work, to, rest, under, steps),
         Err(Memory) => Err(Memory),
     }

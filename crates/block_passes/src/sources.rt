@@ -1,5 +1,5 @@
 // The lanes that an action reads.
-ghost use Rattle.std.specs.Prelude.{◌≡◌, ◌<◌, ◌≤◌, ◌+◌, ℕ, List, Some, length, true};
+ghost use Rattle.std.specs.Prelude.{◌≡◌, ◌<◌, ◌≤◌, ◌+◌, ℕ, IfSome, List, None, Some, length, slice_get, true};
 ghost use Rattle.std.specs.List.{AllByRecursion};
 ghost use Rattle.rdf_values.specs.Bookings.{columns_of};
 ghost use Rattle.rdf_values.specs.Tables.{kind_at};
@@ -7,58 +7,38 @@ ghost use Rattle.rdf_values.specs.declared.value.ColType.TheVariants as kind;
 ghost use Rattle.rdf_values.specs.declared.value.Value.{Value};
 ghost use Rattle.rdf_model.specs.Evaluation.{Gives, for_all};
 ghost use Rattle.rdf_model.specs.Laws.{FitsFeed};
-ghost use Rattle.graph_numbers.specs.Graphs.{graph_sites};
 ghost use Rattle.graph_numbers.specs.Sources.{source_value};
 ghost use Rattle.graph_numbers.specs.declared.source.Source.TheVariants as source;
-ghost use Rattle.block_lanes.specs.Lanes.{kinds_of};
+ghost use Rattle.block_lanes.specs.Lanes.{LaneView, kinds_of};
 ghost use Rattle.expr_lanes.specs.Places.{is_in};
 ghost use Rattle.loop_keys.specs.Jobs.{Fits, job_graph, job_of};
-ghost use Rattle.loop_keys.specs.Keys.{AreKeys, key as key_of};
+ghost use Rattle.loop_keys.specs.Keys.{AreKeys};
 ghost use Rattle.loop_keys.specs.Store.{row_of, site_in, source_at, version_in};
 ghost use Rattle.block_cache.specs.Blocks.{AreReady, HasColumn};
-ghost use Rattle.block_cache.specs.Fills.{AreSiteKinds, holds_at};
 ghost use Rattle.block_passes.specs.Copying.{AreCopied, IsCopyOf};
-ghost use Rattle.block_passes.specs.Feeds.{AreLanesOf, CanGather, IsLaneOf};
-ghost use Rattle.block_passes.specs.Inputs.{AreAtHand, CanServe, IsAtHand, IsScalarLane, IsWhole};
+ghost use Rattle.block_passes.specs.Feeds.{AreLanesOf, CanGather, HasHeld, IsLaneOf};
+ghost use Rattle.block_passes.specs.Inputs.{AreAtHand, CanServe, IsAtHand, IsWhole};
 
 use crate::copies::{Copied, Copies};
-use crate::inputs::source_under;
 use crate::turn::{ActionRead, Turn};
 use actions::{Lane as FedLane, Sources};
 use block_lanes::Lane;
 use expr_lanes::Selection;
-use graph_numbers::Source;
-use loop_keys::reading::{Reading, expression, key};
-use loop_keys::rows::row_at;
+use loop_keys::reading::{Reading, place};
+use loop_keys::rows::{Place, row_at};
 use rdf_values::{ActionKind, ColType};
 
-/// The lane of a site.
-pub(crate) fn site_lane<'s>(
-    at: &Turn<'_>,
-    lanes: &'s [Lane],
-    site: u32,
-    under: Option<u32>,
-) -> FedLane<'s>
-    requires job { Fits at.now.job.now }
-    requires rows { AreKeys (job_graph (job_of at.now.job.now)) at.now.rows.now }
-    requires site { site < length (graph_sites (job_graph (job_of at.now.job.now))) }
-    requires ready { AreReady (job_of at.now.job.now) at.now.first at.now.count lanes.now }
-    requires kinds { AreSiteKinds (job_graph (job_of at.now.job.now)) (kinds_of lanes.now) }
-    requires scalar { IsScalarLane (kinds_of lanes.now) (key_of (job_graph (job_of at.now.job.now)) site under) }
-    ensures { (p : ℕ) → p < at.now.count → holds_at lanes.now (key_of (job_graph (job_of at.now.job.now)) site under) p ≡ true
-        → IsLaneOf (site_in {M = ⊥} (job_of at.now.job.now) (at.now.first + p) under site) result p }
+/// The lane of a key, unless it has vectors.
+fn key_lane(lanes: &[Lane], key: usize) -> Option<FedLane<'_>>
+    requires { key < length lanes.now }
+    ensures given { (l : LaneView) → slice_get lanes.now key ≡ Some l → IfSome result (HasHeld l) }
+    ensures none { result ≡ None → slice_get (kinds_of lanes.now) key ≡ Some kind.Vect }
 {
-    let reading = Reading {
-        job: at.job,
-        row: row_at(at.rows, at.job.graph, under),
-        entry: at.first,
-        under,
-    };
-    let numbers = lanes[key(&reading, site)].column().numbers;
-    match expression(&reading, site).kind() {
-        ColType::Int => FedLane::Int(numbers),
-        ColType::Bool => FedLane::Bool(numbers),
-        ColType::Vect => unreachable!(),
+    let lane = &lanes[key];
+    match lane.kind() {
+        ColType::Int => Some(FedLane::Int(lane.column().numbers)),
+        ColType::Bool => Some(FedLane::Bool(lane.column().numbers)),
+        ColType::Vect => None,
     }
 }
 
@@ -108,6 +88,34 @@ pub(crate) fn cell_lane<'a>(at: &Turn<'a>, col: u32, _under: Option<u32>) -> Fed
     }
 }
 
+/// The lane of a version, unless it is a site's vectors or an element of these.
+pub(crate) fn lane_in_place<'a: 's, 's>(
+    at: &Turn<'a>,
+    lanes: &'s [Lane],
+    version: u32,
+    under: Option<u32>,
+) -> Option<FedLane<'s>>
+    requires job { Fits at.now.job.now }
+    requires rows { AreKeys (job_graph (job_of at.now.job.now)) at.now.rows.now }
+    requires ready { AreReady (job_of at.now.job.now) at.now.first at.now.count lanes.now }
+    requires can { (scratch levels : ℕ) × CanServe (job_of at.now.job.now) at.now.first under at.now.count (kinds_of lanes.now) at.now.cells.now scratch levels version }
+    ensures given { IfSome result (λ lane. (p : ℕ) → p < at.now.count → IsAtHand (job_of at.now.job.now) lanes.now under p (source_at (job_of at.now.job.now) under version)
+        → IsLaneOf (version_in {M = ⊥} (job_of at.now.job.now) (at.now.first + p) under version) lane p) }
+    ensures whole { IsWhole (job_of at.now.job.now) under (kinds_of lanes.now) (source_at (job_of at.now.job.now) under version) → result ≡ None → ⊥ }
+{
+    let reading = Reading {
+        job: at.job,
+        row: row_at(at.rows, at.job.graph, under),
+        entry: at.first,
+        under,
+    };
+    match place(&reading, version) {
+        Place::Cell { col } => Some(cell_lane(at, col, under)),
+        Place::Key { key } => key_lane(lanes, key),
+        Place::Element { .. } => None,
+    }
+}
+
 /// The lane of a version that is read in place.
 fn whole_lane<'a: 's, 's>(
     at: &Turn<'a>,
@@ -123,10 +131,9 @@ fn whole_lane<'a: 's, 's>(
     ensures { (p : ℕ) → p < at.now.count → IsAtHand (job_of at.now.job.now) lanes.now under p (source_at (job_of at.now.job.now) under version)
         → IsLaneOf (version_in {M = ⊥} (job_of at.now.job.now) (at.now.first + p) under version) result p }
 {
-    match source_under(at, version, under) {
-        Source::Cell { col } => cell_lane(at, col, under),
-        Source::Site { site } => site_lane(at, lanes, site, under),
-        Source::Element { .. } => unreachable!(),
+    match lane_in_place(at, lanes, version, under) {
+        Some(lane) => lane,
+        None => unreachable!(),
     }
 }
 

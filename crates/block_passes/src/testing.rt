@@ -9,15 +9,16 @@ ghost use Rattle.loop_keys.specs.Keys.{AreKeys};
 ghost use Rattle.block_cache.specs.Blocks.{AreReady};
 ghost use Rattle.block_cache.specs.Fills.{fault_over};
 ghost use Rattle.block_lanes.specs.Lanes.{kinds_of};
-ghost use Rattle.block_passes.specs.Feeds.{CanGather, unfed};
+ghost use Rattle.block_passes.specs.Feeds.{CanGather, of_batch, unfed};
 ghost use Rattle.block_passes.specs.Inputs.{AreAtHand, ArePlainSources, IsServedTo};
 ghost use Rattle.block_passes.specs.Spends.{IsSettledAt};
 
 use crate::copies::copy_inputs;
+use crate::in_place::lanes_in_place;
 use crate::kept::Kept;
 use crate::sources::gather;
 use crate::turn::{ActionRead, Turn, Work};
-use actions::{Batch, PlaceFault as BatchFault, Places};
+use actions::{Batch, PlaceFault as BatchFault, Places, Sources};
 use block_cache::faults::PlaceFault;
 use block_lanes::Lane;
 use expr_lanes::Selection;
@@ -34,7 +35,39 @@ pub(crate) fn batch_places(selection: &Selection) -> Places<'_>
     }
 }
 
-/// The first of the selected places at which an action can't be fed what it reads, where all of that is at hand.
+/// A fault of a batch as one of a block.
+fn placed(fault: Option<BatchFault>) -> Option<PlaceFault>
+    ensures { result ≡ of_batch fault }
+{
+    let BatchFault { place, kind } = fault?;
+    Some(PlaceFault { place, kind })
+}
+
+/// The first of the selected places at which an action can't be fed copies of what it reads, where all of that is at hand.
+#[inline(never)]
+fn first_unfed_copy(
+    at: &Turn<'_>,
+    lanes: &[Lane],
+    selection: &Selection,
+    own: &ActionRead<'_>,
+) -> Result<Option<PlaceFault>, Memory>
+    requires job { Fits at.now.job.now }
+    requires rows { AreKeys (job_graph (job_of at.now.job.now)) at.now.rows.now }
+    requires ready { AreReady (job_of at.now.job.now) at.now.first at.now.count lanes.now }
+    requires can { CanGather (job_of at.now.job.now) at.now.first at.now.count (kinds_of lanes.now) at.now.cells.now own.now.kind.now own.now.inputs.now own.now.under }
+    requires inside { EachPlace selection.now (λ p. p < at.now.count) }
+    requires hand { EachPlace selection.now (AreAtHand (job_of at.now.job.now) lanes.now own.now.under own.now.inputs.now) }
+    ensures fault { IfOk result (λ f. f ≡ fault_over (unfed (job_of at.now.job.now) at.now.first own.now.kind.now own.now.inputs.now own.now.under) selection.now) }
+    ensures plain { (used : ℕ → Bool) → ArePlain (job_of at.now.job.now) used → ArePlainSources (job_of at.now.job.now) used own.now.under own.now.inputs.now → OnErr result ⊥ }
+{
+    let _few = selection.len();
+    let copies = copy_inputs(at, lanes, selection, own)?;
+    let places = batch_places(selection);
+    let sources = gather(at, lanes, selection, &copies, own);
+    Ok(placed(Batch { places, sources }.first_fault()))
+}
+
+/// The first of the selected places at which an action can't be fed what it reads, likewise.
 #[inline(never)]
 fn first_unfed(
     at: &Turn<'_>,
@@ -52,15 +85,14 @@ fn first_unfed(
     ensures plain { (used : ℕ → Bool) → ArePlain (job_of at.now.job.now) used → ArePlainSources (job_of at.now.job.now) used own.now.under own.now.inputs.now → OnErr result ⊥ }
 {
     let _few = selection.len();
-    let copies = copy_inputs(at, lanes, selection, own)?;
-    let batch = Batch {
+    let mut batch = Batch {
         places: batch_places(selection),
-        sources: gather(at, lanes, selection, &copies, own),
+        sources: Sources::Entry,
     };
-    match batch.first_fault() {
-        Some(BatchFault { place, kind }) => Ok(Some(PlaceFault { place, kind })),
-        None => Ok(None),
+    if !lanes_in_place(at, lanes, own, &mut batch.sources) {
+        return first_unfed_copy(at, lanes, selection, own);
     }
+    Ok(placed(batch.first_fault()))
 }
 
 /// Tests whether an action can be fed what it reads at the selected places, where all of that is at hand: the first at which it can't

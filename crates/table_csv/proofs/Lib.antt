@@ -10,10 +10,8 @@ pub mod MarksBehind
 pub mod LineCuts
 pub mod MarkAnswers
 pub mod Onto
-pub mod Parts
 pub mod PushSteps
 pub mod PieceSteps
 pub mod ShiftedRows
 pub mod Steps
 pub mod TableSteps
-pub mod VectorSteps

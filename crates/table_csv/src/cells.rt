@@ -10,40 +10,27 @@ ghost use Rattle.table_csv.specs.Filled.{AreCellsPushed, IsCellPushed, IsRowPush
 
 use crate::records::field;
 use crate::refusal::TableRefusal;
-use crate::vectors::read_vector;
 use csv::ByteRecord;
-use rdf_values::{Cells, Column, IntList, TableCause, Vects, read_integer};
+use rdf_values::{Cells, Column, TableCause, Vects, read_integer};
 
 const MAX_ENTRIES: u32 = 1_000_000;
 
-// Puts the vector of a cell behind the others of its column; `elements` is where it is put together.
+// Puts the vector of a cell behind the others of its column.
 #[tactic(auto, unfolding(rdf_values::specs::TableText::cell_of))]
-fn push_vector(
-    entry: u32,
-    field: u32,
-    cell: &[u8],
-    vectors: &mut Vects,
-    elements: &mut IntList,
-) -> Result<(), TableRefusal>
+fn push_vector(entry: u32, field: u32, cell: &[u8], vectors: &mut Vects) -> Result<(), TableRefusal>
     ensures { MatchResult result (λ _. IsCellPushed (cell_of entry field k.Vect cell.now) (kept.Vects vectors.old) (kept.Vects vectors.new))
         (Refuses TableRefusal.At TableRefusal.Memory (cell_of entry field k.Vect cell.now)) }
 {
-    if !read_vector(cell, elements)? {
-        return Err(TableRefusal::At(TableCause::BadVec { entry, field }));
+    if vectors.push_text(cell)? {
+        Ok(())
+    } else {
+        Err(TableRefusal::At(TableCause::BadVec { entry, field }))
     }
-    vectors.push(elements.as_slice())?;
-    Ok(())
 }
 
 // Puts the value of a cell behind the others of its column.
 #[tactic(auto, unfolding(rdf_values::specs::TableText::cell_of))]
-fn push_cell(
-    entry: u32,
-    field: u32,
-    cell: &[u8],
-    column: &mut Cells,
-    elements: &mut IntList,
-) -> Result<(), TableRefusal>
+fn push_cell(entry: u32, field: u32, cell: &[u8], column: &mut Cells) -> Result<(), TableRefusal>
     ensures { MatchResult result (λ _. IsCellPushed (cell_of entry field (kind_of column.old) cell.now) column.old column.new)
         (Refuses TableRefusal.At TableRefusal.Memory (cell_of entry field (kind_of column.old) cell.now)) }
 {
@@ -52,7 +39,7 @@ fn push_cell(
             Some(n) => Ok(numbers.push(n)?),
             None => Err(TableRefusal::At(TableCause::BadInt { entry, field })),
         },
-        Cells::Vects(vectors) => push_vector(entry, field, cell, vectors, elements),
+        Cells::Vects(vectors) => push_vector(entry, field, cell, vectors),
     }
 }
 
@@ -76,7 +63,6 @@ fn push_cells(
     columns: &[Column],
     fields: &ByteRecord,
     cells: &mut [Cells],
-    elements: &mut IntList,
 ) -> Result<(), TableRefusal>
     requires few { length columns.now ≤ 64 }
     requires all { length columns.now ≤ length (fields_of fields.now) }
@@ -85,7 +71,7 @@ fn push_cells(
         (Refuses TableRefusal.At TableRefusal.Memory (cells_from entry 0 columns.now (fields_of fields.now))) }
 {
     for i in 0..columns.len() {
-        push_cell(entry, i as u32, field(fields, i), &mut cells[i], elements)?;
+        push_cell(entry, i as u32, field(fields, i), &mut cells[i])?;
     }
     Ok(())
 }
@@ -98,7 +84,6 @@ pub(crate) fn push_row(
     marked: bool,
     fields: &ByteRecord,
     cells: &mut [Cells],
-    elements: &mut IntList,
 ) -> Result<bool, TableRefusal>
     requires few { length columns.now ≤ 64 }
     requires kept { AreKept entry columns.now cells.old }
@@ -111,7 +96,7 @@ pub(crate) fn push_row(
     if fields.len() != columns.len() + usize::from(marked) {
         return Err(TableRefusal::At(TableCause::FieldCount { entry }));
     }
-    push_cells(entry, columns, fields, cells, elements)?;
+    push_cells(entry, columns, fields, cells)?;
     if !marked {
         return Ok(false);
     }

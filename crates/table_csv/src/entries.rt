@@ -12,7 +12,7 @@ use crate::marked::Marked;
 use crate::records::next;
 use crate::refusal::TableRefusal;
 use csv::{ByteRecord, Reader};
-use rdf_values::{IntList, Marks, Table, TableCause, TableParts};
+use rdf_values::{Marks, Table, TableCause, TableParts};
 use std::alloc::Global;
 
 /// The header that the next record spells.
@@ -51,16 +51,8 @@ pub(crate) fn read_entries(
     let mut entry = parts.entries;
     let mut marks = Marks::new(alloc);
     let mut fields = ByteRecord::new(alloc);
-    let mut elements = IntList::new(alloc);
     while next(reader, &mut fields)? {
-        let begins = push_row(
-            entry,
-            columns.as_slice(),
-            marked,
-            &fields,
-            &mut cells,
-            &mut elements,
-        )?;
+        let begins = push_row(entry, columns.as_slice(), marked, &fields, &mut cells)?;
         if begins {
             marks.push(entry)?;
         }

@@ -13,7 +13,6 @@ mod reading;
 mod records;
 mod refusal;
 mod slots;
-mod vectors;
 
 pub use crate::marked::Marked;
 pub use crate::marked_pieces::MarkedPieces;

@@ -6,7 +6,7 @@ use Rattle.block_passes.proofs.GatheredLanes.{lanes_weighted}
 use Rattle.block_passes.proofs.in_place.weighted_in_place.Goals as goal
 
 pub returns : goal.returns
-returns g c = λ p low hand.
+returns g c = λ yes p low hand.
     let j = job_of c.args.at.now.job.now in
     let k = c.requires.kind in
-    lanes_weighted (version_in {M = ⊥} j (c.args.at.now.first + p) c.args.own.now.under) c.args.own.now.inputs.now (λ v. IsAtHand j c.args.lanes.now c.args.own.now.under p (source_at j c.args.own.now.under v)) hand p c.args.own.now.kind.now c.requires.can.many (λ vs e. c.requires.can.fits p vs low e) k.0 k.1 k.2 k.3 c.in_ok-x.x c.in_ok-w.w (λ h. c.in_ok-x.ensures p low h) (λ h. c.in_ok-w.ensures p low h)
+    lanes_weighted (version_in {M = ⊥} j (c.args.at.now.first + p) c.args.own.now.under) c.args.own.now.inputs.now (λ v. IsAtHand j c.args.lanes.now c.args.own.now.under p (source_at j c.args.own.now.under v)) hand p c.args.own.now.kind.now c.requires.can.many (λ vs e. c.requires.can.fits p vs low e) k.0 k.1 k.2 k.3 c.in-Some.x c.in-Some-lane_in_place.w (λ h. c.in-Some.ensures.given p low h) (λ h. c.in-Some-lane_in_place.ensures.given p low h)

@@ -1,11 +1,12 @@
 use Rattle.std.proofs.Common.{arith, length, rules}
 use Rattle.std.proofs.lemmas.Result.{on_ok_weaker}
+use Rattle.std.proofs.lemmas.Bool.Decides.{nat_tests}
 use Rattle.expr_lanes.specs.Places.{EachPlace}
 use Rattle.block_lanes.specs.Lanes.{kinds_of}
 use Rattle.loop_keys.specs.Jobs.{job_of}
 use Rattle.block_passes.specs.Inputs.{AreAtHand, IsServedTo, inputs_fault}
-use Rattle.block_passes.proofs.ServingInputs.{empty_list, first_demanded, first_plain, inputs_held, inputs_served, none_served, rest_can, rest_demanded, rest_inside}
-use Rattle.block_passes.proofs.Spending.{spends_then}
+use Rattle.block_passes.proofs.ServingInputs.{empty_list, first_demanded, first_plain, inputs_held, inputs_served, none_held, none_served, rest_can, rest_demanded, rest_inside}
+use Rattle.block_passes.proofs.Spending.{spends_none, spends_then}
 use Rattle.block_passes.proofs.inputs.+serve_inputs.Goals as goal
 
 pub returns-in_default-clause-served : goal.returns-in_default-clause-served
@@ -29,13 +30,34 @@ serve_inputs-requires g t c κs within =
     let demanded = rest_demanded j c.args.at.now.first c.args.under c.args.inputs.now c.in-Some.rest.now c.in-Some.version.now c.in-Some.ensures.cases.0 c.args.at.now.count c.args.at.now.pass c.args.to.now.places c.serve_version.new.to c.args.work.now.lanes.items c.serve_version.new.work.lanes.items c.args.work.now.found c.serve_version.new.work.found h c.requires.demanded in
     (search rules, (search rules, (c.requires.job, (c.requires.rows, (h.ready, (can, (c.requires.small, (c.requires.few, (omega (arith, falls, limit), (h.its_limit, (inside, (h.settled, demanded))))))))))))
 
-pub returns-in-Ok-clause-spends : goal.returns-in-Ok-clause-spends
-returns-in-Ok-clause-spends g t c =
+pub returns-in-Ok-clause-served : goal.returns-in-Ok-clause-served
+returns-in-Ok-clause-served g t c =
+    let j = job_of c.args.at.now.job.now in
+    let h = c.in-Ok.ensures.served in
+    let empty = empty_list c.in-Some.rest.now (let yes = c.if-is_empty.true in let is = c.is_empty.ensures in grind (arith, nat_tests, yes, is)) in
+    let none =
+    none_served j c.args.at.now.first c.args.at.now.count c.args.under c.args.at.now.pass c.in-Some.rest.now empty c.serve_version.new.to c.serve_version.new.work.lanes.items c.serve_version.new.work.found
+    h.ready h.its_limit (rest_inside j c.args.at.now.first c.args.under c.args.inputs.now c.in-Some.rest.now c.in-Some.version.now c.in-Some.ensures.cases.0 c.args.at.now.count c.args.at.now.pass c.args.to.now.places c.serve_version.new.to c.args.work.now.lanes.items c.serve_version.new.work.lanes.items c.args.work.now.found c.serve_version.new.work.found c.in-Ok.ensures.served) h.settled in
+    inputs_served j c.args.at.now.first c.args.under c.args.inputs.now c.in-Some.rest.now c.in-Some.version.now c.in-Some.ensures.cases.0 c.args.at.now.count c.args.at.now.pass c.args.to.now.places c.serve_version.new.to c.args.work.now.lanes.items c.serve_version.new.work.lanes.items c.args.work.now.found c.serve_version.new.work.found c.in-Ok.ensures.served c.serve_version.new.to c.serve_version.new.work.lanes.items c.serve_version.new.work.found none
+
+pub returns-in-Ok-clause-held : goal.returns-in-Ok-clause-held
+returns-in-Ok-clause-held g t c =
+    let j = job_of c.args.at.now.job.now in
+    let h = c.in-Ok.ensures.served in
+    let empty = empty_list c.in-Some.rest.now (let yes = c.if-is_empty.true in let is = c.is_empty.ensures in grind (arith, nat_tests, yes, is)) in
+    let none =
+    none_served j c.args.at.now.first c.args.at.now.count c.args.under c.args.at.now.pass c.in-Some.rest.now empty c.serve_version.new.to c.serve_version.new.work.lanes.items c.serve_version.new.work.found
+    h.ready h.its_limit (rest_inside j c.args.at.now.first c.args.under c.args.inputs.now c.in-Some.rest.now c.in-Some.version.now c.in-Some.ensures.cases.0 c.args.at.now.count c.args.at.now.pass c.args.to.now.places c.serve_version.new.to c.args.work.now.lanes.items c.serve_version.new.work.lanes.items c.args.work.now.found c.serve_version.new.work.found c.in-Ok.ensures.served) h.settled in
+    inputs_held j c.args.at.now.first c.args.under c.args.inputs.now c.in-Some.rest.now c.in-Some.version.now c.in-Some.ensures.cases.0 c.args.at.now.count c.args.at.now.pass c.args.to.now.places c.serve_version.new.to c.args.work.now.lanes.items c.serve_version.new.work.lanes.items c.args.work.now.found c.serve_version.new.work.found c.in-Ok.ensures.served c.serve_version.new.to c.serve_version.new.work.lanes.items c.serve_version.new.work.found none c.serve_version.new.steps c.serve_version.new.steps
+    (spends_none j c.args.at.now.first c.args.at.now.count c.serve_version.new.work.lanes.items c.serve_version.new.steps) c.in-Ok.ensures.held (none_held j c.serve_version.new.work.lanes.items c.args.under c.in-Some.rest.now empty c.serve_version.new.to.places)
+
+pub returns-in-Ok-2-clause-spends : goal.returns-in-Ok-2-clause-spends
+returns-in-Ok-2-clause-spends g t c =
     spends_then (job_of c.args.at.now.job.now) c.args.at.now.first c.args.at.now.count c.args.work.now.lanes.items c.serve_version.new.work.lanes.items c.serve_inputs.new.work.lanes.items c.args.steps.now c.serve_version.new.steps c.serve_inputs.new.steps
     c.serve_version.ensures.spends c.serve_inputs.ensures.spends
 
-pub returns-in-Ok-clause-served : goal.returns-in-Ok-clause-served
-returns-in-Ok-clause-served g t c =
+pub returns-in-Ok-2-clause-served : goal.returns-in-Ok-2-clause-served
+returns-in-Ok-2-clause-served g t c =
     let j = job_of c.args.at.now.job.now in
     on_ok_weaker c.serve_inputs.result
     (λ (k : IsServedTo j c.args.at.now.first c.args.at.now.count (inputs_fault j c.args.at.now.first c.args.under c.in-Some.rest.now) c.args.at.now.pass c.serve_version.new.to.places c.serve_inputs.new.to c.serve_inputs.new.work.lanes.items c.serve_version.new.work.found c.serve_inputs.new.work.found).
@@ -43,8 +65,8 @@ returns-in-Ok-clause-served g t c =
     c.serve_inputs.new.to c.serve_inputs.new.work.lanes.items c.serve_inputs.new.work.found k)
     c.serve_inputs.ensures.served
 
-pub returns-in-Ok-clause-held : goal.returns-in-Ok-clause-held
-returns-in-Ok-clause-held g t c =
+pub returns-in-Ok-2-clause-held : goal.returns-in-Ok-2-clause-held
+returns-in-Ok-2-clause-held g t c =
     let j = job_of c.args.at.now.job.now in
     on_ok_weaker c.serve_inputs.result
     (λ (w : IsServedTo j c.args.at.now.first c.args.at.now.count (inputs_fault j c.args.at.now.first c.args.under c.in-Some.rest.now) c.args.at.now.pass c.serve_version.new.to.places c.serve_inputs.new.to c.serve_inputs.new.work.lanes.items c.serve_version.new.work.found c.serve_inputs.new.work.found

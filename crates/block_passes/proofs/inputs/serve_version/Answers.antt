@@ -1,15 +1,35 @@
-use Rattle.std.proofs.Common.{◌∙◌, subst}
+use Rattle.std.proofs.Common.{◌∙◌, List, arith, length, subst, sym}
+use Rattle.block_lanes.specs.Lanes.{LaneView, kinds_of}
 use Rattle.loop_keys.specs.Jobs.{job_of}
 use Rattle.loop_keys.specs.Store.{IsSourceIn, source_at}
-use Rattle.block_passes.proofs.Serving.{column_served, element_spends, version_spends}
+use Rattle.block_passes.specs.Inputs.{CanServe}
+use Rattle.block_passes.proofs.Serving.{column_clear, element_spends, none_served, version_spends}
 use Rattle.block_passes.proofs.inputs.serve_version.Goals as goal
+
+pub is_at_hand-requires-clause-can : goal.is_at_hand-requires-clause-can
+is_at_hand-requires-clause-can g c =
+    let scratch = length c.args.work.now.scratch.items in
+    let levels = length c.args.work.now.levels.items in (
+      scratch,
+      levels,
+      subst (λ (ls : List LaneView). CanServe (job_of c.args.at.now.job.now) c.args.at.now.first c.args.under c.args.at.now.count (kinds_of ls) c.args.at.now.cells.now scratch levels c.args.version) (sym c.deref.ensures.value) c.requires.can,
+    )
+
+pub is_at_hand-requires-clause-inside : goal.is_at_hand-requires-clause-inside
+is_at_hand-requires-clause-inside g c = λ p i. let low = c.requires.inside p i in let le = c.requires.limit in omega (arith, low, le)
+
+pub returns-then-is_at_hand-clause-served : goal.returns-then-is_at_hand-clause-served
+returns-then-is_at_hand-clause-served g c =
+    let j = job_of c.args.at.now.job.now in
+    none_served j c.args.at.now.first c.args.at.now.count c.args.under (source_at j c.args.under c.args.version) c.args.at.now.pass c.args.to.now c.args.work.now.lanes.items c.args.work.now.found
+    c.requires.ready c.requires.made c.requires.inside c.requires.settled (c.is_at_hand.ensures.clear c.if-is_at_hand.true)
 
 pub returns-in-Cell-clause-served : goal.returns-in-Cell-clause-served
 returns-in-Cell-clause-served g c =
     let j = job_of c.args.at.now.job.now in
     let e = c.source_under.ensures ∙ c.in-Cell.is in
-    column_served j c.args.at.now.first c.args.at.now.count c.args.under c.in-Cell.col (source_at j c.args.under c.args.version) e c.args.at.now.pass c.args.to.now c.args.work.now.lanes.items c.args.work.now.found
-    c.requires.ready c.requires.limit c.requires.made c.requires.inside c.requires.settled
+    none_served j c.args.at.now.first c.args.at.now.count c.args.under (source_at j c.args.under c.args.version) c.args.at.now.pass c.args.to.now c.args.work.now.lanes.items c.args.work.now.found
+    c.requires.ready c.requires.made c.requires.inside c.requires.settled (column_clear j c.args.at.now.first c.args.under c.in-Cell.col (source_at j c.args.under c.args.version) e c.args.to.now.places)
 
 pub returns-in-Site-clause-spends : goal.returns-in-Site-clause-spends
 returns-in-Site-clause-spends g c =

@@ -9,20 +9,20 @@ use Rattle.table_csv.proofs.TableSteps.{mark_if, reading_end, reading_marks, rea
 use Rattle.table_csv.proofs.entries.read_entries.Goals as goal
 use Rattle.table_csv.proofs.entries.read_entries.Goals.{then-begins+in_ok-push, else-begins}
 
-pub loop-elements-init : goal.loop-elements-init
-loop-elements-init c =
+pub loop-fields-init : goal.loop-fields-init
+loop-fields-init c =
     let e = sym c.in_ok-new.ensures ∙ c.into_parts-parts.ensures.same in
     let cols = same_columns _ _ _ _ e in
     (λ whole h. (whole, h, rw c.new-marks.ensures (reading_opened _ _ _ _ c.args.heading.marked whole e)), rw cols at c.into_parts-parts.ensures.holds)
 
 pub next-requires : goal.next-requires
 next-requires c =
-    let inv = c.loop-elements.invariant.0 c.requires.left.0 c.requires.left.1 in
+    let inv = c.loop-fields.invariant.0 c.requires.left.0 c.requires.left.1 in
     (inv.0, inv.1)
 
 pub returns-in_err-begins-clause-value : goal.returns-in_err-begins-clause-value
 returns-in_err-begins-clause-value c whole h =
-    let inv = c.loop-elements.invariant.0 whole h in
+    let inv = c.loop-fields.invariant.0 whole h in
     let took = rw c.if-branch.true at (c.in_ok-next.ensures _ inv.1) in
     let cols = c.as_slice.ensures ∙ same_columns _ _ _ _ (sym c.in_ok-new.ensures ∙ c.into_parts-parts.ensures.same) in
     let p = err_from_is_err_and c.from_residual-in_err-begins.result c.from_residual-in_err-begins.ensures.1 in
@@ -33,32 +33,32 @@ returns-in_err-begins-clause-value c whole h =
 
 pub push-requires-clause-above : goal.push-requires-clause-above
 push-requires-clause-above c =
-    let inv = c.loop-elements.invariant.0 c.requires.left.0 c.requires.left.1 in
+    let inv = c.loop-fields.invariant.0 c.requires.left.0 c.requires.left.1 in
     reading_marks _ _ _ _ _ _ inv.2
 
 pub push-requires-clause-few : goal.push-requires-clause-few
-push-requires-clause-few c = row_early c.loop-elements.entry _ (fields_of c.next.new.fields) _ c.in_ok-begins.ensures.spelt
+push-requires-clause-few c = row_early c.loop-fields.entry _ (fields_of c.next.new.fields) _ c.in_ok-begins.ensures.spelt
 
-pub loop-elements-preserved : goal.loop-elements-preserved
-loop-elements-preserved c =
+pub loop-fields-preserved : goal.loop-fields-preserved
+loop-fields-preserved c =
     let columns = c.args.heading.columns in
-    let entry = c.loop-elements.entry in
-    let cells = c.loop-elements.cells.items in
+    let entry = c.loop-fields.entry in
+    let cells = c.loop-fields.cells.items in
     let cols = c.as_slice.ensures ∙ same_columns _ _ _ _ (sym c.in_ok-new.ensures ∙ c.into_parts-parts.ensures.same) in
     let read = rw (cols, c.deref_mut.ensures.value) at c.in_ok-begins.ensures in
     let early = row_early entry (record { columns = columns; marked = c.args.heading.marked }) (fields_of c.next.new.fields) _ read.spelt in
     let fits = rw read.spelt at (row_fits_columns entry (record { columns = columns; marked = c.args.heading.marked }) (fields_of c.next.new.fields)) in
-    let size : c.loop-elements.cells.len ≡ length cells = search rules in
-    let back = pushed_back c.loop-elements.cells.len c.push_row.new.cells cells read.row read.added size in
-    let holds = c.loop-elements.invariant.1 in
+    let size : c.loop-fields.cells.len ≡ length cells = search rules in
+    let back = pushed_back c.loop-fields.cells.len c.push_row.new.cells cells read.row read.added size in
+    let holds = c.loop-fields.invariant.1 in
     let room : length (rows_kept entry cells) < 1000000 = rw (length-rows_kept entry cells) early in
     let rows = rows_after_push columns cells _ read.row entry _ holds.kept fits back refl in
-    let marks : c.if-begins.marks ≡ c.loop-elements.marks ++ mark_if c.in_ok-begins.begins entry = elim c.if-begins.branch [
+    let marks : c.if-begins.marks ≡ c.loop-fields.marks ++ mark_if c.in_ok-begins.begins entry = elim c.if-begins.branch [
       | then-begins+in_ok-push w ↦ w.marks-is ∙ w.in_ok-push.ensures.ok ∙ rw w.if-begins.true refl
       | else-begins w ↦ w.marks-is ∙ rw (w.if-begins.false, append-nil) refl
     ] in (
       λ whole h.
-          let inv = c.loop-elements.invariant.0 whole h in
+          let inv = c.loop-fields.invariant.0 whole h in
           let took = rw c.if-branch.true at (c.in_ok-next.ensures _ inv.1) in
           let more = reading_more _ _ _ _ _ _ _ _ _ _ _ inv.2 took.1 read.spelt (ap (λ t. record { columns = columns; rows = t }) rows) in
           (took.0, took.2, rw marks more),
@@ -67,12 +67,12 @@ loop-elements-preserved c =
 
 pub returns-clause-value : goal.returns-clause-value
 returns-clause-value c whole h =
-    let inv = c.loop-elements.invariant.0 whole h in
+    let inv = c.loop-fields.invariant.0 whole h in
     let none = rw c.if-branch.false at (c.in_ok-next.ensures _ inv.1) in
     let cols = same_columns _ _ _ _ (sym c.in_ok-new.ensures ∙ c.into_parts-parts.ensures.same) in
     rw (c.from_parts-table.ensures, cols) (reading_end _ _ _ _ _ _ inv.2 none)
 
 pub returns-clause-within : goal.returns-clause-within
 returns-clause-within c =
-    let inv = c.loop-elements.invariant.0 c.requires.left.0 c.requires.left.1 in
+    let inv = c.loop-fields.invariant.0 c.requires.left.0 c.requires.left.1 in
     rw (c.from_parts-table.ensures, length-rows_kept) (reading_marks _ _ _ _ _ _ inv.2)

@@ -1,0 +1,131 @@
+-- The elements of a vector's text, part by part.
+use Rattle.std.proofs.Common.{◌≡◌, ◌<◌, ◌≤◌, ◌+◌, ◌-◌, ◌∙◌, ℕ, ℤ, List, [], ◌∷◌, ◌++◌, length, take, Bool, true, false, None, Some, Option, Result, Ok, Err, ap, append_assoc, arith, refl, suc, sym, length-append}
+use Rattle.std.specs.Borrow.{Bor}
+use Rattle.std.specs.Prelude.{IfOk, nat_le, if◌then◌else◌}
+use Rattle.std.specs.List.{slice_split}
+use Rattle.std.proofs.lemmas.List.{append-nil}
+use Rattle.std.proofs.Math.Seq.{take-append_seam}
+use Rattle.std.proofs.lemmas.Bool.Decides.{nat_tests}
+use Rattle.rdf_values.specs.Integers.{integer_of}
+use Rattle.rdf_values.specs.Elements.{AreRead, HasNoElement, IsElement}
+use Rattle.rdf_values.specs.declared.memory.Memory.{Memory}
+use Rattle.rdf_values.specs.TableText.{integers_of, is_semicolon, option_cons, vector_of}
+
+abbrev option_onto : {A : Type 0} → List A → Option (List A) → Option (List A)
+option_onto read None = None
+option_onto read (Some xs) = Some (read ++ xs)
+
+option_onto-none : {A : Type 0} (left : Option (List A)) → option_onto [] left ≡ left
+option_onto-none None = refl
+option_onto-none (Some xs) = refl
+
+option_onto-cons : {A : Type 0} (read : List A) (x : A) (left : Option (List A)) → option_onto read (option_cons (Some x) left) ≡ option_onto (read ++ x ∷ []) left
+option_onto-cons read x None = refl
+option_onto-cons read x (Some xs) = ap Some (sym (append_assoc read (x ∷ []) xs))
+
+-- the parts that are left
+abbrev pub parts_of : Option (Bor (List ℕ)) → List (List ℕ)
+parts_of None = []
+parts_of (Some rest) = slice_split is_semicolon rest.now
+
+abbrev pub size_of : Option (Bor (List ℕ)) → ℕ
+size_of None = 0
+size_of (Some rest) = suc (length rest.now)
+
+-- the vector, where these elements are read and these parts are left
+pub vector_from : List ℤ → List (List ℕ) → Option (List ℤ)
+vector_from read parts = if nat_le (length read + length parts) 4096 then option_onto read (integers_of parts) else None
+
+vector_start : (cell : List ℕ) → 0 < length cell → vector_of cell ≡ vector_from [] (slice_split is_semicolon cell)
+unfolding vector_of vector_from
+vector_start [] h = absurd (omega arith)
+vector_start (b ∷ bs) h =
+    let parts = slice_split is_semicolon (b ∷ bs) in
+    let none : 0 + length parts ≡ length parts = omega arith in
+    rw (none, option_onto-none (integers_of parts)) refl
+
+vector_empty : (cell : List ℕ) → length cell ≡ 0 → vector_of cell ≡ Some []
+unfolding vector_of
+vector_empty [] h = refl
+vector_empty (b ∷ bs) h = absurd (omega arith)
+
+vector_bad : (read : List ℤ) (part : List ℕ) (parts : List (List ℕ)) → integer_of part ≡ None → vector_from read (part ∷ parts) ≡ None
+unfolding vector_from integers_of
+vector_bad read part parts e = rw e (by (nat_le (length read + length (part ∷ parts)) 4096))
+  where
+    by : (b : Bool) → ◌≡◌ {A = Option (List ℤ)} (if b then None else None) None
+    by true = refl
+    by false = refl
+
+vector_long : (read : List ℤ) (part : List ℕ) (parts : List (List ℕ)) → 4096 ≤ length read → vector_from read (part ∷ parts) ≡ None
+unfolding vector_from
+vector_long read part parts h =
+    let over : nat_le (length read + length (part ∷ parts)) 4096 ≡ false = grind (arith, nat_tests) in
+    rw over refl
+
+vector_more : (read : List ℤ) (part : List ℕ) (parts : List (List ℕ)) (n : ℤ) → integer_of part ≡ Some n → vector_from read (part ∷ parts) ≡ vector_from (read ++ n ∷ []) parts
+unfolding vector_from integers_of
+vector_more read part parts n e =
+    let same : length read + length (part ∷ parts) ≡ length (read ++ n ∷ []) + length parts = omega (arith, length-append read (n ∷ [])) in
+    rw (e, same, option_onto-cons read n (integers_of parts)) refl
+
+vector_end : (read : List ℤ) → length read ≤ 4096 → vector_from read [] ≡ Some read
+unfolding vector_from integers_of
+vector_end read h =
+    let within : nat_le (length read + 0) 4096 ≡ true = grind (arith, nat_tests) in
+    rw (within, append-nil read) refl
+
+-- the first element and the parts behind it
+element_parts : (text : List ℕ) (n : ℤ) (after : Option (Bor (List ℕ))) → IsElement text n after → (part : List ℕ) × (slice_split is_semicolon text ≡ part ∷ parts_of after) × (integer_of part ≡ Some n)
+element_parts text n None h = h
+element_parts text n (Some rest) h = (h.0, h.1, h.2)
+
+pub element_shorter : (text : List ℕ) (n : ℤ) (after : Option (Bor (List ℕ))) → IsElement text n after → size_of after < suc (length text)
+element_shorter text n None h = omega arith
+element_shorter text n (Some rest) h = omega (arith, h.3)
+
+-- ---- elements behind others
+
+-- these elements are read and stand behind others, and these parts are left
+pub record Reading (spelt : Option (List ℤ)) (parts : List (List ℕ)) (old now : List ℤ) : Type 0 where
+  pub read : List ℤ
+  pub left : spelt ≡ vector_from read parts
+  pub few : length read ≤ 4096
+  pub added : now ≡ old ++ read
+
+pub reading_empty : (text : List ℕ) (old : List ℤ) → length text ≡ 0 → AreRead (vector_of text) true old old
+reading_empty text old h = ([], vector_empty text h, sym (append-nil old))
+
+pub reading_start : (text : List ℕ) (old : List ℤ) → 0 < length text → Reading (vector_of text) (slice_split is_semicolon text) old old
+reading_start text old h = record { read = []; left = vector_start text h; few = omega arith; added = sym (append-nil old) }
+
+pub reading_bad : (spelt : Option (List ℤ)) (text : List ℕ) (old now : List ℤ) → Reading spelt (slice_split is_semicolon text) old now → HasNoElement text → spelt ≡ None
+reading_bad spelt text old now r e = r.left ∙ ap (vector_from r.read) e.2 ∙ vector_bad r.read e.0 e.1 e.3
+
+pub reading_long : (spelt : Option (List ℤ)) (text : List ℕ) (old now : List ℤ) (n : ℤ) (after : Option (Bor (List ℕ))) → Reading spelt (slice_split is_semicolon text) old now → IsElement text n after → 4096 ≤ length now - length old → spelt ≡ None
+reading_long spelt text old now n after r e h =
+    let first = element_parts text n after e in
+    r.left ∙ ap (vector_from r.read) first.1 ∙ vector_long r.read first.0 (parts_of after) (omega (arith, ap length r.added, length-append old r.read))
+
+pub reading_more : (spelt : Option (List ℤ)) (text : List ℕ) (old now : List ℤ) (n : ℤ) (after : Option (Bor (List ℕ))) → Reading spelt (slice_split is_semicolon text) old now → IsElement text n after → length now - length old < 4096
+    → Reading spelt (parts_of after) old (now ++ n ∷ [])
+reading_more spelt text old now n after r e h =
+    let first = element_parts text n after e in
+    record {
+      read = r.read ++ n ∷ [];
+      left = r.left ∙ ap (vector_from r.read) first.1 ∙ vector_more r.read first.0 (parts_of after) n first.2;
+      few = omega (arith, ap length r.added, length-append old r.read, length-append r.read (n ∷ []));
+      added = ap (λ t. t ++ n ∷ []) r.added ∙ append_assoc old r.read (n ∷ []);
+    }
+
+pub reading_end : (spelt : Option (List ℤ)) (old now : List ℤ) → Reading spelt [] old now → AreRead spelt true old now
+reading_end spelt old now r = (r.read, r.left ∙ vector_end r.read r.few, r.added)
+
+pub reading_before : (spelt : Option (List ℤ)) (parts : List (List ℕ)) (old now : List ℤ) → Reading spelt parts old now → take (length old) now ≡ old
+reading_before spelt parts old now r = ap (take (length old)) r.added ∙ take-append_seam old r.read
+
+-- what is said of an answer that a vector was read
+pub read_good : (answer : Result Bool Memory) (spelt : Option (List ℤ)) (old new : List ℤ) → answer ≡ Ok true → IfOk answer (λ is_vector. AreRead spelt is_vector old new) → AreRead spelt true old new
+read_good (Ok true) spelt old new e h = h
+read_good (Ok false) spelt old new e h = cc e
+read_good (Err memory) spelt old new e h = cc e
