@@ -1,6 +1,6 @@
 -- The first fault of the passes of a loop, block after block.
 use Rattle.std.proofs.Common.{◌≡◌, ℕ, zero, suc, ◌+◌, ◌-◌, ◌≤◌, List, [], ◌∷◌, ◌++◌, length, length-drop, map, take, drop, Option, Some, refl, sym, ◌∙◌, ap, arith}
-use Rattle.std.specs.Prelude.{slice_get, slice_range, flat_map}
+use Rattle.std.specs.Prelude.{slice_get, slice_range}
 use Rattle.std.specs.List.{enumerate_from}
 use Rattle.rdf_values.specs.Bookings.{Pass}
 use Rattle.rdf_values.specs.declared.fault.EntryFault.{EntryFault}
@@ -42,11 +42,6 @@ module _ (d : Dataset) where
   first_fault-append xs ys e ps =
       sym (rows_are (xs ++ ys) e ps) ∙ row_major-append (fault_at d) xs ys e (enumerate_from 0 ps)
       ∙ (λ i. first_of (rows_are xs e ps i) (rows_are ys (e + length xs) ps i))
-
-  pub blocks_have : (blocks : List (List (List Value))) (e : ℕ) (ps : List Pass) → block_major (fault_at d) e blocks ps ≡ first_fault_from d e (flat_map (λ b. b) blocks) ps
-  blocks_have [] e ps = refl
-  blocks_have (b ∷ bs) e ps =
-      (λ i. first_of (is_first_fault e b ps i) (blocks_have bs (e + length b) ps i)) ∙ sym (first_fault-append b (flat_map (λ x. x) bs) e ps)
 
 -- ---- rows in two parts
 

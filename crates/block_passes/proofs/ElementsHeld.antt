@@ -1,5 +1,5 @@
 -- Elements of a site's vector, where the site's value is held.
-use Rattle.std.proofs.Common.{◌≡◌, ◌⊎◌, inl, inr, ℤ, get_or, option_map, Result, ℕ, ◌+◌, ◌<◌, ◌≤◌, Bool, true, false, ◌&&◌, List, [], Option, None, Some, refl, sym, ◌∙◌, ap, subst, arith, slice_get, nat_lt, length, pos, if◌then◌else◌}
+use Rattle.std.proofs.Common.{◌≡◌, ◌⊎◌, inl, inr, ℤ, get_or, option_map, Result, ℕ, ◌+◌, ◌<◌, ◌≤◌, Bool, true, false, ◌&&◌, List, [], Option, None, Some, refl, sym, ◌∙◌, ap, subst, arith, slice_get, nat_lt, length, pos}
 use Rattle.std.specs.Prelude.{nat_abs, slice_index_or}
 use Rattle.std.specs.List.{filter}
 use Rattle.std.proofs.lemmas.Option.{slice_get-get_or}
@@ -163,9 +163,6 @@ number_of o tags n zs r e h = subst (λ (x : Outcome ⊥ Value). IsNumberOf (x >
 
 pub no_number : (o : Outcome ⊥ Value) (k : EntryFault) → (v : Value) × (o ≡ Gives v) → o ≡ Faults k → ⊥
 no_number o k v e = let f : ◌≡◌ {A = Outcome ⊥ Value} (Gives v.0) (Faults k) = sym v.1 ∙ e in cc f
-
-pub fault_of_number : (o : Outcome ⊥ Value) (z : ℤ) → o ≡ Gives (val.Int z) → fault_in o ≡ None
-fault_of_number o z e = ap fault_in e
 
 pub fault_is : (o : Outcome ⊥ Value) (k : EntryFault) → o ≡ Faults k → fault_in o ≡ Some k
 fault_is o k e = ap fault_in e

@@ -1,5 +1,5 @@
 -- Filling what an action reads, one version after another.
-use Rattle.std.proofs.Common.{◌≡◌, ℕ, ◌+◌, ◌<◌, Bool, true, false, ◌&&◌, List, [], ◌∷◌, Option, None, Some, refl, sym, ◌∙◌, ap, subst, arith, nat_lt, if◌then◌else◌, ℤ, length}
+use Rattle.std.proofs.Common.{◌≡◌, ℕ, ◌+◌, ◌<◌, Bool, true, false, ◌&&◌, List, [], ◌∷◌, Option, None, Some, refl, sym, ◌∙◌, ap, subst, arith, nat_lt, ℤ, length}
 use Rattle.std.specs.List.{filter, AllByRecursion}
 use Rattle.std.proofs.lemmas.Bool.Decides.{Decides-ltb}
 use Rattle.rdf_values.specs.declared.fault.EntryFault.{EntryFault}
@@ -97,9 +97,6 @@ first_plain used j u inputs cs c e all = (subst (λ (l : List ℕ). ArePlainVers
 
 module _ (j : JobView) (first : ℕ) (u : Option ℕ) (inputs cs : List ℕ) (c : ℕ) (e : inputs ≡ c ∷ cs) where
   -- ---- what is asked
-
-  pub first_can : (count : ℕ) (kinds : List ColType) (cells : List (List ℤ)) (scratch levels : ℕ) → AllByRecursion (CanServe j first u count kinds cells scratch levels) inputs → CanServe j first u count kinds cells scratch levels c
-  first_can count kinds cells scratch levels h = (subst (λ (l : List ℕ). AllByRecursion (CanServe j first u count kinds cells scratch levels) l) e h).0
 
   pub rest_can : (count : ℕ) (kinds more : List ColType) (cells : List (List ℤ)) (scratch levels scratch2 levels2 : ℕ) → more ≡ kinds → scratch2 ≡ scratch → levels2 ≡ levels
       → AllByRecursion (CanServe j first u count kinds cells scratch levels) inputs → AllByRecursion (CanServe j first u count more cells scratch2 levels2) cs

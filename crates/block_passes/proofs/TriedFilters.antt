@@ -22,7 +22,7 @@ use Rattle.pass_laws.proofs.ReportTies.{contained_at, filter_there}
 use Rattle.pass_laws.proofs.ReportTies.{report_fault as its_fault}
 use Rattle.block_passes.specs.Parts.{where_passed}
 use Rattle.block_passes.specs.Plans.{IsActionOf, IsLast, IsNamed, IsPlan, IsPlannedFilter, PlanView, through_chain}
-use Rattle.block_passes.specs.Selections.{IsReadyBelow, IsSelectedTo}
+use Rattle.block_passes.specs.Selections.{IsSelectedTo}
 use Rattle.block_passes.specs.Steps.{Chain}
 use Rattle.block_passes.specs.Tries.{IsPassTried, IsTriedTo, filter_fault, filters_fault}
 use Rattle.block_passes.specs.declared.found.Found.{Found}
@@ -30,7 +30,7 @@ use Rattle.block_passes.specs.declared.kept.Kept.{Kept}
 use Rattle.block_passes.specs.declared.plan.NamedSteps.{NamedSteps}
 use Rattle.block_passes.proofs.Parts.{report_fault, step_fault}
 use Rattle.block_passes.proofs.PlanSteps.{covered_is}
-use Rattle.block_passes.proofs.Searching.{both_lower, lowers_as, none_lowers, or_else}
+use Rattle.block_passes.proofs.Searching.{both_lower, lowers_as, or_else}
 use Rattle.block_passes.proofs.StepLaws.{same_step}
 
 or_else_same : (a b : Option EntryFault) → or_else a (or_else a b) ≡ or_else a b
@@ -117,13 +117,6 @@ module _ (j : JobView) (job : IsJob j) (f : ℕ) (covered : IsCovered j f) where
       }
 
 -- ---- one after another
-
-pub no_filters : (j : JobView) (first count : ℕ) (chains : List Chain) (pass : ℕ) (filters : List ℕ) → filters ≡ [] → (lanes : List LaneView) (kept : List Kept) (s : Found) → IsReadyBelow j first count chains s.limit lanes kept
-    → IsTriedTo j first count chains (filters_fault j first filters) pass lanes kept s s
-no_filters j first count chains pass filters e lanes kept s ready = record {
-  ready = ready;
-  lowers = none_lowers (filters_fault j first filters) first pass s (λ p lt. ap (λ l. filters_fault j first l p) e);
-}
 
 pub filters_tried : (j : JobView) (first count : ℕ) (chains : List Chain) (pass : ℕ) (filters fs : List ℕ) (f : ℕ) → filters ≡ f ∷ fs → (lanes after : List LaneView) (kept now : List Kept) (a b c : Found)
     → IsTriedTo j first count chains (filter_fault j first f) pass lanes kept a b → IsTriedTo j first count chains (filters_fault j first fs) pass after now b c → IsTriedTo j first count chains (filters_fault j first filters) pass after now a c

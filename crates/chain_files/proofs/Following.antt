@@ -1,6 +1,6 @@
 -- What was read so far, line after line: the lines so far begin some part, and the lines of each part can be read.
 use Rattle.std.proofs.Common.{◌≡◌, ◌≤◌, ◌<◌, ◌*◌, ◌-◌, ℕ, Bool, true, false, ◌&&◌, None, Some, List, [], ◌∷◌, ◌++◌, length, map, flat_map, refl, ap, ap₂, ◌∙◌, sym, subst, arith, append_assoc, append-nil, codes, length-append}
-use Rattle.std.specs.Prelude.{◌||◌, if◌then◌else◌, nat_eq, nat_le, nat_lt}
+use Rattle.std.specs.Prelude.{◌||◌, nat_eq, nat_le, nat_lt}
 use Rattle.std.specs.List.{list_all}
 use Rattle.std.proofs.lemmas.Bool.Decides.{nat_tests}
 use Rattle.rdf_values.specs.Names.{is_name}
@@ -10,7 +10,7 @@ use Rattle.rdf_values.specs.declared.value.ColType.TheVariants as k
 use Rattle.shard_lines.specs.Lines.{EachFits, FitLines, FitsLine}
 use Rattle.shard_lines.specs.declared.shard_line.ShardLine.{ShardLine}
 use Rattle.shard_lines.specs.declared.shard_line.ShardLine.TheVariants as pass
-use Rattle.chain_files.specs.Reading.{behind_columns, is_within, on_columns, on_within, part_of, step, step_at}
+use Rattle.chain_files.specs.Reading.{is_within, on_columns, on_within, part_of, step, step_at}
 use Rattle.chain_files.specs.Parts.{Begins, FitLoops, FitsFault, IsPart, PartView, is_digest, loop_lines, part_limits, part_lines}
 use Rattle.chain_files.specs.declared.chain_fault.ChainFault.{ChainFault}
 use Rattle.chain_files.specs.declared.part_line.PartLine.{PartLine}
@@ -398,9 +398,3 @@ begin_at at.Ended p h = record { part = part_of p; valid = revalid p p.loops h.0
 
 pub begins : (p : Progress) → IsProgress p → Begins (lines_so_far p)
 begins p h = begin_at p.stage p h
-
--- where the end was read, the lines are those of the part
-pub ended_lines : (p : Progress) → p.stage ≡ at.Ended → IsProgress p → IsPart (part_of p) × (part_lines (part_of p) ≡ lines_so_far p)
-ended_lines p s h =
-    let held : Holds at.Ended p = subst (λ (t : Stage). Holds t p) s h in
-    (revalid p p.loops held.0 held.1, sym (ap (λ (t : Stage). lines_at t p) s))

@@ -50,7 +50,7 @@ use Rattle.chain_program.specs.TableFiles.{AreRun, IsBookedOver, IsFirstOf, IsNe
 use Rattle.chain_program.specs.declared.answer.Answer.{Answer}
 use Rattle.chain_program.specs.declared.booking.Booked.{Booked}
 use Rattle.chain_program.specs.declared.first_table.FirstTable.{FirstTable}
-use Rattle.chain_program.proofs.Staging.{accepted_goes, accepted_stops, all_told, both_told, each_told, from_told, goes_on, if_true, of_files, table_goes, table_instead}
+use Rattle.chain_program.proofs.Staging.{accepted_goes, all_told, both_told, each_told, from_told, goes_on, if_true, of_files, table_goes, table_instead}
 use Rattle.chain_program.proofs.Turning.{left_from, none_from}
 
 -- ---- columns that are the same
@@ -133,15 +133,6 @@ module _ (fns : List Function) (script : Script) where
     due = from_told told name (HoldsTheTable t) (λ files. (d : ChainDue) → WithTables files t.table.columns (t ∷ []) (drop 1 names) (IsRunEnd fns script t.table.columns) d → IsRunOver fns script names files d) hold
         (λ files h d next. first_goes files names name t d at h over.accepted next);
   }
-
-  -- the answer where the first table is refused
-  pub first_stops : (files : Files) (names : List (List ℕ)) (name : List ℕ) (d : ChainDue) → slice_get names 0 ≡ Some name → WithTableFile files name (λ t e. WithAccepted fns script t.table.columns (λ g. ⊥) e) d → IsRunOver fns script names files d
-  first_stops files [] name d at h = absurd (cc at)
-  first_stops files (first ∷ names) name d at h =
-      let same : first ≡ name = cc at in
-      table_instead files first (λ t e. WithAccepted fns script t.table.columns (λ g. ⊥) e) (λ u e. WithAccepted fns script u.table.columns (λ g. WithTables files u.table.columns (u ∷ []) names (IsRunEnd fns script u.table.columns) g) e) d
-      (λ t e. accepted_stops fns script t.table.columns (λ g. WithTables files t.table.columns (t ∷ []) names (IsRunEnd fns script t.table.columns) g) d e)
-      (subst (λ n. WithTableFile files n (λ t e. WithAccepted fns script t.table.columns (λ g. ⊥) e) d) (sym same) h)
 
   -- ---- one table more
 

@@ -1,7 +1,7 @@
 -- The Prints in order, and what each gives.
-use Rattle.std.proofs.Common.{◌≡◌, ℕ, ◌+◌, ◌≤◌, List, [], ◌++◌, length, drop, Option, None, Some, sym, ap, ◌∙◌, append_assoc, append-nil}
+use Rattle.std.proofs.Common.{◌≡◌, ℕ, ◌+◌, ◌≤◌, List, [], ◌++◌, length, drop, Option, Some, sym, ap, ◌∙◌, append_assoc, append-nil}
 use Rattle.std.specs.Prelude.{option_map, slice_get}
-use Rattle.std.proofs.lemmas.Option.{same_Some, slice_get_past}
+use Rattle.std.proofs.lemmas.Option.{same_Some}
 use Rattle.rdf_model.specs.Loops.{Access, accesses, loop_of}
 use Rattle.rdf_model.specs.Transcript.{Printed, in_front_of}
 use Rattle.graph_numbers.specs.Graphs.{GraphView, booked_statements}
@@ -26,9 +26,6 @@ module _ (g : GraphView) (loops : List PartLoop) (print l : ℕ) (filling : opti
 
   by_loop : (o : Option PartLoop) (rest : Printed) → slice_get loops l ≡ o → access_printed g loops a rest ≡ loop_printed (passes_at g l) a.result o rest
   by_loop o rest is = ap (λ k. loop_printed (passes_at g k) a.result (slice_get loops k) rest) loop_is ∙ ap (λ x. loop_printed (passes_at g l) a.result x rest) is
-
-  pub gives_nothing : (text : List ℕ) (rest : Printed) → length loops ≤ l → in_front_of text (access_printed g loops a rest) ≡ in_front_of text rest
-  gives_nothing text rest le = ap (in_front_of text) (by_loop None rest (slice_get_past loops l le))
 
   pub gives_lines : (text now name : List ℕ) (ls : List ShardLine) (rest : Printed) → slice_get loops l ≡ Some (Whole ls) → name ≡ a.result → now ≡ text ++ lines_of_result name (passes_at g l) ls
       → in_front_of text (access_printed g loops a rest) ≡ in_front_of now rest

@@ -1,5 +1,5 @@
 -- One more entry of a walk along marks.
-use Rattle.std.proofs.Common.{◌≡◌, ◌≢◌, ◌≤◌, ◌<◌, ◌+◌, ◌-◌, ℕ, zero, suc, Bool, true, false, ◌||◌, List, [], ◌∷◌, ◌++◌, length, get_or, arith, refl, ap, sym, ◌∙◌, ◌⊎◌, inl, inr, subst, if◌then◌else◌, nat_eq, nat_lt}
+use Rattle.std.proofs.Common.{◌≡◌, ◌≢◌, ◌≤◌, ◌<◌, ◌+◌, ◌-◌, ℕ, zero, suc, Bool, true, false, ◌||◌, List, [], ◌∷◌, ◌++◌, length, get_or, arith, refl, ap, sym, ◌∙◌, ◌⊎◌, inl, inr, subst, nat_eq, nat_lt}
 use Rattle.std.specs.List.{list_any}
 use Rattle.std.specs.List.Sorted.{IsStrictlyIncreasing}
 use Rattle.std.proofs.lemmas.Bool.Decides.{Decides-eqb, nat_tests}
@@ -64,14 +64,6 @@ pub none_left : (marks : List ℕ) (next entry : ℕ) → IsStrictlyIncreasing m
 none_left marks next entry rising passed ahead l =
     let past : nat_lt next (length marks) ≡ false = grind (arith, nat_tests) in
     past ∙ sym (not_marked marks next entry rising passed ahead (λ m. absurd (omega (arith, l, m))))
-
--- the mark at the place is passed
-pub pass_one : (marks : List ℕ) (next entry : ℕ) → IsPassed marks next entry → get_or marks next 0 < entry → IsPassed marks (next + 1) entry
-pass_one marks next entry passed h = record { below = λ k l. go k (at_or next k) l }
-  where
-    go : (k : ℕ) → (k < next) ⊎ (next ≤ k) → k < next + 1 → get_or marks k 0 < entry
-    go k (inl q) l = passed.below k q
-    go k (inr q) l = let e : next ≡ k = omega (arith, q, l) in subst (λ (n : ℕ). get_or marks n 0 < entry) e h
 
 pub ahead_one : (marks : List ℕ) (next entry : ℕ) → IsStrictlyIncreasing marks → IsAhead marks next (entry - 1) → next < length marks → IsAhead marks (next + 1) entry
 ahead_one marks next entry rising ahead l = record {

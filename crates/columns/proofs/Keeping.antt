@@ -1,5 +1,5 @@
 -- What is kept gives the table's columns.
-use Rattle.std.proofs.Common.{◌≡◌, ◌≤◌, ◌<◌, ◌-◌, ◌+◌, ℕ, zero, suc, ℤ, List, [], ◌∷◌, ◌++◌, append_assoc, length, get_or, drop, take, map, Some, refl, sym, ap, ap₂, ◌∙◌, arith, slice_get}
+use Rattle.std.proofs.Common.{◌≡◌, ◌≤◌, ◌<◌, ◌-◌, ◌+◌, ℕ, zero, suc, ℤ, List, [], ◌∷◌, ◌++◌, length, get_or, drop, take, map, Some, refl, sym, ap, ap₂, ◌∙◌, arith, slice_get}
 use Rattle.std.specs.List.{AllByRecursion}
 use Rattle.std.proofs.lemmas.List.{length-drop, length-map, length-take, map-append, take-append-drop}
 use Rattle.std.proofs.lemmas.Option.{slice_get-get_or, slice_get-map, slice_get_within}
@@ -127,9 +127,6 @@ keep_next n taken x rest all h e = go taken (rw e at h)
     go : (ys : List ColumnPieces) → Keep n (map whole (ys ++ x ∷ rest)) → count (whole x) ≡ n
     go [] k = k.0
     go (y ∷ ys) k = go ys k.1
-
-pub taken_next : (taken : List ColumnPieces) (x : ColumnPieces) (left rest all : List ColumnPieces) → all ≡ taken ++ left → left ≡ x ∷ rest → all ≡ (taken ++ x ∷ []) ++ rest
-taken_next taken x left rest all h e = h ∙ ap (λ l. taken ++ l) e ∙ sym (append_assoc taken (x ∷ []) rest)
 
 -- ---- columns in two halves
 

@@ -25,11 +25,7 @@ use Rattle.event_loop.specs.declared.gather.Done.{Done}
 use Rattle.event_loop.specs.Ends.{AreNotedPartials}
 use Rattle.event_loop.specs.Workers.{HasNoted}
 use Rattle.event_loop.specs.Gathered.{IsDone, finished_by}
-use Rattle.event_loop.specs.Filling.{AllAreGoing, ArePieces, CanFill, IsBookOf, IsGoing, IsPieceOf, dones_of, orders_of, share_or_none, shares_in}
-
-pub all_going : (b : Option BookSeen) (job : JobFacts) (ds : List Done) → All (IsDone b job) ds → AllAreGoing ds
-all_going b job [] h = All-nil IsGoing
-all_going b job (d ∷ ds) h = All-cons IsGoing d ds (All-head (IsDone b job) d ds h).going (all_going b job ds (All-tail (IsDone b job) d ds h))
+use Rattle.event_loop.specs.Filling.{ArePieces, CanFill, IsBookOf, IsPieceOf, dones_of, orders_of, share_or_none, shares_in}
 
 abbrev numbers_in : ShareSeen → List ℕ
 numbers_in s = s.numbers

@@ -136,15 +136,6 @@ pub stops_postfix : (ts : List Placed) → BeginsNot (Punct mark.OpenBracket) ts
 stops_postfix [] isnt = tt
 stops_postfix (p ∷ ts) isnt = postfix_step p.token (first_is_not (Punct mark.OpenBracket) p ts isnt)
 
-unary_step : (t : Token) → continues 8 t ≡ false → continues 7 t ≡ false
-unary_step (Op o) h = above 7 (level_of o) (omega (arith, level_low o))
-unary_step (Punct mark.OpenBracket) h = cc h
-unary_step t h = refl
-
-pub stops_unary : (ts : List Placed) → Stops 8 ts → Stops 7 ts
-stops_unary [] h = tt
-stops_unary (p ∷ ts) h = unary_step p.token h
-
 sides_step : (n : ℕ) (t : Token) → 1 ≤ n → n ≤ 6 → continues (n + 1) t ≡ false → ((o : BinOp) → level_of o ≡ n → t ≡ Op o → ⊥) → continues n t ≡ false
 sides_step n (Op o) low high h isnt =
     let under : level_of o < n + 1 = below (n + 1) (level_of o) h in

@@ -164,11 +164,6 @@ piece_small pieces i piece e l small j d h =
     let few = piece_few pieces i (length (joined pieces)) piece e l (omega arith) in
     subst (λ (v : List ℤ). length v ≤ 4096) at (small (length front + j) d (omega (arith, few, h)))
 
--- the vectors of one more piece
-pub pieces_next : (pieces : List (List (List ℤ))) (i : ℕ) (piece : List (List ℤ)) → piece ≡ get_or pieces i piece → i < length pieces
-    → sum_by length (joined (take (i + 1) pieces)) ≡ sum_by length (joined (take i pieces)) + sum_by length piece
-pieces_next pieces i piece e l = ap (sum_by length) (joined_more pieces i piece e l) ∙ sum_by-append length (joined (take i pieces)) piece
-
 -- ---- matches
 
 pub match_below : (n : ℕ) (ms : List (Option ℕ)) (i : ℕ) (d : Option ℕ) → AreBelow n ms → i < length ms → MatchOption (get_or ms i d) ⊤ (λ e. e < n)

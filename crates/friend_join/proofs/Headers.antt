@@ -179,10 +179,3 @@ joined_header os bs key p h l at free few =
       few = omega arith;
       distinct = join_columns [] os (remove bs p) h.distinct (new_behind os [] os (remove bs p) (remove_columns [] bs p l.distinct) new (λ name g o. o));
     }
-
--- a place among so few columns
-pub small_place : (test : Column → Bool) (cs : List Column) (p : ℕ) → position test cs ≡ Some p → length cs ≤ 64 → p < 64
-small_place test cs p e h = let at = found test cs p e in let low = within cs p at.0 at.1 in omega arith
-
-pub place_within : (test : Column → Bool) (cs : List Column) (p : ℕ) → position test cs ≡ Some p → p < length cs
-place_within test cs p e = let at = found test cs p e in within cs p at.0 at.1

@@ -1,5 +1,5 @@
 -- Which results a loop fills, by their numbers.
-use Rattle.std.proofs.Common.{◌≡◌, ◌⊎◌, inl, inr, ℕ, zero, suc, ◌+◌, ◌<◌, ◌≤◌, Bool, true, false, not, ◌||◌, List, [], ◌∷◌, ◌++◌, map, take, length, Option, Some, None, refl, sym, ◌∙◌, ap, subst, arith, slice_get, if◌then◌else◌, filter, filter_map}
+use Rattle.std.proofs.Common.{◌≡◌, ◌⊎◌, inl, inr, ℕ, zero, suc, ◌+◌, ◌<◌, ◌≤◌, Bool, true, false, not, ◌||◌, List, [], ◌∷◌, ◌++◌, map, take, length, Option, Some, None, refl, sym, ◌∙◌, ap, subst, arith, slice_get, filter, filter_map}
 use Rattle.std.specs.List.{cons_option}
 use Rattle.std.proofs.lemmas.Bool.{cases_lt}
 use Rattle.std.proofs.lemmas.List.{append-nil, length-map}
@@ -25,11 +25,6 @@ same_some : {A : Type 0} {a b : A} → ◌≡◌ {A = Option A} (Some a) (Some b
 same_some q = cc
 
 -- ---- lists
-
-something_at : {A : Type 0} (xs : List A) (k : ℕ) → k < length xs → (x : A) × (slice_get xs k ≡ Some x)
-something_at [] k lt = absurd (omega arith)
-something_at (x ∷ xs) zero lt = (x, refl)
-something_at (x ∷ xs) (suc k) lt = something_at xs k (omega arith)
 
 pub filter_map-append : {A B : Type 0} (f : A → Option B) (xs ys : List A) → filter_map f (xs ++ ys) ≡ filter_map f xs ++ filter_map f ys
 filter_map-append f [] ys = refl

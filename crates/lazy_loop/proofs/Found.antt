@@ -1,11 +1,11 @@
 -- The place of a result in a loop, as it is found among the loop's passes.
-use Rattle.std.proofs.Common.{◌≡◌, ◌⊎◌, inl, inr, ℕ, zero, suc, ◌+◌, ◌*◌, ◌<◌, ◌≤◌, Bool, true, false, cond, List, [], ◌∷◌, ◌++◌, map, take, length, Option, Some, None, refl, sym, ◌∙◌, ap, ap₂, arith, length-append, if◌then◌else◌}
+use Rattle.std.proofs.Common.{◌≡◌, ◌⊎◌, inl, inr, ℕ, zero, suc, ◌+◌, ◌*◌, ◌<◌, ◌≤◌, Bool, true, false, cond, List, [], ◌∷◌, ◌++◌, map, take, length, Option, Some, None, refl, sym, ◌∙◌, ap, ap₂, arith, length-append}
 use Rattle.std.specs.Prelude.{⊤, count_by, filter, nat_lt, option_map, slice_get}
 use Rattle.std.specs.List.{position, position_or_len}
 use Rattle.std.proofs.lemmas.Bool.Decides.{nat_tests}
 use Rattle.std.proofs.lemmas.List.{length-map, length-reverse}
 use Rattle.std.proofs.lemmas.List.Concat.{flat_map-append}
-use Rattle.std.proofs.lemmas.Option.{cond_some, slice_get_within}
+use Rattle.std.proofs.lemmas.Option.{slice_get_within}
 use native.Mathlib.Nat.{mul-le-mul_right}
 use Rattle.rdf_values.specs.Bookings.{Booked, Booking, ActionAt, ReportOn, Pass, has_variations, passes_of, result_depends, varied_passes}
 use Rattle.rdf_values.specs.Kinds.{scope_of}
@@ -60,12 +60,6 @@ found_at r xs p ps h met =
     let many = length-append xs (p ∷ ps) in
     let yes : nat_lt (position_or_len (is_of r) (xs ++ p ∷ ps)) (length (xs ++ p ∷ ps)) ≡ true = grind (arith, nat_tests, e, many) in
     ap (λ (b : Bool). cond b (Some (position_or_len (is_of r) (xs ++ p ∷ ps))) None) yes ∙ ap (λ (n : ℕ). Some n) e
-
-pub position_within : (r n : ℕ) (ps : List NumberedPass) → position (is_of r) ps ≡ Some n → n < length ps
-position_within r n ps at =
-    let both = cond_some (nat_lt (position_or_len (is_of r) ps) (length ps)) (position_or_len (is_of r) ps) n at in
-    let is = both.0 in let same_number = both.1 in
-    grind (arith, nat_tests, is, same_number)
 
 -- ---- the passes of a result
 

@@ -45,9 +45,6 @@ module _ (f : LoopFacts) (mine theirs all : List ℕ) (p q : LoopPiece) (s : Sta
   room (n ∷ ns) zero lt = let c = counts_union f mine theirs all n u in omega (arith, c.0, counts_few f all n s.facts u.rising)
   room (n ∷ ns) (suc i) lt = room ns i (omega arith)
 
-  pub same_filters : length q.flow ≡ length p.flow
-  same_filters = ap length t.flow ∙ length-map (below f.filters) (counts_at f theirs) ∙ sym (ap length s.flow ∙ length-map (below f.filters) (counts_at f mine))
-
   pub have_room : HaveRoom p.flow q.flow
   have_room = subst (λ (a : List Counts). HaveRoom a q.flow) (sym s.flow) (subst (λ (b : List Counts). HaveRoom (map (counts_at f mine) (below f.filters)) b) (sym t.flow) (room (below f.filters)))
 

@@ -1,7 +1,6 @@
 pub mod Agreeing
 pub mod ByCluster
 pub mod ClusterFaults
-pub mod Empty
 pub mod FedOver
 pub mod Joined
 pub mod Joins

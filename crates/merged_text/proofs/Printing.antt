@@ -1,8 +1,8 @@
 -- The Prints in order, and the lines of each.
-use Rattle.std.proofs.Common.{◌≡◌, ◌⊎◌, inl, inr, ℕ, zero, suc, ◌+◌, ◌<◌, ◌≤◌, Bool, true, false, List, [], ◌∷◌, ◌++◌, length, drop, Option, None, Some, refl, sym, ap, ap₂, ◌∙◌, arith, append_assoc, append-nil, if◌then◌else◌}
+use Rattle.std.proofs.Common.{◌≡◌, ◌⊎◌, inl, inr, ℕ, zero, suc, ◌+◌, ◌<◌, ◌≤◌, Bool, true, false, List, [], ◌∷◌, ◌++◌, length, drop, Option, None, Some, refl, sym, ap, ap₂, ◌∙◌, arith, append_assoc, append-nil}
 use Rattle.std.specs.Prelude.{option_map, slice_get}
 use Rattle.std.proofs.lemmas.List.{length-map}
-use Rattle.std.proofs.lemmas.Option.{same_Some, slice_get-map, slice_get_past, slice_get_within}
+use Rattle.std.proofs.lemmas.Option.{same_Some, slice_get-map, slice_get_within}
 use Rattle.rdf_values.specs.Bookings.{Booked, Pass, bookings}
 use Rattle.rdf_values.specs.Names.{place, same}
 use Rattle.rdf_values.specs.declared.fault.Fault.{Fault}
@@ -99,9 +99,6 @@ module _ (g : GraphView) (loops : List ShardLoop) (print l : ℕ) (filling : opt
 
   by_loop : (o : Option ShardLoop) (rest : Printed) → slice_get loops l ≡ o → access_printed g loops a rest ≡ loop_printed (passes_at g l) a.result o rest
   by_loop o rest is = ap (λ k. loop_printed (passes_at g k) a.result (slice_get loops k) rest) loop_is ∙ ap (λ x. loop_printed (passes_at g l) a.result x rest) is
-
-  pub gives_nothing : (text : List ℕ) (rest : Printed) → length loops ≤ l → in_front_of text (access_printed g loops a rest) ≡ in_front_of text rest
-  gives_nothing text rest le = ap (in_front_of text) (by_loop None rest (slice_get_past loops l le))
 
   pub gives_lines : (text now name : List ℕ) (ls : List ShardLine) (rest : Printed) → slice_get loops l ≡ Some (Whole ls) → name ≡ a.result → now ≡ text ++ lines_of_result name (passes_at g l) ls
       → in_front_of text (access_printed g loops a rest) ≡ in_front_of now rest

@@ -1,5 +1,5 @@
 -- Which results are filled, and the passes of a loop, by the numbers of results.
-use Rattle.std.proofs.Common.{◌≡◌, ◌⊎◌, inl, inr, ℕ, zero, suc, ◌+◌, ◌<◌, ◌≤◌, Bool, true, false, not, ◌||◌, List, [], ◌∷◌, ◌++◌, map, length, take, drop, Option, Some, None, option_map, refl, sym, ◌∙◌, ap, subst, arith, slice_get, if◌then◌else◌, length-append, append_assoc}
+use Rattle.std.proofs.Common.{◌≡◌, ◌⊎◌, inl, inr, ℕ, zero, suc, ◌+◌, ◌<◌, ◌≤◌, Bool, true, false, not, ◌||◌, List, [], ◌∷◌, ◌++◌, map, length, take, drop, Option, Some, None, option_map, refl, sym, ◌∙◌, ap, subst, arith, slice_get, length-append, append_assoc}
 use Rattle.std.proofs.lemmas.List.{append-nil}
 use Rattle.rdf_values.specs.Bookings.{Booked, booked_by, bookings, names_of, filled, has_variations, result_depends}
 use Rattle.rdf_values.specs.Kinds.{FunctionNames, Scope}
@@ -241,12 +241,6 @@ module _ (script : List Statement) where
   rows_last (suc k) [] (r ∷ rows) h = absurd h
   rows_last (suc k) (b ∷ bs) [] h = absurd h
   rows_last (suc k) (b ∷ bs) (r ∷ rows) h = rows_last k bs rows h.1
-
-  at_first : (k j : ℕ) (bs : List Booked) (b : Booked) → slice_get (take k bs) j ≡ Some b → (slice_get bs j ≡ Some b) × (j < k)
-  at_first zero j bs b h = cc h
-  at_first (suc k) j [] b h = cc h
-  at_first (suc k) zero (c ∷ bs) b h = (h, omega arith)
-  at_first (suc k) (suc j) (c ∷ bs) b h = let r = at_first k j bs b h in let l = r.1 in (r.0, omega (arith, l))
 
   pub at_last : (k j : ℕ) (bs : List Booked) (b : Booked) → slice_get (drop k bs) j ≡ Some b → slice_get bs (k + j) ≡ Some b
   at_last zero j bs b h = let z : 0 + j ≡ j = omega arith in ap (slice_get bs) z ∙ h

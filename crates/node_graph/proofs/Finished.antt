@@ -1,5 +1,5 @@
 -- The fields of a finished graph.
-use Rattle.std.proofs.Common.{◌≡◌, inl, inr, ℕ, suc, ◌+◌, ◌≤◌, Bool, true, false, List, [], ◌∷◌, ◌++◌, map, length, reverse, Option, Some, None, Ok, option_map, refl, sym, ◌∙◌, ap, subst, arith, slice_get, length-append, if◌then◌else◌}
+use Rattle.std.proofs.Common.{◌≡◌, inl, inr, ℕ, suc, ◌+◌, ◌≤◌, Bool, true, false, List, [], ◌∷◌, ◌++◌, map, length, reverse, Option, Some, None, option_map, refl, sym, ◌∙◌, ap, subst, arith, slice_get, length-append}
 use Rattle.std.specs.List.{AllByRecursion}
 use Rattle.std.proofs.lemmas.List.{length-map, reverse-reverse, reverse-append}
 use Rattle.std.proofs.lemmas.List.Elements.{recursion_from_All}
@@ -60,11 +60,6 @@ graph_is script ls header names e bookable head ok = record {
   bookable = subst IsBookable (script_again script ls e) bookable;
   accepted = subst (λ (s : Script). verdict names header s ≡ None) (script_again script ls e) (sym (verdict_of names header script ls e) ∙ none_refused names (scope_of header) ls ok);
 }
-
-pub answered : (script : Script) (ls : List Line) (header : List Column) (names : FunctionNames) (g : GraphView) → ls ≡ reverse script.lines → AreAccepted names (scope_of header) (statements ls) → g ≡ view_of ls header names → booked script header names ≡ Ok g
-answered script ls header names g e ok is =
-    ap (booked_unless (record { script = script; header = header; names = names })) (sym (verdict_of names header script ls e) ∙ none_refused names (scope_of header) ls ok)
-    ∙ (λ i. Ok (record { script = script_again script ls e i; header = header; names = names })) ∙ ap (λ (v : GraphView). Ok v) (sym is)
 
 pub refusal_answered : (script : Script) (ls : List Line) (header : List Column) (names : FunctionNames) (r : GraphRefusal) → ls ≡ reverse script.lines → IsRefusal (refused names (scope_of header) ls) r → Refuses refused_at refusal.Memory (booked script header names) r
 refusal_answered script ls header names refusal.Memory e h = inl refl

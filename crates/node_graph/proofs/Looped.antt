@@ -1,5 +1,5 @@
 -- What a line adds to the lists of loops and Prints.
-use Rattle.std.proofs.Common.{◌≡◌, ◌⊎◌, inl, inr, ℕ, zero, suc, ◌+◌, ◌-◌, ◌<◌, ◌≤◌, Bool, true, false, not, ◌||◌, List, [], ◌∷◌, ◌++◌, map, length, take, drop, replicate, Option, Some, None, option_map, refl, sym, ◌∙◌, ap, subst, arith, slice_get, if◌then◌else◌, length-append, filter, filter_map, unwrap_or}
+use Rattle.std.proofs.Common.{◌≡◌, ◌⊎◌, inl, inr, ℕ, zero, suc, ◌+◌, ◌-◌, ◌<◌, ◌≤◌, Bool, true, false, not, ◌||◌, List, [], ◌∷◌, ◌++◌, map, length, take, drop, replicate, Option, Some, None, option_map, refl, sym, ◌∙◌, ap, subst, arith, slice_get, length-append, filter, filter_map, unwrap_or}
 use Rattle.std.specs.Prelude.{Result, Ok, Err, OnOk}
 use Rattle.std.specs.List.{cons_option}
 use Rattle.std.proofs.lemmas.List.{append-nil, map-append, drop-take}
@@ -83,11 +83,6 @@ place_at {A} t (x ∷ xs) n h = go (t x) refl h (λ j e. place_at t xs j e)
     go : (b : Bool) → t x ≡ b → (if b then Some 0 else option_map suc (place t xs)) ≡ Some n → ((j : ℕ) → place t xs ≡ Some j → (y : A) × (slice_get xs j ≡ Some y) × (t y ≡ true)) → (y : A) × (slice_get (x ∷ xs) n ≡ Some y) × (t y ≡ true)
     go true e q next = first n (sym (let z : 0 ≡ n = cc q in z)) e
     go false e q next = after (place t xs) q refl next
-
-within : {A : Type 0} (xs : List A) (n : ℕ) (x : A) → slice_get xs n ≡ Some x → n < length xs
-within [] n x h = cc h
-within (y ∷ xs) zero x h = omega arith
-within (y ∷ xs) (suc n) x h = let l = within xs n x h in omega (arith, l)
 
 get_taken : {A : Type 0} (k j : ℕ) (xs : List A) → j < k → slice_get (take k xs) j ≡ slice_get xs j
 get_taken zero j xs h = absurd (omega (arith, h))
@@ -427,9 +422,6 @@ booked_more before (VariationsFor result) = length-append (bookings before) []
 booked_more before (Watch result) = length-append (bookings before) []
 booked_more before (Print result) = length-append (bookings before) []
 
-pub begins_itself : (script : List Statement) → BeginsWith script script
-begins_itself script = ap (take (length (bookings script))) (sym (append-nil (bookings script))) ∙ take_whole (bookings script) []
-
 -- the lists before the first line
 pub none_yet : (script : List Statement) (t : LoopTables) → t.loops.items ≡ [] → t.runs.items ≡ [] → t.prints.items ≡ [] → t.filling.items ≡ [] → t.fillers.items ≡ [] → AreLoops script [] t
 none_yet script t l r p f k = record {
@@ -463,10 +455,6 @@ begun_few script before h = let n = ap length h in let m = taken_few (length (bo
     taken_few (suc k) (x ∷ xs) = let l = taken_few k xs in omega (arith, l)
 
 -- ---- the answers of the code
-
-pub on_ok : {A E P Q : Type 0} → (P → Q) → (r : Result A E) → OnOk r P → OnOk r Q
-on_ok f (Ok a) h = f h
-on_ok f (Err e) h = tt
 
 on_three : {A E P Q R S : Type 0} → (P → Q → R → S) → (r : Result A E) → OnOk r P → OnOk r Q → OnOk r R → OnOk r S
 on_three f (Ok a) p q s = f p q s
@@ -538,6 +526,3 @@ split script lines l rest booked e named begins b =
 pub no_lines : (script : List Statement) (lines : List Line) (t : LoopTables) → length lines ≡ 0 → AreLoops script [] t → AreLoops script (statements lines) t
 no_lines script [] t e h = h
 no_lines script (l ∷ lines) t e h = absurd (omega (arith, e))
-
-pub lines_joined : (script : List Statement) (lines : List Line) (l : Line) (rest : List Line) (t : LoopTables) → lines ≡ l ∷ rest → AreLoops script (l.statement ∷ statements rest) t → AreLoops script (statements lines) t
-lines_joined script lines l rest t e h = subst (λ (ls : List Line). AreLoops script (statements ls) t) (sym e) h

@@ -13,11 +13,9 @@ use Rattle.expr_check.specs.NumKinds.{CheckedExpr}
 use Rattle.graph_numbers.proofs.Extending.{itself}
 use Rattle.graph_numbers.proofs.Looping.{runs_are}
 use Rattle.graph_numbers.proofs.Resulting.{booked_are}
-use Rattle.graph_numbers.specs.Graphs.{GraphView, IsSiteExpr, booked_statements, graph_filters, graph_loops, graph_prints, graph_results, graph_runs, graph_sites, graph_variations, graph_versions, result_depends_at, site_depends_at}
+use Rattle.graph_numbers.specs.Graphs.{GraphView, IsSiteExpr, booked_statements, graph_filters, graph_prints, graph_results, graph_runs, graph_sites, result_depends_at, site_depends_at}
 use Rattle.graph_numbers.specs.Results.{FilterAt, ResultAt, own_filters, filters, kind_of_booking}
 use Rattle.graph_numbers.specs.Sites.{SiteAt, own_sites, sites}
-use Rattle.graph_numbers.specs.declared.pass.Pass.{Pass}
-use Rattle.graph_numbers.specs.declared.version.Version.{Version}
 use Rattle.statement_checks.specs.Dependence.{Numbers, AreSets, depends_at, own_site_sets, site_set, site_sets}
 use Rattle.statement_checks.specs.Gains.{IsSite, AreSites, AreRows}
 use Rattle.statement_checks.specs.declared.result_row.ResultRow.{ResultRow}
@@ -46,9 +44,6 @@ of_mapped {A} {B} {C} f g xs ys n y e h = twice (slice_get xs n) ∙ ap (option_
     twice : (o : Option A) → option_map (λ x. g (f x)) o ≡ option_map g (option_map f o)
     twice None = refl
     twice (Some x) = refl
-
-unwrap_some : {A : Type 0} (xs ys : List A) (n : ℕ) (y : A) → xs ≡ ys → slice_get xs n ≡ Some y → slice_get ys n ≡ Some y
-unwrap_some xs ys n y e h = ap (λ zs. slice_get zs n) (sym e) ∙ h
 
 -- ---- rows of results, sites and sets
 
@@ -204,28 +199,10 @@ module _ (g : GraphView) (t : Tables) (r : Rows) (l : LoopTables) (w : List Bool
 
   -- ---- Prints and loops
 
-  pub print_count : length l.prints.items ≡ length (graph_prints g)
-  print_count = sym (length-map l.prints.items (λ m. Some m)) ∙ ap length h.loops.prints
-
-  pub filling_count : length l.filling.items ≡ length (graph_prints g)
-  filling_count = sym (length-map l.filling.items (λ m. Some m)) ∙ ap length h.loops.filling ∙ length-map (accesses (booked_statements g)) _ ∙ sym (length-map (accesses (booked_statements g)) _)
-
   pub run_count : length l.runs.items ≡ length (graph_prints g)
   run_count =
       ap length h.loops.runs ∙ sym (length-map (graph_runs g) (λ (o : Option ℕ). option_and_then (slice_get (loop_results (booked_statements g))) o))
       ∙ sym (ap length (runs_are (booked_statements g) (booked_statements g) itself)) ∙ length-map (accesses (booked_statements g)) (λ (a : Access). a.fills) ∙ sym (length-map (accesses (booked_statements g)) _)
-
-  pub loop_count : length l.loops.items ≡ length (graph_loops g)
-  loop_count = ap length h.loops.loops
-
-  pub print_is : (p n : ℕ) → slice_get l.prints.items p ≡ Some n → slice_get (graph_prints g) p ≡ Some (Some n)
-  print_is p n q = ap (λ xs. slice_get xs p) (sym h.loops.prints) ∙ mapped (λ m. Some m) l.prints.items p ∙ ap (option_map (λ m. Some m)) q
-
-  pub run_is : (p : ℕ) (o : Option ℕ) → slice_get l.runs.items p ≡ Some o → slice_get (graph_runs g) p ≡ Some o
-  run_is p o q = unwrap_some l.runs.items (graph_runs g) p o h.loops.runs q
-
-  pub loop_is : (n : ℕ) (ps : List Pass) → slice_get l.loops.items n ≡ Some ps → slice_get (graph_loops g) n ≡ Some ps
-  loop_is n ps q = unwrap_some l.loops.items (graph_loops g) n ps h.loops.loops q
 
   pub filling_is : (p n : ℕ) → slice_get l.filling.items p ≡ Some n → option_map (λ (a : Access). loop_of (booked_statements g) a.result) (slice_get (accesses (booked_statements g)) p) ≡ Some n
   filling_is p n q =
@@ -236,9 +213,6 @@ module _ (g : GraphView) (t : Tables) (r : Rows) (l : LoopTables) (w : List Bool
 
   pub filter_count : length r.filters.items ≡ length (graph_filters g)
   filter_count = ap length h.rows.filters ∙ length-map (graph_filters g) (λ (f : FilterAt). f.sites)
-
-  pub filter_is : (n : ℕ) (ss : List ℕ) → slice_get r.filters.items n ≡ Some ss → option_map (λ (f : FilterAt). f.sites) (slice_get (graph_filters g) n) ≡ Some ss
-  filter_is n ss q = sym (mapped (λ (f : FilterAt). f.sites) (graph_filters g) n) ∙ ap (λ xs. slice_get xs n) (sym h.rows.filters) ∙ q
 
   pub label_count : length r.filters.items ≡ length (named_before (booked_statements g))
   label_count = filter_count ∙ sym (length-map (graph_filters g) (λ (f : FilterAt). f.label)) ∙ ap length (labels_are g.header g.names (booked_statements g)) ∙ sym (labels_count (booked_statements g))
@@ -261,12 +235,3 @@ module _ (g : GraphView) (t : Tables) (r : Rows) (l : LoopTables) (w : List Bool
 
   pub site_set_is : (n : ℕ) (s : VarSet) → slice_get t.site_sets.items n ≡ Some s → (v : ℕ) → has s v ≡ site_depends_at g n v
   site_set_is n s q v = set_at _ t.site_sets.items n s h.tables.site_sets q v ∙ h.site_sets n v
-
-  pub version_count : length r.versions.items ≡ length (graph_versions g)
-  version_count = ap length h.rows.versions
-
-  pub version_is : (n : ℕ) (x : Version) → slice_get r.versions.items n ≡ Some x → slice_get (graph_versions g) n ≡ Some x
-  version_is n x q = unwrap_some r.versions.items (graph_versions g) n x h.rows.versions q
-
-  pub variations_are : t.variations ≡ graph_variations g
-  variations_are = h.tables.variations

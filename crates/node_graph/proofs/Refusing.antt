@@ -1,5 +1,5 @@
 -- The first line that is refused, from the latest line back and from the first line on.
-use Rattle.std.proofs.Common.{◌≡◌, ℕ, List, [], ◌∷◌, ◌++◌, map, Option, Some, None, Result, Ok, Err, IfOk, IfErr, option_map, refl, sym, ◌∙◌, ap, subst, reverse, length, arith}
+use Rattle.std.proofs.Common.{◌≡◌, ℕ, List, [], ◌∷◌, ◌++◌, map, Option, Some, None, option_map, refl, sym, ◌∙◌, ap, subst, reverse, length, arith}
 use Rattle.std.proofs.lemmas.List.{reverse-append, reverse-reverse}
 use Rattle.rdf_values.specs.Kinds.{FunctionNames, Scope, scope_of}
 use Rattle.rdf_values.specs.Path.{history}
@@ -65,16 +65,6 @@ module _ (names : FunctionNames) (header : Scope) where
       subst (λ (ls : List Line). IsRefusal (refused names header ls) r) (sym e)
       (subst (λ (o : Option (ℕ × GraphCause)). IsRefusal (refused_then l.number o (check names header (statements before) l.statement)) r) (sym (none_refused before ok)) h)
 
-  -- and it stays the first where one before it is refused
-  refused_kept : (o : Option (ℕ × GraphCause)) (n : ℕ) (c : Option GraphCause) (r : GraphRefusal) → IsRefusal o r → IsRefusal (refused_then n o c) r
-  refused_kept o n c refusal.Memory h = tt
-  refused_kept None n c (refusal.At line cause) h = cc h
-  refused_kept (Some x) n c (refusal.At line cause) h = h
-
-  pub refused_before : (lines : List Line) (l : Line) (before : List Line) → lines ≡ l ∷ before → (r : GraphRefusal) → IsRefusal (refused names header before) r → IsRefusal (refused names header lines) r
-  refused_before lines l before e r h =
-      subst (λ (ls : List Line). IsRefusal (refused names header ls) r) (sym e) (refused_kept (refused names header before) l.number (check names header (statements before) l.statement) r h)
-
 pub verdict_of : (names : FunctionNames) (header : List Column) (script : Script) (ls : List Line) → ls ≡ reverse script.lines → refused names (scope_of header) ls ≡ verdict names header script
 verdict_of names header script ls e =
     sym (verdict_is names (scope_of header) ls) ∙ ap (verdict_after names (scope_of header) []) (ap (λ (xs : List Line). reverse xs) e ∙ reverse-reverse script.lines)
@@ -82,11 +72,3 @@ verdict_of names header script ls e =
 pub empty : {A : Type 0} (xs : List A) → length xs ≡ 0 → [] ≡ xs
 empty [] h = refl
 empty (x ∷ xs) h = absurd (omega (arith, h))
-
-pub if_ok_map : {A E : Type 0} (P Q : A → Type 0) → ((a : A) → P a → Q a) → (r : Result A E) → IfOk r P → IfOk r Q
-if_ok_map P Q f (Ok a) h = f a h
-if_ok_map P Q f (Err e) h = tt
-
-pub if_err_map : {A E : Type 0} (P Q : E → Type 0) → ((e : E) → P e → Q e) → (r : Result A E) → IfErr r P → IfErr r Q
-if_err_map P Q f (Ok a) h = tt
-if_err_map P Q f (Err e) h = f e h

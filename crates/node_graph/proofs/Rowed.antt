@@ -1,5 +1,5 @@
 -- What a statement adds to the lists is what the numbers of the script say.
-use Rattle.std.proofs.Common.{◌≡◌, ℕ, suc, ◌+◌, false, List, [], ◌∷◌, ◌++◌, map, length, Some, None, refl, sym, ◌∙◌, ap, if◌then◌else◌, length-append}
+use Rattle.std.proofs.Common.{◌≡◌, ℕ, suc, ◌+◌, false, List, [], ◌∷◌, ◌++◌, map, length, Some, None, refl, sym, ◌∙◌, ap, length-append}
 use Rattle.std.specs.Prelude.{Result, Ok, Err, OnOk}
 use Rattle.std.proofs.lemmas.List.{map-append}
 use Rattle.rdf_values.specs.Bookings.{named_before, columns_of}
@@ -13,12 +13,12 @@ use Rattle.rdf_values.specs.declared.statement.Statement.{Statement}
 use Rattle.rdf_values.specs.declared.statement.Statement.TheVariants.{Define, Redefine, Alias, Filter, Vary, Action, Report, VariationsFor, Watch, Print}
 use Rattle.graph_numbers.specs.Results.{FilterAt, own_filter, filters_on, all_or, covered_at, own_filters, filters, own_results, results}
 use Rattle.graph_numbers.specs.Sites.{list_start, list_sites, lists_sites, own_sites, sites, site_count, own_filter_site, filter_sites}
-use Rattle.graph_numbers.specs.Sources.{cell_versions, numbers_from, varied_version, varied_versions, own_versions}
+use Rattle.graph_numbers.specs.Sources.{numbers_from, varied_version, varied_versions, own_versions}
 use Rattle.graph_numbers.specs.Versions.{named_version, version_at}
 use Rattle.graph_numbers.specs.declared.result_kind.ResultKind.TheVariants as what
 use Rattle.graph_numbers.specs.declared.version.Version.TheVariants as as_version
 use Rattle.statement_checks.specs.SiteNumbers.{expression_total, own_site_total, site_total, is_filter, own_number, filter_numbers}
-use Rattle.node_graph.specs.Rows.{cell_rows, count_from, varied_row, varied_rows, version_rows, is_named, filter_rows, own_named, named_numbers, has_made, covered_numbers, result_rows, result_path, AreRows}
+use Rattle.node_graph.specs.Rows.{count_from, varied_row, varied_rows, version_rows, is_named, filter_rows, own_named, named_numbers, has_made, covered_numbers, result_rows, result_path, AreRows}
 use Rattle.node_graph.specs.declared.rows.Rows.{Rows}
 
 numbers_are : {A : Type 0} (n : ℕ) (xs : List A) → numbers_from n xs ≡ count_from n (length xs)
@@ -158,14 +158,6 @@ module _ (header : List Column) (names : FunctionNames) where
       filters = f ∙ (λ l. h.filters l ++ sym (own_filters_are s) l) ∙ sym (map-append (λ (f : FilterAt). f.sites) (filters header names before) (own_filters header names before s));
       results = r ∙ (λ l. h.results l ++ sym (own_results_are s) l) ∙ sym (map-append result_path (results header names before) (own_results header names before s));
     }
-
-  cells_are : (n : ℕ) (cs : List Column) → cell_versions header names n cs ≡ cell_rows n cs
-  cells_are n [] = refl
-  cells_are n (c ∷ cs) = ap (λ vs. as_version.Cell n ∷ vs) (cells_are (suc n) cs)
-
-  -- the lists before the first statement
-  pub first_rows : (r : Rows) → r.versions.items ≡ cell_rows 0 header → r.filters.items ≡ [] → r.results.items ≡ [] → AreRows header names [] r
-  first_rows r v f q = record { versions = v ∙ sym (cells_are 0 header); filters = f; results = q }
 
 -- a statement's versions, filter and result, appended one after the other
 pub rows_added : {A E : Type 0} (header : List Column) (before : List Statement) (s : Statement) (first site : ℕ) (old with_versions with_filter new : Rows) (result : Result A E)

@@ -131,10 +131,6 @@ above_of x (y ∷ ys) h = (h y (omega (arith, times_self y ys)), above_of x ys (
 of_above : (x y : ℕ) (ys : List ℕ) → Above x ys → 0 < times y ys → x < y
 of_above x y ys h some = ⊎_elim (λ (lt : x < y). lt) (λ (le : y ≤ x). absurd (omega (arith, none_above y x ys le h))) (cases_lt x y)
 
-up_rises : (a m : ℕ) → Rises (up a m)
-up_rises a zero = tt
-up_rises a (suc m) = (above_of a (up (a + 1) m) (λ y some. let b = (up_only (a + 1) m y some).0 in omega arith), up_rises (a + 1) m)
-
 append_rises : (ps qs : List ℕ) → Rises ps → Rises qs → ((x y : ℕ) → 0 < times x ps → 0 < times y qs → x < y) → Rises (ps ++ qs)
 append_rises [] qs up down apart = down
 append_rises (a ∷ ps) qs rise down apart = (

@@ -1,5 +1,5 @@
 -- Trails that are taken out of pieces, one piece after another.
-use Rattle.std.proofs.Common.{◌≡◌, ℕ, ◌+◌, ◌<◌, ◌≤◌, List, [], ◌∷◌, ◌++◌, length, Some, refl, sym, ap, ◌∙◌, subst, ⊎_elim, arith, length-append}
+use Rattle.std.proofs.Common.{◌≡◌, ℕ, ◌+◌, ◌<◌, ◌≤◌, List, [], ◌∷◌, ◌++◌, length, Some, sym, ap, ◌∙◌, subst, ⊎_elim, arith, length-append}
 use Rattle.std.specs.Prelude.{slice_get, slice_set}
 use Rattle.std.proofs.lemmas.Option.{slice_get_within}
 use Rattle.std.proofs.lemmas.Bool.{cases_lt}
@@ -19,15 +19,6 @@ pub record IsTaking (w i : ℕ) (old new : List LoopPiece) (trails : List TrailO
   pub taken : (k : ℕ) (p : LoopPiece) (t : TrailOf) → slice_get old k ≡ Some p → slice_get trails k ≡ Some t → slice_get p.trails.items w ≡ Some t
   pub left : (k : ℕ) (p q : LoopPiece) → k < i → slice_get old k ≡ Some p → slice_get new k ≡ Some q → HasSameBody p q × (q.trails.items ≡ slice_set p.trails.items w [])
   pub rest : (k : ℕ) → i ≤ k → slice_get new k ≡ slice_get old k
-
-pub none_taken : (w : ℕ) (old : List LoopPiece) → IsTaking w 0 old old []
-none_taken w old = record {
-  many = refl;
-  count = refl;
-  taken = λ k p t a b. absurd (cc);
-  left = λ k p q lt a b. absurd (omega arith);
-  rest = λ k le. refl;
-}
 
 -- what is done to one piece
 pub record IsOneTaken (w : ℕ) (p q : LoopPiece) (t : TrailOf) : Type 0 where

@@ -1,5 +1,5 @@
 -- The watched results whose trails are taken out of the pieces, one result after another.
-use Rattle.std.proofs.Common.{◌≡◌, ℕ, ◌+◌, ◌<◌, ◌≤◌, List, [], ◌∷◌, ◌++◌, length, get_or, Some, refl, sym, ap, ◌∙◌, subst, ⊎_elim, arith, length-append}
+use Rattle.std.proofs.Common.{◌≡◌, ℕ, ◌+◌, ◌<◌, ◌≤◌, List, [], ◌∷◌, ◌++◌, length, get_or, Some, sym, ap, ◌∙◌, subst, ⊎_elim, arith, length-append}
 use Rattle.std.specs.Prelude.{slice_get}
 use Rattle.std.specs.List.{All}
 use Rattle.std.proofs.lemmas.Option.{slice_get-get_or, slice_get_within}
@@ -21,12 +21,6 @@ pub record AreAhead (w : ℕ) (old new : List LoopPiece) : Type 0 where
   pub bodies : HaveSameBodies old new
   pub trails : (k : ℕ) (p q : LoopPiece) → slice_get old k ≡ Some p → slice_get new k ≡ Some q
       → (length q.trails.items ≡ length p.trails.items) × ((i : ℕ) → w ≤ i → slice_get q.trails.items i ≡ slice_get p.trails.items i)
-
-pub all_ahead : (old : List LoopPiece) → AreAhead 0 old old
-all_ahead old = record {
-  bodies = record { many = refl; each = λ k p q a b. (let e : p ≡ q = same_item (slice_get old k) p q a b in record { accs = ap (λ (x : LoopPiece). x.accs.items) (sym e); flow = ap (λ (x : LoopPiece). x.flow) (sym e) }) };
-  trails = λ k p q a b. (let e : p ≡ q = same_item (slice_get old k) p q a b in (ap (λ (x : LoopPiece). length x.trails.items) (sym e), λ i le. ap (λ (x : LoopPiece). slice_get x.trails.items i) (sym e)));
-}
 
 -- the piece between at a place
 between : (old mid : List LoopPiece) (k : ℕ) (p : LoopPiece) → length mid ≡ length old → slice_get old k ≡ Some p → (q : LoopPiece) × (slice_get mid k ≡ Some q)
@@ -83,9 +77,6 @@ module _ (facts : LoopFacts) (places : List ℕ) (dones : List (List ℕ)) where
 pub record AreLinesUpTo (facts : LoopFacts) (places : List ℕ) (sets : List (List ℕ)) (w : ℕ) (all : List (List PartialLine)) : Type 0 where
   pub many : length all ≡ w
   pub each : (i place : ℕ) (lines : List PartialLine) → slice_get places i ≡ Some place → slice_get all i ≡ Some lines → ArePartialLines facts place sets lines
-
-pub no_lines : (facts : LoopFacts) (places : List ℕ) (sets : List (List ℕ)) → AreLinesUpTo facts places sets 0 []
-no_lines facts places sets = record { many = refl; each = λ i place lines a b. absurd (cc) }
 
 pub more_lines : (facts : LoopFacts) (places : List ℕ) (sets : List (List ℕ)) (w place : ℕ) (all now : List (List PartialLine)) (lines : List PartialLine)
     → AreLinesUpTo facts places sets w all → slice_get places w ≡ Some place → ArePartialLines facts place sets lines → now ≡ all ++ lines ∷ [] → AreLinesUpTo facts places sets (w + 1) now

@@ -7,10 +7,6 @@ use Rattle.rdf_model.specs.ResultLines.{cell_line, cell_lines, cell_names, cell_
 use Rattle.result_text.specs.FilledLines.{behind, bin_name, line_at, lines_on, name_at, plane_at, planes_on}
 use Rattle.result_text.proofs.Lists.{drop_whole, map_same, none_left, one_left, put_last, put_next}
 
-pub first_name : (edges : List ℤ) → name_at edges 0 ≡ Some (codes "under")
-first_name [] = refl
-first_name (lo ∷ es) = refl
-
 from_over : (lo : ℤ) (es : List ℤ) → slice_get (cell_names_from lo es) (length es) ≡ Some (codes "over")
 from_over lo [] = refl
 from_over lo (hi ∷ es) = from_over hi es

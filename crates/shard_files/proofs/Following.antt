@@ -1,6 +1,6 @@
 -- What was read so far, line after line: the lines so far begin some shard, and the lines of each shard can be read.
 use Rattle.std.proofs.Common.{◌≡◌, ◌≤◌, ◌<◌, ℕ, Bool, true, false, ◌&&◌, None, Some, List, [], ◌∷◌, ◌++◌, length, map, flat_map, refl, ap, ap₂, ◌∙◌, sym, subst, arith, append_assoc, append-nil, codes, length-append}
-use Rattle.std.specs.Prelude.{◌||◌, if◌then◌else◌, nat_eq, nat_le, nat_lt}
+use Rattle.std.specs.Prelude.{◌||◌, nat_eq, nat_le, nat_lt}
 use Rattle.std.specs.List.{list_all}
 use Rattle.std.proofs.lemmas.Bool.Decides.{nat_tests}
 use Rattle.rdf_values.specs.Names.{is_name}
@@ -330,9 +330,3 @@ begin_at at.Ended p h = record { shard = shard_of p; valid = revalid p p.loops h
 
 pub begins : (p : Progress) → IsProgress p → Begins (lines_so_far p)
 begins p h = begin_at p.stage p h
-
--- where the end was read, the lines are those of the shard
-pub ended_lines : (p : Progress) → p.stage ≡ at.Ended → IsProgress p → IsShard (shard_of p) × (file_lines (shard_of p) ≡ lines_so_far p)
-ended_lines p s h =
-    let held : Holds at.Ended p = subst (λ (t : Stage). Holds t p) s h in
-    (revalid p p.loops held.0 held.1, parts p p.loops ∙ sym (ap (λ (t : Stage). lines_at t p) s))

@@ -48,10 +48,6 @@ first_of-assoc : (a b c : Option Fault) → first_of (first_of a b) c ≡ first_
 first_of-assoc None b c = refl
 first_of-assoc (Some f) b c = refl
 
-first_of-none : (a : Option Fault) → first_of a None ≡ a
-first_of-none None = refl
-first_of-none (Some f) = refl
-
 pub first_in-append : (xs ys : List (Option Fault)) → first_in (xs ++ ys) ≡ first_of (first_in xs) (first_in ys)
 first_in-append [] ys = refl
 first_in-append (None ∷ xs) ys = first_in-append xs ys

@@ -62,9 +62,6 @@ module _ (rows : List (List Value)) (lo e : ℕ) (low : lo ≤ e) (lt : e < leng
       let r = take_more (drop lo rows) (e - lo) (hi - lo) [] (omega (arith, low, up)) (omega (arith, low, up, most, n)) in
       (r.0, r.1 ∙ ap (λ x. slice_range rows lo e ++ x ∷ r.0) at_row)
 
-pub range_none : {A : Type 0} (rows : List A) (lo : ℕ) → slice_range rows lo lo ≡ []
-range_none rows lo = let e : lo - lo ≡ 0 = omega arith in ap (λ k. take k (drop lo rows)) e
-
 -- ---- what an entry gives
 
 one_text : (kept : Option (List Value)) → entries_text (cons_option kept []) ≡ kept_text kept
@@ -74,12 +71,6 @@ one_text (Some cells) = append-nil (entry_text cells)
 module _ (p : PlanView) (d : Dataset) (lo : ℕ) where
   abbrev pub So_far : ℕ → List (List Value)
   So_far e = slice_range d.rows lo e
-
-  pub none_yet : (text : List ℕ) → (snapshot_fault p d lo (So_far lo) ≡ None) × (text ≡ text ++ entries_text (snapshot_entries p d (So_far lo)))
-  none_yet text = (
-    ap (snapshot_fault p d lo) (range_none d.rows lo),
-    sym (append-nil text) ∙ ap (λ l. text ++ entries_text (snapshot_entries p d l)) (sym (range_none d.rows lo)),
-  )
 
   module _ (e : ℕ) (low : lo ≤ e) (lt : e < length d.rows) (none : snapshot_fault p d lo (So_far e) ≡ None) where
     pub next_entry : (kept : Option (List Value)) (first before after : List ℕ) → outcome_at p d e ≡ Gives kept → before ≡ first ++ entries_text (snapshot_entries p d (So_far e)) → after ≡ before ++ kept_text kept

@@ -113,11 +113,6 @@ module _ (p : PlanView) (d : Dataset) where
   abbrev table : TableView
   table = record { columns = plan_columns p; rows = snapshot_entries p d d.rows }
 
-  pub run_stopped : (s : SnapStop) → AreRecords p d (Err s) → IsRun p d (Err s)
-  run_stopped (stop.Fault entry kind) h = ap (unless_fault table) h
-  run_stopped (stop.TooLong bytes) h = absurd h
-  run_stopped stop.Memory h = tt
-
   pub is_run : (texts : List (List ℕ)) (r : Result (List ℕ) SnapStop) → AreRecords p d (Ok texts) → IsTogether (header_text (plan_columns p) ++ flat_map (λ t. t) texts) r → IsRun p d r
   is_run texts (Ok text) h t =
       let whole : header_text (plan_columns p) ++ flat_map (λ t. t) texts ≡ table_text table = ap (λ l. header_text (plan_columns p) ++ l) h.1 in

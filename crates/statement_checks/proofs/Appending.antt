@@ -25,7 +25,3 @@ module _ (header : List Column) (names : FunctionNames) (before : List Statement
       → OnOk r (Appends header names before node (all_expressions lists) mid new) → OnOk r (Appends header names before node (all_expressions all) old new)
   appends_lists (Ok u) es lists all old mid new is a b = subst (λ (ls : List (List NamedTree)). Appends header names before node (all_expressions ls) old new) (sym is) (appends_both es (all_expressions lists) old mid new a b)
   appends_lists (Err e) es lists all old mid new is a b = tt
-
-  -- what was appended to nothing
-  pub of_nothing : (es : List NamedTree) (new : List CheckedExpr) → Appends header names before node es [] new → AllCheckedAt header names before node es new
-  of_nothing es new a = subst (AllCheckedAt header names before node es) (sym a.appended) a.each

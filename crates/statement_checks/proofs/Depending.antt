@@ -1,5 +1,5 @@
 -- A column, a site and a result depend on a variation exactly where their sets have its number.
-use Rattle.std.proofs.Common.{◌≡◌, ℕ, zero, suc, ◌+◌, Bool, true, false, ◌&&◌, ◌||◌, List, [], ◌∷◌, ◌++◌, map, length, Option, Some, None, option_map, Ok, slice_get, if◌then◌else◌, refl, sym, ◌∙◌, ap, subst, arith}
+use Rattle.std.proofs.Common.{◌≡◌, ℕ, zero, suc, ◌+◌, Bool, true, false, ◌&&◌, ◌||◌, List, [], ◌∷◌, ◌++◌, map, length, Option, Some, None, option_map, Ok, slice_get, refl, sym, ◌∙◌, ap, subst, arith}
 use Rattle.std.specs.List.{list_any}
 use Rattle.std.proofs.lemmas.List.{length-append, length-map}
 use Rattle.rdf_values.specs.Depends.{columns_in, columns_in_all, named_depends, column_depends, site_depends, is_own}
@@ -20,7 +20,6 @@ use Rattle.rdf_model.proofs.KnownColumns.{IsKnownColumn, known_columns, each_wea
 use Rattle.graph_numbers.specs.Graphs.{holds_at}
 use Rattle.graph_numbers.specs.Versions.{column_place, own_columns, own_version, version_or, version_count, named_version, version_at}
 use Rattle.graph_numbers.proofs.Listed.{kept_at, next_at}
-use Rattle.graph_numbers.proofs.Extending.{Extends, itself, further}
 use Rattle.statement_checks.specs.Dependence.{Numbers, depends_at, is_among_own, expression_set, varied_set, own_version_sets, version_sets}
 use Rattle.statement_checks.proofs.Listing.{any_map, any_append}
 use Rattle.statement_checks.proofs.Telling.{Tells}
@@ -122,10 +121,6 @@ module _ (header : List Column) (names : FunctionNames) (v : ℕ) (w : Variation
 
   has_further : (before : List Statement) (s : Statement) (c : ℕ) (b : Bool) → HasSet before c b → HasSet (s ∷ before) c b
   has_further before s c b h = (h.0, kept_at (version_sets header names before) (own_version_sets header names before (version_sets header names before) s) c h.0 h.1, h.2)
-
-  pub has_later : (before after : List Statement) → Extends before after → (c : ℕ) (b : Bool) → HasSet before c b → HasSet after c b
-  has_later before after itself c b h = h
-  has_later before after (further {after = later} s e) c b h = has_further later s c b (has_later before later e c b h)
 
   pub set_is : (before : List Statement) (c : ℕ) (b : Bool) → HasSet before c b → b ≡ depends_at (version_sets header names before) c v
   set_is before c b h = h.2 ∙ ap (holds_at (λ (d : Numbers). d v)) (sym h.1)

@@ -1,8 +1,8 @@
 -- A scope of the columns of an expression means what the node's columns do.
-use Rattle.std.proofs.Common.{◌≡◌, ℕ, zero, suc, ◌<◌, Bool, true, false, ◌||◌, List, [], ◌∷◌, ◌++◌, All, length, Some, Result, Ok, Err, OnOk, IfOk, IfErr, refl, sym, ◌∙◌, ap, subst, arith, slice_get, if◌then◌else◌, nat_eq}
+use Rattle.std.proofs.Common.{◌≡◌, ℕ, zero, suc, ◌<◌, Bool, true, false, ◌||◌, List, [], ◌∷◌, ◌++◌, All, length, Some, Result, Ok, Err, OnOk, IfOk, IfErr, refl, sym, ◌∙◌, ap, subst, arith, slice_get, nat_eq}
 use Rattle.std.specs.List.{AllByRecursion}
 use Rattle.std.proofs.lemmas.Bool.Decides.{Decides-eqb}
-use Rattle.std.proofs.lemmas.List.Elements.{All-push, All-nil, All-weaker, recursion_from_All}
+use Rattle.std.proofs.lemmas.List.Elements.{All-push, All-weaker, recursion_from_All}
 use Rattle.rdf_values.specs.Depends.{columns_in, columns_in_all}
 use Rattle.rdf_values.specs.EachColumn.{EachColumn, EachArgument}
 use Rattle.rdf_values.specs.Kinds.{FunctionNames, Scope, Shape, scope_of, column_kind, kind_of, kind_by, kinds_by, shape_of, ◌>>=◌, operator_kind, negated_kind, inverted_kind, chosen_kind, picked_kind, args_count, result_kind}
@@ -129,11 +129,6 @@ module _ (header : List Column) (names : FunctionNames) (before : List Statement
       go (Ok t) q = s.means name t q
       go (Err c) q = record { kind = only_unknown (kinds_in scope) name c q ∙ sym h; number = λ t k. cc (sym h ∙ k) }
 
-  -- nor for one that is there
-  pub noted_there : (scope : List ScopeColumn) → IsScopeAt header names before node kinds scope → (name : List ℕ) (t : ColType) → column_kind (kinds_in scope) name ≡ Ok t
-      → AreNoted header names before node kinds scope scope (name ∷ [])
-  noted_there scope s name t h = record { scope = s; kept = λ x a. a; each = (s.means name t h, tt) }
-
   same_known : (r : Result ColType GraphCause) (t u : ColType) → r ≡ Ok t → r ≡ Ok u → t ≡ u
   same_known (Ok s) t u p q = let a : s ≡ t = cc p in let b : s ≡ u = cc q in sym a ∙ b
   same_known (Err c) t u p q = cc p
@@ -167,20 +162,6 @@ module _ (header : List Column) (names : FunctionNames) (before : List Statement
   noted_end (Ok u) scope new s name t n unknown f h =
       subst (λ (xs : List ScopeColumn). AreNoted header names before node kinds scope xs (name ∷ [])) (sym h) (noted_added scope s (record { name = name; kind = t; number = n }) unknown f)
   noted_end (Err e) scope new s name t n unknown f h = tt
-
-  weaker_by_recursion : (P Q : List ℕ → Type 0) → ((x : List ℕ) → P x → Q x) → (xs : List (List ℕ)) → AllByRecursion P xs → AllByRecursion Q xs
-  weaker_by_recursion P Q f [] h = tt
-  weaker_by_recursion P Q f (x ∷ xs) h = (f x h.0, weaker_by_recursion P Q f xs h.1)
-
-  pub noted_none : (scope : List ScopeColumn) → IsScopeAt header names before node kinds scope → AreNoted header names before node kinds scope scope []
-  noted_none scope s = record { scope = s; kept = λ x a. a; each = tt }
-
-  pub noted_more : (old mid new : List ScopeColumn) (x : List ℕ) (xs : List (List ℕ)) → AreNoted header names before node kinds old mid (x ∷ []) → AreNoted header names before node kinds mid new xs
-      → AreNoted header names before node kinds old new (x ∷ xs)
-  noted_more old mid new x xs a b = record { scope = b.scope; kept = λ y h. b.kept y (a.kept y h); each = (b.kept x a.each.0, b.each) }
-
-  pub no_scope : IsScopeAt header names before node kinds []
-  no_scope = record { own = All-nil _; means = λ x t h. cc h }
 
 -- ---- expressions
 

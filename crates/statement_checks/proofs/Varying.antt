@@ -1,11 +1,8 @@
 -- Steps of the look-ups of variations.
-use Rattle.std.proofs.Common.{◌≡◌, ℕ, ◌+◌, Bool, true, false, ◌||◌, List, [], ◌∷◌, ◌++◌, length, Option, Some, None, Result, Ok, Err, refl, sym, ◌∙◌, ap, subst, map, nat_eq}
-use Rattle.std.specs.List.{list_any}
-use Rattle.std.proofs.lemmas.List.{length-append}
-use Rattle.rdf_values.specs.Names.{same}
-use Rattle.rdf_values.specs.Path.{Variation, own_variations, variations}
+use Rattle.std.proofs.Common.{◌≡◌, ℕ, ◌+◌, Bool, true, false, ◌||◌, List, [], ◌∷◌, ◌++◌, Option, Some, None, Result, Ok, Err, refl, sym, ◌∙◌, ap, subst, map, nat_eq}
+use Rattle.rdf_values.specs.Path.{variations}
 use Rattle.rdf_values.specs.Kinds.{FunctionNames, Scope, same_kind}
-use Rattle.rdf_values.specs.Verdict.{is_variation_name, check_target, expect_kind, first_refusal, refusal_in, refuse_unless, scope_at}
+use Rattle.rdf_values.specs.Verdict.{check_target, expect_kind, first_refusal, refusal_in, refuse_unless, scope_at}
 use Rattle.rdf_values.specs.Path.{path}
 use Rattle.rdf_values.specs.declared.value.ColType.{ColType}
 use Rattle.rdf_values.specs.declared.graph_cause.GraphCause.{GraphCause}
@@ -14,20 +11,6 @@ use Rattle.statement_checks.specs.Checks.{IsStop, Decides, targets_at}
 use Rattle.statement_checks.specs.declared.stop.Stop.{Stop}
 use Rattle.statement_checks.specs.declared.stop.Stop.TheVariants as stop
 use Rattle.rdf_values.specs.declared.statement.Statement.{Statement}
-
-pub count_step : (before : List Statement) (s : Statement) → length (variations (s ∷ before)) ≡ length (variations before) + length (own_variations s)
-count_step before s = length-append (variations before) (own_variations s)
-
-any_both : {A : Type 0} (p : A → Bool) (xs ys : List A) → list_any p (xs ++ ys) ≡ (list_any p xs || list_any p ys)
-any_both p [] ys = refl
-any_both p (x ∷ xs) ys = go (p x) (any_both p xs ys)
-  where
-    go : (b : Bool) → list_any p (xs ++ ys) ≡ (list_any p xs || list_any p ys) → (b || list_any p (xs ++ ys)) ≡ ((b || list_any p xs) || list_any p ys)
-    go true e = refl
-    go false e = e
-
-pub name_step : (before : List Statement) (s : Statement) (name : List ℕ) → is_variation_name (s ∷ before) name ≡ (is_variation_name before name || list_any (λ (v : Variation). same v.name name) (own_variations s))
-name_step before s name = any_both (λ (v : Variation). same v.name name) (variations before) (own_variations s)
 
 pub kind_is : (t s : ColType) (k : Result ColType GraphCause) → k ≡ Ok s → (b : Bool) → b ≡ same_kind s t → b ≡ true → expect_kind t k ≡ None
 kind_is t s k h b e q = ap (expect_kind t) h ∙ ap (λ c. refuse_unless c cause.WrongType) (sym e ∙ q)

@@ -25,12 +25,6 @@ partly_joined (suc i) [] more = []
 partly_joined (suc i) (x ∷ xs) [] = x ∷ xs
 partly_joined (suc i) (x ∷ xs) (y ∷ more) = cells_joined x y ∷ partly_joined i xs more
 
-pub length-partly_joined : (i : ℕ) (xs more : List Cells) → length (partly_joined i xs more) ≡ length xs
-length-partly_joined zero xs more = refl
-length-partly_joined (suc i) [] more = refl
-length-partly_joined (suc i) (x ∷ xs) [] = refl
-length-partly_joined (suc i) (x ∷ xs) (y ∷ more) = ap suc (length-partly_joined i xs more)
-
 joined_set : (i : ℕ) (xs more : List Cells) (x y : Cells) → i < length xs → i < length more
     → set (partly_joined i xs more) i (cells_joined (get_or (partly_joined i xs more) i x) (get_or more i y)) ≡ partly_joined (suc i) xs more
 joined_set i [] more x y h l = absurd (omega arith)

@@ -1,5 +1,5 @@
 -- The course of a run, and its whole text.
-use Rattle.std.proofs.Common.{◌≡◌, ℕ, zero, suc, ◌+◌, ◌<◌, ◌≤◌, Bool, true, false, List, [], ◌∷◌, drop, length, Option, Some, None, refl, sym, ◌∙◌, ap, ap₂, subst, arith, append-nil, add-one, if◌then◌else◌}
+use Rattle.std.proofs.Common.{◌≡◌, ℕ, zero, suc, ◌+◌, ◌<◌, ◌≤◌, Bool, true, false, List, [], ◌∷◌, drop, length, Option, Some, None, refl, sym, ◌∙◌, ap, ap₂, subst, arith, append-nil, add-one}
 use Rattle.std.specs.Prelude.{slice_get}
 use Rattle.std.proofs.lemmas.List.{length-map}
 use Rattle.std.proofs.lemmas.Option.{slice_get_within}
@@ -79,14 +79,8 @@ IsSoFar s0 s text n =
     (course : Course) → FitsCourse s course
     → in_front_of text (printed (history s0.graph.script) s0.dataset course (drop n (accesses (history s0.graph.script)))) ≡ printed (history s0.graph.script) s0.dataset course (accesses (history s0.graph.script))
 
-pub none_so_far : (s0 s : SessionView) (text : List ℕ) → text ≡ [] → IsSoFar s0 s text 0
-none_so_far s0 s text e course fits = ap (λ (t : List ℕ). in_front_of t (printed (history s0.graph.script) s0.dataset course (accesses (history s0.graph.script)))) e
-
 pub parts_further : (s0 old new : SessionView) → HasSameParts s0 old → HasSameParts old new → HasSameParts s0 new
 parts_further s0 old new h k = record { graph = k.graph ∙ h.graph; dataset = k.dataset ∙ h.dataset; cuts = k.cuts ∙ h.cuts; slots = k.slots ∙ h.slots; watch = k.watch ∙ h.watch }
-
-pub same_parts : (s : SessionView) → HasSameParts s s
-same_parts s = record { graph = refl; dataset = refl; cuts = refl; slots = refl; watch = refl }
 
 one_left : (xs : List Access) (n : ℕ) (x : Access) → slice_get xs n ≡ Some x → drop n xs ≡ x ∷ drop (n + 1) xs
 one_left [] n x at = absurd (cc)

@@ -1,5 +1,5 @@
 -- What one Print adds to a text.
-use Rattle.std.proofs.Common.{◌≡◌, ℕ, zero, suc, ◌<◌, Bool, true, false, List, [], ◌∷◌, ◌++◌, length, filter, Option, Some, None, refl, sym, ◌∙◌, ap, ap₂, subst, arith, if◌then◌else◌, append-nil, append_assoc}
+use Rattle.std.proofs.Common.{◌≡◌, ℕ, zero, suc, ◌<◌, Bool, true, false, List, [], ◌∷◌, ◌++◌, length, filter, Option, Some, None, refl, sym, ◌∙◌, ap, ap₂, subst, arith, append-nil, append_assoc}
 use Rattle.std.specs.Prelude.{IfSome, flat_map, option_map, slice_get, unwrap_or}
 use Rattle.std.proofs.lemmas.List.{length-map}
 use Rattle.std.proofs.lemmas.Option.{slice_get-map, slice_get_within}
@@ -9,9 +9,8 @@ use Rattle.rdf_values.specs.Path.{history}
 use Rattle.rdf_values.specs.declared.fault.Fault.{Fault}
 use Rattle.rdf_model.specs.Loops.{Access, accesses, loop_passes, loop_results}
 use Rattle.rdf_model.specs.PartialResults.{Course}
-use Rattle.rdf_model.specs.ResultLines.{fault_line}
-use Rattle.rdf_model.specs.Results.{Dataset, first_fault}
-use Rattle.rdf_model.specs.Transcript.{Printed, access_passes, access_printed, in_front_of, named_lines, result_lines}
+use Rattle.rdf_model.specs.Results.{Dataset}
+use Rattle.rdf_model.specs.Transcript.{Printed, access_printed, in_front_of, named_lines, result_lines}
 use Rattle.rdf_model.proofs.Accepted.{names_equal}
 use Rattle.rdf_model.proofs.Faults.{first_fault_is_least}
 use Rattle.graph_numbers.specs.Graphs.{GraphView, graph_loops, graph_prints, graph_results}
@@ -21,14 +20,13 @@ use Rattle.graph_numbers.proofs.Extending.{itself as all_of_it}
 use Rattle.graph_numbers.proofs.Resulting.{booked_are}
 use Rattle.loop_keys.specs.Jobs.{passes_in}
 use Rattle.event_loop.specs.declared.end.FilledLoop.{FilledLoop}
-use Rattle.result_text.specs.FilledLines.{passes_at}
-use Rattle.lazy_loop.specs.Sessions.{HasSameParts, IsAccessed, IsFaulted, IsFilledIn, IsKept, IsSession, SessionView, session_job}
+use Rattle.lazy_loop.specs.Sessions.{HasSameParts, IsAccessed, IsFilledIn, IsKept, IsSession, SessionView, session_job}
 use Rattle.lazy_loop.specs.declared.kept.Kept.{Kept}
 use Rattle.lazy_loop.proofs.Decoding.{booked_row, decoded}
 use Rattle.lazy_loop.proofs.Filling.{many, one_number}
 use Rattle.lazy_loop.proofs.Found.{in_turn}
 use Rattle.lazy_loop.proofs.Printed.{place_at}
-use Rattle.transcripts.specs.Turns.{EndsAt, FitsCourse, GoesOn}
+use Rattle.transcripts.specs.Turns.{FitsCourse, GoesOn}
 
 same_some : {A : Type 0} {a b : A} → ◌≡◌ {A = Option A} (Some a) (Some b) → a ≡ b
 same_some q = cc
@@ -165,19 +163,3 @@ fault_pass new l f is e ps at =
     let own = length-map (loop_passes (history new.graph.script) results.0) (λ (q : Pass). Some q) in
     let its = ap (λ (o : Option (List Booked)). length (loop_passes (history new.graph.script) (unwrap_or o []))) results.1 in
     omega (arith, within, numbered, same_length, own, its)
-
-pub ends_at : (old new : SessionView) (print l : ℕ) (f : Fault) (before after : List ℕ) → IsSession new → HasSameParts old new → IsFaulted old new print l f → old.fault ≡ None → after ≡ before ++ fault_line (passes_at new.graph l) f → EndsAt old before after print
-ends_at old new print l f before after is parts faulted sound added = record {
-  lines = λ course a rest at. (
-      let kept = kept_is new l f is faulted.fault in
-      let its : loop_passes (history old.graph.script) (unwrap_or (slice_get (loop_results (history old.graph.script)) l) []) ≡ loop_passes (history old.graph.script) (unwrap_or a.fills []) =
-      ap (λ (o : Option (List Booked)). loop_passes (history old.graph.script) (unwrap_or o [])) (faulted.ran a at sound) in
-      let first : first_fault old.dataset (access_passes (history old.graph.script) old.dataset course a) ≡ Some f =
-      ap (first_fault old.dataset) (sym its)
-      ∙ ap₂ (λ (g : GraphView) (d : Dataset). first_fault d (loop_passes (history g.script) (unwrap_or (slice_get (loop_results (history g.script)) l) []))) (sym parts.graph) (sym parts.dataset) ∙ kept.first in
-      let line : fault_line (passes_at new.graph l) f ≡ fault_line (access_passes (history old.graph.script) old.dataset course a) f =
-      ap (λ (g : GraphView). fault_line (passes_at g l) f) parts.graph ∙ ap (λ (ps : List Pass). fault_line ps f) its in
-      ap (λ (o : Option Fault). in_front_of before (access_printed (history old.graph.script) old.dataset course a o rest)) first
-      ∙ ap (λ (b : List ℕ). record { bytes = b; status = 8 }) (ap (λ (t : List ℕ). before ++ t) (sym line) ∙ sym added)
-      );
-}
