@@ -4,6 +4,7 @@ use Rattle.std.specs.Prelude.{Contains, count_by}
 use Rattle.std.proofs.lemmas.Bool.{cases_eq, ltb-true}
 use Rattle.std.proofs.lemmas.List.Elements.{All-contains}
 use Rattle.std.proofs.lemmas.Option.{slice_get_within}
+use Rattle.lemmas.proofs.Places.{something_at}
 use Rattle.rdf_values.specs.declared.fault.EntryFault.{EntryFault}
 use Rattle.rdf_values.specs.declared.value.Value.{Value}
 use Rattle.rdf_model.specs.Evaluation.{Outcome, Gives, Faults, Needs}
@@ -20,7 +21,6 @@ use Rattle.block_lanes.specs.Lanes.{LaneView, is_held, is_tried}
 use Rattle.loop_keys.specs.Jobs.{JobView, job_graph}
 use Rattle.loop_keys.specs.Keys.{key, key_count, keys_before, slot_at}
 use Rattle.loop_keys.specs.Store.{IsMissingSource, IsSiteOf, held_in, is_held as has_held, source_at}
-use Rattle.loop_keys.proofs.FillLaws.{there}
 use Rattle.loop_keys.proofs.KeyLaws.{key_below}
 use Rattle.block_cache.specs.Blocks.{AreReady, IsTelling, IsTriedOver, cells_at}
 use Rattle.block_cache.specs.Faults.{IsLeastFault, fault_of}
@@ -35,7 +35,7 @@ use Rattle.block_cache.proofs.StopLists.{stop_there, stop_told, told_stop}
 -- a lower site has a lower key
 pub key_lower : (g : GraphView) (t s : ℕ) (w u : Option ℕ) → t < s → s < length (graph_sites g) → key g t w < key g s u
 key_lower g t s w u low inside =
-    let x = there (graph_sites g) t (omega (arith, low, inside)) in
+    let x = something_at (graph_sites g) t (omega (arith, low, inside)) in
     let l = key_below (graph_variations g) (graph_sites g) t s x.0 w x.1 low in
     let p = ap (λ o. keys_before (graph_variations g) (graph_sites g) t + slot_at (graph_variations g) o w) x.1 in
     omega (arith, l, p)
@@ -156,7 +156,7 @@ module _
         let told : IsTelling j (first + p) u (cells_at keys (take own_key before) p) s (Needs c) = subst (λ (o : Outcome ℕ Value). IsTelling j (first + p) u (cells_at keys (take own_key before) p) s o) is (t.telling p near) in
         let m = missing_site j u s (take own_key before) p (source_at j u c) told.0.1 in
         record {
-          there = told.0.0;
+          something_at = told.0.0;
           site = m.0;
           source = m.1;
           lower = m.2;
@@ -225,7 +225,7 @@ place_inside j first u count s group left before new old more none t low x insid
     let joined = subst (λ (l : List Stopped). IsJoined l (stops_in t.told group) more) none t.evaluated.joined in
     low x.place (stop_told t.told group more joined x inside).0
 
--- with the stops that there were, none
+-- with the stops that something_at were, none
 pub attempted_from : (j : JobView) (first : ℕ) (u : Option ℕ) (count s : ℕ) (inside : s < length (graph_sites (job_graph j))) (group left : List ℕ) (before new : List LaneView) (old more seen : List Stopped) → old ≡ [] → seen ≡ more → IsTriedOver j first u count s group left before new old more
     → EachPlace group (λ p. p < count) → EachPlace group (λ p. holds_at before (key (job_graph j) s u) p ≡ false) → (found : Option PlaceFault) → IsLeastFault seen found → (needs noted : List ℕ)
     → ((p c : ℕ) → Contains seen (stopped p (Need c)) → ((x : Stopped) → Contains seen x → x.place ≡ p → x.stop ≡ Need c) → need_at noted p ≡ c) → ((p : ℕ) → ((x : Stopped) → Contains seen x → x.place ≡ p → ⊥) → need_at noted p ≡ need_at needs p)

@@ -5,6 +5,7 @@ use Rattle.std.specs.List.{filter}
 use Rattle.std.proofs.lemmas.Bool.{cases_lt, lt-ltb, ltb-true}
 use Rattle.std.proofs.lemmas.Bool.Decides.{Decides-eqb}
 use Rattle.std.proofs.lemmas.List.Sums.{length-filter, sum_by-cons}
+use Rattle.lemmas.proofs.Booleans.{not_true}
 use Rattle.rdf_values.specs.declared.fault.EntryFault.{EntryFault}
 use Rattle.rdf_values.specs.declared.memory.Memory.{Memory}
 use Rattle.rdf_values.specs.declared.value.Value.{Value}
@@ -31,10 +32,6 @@ use Rattle.block_cache.proofs.Members.{below_among, below_in, below_low, below_s
 use Rattle.block_cache.proofs.MetFaults.{met_fault}
 
 -- ---- small things
-
-not_true : (b : Bool) → not b ≡ true → b ≡ false
-not_true true h = cc h
-not_true false h = refl
 
 true_not : (b : Bool) → b ≡ false → not b ≡ true
 true_not b h = ap not h

@@ -14,6 +14,7 @@ use Rattle.expr_lanes.specs.Values.{HasValues}
 use Rattle.expr_lanes.specs.declared.stopped.Stopped.{Stopped}
 use Rattle.expr_lanes.proofs.Sequence.{filtered_in, filtered_out, first_in, rest_in}
 use Rattle.std.proofs.lemmas.Bool.{cases_lt}
+use Rattle.lemmas.proofs.Booleans.{left_false, never_true, or_fails, right_false}
 use Rattle.block_lanes.proofs.Marking.{count_none}
 use Rattle.expr_lanes.specs.declared.TheConstants.{MAX_PLACES}
 use Rattle.block_lanes.specs.Lanes.{LaneView, IsEvaluated, IsLane, IsUnknown, room_of}
@@ -65,24 +66,6 @@ scalar_there kinds.Vect vectors z scalar = cc scalar
 number_is : (y z : ℤ) → ◌≡◌ {A = Outcome ℕ ℤ} (Gives y) (Gives z) → y ≡ z
 number_is y z e = cc e
 
-pub first_false : (a b : Bool) → (a || b) ≡ false → a ≡ false
-first_false true b h = h
-first_false false b h = refl
-
-pub last_false : (a b : Bool) → (a || b) ≡ false → b ≡ false
-last_false true b h = absurd (cc h)
-last_false false b h = h
-
-pub neither : (a b : Bool) → a ≡ false → b ≡ false → (a || b) ≡ false
-neither a b h k = ap (λ c. c || b) h ∙ k
-
-pub either_held : (a b : Bool) → a ≡ true → (a || b) ≡ true
-either_held a b h = ap (λ c. c || b) h
-
-pub outside : (a : Bool) → (a ≡ true → ⊥) → a ≡ false
-outside true h = absurd (h refl)
-outside false h = refl
-
 module _
     (f : ℕ → Outcome ℕ Value) (sel left : List ℕ) (kind : ColType) (count : ℕ) (numbers0 numbers : List ℤ) (vectors : List (List ℤ)) (scalar : is_vector kind ≡ false) (tried0 tried held0 held : List Bool)
     (tried_at : (p : ℕ) → is_marked tried p ≡ (is_in p sel || is_marked tried0 p)) (held_at : (p : ℕ) → is_marked held p ≡ (is_in p left || is_marked held0 p))
@@ -101,10 +84,10 @@ module _
       tried = long_tried ∙ lane.tried ∙ sym long;
       held = long_held ∙ lane.held ∙ sym long;
       within = omega (arith, lane.within);
-      behind = λ p far. tried_at p ∙ neither (is_in p sel) (is_marked tried0 p) (outside (is_in p sel) (λ i. let near : p < count = inside p i in omega arith)) (lane.behind p far);
+      behind = λ p far. tried_at p ∙ or_fails (is_in p sel) (is_marked tried0 p) (never_true (is_in p sel) (λ i. let near : p < count = inside p i in omega arith)) (lane.behind p far);
       begun = λ p none.
           let no : (is_in p sel || is_marked tried0 p) ≡ false = sym (tried_at p) ∙ none in
-          held_at p ∙ neither (is_in p left) (is_marked held0 p) (ap (λ l. is_in p l) come.left_in ∙ filtered_out (λ p. is_given (f p)) p sel (first_false (is_in p sel) (is_marked tried0 p) no)) (lane.begun p (last_false (is_in p sel) (is_marked tried0 p) no));
+          held_at p ∙ or_fails (is_in p left) (is_marked held0 p) (ap (λ l. is_in p l) come.left_in ∙ filtered_out (λ p. is_given (f p)) p sel (left_false (is_in p sel) (is_marked tried0 p) no)) (lane.begun p (right_false (is_in p sel) (is_marked tried0 p) no));
       exact = λ _ p is. ap lane_number (scalar_value kind vectors (at_place numbers p) scalar) ∙ exact_at p (is_in p left) refl (is_in p sel) refl (sym (held_at p) ∙ is);
       there = λ p is. scalar_there kind vectors (at_place numbers p) scalar;
     }

@@ -3,16 +3,7 @@ use Rattle.std.proofs.Common.{◌≡◌, ℕ, zero, suc, ◌+◌, ◌<◌, ◌�
 use Rattle.std.specs.Prelude.{flat_map, slice_get, Some}
 use Rattle.std.specs.List.{filter, range_with_len}
 use Rattle.std.proofs.lemmas.Bool.Decides.{Decides-ltb}
-
-lt_true : (a b : ℕ) → a < b → nat_lt a b ≡ true
-lt_true a b h = (Decides-ltb a b).1 h
-
-lt_false : (a b : ℕ) → b ≤ a → nat_lt a b ≡ false
-lt_false a b h = go (nat_lt a b) refl
-  where
-    go : (t : Bool) → nat_lt a b ≡ t → nat_lt a b ≡ false
-    go true q = let l = (Decides-ltb a b).0 q in absurd (omega (arith, l, h))
-    go false q = q
+use Rattle.lemmas.proofs.Orders.{lt_false, lt_true}
 
 -- ---- filters
 

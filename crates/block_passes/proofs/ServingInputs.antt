@@ -2,6 +2,7 @@
 use Rattle.std.proofs.Common.{◌≡◌, ℕ, ◌+◌, ◌<◌, Bool, true, false, ◌&&◌, List, [], ◌∷◌, Option, None, Some, refl, sym, ◌∙◌, ap, subst, arith, nat_lt, ℤ, length}
 use Rattle.std.specs.List.{filter, AllByRecursion}
 use Rattle.std.proofs.lemmas.Bool.Decides.{Decides-ltb}
+use Rattle.lemmas.proofs.Booleans.{and_true, both_true}
 use Rattle.rdf_values.specs.declared.fault.EntryFault.{EntryFault}
 use Rattle.rdf_values.specs.declared.value.ColType.{ColType}
 use Rattle.rdf_values.specs.declared.value.Value.{Value}
@@ -32,14 +33,6 @@ use Rattle.block_passes.proofs.Parts.{inputs_fault as all_fault}
 use Rattle.block_passes.proofs.PlaceLists.{filter_twice}
 use Rattle.block_passes.proofs.Searching.{both_lower, lowers_as, none_lowers, or_else}
 use Rattle.block_passes.proofs.Spending.{known_is}
-
-and_true : (b : Bool) → (b && true) ≡ b
-and_true true = refl
-and_true false = refl
-
-both_true : (a b : Bool) → (a && b) ≡ true → (a ≡ true) × (b ≡ true)
-both_true true b h = (refl, h)
-both_true false b h = cc h
 
 -- what is held stays so
 pub still_held : (j : JobView) (first count : ℕ) (before after : List LaneView) (start end : ℕ) → Spends j first count before after start end → (k p : ℕ) → holds_at before k p ≡ true → holds_at after k p ≡ true

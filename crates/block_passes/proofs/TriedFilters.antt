@@ -3,6 +3,7 @@ use Rattle.std.proofs.Common.{◌≡◌, ◌⊎◌, inl, inr, ℕ, zero, suc, �
 use Rattle.std.specs.List.{list_any}
 use Rattle.std.proofs.lemmas.Bool.Decides.{Decides-eqb}
 use Rattle.std.proofs.lemmas.Option.{slice_get_within}
+use Rattle.lemmas.proofs.Places.{any_at}
 use Rattle.rdf_values.specs.Bookings.{ActionAt, ReportOn}
 use Rattle.rdf_values.specs.declared.action.ActionKind.{ActionKind}
 use Rattle.rdf_values.specs.declared.fault.EntryFault.{EntryFault}
@@ -38,15 +39,6 @@ or_else_same None b = refl
 or_else_same (Some k) b = refl
 
 -- ---- covered filters
-
-or_true : (b : Bool) → (b || true) ≡ true
-or_true true = refl
-or_true false = refl
-
-any_at : {A : Type 0} (g : A → Bool) (xs : List A) (n : ℕ) (x : A) → slice_get xs n ≡ Some x → g x ≡ true → list_any g xs ≡ true
-any_at g [] n x e h = cc e
-any_at g (y ∷ ys) zero x e h = let same : y ≡ x = cc e in ap (λ b. b || list_any g ys) (ap g same ∙ h)
-any_at g (y ∷ ys) (suc n) x e h = ap (λ b. g y || b) (any_at g ys n x e h) ∙ or_true (g y)
 
 module _ (j : JobView) (job : IsJob j) (f : ℕ) (covered : IsCovered j f) where
   covering : is_covering (graph_results (job_graph j)) f covered.numbered ≡ true

@@ -6,6 +6,7 @@ use Rattle.std.specs.List.{AllByRecursion, list_all}
 use Rattle.std.proofs.lemmas.List.{length-append, length-map, map-append}
 use Rattle.std.proofs.lemmas.List.Elements.{All-from_recursion}
 use Rattle.std.proofs.lemmas.Slice.Eq.{bytes_eq-Decides}
+use Rattle.lemmas.proofs.Booleans.{both_true}
 use Rattle.rdf_values.specs.Functions.{Function, fn_names}
 use Rattle.rdf_values.specs.Names.{is_name, same}
 use Rattle.rdf_values.specs.Path.{history}
@@ -55,10 +56,6 @@ use Rattle.chain_program.proofs.Turning.{left_from, none_from}
 
 -- ---- columns that are the same
 
-and_both : (a b : Bool) → (a && b) ≡ true → (a ≡ true) × (b ≡ true)
-and_both true b h = (refl, h)
-and_both false b h = cc h
-
 kinds_equal : (a b : ColType) → same_kind a b ≡ true → a ≡ b
 kinds_equal k.Int k.Int h = refl
 kinds_equal k.Int k.Bool h = cc h
@@ -72,14 +69,14 @@ kinds_equal k.Vect k.Vect h = refl
 
 column_equal : (c d : Column) → same_column c d ≡ true → c ≡ d
 column_equal c d h =
-    let both = and_both (same c.name d.name) (same_kind c.kind d.kind) h in
+    let both = both_true (same c.name d.name) (same_kind c.kind d.kind) h in
     ap₂ (λ n t. record { name = n; kind = t }) ((bytes_eq-Decides c.name d.name).0 both.0) (kinds_equal c.kind d.kind both.1)
 
 pub columns_equal : (cs ds : List Column) → same_columns cs ds ≡ true → cs ≡ ds
 columns_equal [] [] h = refl
 columns_equal [] (d ∷ ds) h = cc h
 columns_equal (c ∷ cs) [] h = cc h
-columns_equal (c ∷ cs) (d ∷ ds) h = let both = and_both (same_column c d) (same_columns cs ds) h in ap₂ (λ x xs. x ∷ xs) (column_equal c d both.0) (columns_equal cs ds both.1)
+columns_equal (c ∷ cs) (d ∷ ds) h = let both = both_true (same_column c d) (same_columns cs ds) h in ap₂ (λ x xs. x ∷ xs) (column_equal c d both.0) (columns_equal cs ds both.1)
 
 -- the rows of a table
 abbrev rows_in : MarkedTable → List (List Value)

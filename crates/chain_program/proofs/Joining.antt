@@ -3,6 +3,7 @@ use Rattle.std.proofs.Common.{◌≡◌, ◌<◌, ◌+◌, ℕ, suc, Bool, true,
 use Rattle.std.specs.Prelude.{not, position, slice_get}
 use Rattle.std.specs.List.{AllByRecursion, list_all, position_from}
 use Rattle.std.proofs.lemmas.Iterator.Adapters.{position_from-zero}
+use Rattle.lemmas.proofs.Booleans.{both_true}
 use Rattle.rdf_values.specs.Functions.{Function}
 use Rattle.rdf_values.specs.Names.{same}
 use Rattle.rdf_values.specs.declared.column.Column.{Column}
@@ -22,10 +23,6 @@ use Rattle.chain_program.specs.PartFiles.{AllFitScript, AreJoinable, CanPrint, I
 use Rattle.chain_program.specs.declared.fitting.Fitting.{Fitting}
 use Rattle.chain_program.proofs.Chaining.{columns_equal}
 
-and_both : (a b : Bool) → (a && b) ≡ true → (a ≡ true) × (b ≡ true)
-and_both true b h = (refl, h)
-and_both false b h = cc h
-
 -- ---- all parts pass a test
 
 module _ (test : PartView → Bool) where
@@ -42,7 +39,7 @@ module _ (test : PartView → Bool) where
 
   placed_pass : (s : PartView) (ts : List PartView) → test s ≡ true → list_all test ts ≡ true → list_all test (placed s ts) ≡ true
   placed_pass s [] h g = ap₂ (λ x y. x && y) h g
-  placed_pass s (t ∷ ts) h g = let both = and_both (test t) (list_all test ts) g in by (not_behind s t) both.0 (placed_pass s ts h both.1)
+  placed_pass s (t ∷ ts) h g = let both = both_true (test t) (list_all test ts) g in by (not_behind s t) both.0 (placed_pass s ts h both.1)
     where
       by : (b : Bool) → test t ≡ true → list_all test (placed s ts) ≡ true → list_all test (cond b (s ∷ t ∷ ts) (t ∷ placed s ts)) ≡ true
       by true p q = ap₂ (λ x y. x && y) h g
@@ -50,7 +47,7 @@ module _ (test : PartView → Bool) where
 
   in_order_pass : (ss : List PartView) → list_all test ss ≡ true → list_all test (in_order ss) ≡ true
   in_order_pass [] h = refl
-  in_order_pass (s ∷ ss) h = let both = and_both (test s) (list_all test ss) h in placed_pass s (in_order ss) both.0 (in_order_pass ss both.1)
+  in_order_pass (s ∷ ss) h = let both = both_true (test s) (list_all test ss) h in placed_pass s (in_order ss) both.0 (in_order_pass ss both.1)
 
 -- ---- as many in order
 
@@ -88,8 +85,8 @@ module _ (fns : List Function) (bytes : List ℕ) (script : Script) where
       go : (sorted : List PartView) → list_all (is_of (digest_of bytes) first.columns) sorted ≡ true → IsJoinedBy f.shapes sorted d → IsJoined fns script sorted d
       go [] p k = k
       go (s ∷ ss) p k =
-          let one = and_both (is_of (digest_of bytes) first.columns s) (list_all (is_of (digest_of bytes) first.columns) ss) p in
-          let head = and_both (same s.script (digest_of bytes)) (same_columns s.columns first.columns) one.0 in
+          let one = both_true (is_of (digest_of bytes) first.columns s) (list_all (is_of (digest_of bytes) first.columns) ss) p in
+          let head = both_true (same s.script (digest_of bytes)) (same_columns s.columns first.columns) one.0 in
           let shapes : f.shapes ≡ graph_shapes (graph_over fns script s.columns) = h.shapes ∙ ap (λ (cs : List Column). graph_shapes (graph_over fns script cs)) (sym (columns_equal s.columns first.columns head.1)) in
           subst (λ l. IsJoinedBy l (s ∷ ss) d) shapes k
 
@@ -101,7 +98,7 @@ module _ (fns : List Function) (bytes : List ℕ) (script : Script) where
       go : AllByRecursion IsPart (part ∷ []) → AllFitScript fns bytes script (part ∷ []) f → CanPrint f.graph part
       go v k =
           let shaped = all_pass (λ (s : PartView). are_loops (graph_shapes (graph_over fns script part.columns)) s.loops) (part ∷ []) k.shaped in
-          let one = and_both (are_loops (graph_shapes (graph_over fns script part.columns)) part.loops) true shaped in
+          let one = both_true (are_loops (graph_shapes (graph_over fns script part.columns)) part.loops) true shaped in
           (v.0, subst (λ (g : GraphView). are_loops (graph_shapes g) part.loops ≡ true) (sym k.graph) one.0)
 
   pub printed_is_due : (parts : List PartView) (part : PartView) (f : Fitting) (count : ℕ) (d : ChainDue) → parts ≡ part ∷ [] → AllFitScript fns bytes script parts f → IsPrintedBy f.graph count part d → IsEachPrinted fns script count parts d

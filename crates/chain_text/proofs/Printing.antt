@@ -2,11 +2,12 @@
 use Rattle.std.proofs.Common.{◌≡◌, ℕ, ◌+◌, ◌≤◌, List, [], ◌++◌, length, drop, Option, Some, sym, ap, ◌∙◌, append_assoc, append-nil}
 use Rattle.std.specs.Prelude.{option_map, slice_get}
 use Rattle.std.proofs.lemmas.Option.{same_Some}
+use Rattle.lemmas.proofs.Parts.{none_left}
 use Rattle.rdf_model.specs.Loops.{Access, accesses, loop_of}
 use Rattle.rdf_model.specs.Transcript.{Printed, in_front_of}
 use Rattle.graph_numbers.specs.Graphs.{GraphView, booked_statements}
 use Rattle.result_text.specs.FilledLines.{passes_at}
-use Rattle.result_text.proofs.Lists.{drop_whole, one_left}
+use Rattle.result_text.proofs.Lists.{one_left}
 use Rattle.shard_lines.specs.declared.shard_line.ShardLine.{ShardLine}
 use Rattle.merged_text.specs.MergedPrints.{lines_of_result}
 use Rattle.chain_files.specs.declared.chain_fault.ChainFault.{ChainFault}
@@ -55,7 +56,7 @@ module _ (g : GraphView) (loops : List PartLoop) (whole : Printed) where
   ends_there text now print a at gives h = sym (gives (prints_text g loops (drop (print + 1) (accesses (booked_statements g))))) ∙ sym (ap (in_front_of text) (left print a at)) ∙ h
 
   pub all_written : (text : List ℕ) (print : ℕ) → length (accesses (booked_statements g)) ≤ print → IsWritten text print → record { bytes = text; status = 0 } ≡ whole
-  all_written text print le h = ap (λ t. record { bytes = t; status = 0 }) (sym (append-nil text)) ∙ sym (ap (λ l. in_front_of text (prints_text g loops l)) (drop_whole (accesses (booked_statements g)) print le)) ∙ h
+  all_written text print le h = ap (λ t. record { bytes = t; status = 0 }) (sym (append-nil text)) ∙ sym (ap (λ l. in_front_of text (prints_text g loops l)) (none_left (accesses (booked_statements g)) print le)) ∙ h
 
 -- nothing is written yet
 pub begin_written : (g : GraphView) (loops : List PartLoop) (text : List ℕ) → text ≡ [] → IsWritten g loops (prints_text g loops (accesses (booked_statements g))) text 0

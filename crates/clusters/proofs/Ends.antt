@@ -3,6 +3,7 @@ use Rattle.std.proofs.Common.{◌≡◌, ◌≢◌, ◌≤◌, ◌<◌, ◌-◌,
 use Rattle.std.specs.Prelude.{slice_get}
 use Rattle.std.specs.List.{AllWithin}
 use Rattle.std.proofs.lemmas.Bool.Decides.{nat_tests}
+use Rattle.lemmas.proofs.Orders.{le_or_lt}
 use Rattle.rdf_values.specs.Cuts.{Lead}
 use Rattle.rdf_values.specs.declared.span.Span.{Span}
 use Rattle.clusters.specs.CutsView.{ranges_to}
@@ -49,18 +50,14 @@ ends_rise (x ∷ xs) lo to h zero (suc j) d le l = let more = above xs x to h.2 
 ends_rise (x ∷ xs) lo to h (suc i) zero d le l = absurd (omega (arith, le))
 ends_rise (x ∷ xs) lo to h (suc i) (suc j) d le l = ends_rise xs x to h.2 i j d (omega (arith, le)) (omega (arith, l))
 
--- the range that holds a number is the first that ends above it
-over_or : (a b : ℕ) → (a ≤ b) ⊎ (b < a)
-over_or a b = grind arith
-
 first_by : (ends : List ℕ) (i number place : ℕ) → ((k : ℕ) → k < i → get_or ends k 0 ≤ number) → ((k : ℕ) → i ≤ k → k < length ends → number < get_or ends k 0) → place < length ends
     → get_or (0 ∷ ends) place 0 ≤ number → number < get_or ends place 0 → i ≡ place
-first_by ends i number zero low high l from below = go (over_or i 0)
+first_by ends i number zero low high l from below = go (le_or_lt i 0)
   where
     go : (i ≤ 0) ⊎ (0 < i) → i ≡ 0
     go (inl h) = omega (arith, h)
     go (inr h) = let bad = low 0 h in absurd (omega (arith, bad, below))
-first_by ends i number (suc p) low high l from below = go (over_or i (suc p)) (over_or i p)
+first_by ends i number (suc p) low high l from below = go (le_or_lt i (suc p)) (le_or_lt i p)
   where
     go : (i ≤ suc p) ⊎ (suc p < i) → (i ≤ p) ⊎ (p < i) → i ≡ suc p
     go (inr h) q = let bad = low (suc p) h in absurd (omega (arith, bad, below))

@@ -1,6 +1,7 @@
 -- Ranges that follow one another hold each number once.
 use Rattle.std.proofs.Common.{◌≡◌, ◌≤◌, ◌<◌, ◌+◌, ℕ, zero, suc, List, [], ◌∷◌, length, Some, arith, refl, ap, ◌⊎◌, inl, inr}
 use Rattle.std.specs.Prelude.{slice_get}
+use Rattle.lemmas.proofs.Orders.{lt_or_le}
 use Rattle.rdf_values.specs.Cuts.{Lead}
 use Rattle.rdf_values.specs.declared.span.Span.{Span}
 use Rattle.clusters.specs.Ranges.{Holds, IsInOne}
@@ -27,12 +28,9 @@ in_one_by x xs from to number h a b later (inr r) =
     let one = later number r b in
     (suc one.0, record { range = one.1.range; stands = one.1.stands; from = one.1.from; below = one.1.below }, λ other held. later_holds x xs number one.0 other r one.2 held)
 
-below_or : (a b : ℕ) → (a < b) ⊎ (b ≤ a)
-below_or a b = grind arith
-
 pub in_one : (rs : List Span) (from to : ℕ) → Lead from to rs → IsInOne rs from to
 in_one [] from to h number a b = absurd (omega arith)
-in_one (x ∷ xs) from to h number a b = in_one_by x xs from to number h a b (in_one xs x.hi to h.2) (below_or number x.hi)
+in_one (x ∷ xs) from to h number a b = in_one_by x xs from to number h a b (in_one xs x.hi to h.2) (lt_or_le number x.hi)
 
 -- none is empty, so there are no more than numbers
 pub few_ranges : (rs : List Span) (from to : ℕ) → Lead from to rs → length rs + from ≤ to

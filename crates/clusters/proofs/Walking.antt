@@ -4,6 +4,7 @@ use Rattle.std.specs.List.{list_any}
 use Rattle.std.specs.List.Sorted.{IsStrictlyIncreasing}
 use Rattle.std.proofs.lemmas.Bool.Decides.{Decides-eqb, nat_tests}
 use Rattle.std.proofs.lemmas.List.Kept.{AllPairs-from_increasing}
+use Rattle.lemmas.proofs.Booleans.{or_fails, or_left, or_right, or_true}
 use Rattle.rdf_values.specs.Cuts.{begins_at, cut, cut_from}
 use Rattle.rdf_values.specs.declared.span.Span.{Span}
 use Rattle.clusters.specs.CutsView.{ranges_to}
@@ -14,10 +15,6 @@ use Rattle.clusters.proofs.Ends.{last_or, last_push, ranges_push}
 
 any_cons : (e x : ℕ) (xs : List ℕ) → e ≡ x → list_any (nat_eq e) (x ∷ xs) ≡ true
 any_cons e x xs h = rw ((Decides-eqb e x).1 h) refl
-
-or_true : (a : Bool) → (a || true) ≡ true
-or_true true = refl
-or_true false = refl
 
 pub any_at : (xs : List ℕ) (e k : ℕ) → k < length xs → get_or xs k 0 ≡ e → list_any (nat_eq e) xs ≡ true
 any_at [] e k l h = absurd (omega (arith, l))
@@ -107,15 +104,6 @@ cut_step : (size : ℕ) (marks : List ℕ) (lo entry r : ℕ) (b : Bool) → beg
     → cut_from size marks lo entry (suc r) ≡ (if b then record { lo = lo; hi = entry } ∷ cut_from size marks entry (entry + 1) r else cut_from size marks lo (entry + 1) r)
 cut_step size marks lo entry r b h = let next : suc entry ≡ entry + 1 = omega arith in rw (h, next) refl
 
-or_left : (a b : Bool) → a ≡ true → (a || b) ≡ true
-or_left a b h = rw h refl
-
-or_right : (a b : Bool) → b ≡ true → (a || b) ≡ true
-or_right a b h = rw h (or_true a)
-
-or_no : (a b : Bool) → a ≡ false → b ≡ false → (a || b) ≡ false
-or_no a b h k = rw (h, k) refl
-
 at_size : (lo entry size : ℕ) → lo < entry → entry - lo ≡ size → nat_eq entry (lo + size) ≡ true
 at_size lo entry size l h = (Decides-eqb entry (lo + size)).1 (omega (arith, l, h))
 
@@ -153,7 +141,7 @@ pub walk_on : (n size : ℕ) (marks ends : List ℕ) (lo entry old next : ℕ) �
 walk_on n size marks ends lo entry old next w h p a m s = record {
   so_far =
       w.so_far ∙ ap (λ r. ranges_to 0 ends ++ cut_from size marks lo entry r) (fewer n entry h)
-      ∙ ap (λ l. ranges_to 0 ends ++ l) (cut_step size marks lo entry (n - (entry + 1)) false (or_no (nat_eq entry (lo + size)) (list_any (nat_eq entry) marks) (off_size lo entry size w.begun s) m));
+      ∙ ap (λ l. ranges_to 0 ends ++ l) (cut_step size marks lo entry (n - (entry + 1)) false (or_fails (nat_eq entry (lo + size)) (list_any (nat_eq entry) marks) (off_size lo entry size w.begun s) m));
   last = w.last;
   begun = (let b = w.begun in omega (arith, b));
   passed = passed_on marks next entry p;

@@ -4,6 +4,7 @@ use Rattle.std.specs.List.{list_any}
 use Rattle.std.specs.Prelude.{not}
 use Rattle.std.specs.Ordering.{int_eq}
 use Rattle.std.proofs.lemmas.List.{take_more}
+use Rattle.lemmas.proofs.Booleans.{not_false, not_true}
 use Rattle.friend_join.specs.JoinRefused.{repeat_from}
 
 -- a new number goes on
@@ -25,14 +26,6 @@ pub same_get : {A : Type 0} (xs : List A) (i : ℕ) (d : A) → i < length xs �
 same_get [] i d l = absurd (omega arith)
 same_get (x ∷ xs) zero d l = refl
 same_get (x ∷ xs) (suc i) d l = same_get xs i d (omega arith)
-
-not_false : (b : Bool) → not b ≡ false → b ≡ true
-not_false true h = refl
-not_false false h = cc h
-
-not_true : (b : Bool) → not b ≡ true → b ≡ false
-not_true true h = cc h
-not_true false h = refl
 
 -- an insertion that added nothing
 pub old_key : (n : ℤ) (keys seen : List ℤ) (added : Bool) → keys ≡ seen → added ≡ not (list_any (int_eq n) keys) → added ≡ false → list_any (int_eq n) seen ≡ true

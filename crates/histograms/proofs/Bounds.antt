@@ -4,11 +4,9 @@ use Rattle.std.specs.Prelude.{nat_abs, All}
 use Rattle.std.specs.Int.{w128}
 use Rattle.std.proofs.lemmas.Int.{ints, fits_signed_from_abs, fits_signed_mul, unsigned_abs-mul}
 use Rattle.std.proofs.lemmas.List.Elements.{All-set}
+use Rattle.lemmas.proofs.Orders.{abs_add}
 use Rattle.histograms.specs.declared.cell_sum.CellSum.{CellSum}
 use Rattle.histograms.specs.Cells.{IsBounded, IsWeight, with_weight}
-
-abs_add : (a b : ℤ) → nat_abs (a +ℤ b) ≤ nat_abs a + nat_abs b
-abs_add a b = grind (arith, ints)
 
 squares_below : (a b : ℕ) → a ≤ b → a * a ≤ b * b
 squares_below a b h = grind arith

@@ -3,6 +3,8 @@ use Rattle.std.proofs.Common.{◌≡◌, ◌⊎◌, inl, inr, ℕ, zero, suc, �
 use Rattle.std.specs.Prelude.{IfSome, filter_map, option_map, slice_get, unwrap_or}
 use Rattle.std.specs.List.{cons_option}
 use Rattle.std.proofs.lemmas.Option.{IfSome_then, slice_get_within}
+use Rattle.lemmas.proofs.Parts.{take_next}
+use Rattle.lemmas.proofs.Places.{kept_at}
 use Rattle.rdf_values.specs.Bookings.{Booked}
 use Rattle.rdf_values.specs.Cuts.{Lead, cut}
 use Rattle.rdf_values.specs.Machine.{first_in}
@@ -16,7 +18,7 @@ use Rattle.rdf_model.specs.Loops.{Access, accesses, filled_by, loop_of, loop_pas
 use Rattle.rdf_model.specs.Results.{Dataset, first_fault, first_fault_from}
 use Rattle.rdf_model.proofs.Turns.{loops_come_in_turn}
 use Rattle.graph_numbers.specs.Graphs.{graph_prints}
-use Rattle.graph_numbers.proofs.Listed.{kept_at, of_joined}
+use Rattle.graph_numbers.proofs.Listed.{of_joined}
 use Rattle.loop_keys.specs.Jobs.{passes_in}
 use Rattle.loop_pieces.proofs.ClusterFaults.{first_cluster_has_first_fault}
 use Rattle.slot_state.specs.Jobs.{job_facts}
@@ -42,17 +44,12 @@ job_fault s is l =
 
 -- ---- one access more
 
-next_taken : {A : Type 0} (xs : List A) (p : ℕ) (x : A) → slice_get xs p ≡ Some x → take (p + 1) xs ≡ take p xs ++ x ∷ []
-next_taken [] p x at = absurd (cc)
-next_taken (y ∷ ys) zero x at = let is : y ≡ x = cc in ap (λ z. z ∷ []) is
-next_taken (y ∷ ys) (suc p) x at = rw add-one (ap (λ l. y ∷ l) (rw add-one at (next_taken ys p x at)))
-
 run_append : (xs ys : List Access) → filter_map (λ (a : Access). a.fills) (xs ++ ys) ≡ filter_map (λ (a : Access). a.fills) xs ++ filter_map (λ (a : Access). a.fills) ys
 run_append xs ys = filter_map-append (λ (a : Access). a.fills) xs ys
 
 pub none_more : (script : List Statement) (p : ℕ) (a : Access) → slice_get (accesses script) p ≡ Some a → a.fills ≡ None → loops_before script (p + 1) ≡ loops_before script p
 none_more script p a at none =
-    let front = ap (λ (l : List Access). length (filter_map (λ (x : Access). x.fills) l)) (next_taken (accesses script) p a at) in
+    let front = ap (λ (l : List Access). length (filter_map (λ (x : Access). x.fills) l)) (take_next (accesses script) p a at) in
     let both = ap (λ (l : List (List Booked)). length l) (run_append (take p (accesses script)) (a ∷ [])) in
     let sum = length-append (filter_map (λ (x : Access). x.fills) (take p (accesses script))) (filter_map (λ (x : Access). x.fills) (a ∷ [])) in
     let own : length (filter_map (λ (x : Access). x.fills) (a ∷ [])) ≡ 0 = ap (λ (o : Option (List Booked)). length (cons_option o [])) none in
@@ -60,7 +57,7 @@ none_more script p a at none =
 
 pub one_loop_more : (script : List Statement) (p : ℕ) (a : Access) (results : List Booked) → slice_get (accesses script) p ≡ Some a → a.fills ≡ Some results → loops_before script (p + 1) ≡ loops_before script p + 1
 one_loop_more script p a results at some =
-    let front = ap (λ (l : List Access). length (filter_map (λ (x : Access). x.fills) l)) (next_taken (accesses script) p a at) in
+    let front = ap (λ (l : List Access). length (filter_map (λ (x : Access). x.fills) l)) (take_next (accesses script) p a at) in
     let both = ap (λ (l : List (List Booked)). length l) (run_append (take p (accesses script)) (a ∷ [])) in
     let sum = length-append (filter_map (λ (x : Access). x.fills) (take p (accesses script))) (filter_map (λ (x : Access). x.fills) (a ∷ [])) in
     let own : length (filter_map (λ (x : Access). x.fills) (a ∷ [])) ≡ 1 = ap (λ (o : Option (List Booked)). length (cons_option o [])) some in

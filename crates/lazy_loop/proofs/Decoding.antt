@@ -4,6 +4,8 @@ use Rattle.std.specs.Prelude.{is_none, option_map, slice_get}
 use Rattle.std.proofs.lemmas.List.{length-map}
 use Rattle.std.proofs.lemmas.List.Concat.{flat_map-append}
 use Rattle.std.proofs.lemmas.Option.{slice_get-map}
+use Rattle.lemmas.proofs.Answers.{same_some}
+use Rattle.lemmas.proofs.Places.{something_at}
 use Rattle.rdf_values.specs.Bookings.{Booked, Pass, bookings, is_watched}
 use Rattle.rdf_values.specs.Path.{Under}
 use Rattle.rdf_values.specs.declared.statement.Statement.{Statement}
@@ -17,14 +19,6 @@ use Rattle.graph_numbers.proofs.Looping.{loops_are}
 use Rattle.graph_numbers.proofs.Resulting.{booked_are}
 use Rattle.loop_pieces.specs.Trails.{place_if_watched, watched_from, watched_places}
 use Rattle.lazy_loop.specs.Places.{IsPassOf}
-
-same_some : {A : Type 0} {a b : A} → ◌≡◌ {A = Option A} (Some a) (Some b) → a ≡ b
-same_some q = cc
-
-something_at : {A : Type 0} (xs : List A) (k : ℕ) → k < length xs → (x : A) × (slice_get xs k ≡ Some x)
-something_at [] k lt = absurd (omega arith)
-something_at (x ∷ xs) zero lt = (x, refl)
-something_at (x ∷ xs) (suc k) lt = something_at xs k (omega arith)
 
 -- the passes of some numbers have these names
 abbrev pub AreDecoded : List Statement → List NumberedPass → List Pass → Type 0

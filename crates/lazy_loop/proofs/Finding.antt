@@ -3,6 +3,7 @@ use Rattle.std.proofs.Common.{◌≡◌, ◌⊎◌, inl, inr, ℕ, zero, suc, �
 use Rattle.std.specs.Prelude.{slice_get, unwrap_or}
 use Rattle.std.proofs.lemmas.Bool.{cases_lt}
 use Rattle.std.proofs.lemmas.Option.{slice_get_within}
+use Rattle.lemmas.proofs.Places.{something_at}
 use Rattle.rdf_values.specs.Bookings.{Booked, Pass, passes_of}
 use Rattle.rdf_values.specs.Path.{history}
 use Rattle.rdf_model.specs.LoopFacts.{kind_in, kinds_in}
@@ -22,11 +23,6 @@ use Rattle.lazy_loop.proofs.Decoding.{watched-append}
 use Rattle.lazy_loop.proofs.Filling.{many}
 use Rattle.lazy_loop.proofs.Found.{statements_few}
 use Rattle.lazy_loop.proofs.Printed.{place_at, place_first}
-
-something_at : {A : Type 0} (xs : List A) (k : ℕ) → k < length xs → (x : A) × (slice_get xs k ≡ Some x)
-something_at [] k lt = absurd (omega arith)
-something_at (x ∷ xs) zero lt = (x, refl)
-something_at (x ∷ xs) (suc k) lt = something_at xs k (omega arith)
 
 -- ---- loops by their numbers
 

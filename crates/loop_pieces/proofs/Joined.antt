@@ -71,7 +71,3 @@ module _ (f : LoopFacts) (mine theirs all : List ℕ) (p q : LoopPiece) (s : Sta
         });
     flow = flow ∙ ap₂ added s.flow t.flow ∙ flows (below f.filters);
   }
-
-pub on_ok : {A E : Type 0} (r : Result A E) (P Q : Type 0) → (P → Q) → OnOk r P → OnOk r Q
-on_ok (Ok x) P Q h p = h p
-on_ok (Err e) P Q h p = tt

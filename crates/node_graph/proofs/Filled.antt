@@ -1,6 +1,8 @@
 -- Which results are filled, and the passes of a loop, by the numbers of results.
 use Rattle.std.proofs.Common.{◌≡◌, ◌⊎◌, inl, inr, ℕ, zero, suc, ◌+◌, ◌<◌, ◌≤◌, Bool, true, false, not, ◌||◌, List, [], ◌∷◌, ◌++◌, map, length, take, drop, Option, Some, None, option_map, refl, sym, ◌∙◌, ap, subst, arith, slice_get, length-append, append_assoc}
 use Rattle.std.proofs.lemmas.List.{append-nil}
+use Rattle.lemmas.proofs.Booleans.{neither}
+use Rattle.lemmas.proofs.Parts.{take_front, take_full}
 use Rattle.rdf_values.specs.Bookings.{Booked, booked_by, bookings, names_of, filled, has_variations, result_depends}
 use Rattle.rdf_values.specs.Kinds.{FunctionNames, Scope}
 use Rattle.rdf_values.specs.Names.{same, among, place}
@@ -10,7 +12,6 @@ use Rattle.rdf_values.specs.declared.graph_cause.GraphCause.TheVariants as cause
 use Rattle.rdf_values.specs.declared.statement.Statement.{Statement}
 use Rattle.rdf_values.specs.declared.statement.Statement.TheVariants.{Define, Redefine, Alias, Filter, Vary, Action, Report, VariationsFor, Watch, Print}
 use Rattle.rdf_model.proofs.Accepted.{both_none, if_fails, unless_holds, names_equal, itself}
-use Rattle.rdf_model.proofs.Evaluations.{neither}
 use Rattle.graph_numbers.proofs.Listed.{of_joined}
 use Rattle.graph_numbers.specs.Graphs.{holds_at}
 use Rattle.graph_numbers.specs.Results.{places_from, numbered_pass, result_passes, passes_from}
@@ -78,10 +79,6 @@ among_not (b ∷ bs) r n (suc k) h le = go (same b.name r) (same_sym r b.name) h
     go true e q next = let z : 0 ≡ n = cc q in absurd (none n (sym z) le)
     go false e q next = rw (e, after (place (λ (c : Booked). same c.name r) bs) q refl next) refl
 
-pub take_whole : {A : Type 0} (xs ys : List A) → take (length xs) (xs ++ ys) ≡ xs
-take_whole [] ys = refl
-take_whole (x ∷ xs) ys = ap (λ l. x ∷ l) (take_whole xs ys)
-
 pub take_within : {A : Type 0} (k : ℕ) (xs ys : List A) → k ≤ length xs → take k (xs ++ ys) ≡ take k xs
 take_within zero xs ys h = refl
 take_within (suc k) [] ys h = absurd (omega (arith, h))
@@ -91,11 +88,6 @@ pub take_drop : {A : Type 0} (k : ℕ) (xs : List A) → take k xs ++ drop k xs 
 take_drop zero xs = refl
 take_drop (suc k) [] = refl
 take_drop (suc k) (x ∷ xs) = ap (λ l. x ∷ l) (take_drop k xs)
-
-pub take_count : {A : Type 0} (k : ℕ) (xs : List A) → k ≤ length xs → length (take k xs) ≡ k
-take_count zero xs h = refl
-take_count (suc k) [] h = absurd (omega (arith, h))
-take_count (suc k) (x ∷ xs) h = ap suc (take_count k xs (omega (arith, h)))
 
 -- what isn't among all of a list isn't among its first
 among_less : (x : List ℕ) (bs : List Booked) (k : ℕ) → among x (names_of bs) ≡ false → among x (names_of (take k bs)) ≡ false
@@ -127,7 +119,7 @@ filled_is (Print p ∷ before) = go (among p (filled before)) (filled_is before)
     nothing_more = append-nil (bookings before)
 
     all : take (length (bookings before)) (bookings before ++ []) ≡ bookings before
-    all = take_whole (bookings before) []
+    all = take_front (bookings before) []
 
     go : (b : Bool) → (filled before ≡ names_of (take (filled_count before) (bookings before))) × (filled_count before ≤ length (bookings before))
         → ((if b then filled before else names_of (bookings before)) ≡ names_of (take (if b then filled_count before else length (bookings before)) (bookings before ++ [])))
@@ -275,7 +267,7 @@ module _ (script : List Statement) where
           (λ j b e. ap (λ ns. not (among b.name ns)) (filled_first before) ∙ ap not (among_there (filled_count before) j (bookings before) b e))
 
       count : 0 + length (take (filled_count before) (bookings before)) ≡ filled_count before
-      count = let c = take_count (filled_count before) (bookings before) (filled_few before) in omega (arith, c)
+      count = let c = take_full (filled_count before) (bookings before) (filled_few before) in omega (arith, c)
 
       all : (j : ℕ) (b : Booked) → slice_get (drop (filled_count before) (bookings before)) j ≡ Some b → waits before b ≡ true
       all j b e =

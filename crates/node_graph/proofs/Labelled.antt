@@ -1,9 +1,10 @@
 -- The labels of named filters by their numbers.
 use Rattle.std.proofs.Common.{◌≡◌, ℕ, ◌+◌, ◌-◌, ◌<◌, List, [], ◌∷◌, ◌++◌, length, Some, ◌∙◌, ap, arith, slice_get, length-append}
 use Rattle.std.specs.Prelude.{option_to_list}
+use Rattle.lemmas.proofs.Places.{kept_at}
 use Rattle.rdf_values.specs.Bookings.{named_before}
 use Rattle.rdf_values.specs.declared.script.Line.{Line}
-use Rattle.graph_numbers.proofs.Listed.{kept_at, next_at}
+use Rattle.graph_numbers.proofs.Listed.{next_at}
 use Rattle.statement_checks.specs.Lookups.{statements}
 use Rattle.node_graph.specs.Rows.{own_label, labels}
 use Rattle.node_graph.proofs.Reading.{labels_count}

@@ -3,6 +3,8 @@ use Rattle.std.proofs.Common.{◌≡◌, ◌⊎◌, inl, inr, ℕ, zero, suc, �
 use Rattle.std.specs.Prelude.{Result, Ok, Err, OnOk}
 use Rattle.std.specs.List.{cons_option}
 use Rattle.std.proofs.lemmas.List.{append-nil, map-append, drop-take}
+use Rattle.lemmas.proofs.Booleans.{neither}
+use Rattle.lemmas.proofs.Parts.{take_front}
 use Rattle.rdf_values.specs.Bookings.{Booked, booked_by, bookings, names_of, filled, waiting}
 use Rattle.rdf_values.specs.Names.{same, among, place}
 use Rattle.rdf_values.specs.Path.{variations}
@@ -10,7 +12,6 @@ use Rattle.rdf_values.specs.declared.script.Line.{Line}
 use Rattle.rdf_values.specs.declared.statement.Statement.{Statement}
 use Rattle.rdf_values.specs.declared.statement.Statement.TheVariants.{Define, Redefine, Alias, Filter, Vary, Action, Report, VariationsFor, Watch, Print}
 use Rattle.rdf_model.proofs.Accepted.{names_equal, itself}
-use Rattle.rdf_model.proofs.Evaluations.{neither}
 use Rattle.rdf_model.specs.Loops.{Access, filled_by, accesses, loop_results}
 use Rattle.graph_numbers.proofs.Listed.{of_joined}
 use Rattle.graph_numbers.specs.Results.{loops, own_loop, runs, own_run, passes_from, result_number}
@@ -19,7 +20,7 @@ use Rattle.statement_checks.specs.Lookups.{statements}
 use Rattle.statement_checks.specs.declared.result_row.ResultRow.{ResultRow}
 use Rattle.node_graph.specs.LoopRows.{IsNoPrint, is_booking, IsNamedInTurn, AreNamedInTurn, filled_count, AreRowsOf, passes_of_rows, filler_of, AreLoops, BeginsWith}
 use Rattle.node_graph.specs.declared.loops.LoopTables.{LoopTables}
-use Rattle.node_graph.proofs.Filled.{same_sym, take_whole, take_drop, filled_few, filled_first, later_named, rows_first, loop_is, is_filled, is_waiting}
+use Rattle.node_graph.proofs.Filled.{same_sym, take_drop, filled_few, filled_first, later_named, rows_first, loop_is, is_filled, is_waiting}
 
 -- ---- lists
 
@@ -401,7 +402,7 @@ open_passes script before turn begins rows rs k m e f =
 pub begins_further : (script before : List Statement) (s : Statement) → BeginsWith script (s ∷ before) → BeginsWith script before
 begins_further script before s h =
     let c = length-append (bookings before) (booked_by before s) in
-    sym (take_short (length (bookings before)) (length (bookings before ++ booked_by before s)) (bookings script) (omega (arith, c))) ∙ ap (take (length (bookings before))) h ∙ take_whole (bookings before) (booked_by before s)
+    sym (take_short (length (bookings before)) (length (bookings before ++ booked_by before s)) (bookings script) (omega (arith, c))) ∙ ap (take (length (bookings before))) h ∙ take_front (bookings before) (booked_by before s)
   where
     take_short : {A : Type 0} (k m : ℕ) (xs : List A) → k ≤ m → take k (take m xs) ≡ take k xs
     take_short zero m xs l = refl

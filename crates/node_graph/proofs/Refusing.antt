@@ -1,6 +1,7 @@
 -- The first line that is refused, from the latest line back and from the first line on.
 use Rattle.std.proofs.Common.{◌≡◌, ℕ, List, [], ◌∷◌, ◌++◌, map, Option, Some, None, option_map, refl, sym, ◌∙◌, ap, subst, reverse, length, arith}
 use Rattle.std.proofs.lemmas.List.{reverse-append, reverse-reverse}
+use Rattle.lemmas.proofs.Appended.{map_next}
 use Rattle.rdf_values.specs.Kinds.{FunctionNames, Scope, scope_of}
 use Rattle.rdf_values.specs.Path.{history}
 use Rattle.rdf_values.specs.Verdict.{check, AreAccepted, verdict_after, verdict}
@@ -15,13 +16,9 @@ use Rattle.node_graph.specs.declared.refusal.GraphRefusal.{GraphRefusal}
 use Rattle.node_graph.specs.declared.refusal.GraphRefusal.TheVariants as refusal
 use Rattle.statement_checks.specs.Lookups.{statements}
 
-map_end : {A B : Type 0} (f : A → B) (xs : List A) (x : A) → map f (xs ++ x ∷ []) ≡ map f xs ++ f x ∷ []
-map_end f [] x = refl
-map_end f (y ∷ xs) x = ap (λ ys. f y ∷ ys) (map_end f xs x)
-
 map_back : {A B : Type 0} (f : A → B) (xs : List A) → map f (reverse xs) ≡ reverse (map f xs)
 map_back f [] = refl
-map_back f (x ∷ xs) = ap (map f) (reverse-append (x ∷ []) xs) ∙ map_end f (reverse xs) x ∙ ap (λ ys. ys ++ f x ∷ []) (map_back f xs) ∙ sym (reverse-append (f x ∷ []) (map f xs))
+map_back f (x ∷ xs) = ap (map f) (reverse-append (x ∷ []) xs) ∙ map_next f (reverse xs) x ∙ ap (λ ys. ys ++ f x ∷ []) (map_back f xs) ∙ sym (reverse-append (f x ∷ []) (map f xs))
 
 -- the statements of a script's lines, the latest first
 pub history_is : (script : Script) (ls : List Line) → ls ≡ reverse script.lines → statements ls ≡ history script

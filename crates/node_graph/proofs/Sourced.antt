@@ -2,6 +2,8 @@
 use Rattle.std.proofs.Common.{◌≡◌, ◌⊎◌, inl, inr, ℕ, zero, suc, ◌+◌, ◌-◌, ◌<◌, ◌≤◌, Bool, true, false, ◌&&◌, List, [], ◌∷◌, ◌++◌, map, length, Option, Some, None, option_map, refl, sym, ◌∙◌, ap, subst, arith, nat_le, nat_lt, slice_get, if◌then◌else◌}
 use Rattle.std.proofs.lemmas.Bool.Decides.{leb_tells, Decides-ltb}
 use Rattle.std.proofs.lemmas.Option.{slice_get_within, get_or_from_slice_get}
+use Rattle.lemmas.proofs.Orders.{le_says, le_true}
+use Rattle.lemmas.proofs.Places.{kept_at, something_at}
 use Rattle.rdf_values.specs.Names.{same, place}
 use Rattle.rdf_values.specs.Path.{Variation, path, own_variations, variations}
 use Rattle.rdf_values.specs.Kinds.{FunctionNames, scope_of}
@@ -12,11 +14,11 @@ use Rattle.rdf_values.specs.declared.statement.Statement.{Statement}
 use Rattle.rdf_values.specs.declared.statement.Statement.TheVariants.{Define, Redefine, Vary}
 use Rattle.rdf_values.specs.declared.vary_values.VaryValues.{VaryValues}
 use Rattle.rdf_values.specs.declared.vary_values.VaryValues.TheVariants.{Lists, Vector}
-use Rattle.rdf_model.proofs.Accepted.{both_none, if_fails, unless_holds, names_equal, itself as same_itself, visible_known, no_target, there, own_within}
+use Rattle.rdf_model.proofs.Accepted.{both_none, if_fails, unless_holds, names_equal, itself as same_itself, visible_known, no_target, own_within}
 use Rattle.rdf_model.specs.ColumnValues.{own_place}
 use Rattle.graph_numbers.proofs.Apart.{variation_number}
 use Rattle.graph_numbers.proofs.Extending.{Extends, itself, further, source_count, versions_count}
-use Rattle.graph_numbers.proofs.Listed.{kept_at, next_at, of_joined}
+use Rattle.graph_numbers.proofs.Listed.{next_at, of_joined}
 use Rattle.graph_numbers.proofs.VersionKinds.{kind_count, visible_kind}
 use Rattle.graph_numbers.specs.Kinds.{version_kinds}
 use Rattle.graph_numbers.specs.Results.{under_at}
@@ -30,20 +32,6 @@ use Rattle.graph_numbers.specs.declared.version.Version.TheVariants as as_versio
 use Rattle.node_graph.specs.VersionSources.{tag_at, tagged, version_source, AreSourcesOf, IsAbove, AreAbove}
 
 -- ---- tests and lists
-
-le_of : (a b : ℕ) → nat_le a b ≡ true → a ≤ b
-le_of a b e = go (leb_tells a b)
-  where
-    go : ((nat_le a b ≡ true) × (a ≤ b)) ⊎ ((nat_le a b ≡ false) × (b < a)) → a ≤ b
-    go (inl p) = p.1
-    go (inr p) = let f = p.0 in cc (e, f)
-
-of_le : (a b : ℕ) → a ≤ b → nat_le a b ≡ true
-of_le a b l = go (leb_tells a b)
-  where
-    go : ((nat_le a b ≡ true) × (a ≤ b)) ⊎ ((nat_le a b ≡ false) × (b < a)) → nat_le a b ≡ true
-    go (inl p) = p.0
-    go (inr p) = let f = p.1 in absurd (omega (arith, f, l))
 
 some_is : {A : Type 0} (x y : A) → Some x ≡ Some y → x ≡ y
 some_is x y e = cc e
@@ -127,7 +115,7 @@ module _ (header : List Column) (names : FunctionNames) (script : List Statement
     tag_is_not v h = go (nat_le (length (variations before)) v) (nat_lt v (length (variations before) + length tags)) refl refl
       where
         go : (a b : Bool) → nat_le (length (variations before)) v ≡ a → nat_lt v (length (variations before) + length tags) ≡ b → (if a && b then Some (v - length (variations before)) else None) ≡ None
-        go true true p q = absurd (h (le_of (length (variations before)) v p) ((Decides-ltb v (length (variations before) + length tags)).0 q))
+        go true true p q = absurd (h (le_says (length (variations before)) v p) ((Decides-ltb v (length (variations before) + length tags)).0 q))
         go true false p q = refl
         go false b p q = refl
 
@@ -137,7 +125,7 @@ module _ (header : List Column) (names : FunctionNames) (script : List Statement
         go : (a b : Bool) → nat_le (length (variations before)) v ≡ a → nat_lt v (length (variations before) + length tags) ≡ b → (if a && b then Some (v - length (variations before)) else None) ≡ Some k
         go true true q r = let d : v - length (variations before) ≡ k = omega (arith, p) in ap Some d
         go true false q r = let m : v < length (variations before) + length tags = omega (arith, p, lt) in cc ((Decides-ltb v (length (variations before) + length tags)).1 m, r)
-        go false b q r = let m : length (variations before) ≤ v = omega (arith, p) in cc (of_le (length (variations before)) v m, q)
+        go false b q r = let m : length (variations before) ≤ v = omega (arith, p) in cc (le_true (length (variations before)) v m, q)
 
     pub own_tag : (u : Option ℕ) → own_place (under_at script u) vary tags ≡ tag_at u (length (variations before)) (length tags)
     own_tag None = refl
@@ -151,7 +139,7 @@ module _ (header : List Column) (names : FunctionNames) (script : List Statement
             inside l m =
                 let k : ℕ = v - length (variations before) in
                 let at : v ≡ length (variations before) + k = omega (arith, l) in
-                let t = there tags k (omega (arith, l, m)) in
+                let t = something_at tags k (omega (arith, l, m)) in
                 let is : ◌≡◌ {A = Variation} (record { name = vary; tag = t.0 }) w = some_is _ _ (sym (own_at k t.0 t.1) ∙ ap (slice_get (variations script)) (sym at) ∙ h) in
                 let j = has_place tags k t.0 t.1 in
                 let mine : own_place (Some (record { name = vary; tag = t.0 })) vary tags ≡ Some j.0 = ap (λ b. if b then place (same t.0) tags else None) (same_itself vary) ∙ j.1 in
@@ -165,7 +153,7 @@ module _ (header : List Column) (names : FunctionNames) (script : List Statement
             outside l m =
                 let k : ℕ = v - length (variations before) in
                 let at : v ≡ length (variations before) + k = omega (arith, l) in
-                let t = there tags k (omega (arith, l, m)) in cc (own_at k t.0 t.1, ap (slice_get (variations script)) (sym at), h)
+                let t = something_at tags k (omega (arith, l, m)) in cc (own_at k t.0 t.1, ap (slice_get (variations script)) (sym at), h)
 
     -- ---- the version below
 
@@ -264,7 +252,7 @@ module _ (header : List Column) (names : FunctionNames) (script : List Statement
           let r = varied_at cs 0 k x h in
           let lt = below_is before node parent cs values tags vary e ok k r.0 r.1 in
           let m = source_count header names (under_at script u) before in
-          let y = there (own before) (below_of r.0) (omega (arith, lt, m)) in
+          let y = something_at (own before) (below_of r.0) (omega (arith, lt, m)) in
           let src : source_in (own before) (below_of r.0) ≡ y.0 = get_or_from_slice_get (own before) (below_of r.0) y.0 (from.Cell 0) y.1 in
           let at : slice_get (own (Vary node parent cs values tags vary ∷ before)) (below_of r.0) ≡ Some y.0 = kept_at (own before) _ (below_of r.0) y.0 y.1 in
           let p : c ≡ length (own before) + k = omega (arith, n, m) in

@@ -8,6 +8,7 @@ use Rattle.std.specs.List.{All}
 use Rattle.std.specs.List.Sorted.{IsStrictlyIncreasing}
 use Rattle.std.proofs.lemmas.Bool.{cases_lt, cases_Bool, cond-true, cond-false, eq-eqb, eqb-true}
 use Rattle.std.proofs.lemmas.List.Elements.{All-nil, All-cons, All-head, All-tail}
+use Rattle.lemmas.proofs.Parts.{take_all}
 use Rattle.rdf_values.specs.Draws.{IsUnion}
 use Rattle.rdf_values.specs.Times.{times}
 use Rattle.rdf_values.specs.declared.span.Span.{Span}
@@ -345,12 +346,6 @@ module _ (xs all numbers : List ℕ) (runs : List Span) (i k : ℕ) (joined now 
       (λ (none : k ≤ 0). let e : k ≡ 0 = omega arith in let z = ap (λ m. times n (take m numbers)) e in absurd (omega arith))
       (cases_lt 0 k))
       (put r at.1)
-
-take_all : {A : Type 0} (l : List A) (n : ℕ) → length l ≤ n → take n l ≡ l
-take_all [] zero le = refl
-take_all [] (suc n) le = refl
-take_all (x ∷ xs) zero le = absurd (omega arith)
-take_all (x ∷ xs) (suc n) le = ap (λ l. x ∷ l) (take_all xs n (omega arith))
 
 pub none_yet : (xs all numbers : List ℕ) (runs joined : List Span) → runs ≡ map span_of (maximal_runs xs) → IsUnion (xs ∷ numbers ∷ []) all → joined ≡ [] → IsJoining all (take (length runs) (maximal_runs xs)) (take (length numbers) numbers) joined
 none_yet xs all numbers runs joined are u none =

@@ -27,10 +27,5 @@ set_same [] i x y h = absurd (cc)
 set_same (z ∷ zs) zero x y h = cc
 set_same (z ∷ zs) (suc i) x y h = set_same zs i x y h
 
-pub set_long : {A : Type 0} (xs : List A) (i : ℕ) (x : A) → length (slice_set xs i x) ≡ length xs
-set_long [] i x = refl
-set_long (y ∷ ys) zero x = refl
-set_long (y ∷ ys) (suc i) x = let r = set_long ys i x in omega arith
-
 pub same_item : {A : Type 0} (o : Option A) (x y : A) → o ≡ Some x → o ≡ Some y → x ≡ y
 same_item o x y a b = cc

@@ -3,11 +3,12 @@ use Rattle.std.proofs.Common.{◌≡◌, ℕ, ◌+◌, ◌<◌, ◌≤◌, List,
 use Rattle.std.specs.Prelude.{slice_get, slice_set}
 use Rattle.std.proofs.lemmas.Option.{slice_get_within}
 use Rattle.std.proofs.lemmas.Bool.{cases_lt}
+use Rattle.lemmas.proofs.Places.{set_length}
 use Rattle.merge_core.specs.declared.noted.Noted.{Noted}
 use Rattle.loop_pieces.specs.declared.loop_piece.LoopPiece.{LoopPiece}
 use Rattle.loop_pieces.specs.declared.watch_piece.WatchPiece.{WatchPiece}
 use Rattle.partial_lines.specs.Trails.{AreTaken, AreLeft, HasSameBody}
-use Rattle.partial_lines.proofs.Places.{pushed, set_other, set_same, set_long, same_item}
+use Rattle.partial_lines.proofs.Places.{pushed, set_other, set_same, same_item}
 
 abbrev pub TrailOf : Type 0
 TrailOf = List (Noted WatchPiece)
@@ -32,7 +33,7 @@ pub next_taken : (w i : ℕ) (old new now : List LoopPiece) (trails more : List 
 next_taken w i old new now trails more p q t h at one is_now is_more =
     let here : slice_get old i ≡ Some p = sym (h.rest i (omega arith)) ∙ at in
     record {
-      many = ap length is_now ∙ set_long new i q ∙ h.many;
+      many = ap length is_now ∙ set_length new i q ∙ h.many;
       count = ap length is_more ∙ omega (arith, length-append trails (t ∷ []), h.count);
       taken = λ k r s a b. ⊎_elim
           (λ (c : slice_get trails k ≡ Some s). h.taken k r s a c)

@@ -3,6 +3,7 @@ use Rattle.std.proofs.Common.{◌≡◌, ℕ, ◌+◌, ◌<◌, ◌≤◌, List,
 use Rattle.std.specs.Prelude.{slice_get}
 use Rattle.std.specs.List.{All}
 use Rattle.std.proofs.lemmas.Option.{slice_get-get_or, slice_get_within}
+use Rattle.lemmas.proofs.Places.{set_length}
 use Rattle.rdf_values.specs.Cuts.{stride}
 use Rattle.rdf_model.specs.PartialResults.{IsChain}
 use Rattle.rdf_model.specs.declared.loop_facts.LoopFacts.{LoopFacts}
@@ -14,7 +15,7 @@ use Rattle.loop_pieces.specs.declared.watch_piece.WatchPiece.{WatchPiece}
 use Rattle.partial_lines.specs.Chains.{AreNoted, HavePartialsOver, chain_of, noted_sets}
 use Rattle.partial_lines.specs.Trails.{AreTrails, HaveAllTrails, AreTaken, AreLeft, HaveSameBodies}
 use Rattle.partial_lines.proofs.Chaining.{is_chain}
-use Rattle.partial_lines.proofs.Places.{pushed, set_other, set_long, same_item}
+use Rattle.partial_lines.proofs.Places.{pushed, set_other, same_item}
 
 -- the trails of the results from place w on are as they were
 pub record AreAhead (w : ℕ) (old new : List LoopPiece) : Type 0 where
@@ -40,7 +41,7 @@ next_ahead w old mid new h left = record {
       (let q = between old mid k p h.bodies.many a in
       let x = h.trails k p q.0 a q.1 in
       let y = left.trails k q.0 r q.1 b in
-      (ap length y ∙ set_long q.0.trails.items w [] ∙ x.0, λ i le. ap (λ l. slice_get l i) y ∙ set_other q.0.trails.items w i [] (λ e. omega arith) ∙ x.1 i (omega arith)));
+      (ap length y ∙ set_length q.0.trails.items w [] ∙ x.0, λ i le. ap (λ l. slice_get l i) y ∙ set_other q.0.trails.items w i [] (λ e. omega arith) ∙ x.1 i (omega arith)));
 }
 
 module _ (facts : LoopFacts) (places : List ℕ) (dones : List (List ℕ)) where

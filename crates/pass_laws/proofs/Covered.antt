@@ -6,6 +6,8 @@ use Rattle.std.specs.List.{list_any}
 use Rattle.std.proofs.lemmas.Bool.Decides.{Decides-eqb, Decides-ltb}
 use Rattle.std.proofs.lemmas.List.{append-nil, length-map}
 use Rattle.std.proofs.lemmas.Option.{slice_get-get_or, slice_get_within}
+use Rattle.lemmas.proofs.Booleans.{neither}
+use Rattle.lemmas.proofs.Places.{mapped_at}
 use Rattle.rdf_values.specs.Bookings.{ActionAt, Booked, Booking, Pass, ReportOn, bookings, columns_of, covered, named_before}
 use Rattle.rdf_values.specs.Functions.{Function, fn_names}
 use Rattle.rdf_values.specs.Kinds.{FunctionNames, scope_of}
@@ -20,7 +22,6 @@ use Rattle.rdf_values.specs.declared.statement.Statement.TheVariants.{Action, Fi
 use Rattle.rdf_model.specs.LoopFacts.{filter_node, is_covered, reports_on}
 use Rattle.rdf_model.specs.Loops.{loop_passes, loop_results}
 use Rattle.rdf_model.proofs.Accepted.{both_none, if_fails, itself as same_itself, names_equal}
-use Rattle.rdf_model.proofs.Evaluations.{neither}
 use Rattle.graph_numbers.specs.Graphs.{graph_filters, graph_loops, graph_results}
 use Rattle.graph_numbers.specs.Results.{FilterAt, ResultAt, covered_at, filters, own_filters, own_results, pass_at, results}
 use Rattle.graph_numbers.specs.Sites.{filter_sites, site_count}
@@ -36,7 +37,7 @@ use Rattle.graph_numbers.proofs.Resulting.{booked_are}
 use Rattle.loop_keys.specs.Caches.{IsCovered}
 use Rattle.loop_keys.specs.Jobs.{JobView, IsJob, job_graph, passes_in}
 use Rattle.loop_keys.proofs.EvaluateLaws.{accepted_of}
-use Rattle.loop_keys.proofs.PassTies.{get_mapped, of_mapped, of_option}
+use Rattle.loop_keys.proofs.PassTies.{of_mapped, of_option}
 use Rattle.pass_laws.specs.Plans.{covered_in}
 use Rattle.pass_laws.specs.Turns.{covers_of, is_covering, numbered_passes}
 
@@ -232,8 +233,8 @@ module _ (j : JobView) (job : IsJob j) (f : ℕ) (x : FilterAt) (q : slice_get (
 
   pub cover_at : slice_get (covered_in j) f ≡ Some (is_covered (passes_in j) x.at)
   cover_at =
-      get_mapped (is_covered (passes_in j)) (named_before (history j.script)) f x.at
-      (ap (λ ps. slice_get ps f) (sym (filters_are j.dataset.columns (fn_names j.dataset.fns) (history j.script))) ∙ get_mapped (λ (y : FilterAt). y.at) (graph_filters (job_graph j)) f x q)
+      mapped_at (is_covered (passes_in j)) (named_before (history j.script)) f x.at
+      (ap (λ ps. slice_get ps f) (sym (filters_are j.dataset.columns (fn_names j.dataset.fns) (history j.script))) ∙ mapped_at (λ (y : FilterAt). y.at) (graph_filters (job_graph j)) f x q)
 
 -- there is an answer for each filter
 pub covered_count : (j : JobView) → length (covered_in j) ≡ length (graph_filters (job_graph j))

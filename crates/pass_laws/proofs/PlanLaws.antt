@@ -2,6 +2,8 @@
 use Rattle.std.proofs.Common.{◌≡◌, ℕ, zero, suc, ◌+◌, ◌<◌, ◌≤◌, Bool, true, false, ◌||◌, List, [], ◌∷◌, length, take, Option, Some, None, option_map, refl, sym, ◌∙◌, ap, arith, nat_eq, get_or, slice_get}
 use Rattle.std.specs.List.{list_any}
 use Rattle.std.proofs.lemmas.Option.{slice_get-get_or}
+use Rattle.lemmas.proofs.Booleans.{neither, or_fails}
+use Rattle.lemmas.proofs.Parts.{take_all}
 use Rattle.graph_numbers.specs.Graphs.{GraphView, graph_results}
 use Rattle.graph_numbers.specs.Results.{ResultAt}
 use Rattle.graph_numbers.specs.declared.pass.Pass.{Pass as NumberedPass}
@@ -11,19 +13,11 @@ use Rattle.pass_laws.specs.Turns.{covers_of, is_covering, numbered_passes}
 
 -- ---- tests of a list's elements
 
-or_false : (a b : Bool) → a ≡ false → b ≡ false → (a || b) ≡ false
-or_false true b h k = cc h
-or_false false b h k = k
-
-right_false : (a b : Bool) → (a || b) ≡ false → (a ≡ false) × (b ≡ false)
-right_false true b h = cc h
-right_false false b h = (refl, h)
-
 any_next : {A : Type 0} (test : A → Bool) (xs : List A) (i : ℕ) (d : A) → i < length xs → list_any test (take i xs) ≡ false → test (get_or xs i d) ≡ false → list_any test (take (suc i) xs) ≡ false
 any_next test [] i d lt h e = absurd (omega (arith, lt))
-any_next test (x ∷ xs) zero d lt h e = or_false (test x) (list_any test (take 0 xs)) e refl
+any_next test (x ∷ xs) zero d lt h e = or_fails (test x) (list_any test (take 0 xs)) e refl
 any_next test (x ∷ xs) (suc i) d lt h e =
-    let p = right_false (test x) (list_any test (take i xs)) h in or_false (test x) (list_any test (take (suc i) xs)) p.0 (any_next test xs i d (omega (arith, lt)) p.1 e)
+    let p = neither (test x) (list_any test (take i xs)) h in or_fails (test x) (list_any test (take (suc i) xs)) p.0 (any_next test xs i d (omega (arith, lt)) p.1 e)
 
 any_here : {A : Type 0} (test : A → Bool) (xs : List A) (i : ℕ) (d : A) → i < length xs → test (get_or xs i d) ≡ true → list_any test xs ≡ true
 any_here test [] i d lt e = absurd (omega (arith, lt))
@@ -33,12 +27,6 @@ any_here test (x ∷ xs) (suc i) d lt e = go (test x) (any_here test xs i d (ome
     go : (b : Bool) → list_any test xs ≡ true → (b || list_any test xs) ≡ true
     go true h = refl
     go false h = h
-
-take_all : {A : Type 0} (xs : List A) (n : ℕ) → length xs ≤ n → take n xs ≡ xs
-take_all [] zero le = refl
-take_all [] (suc n) le = refl
-take_all (x ∷ xs) zero le = absurd (omega (arith, le))
-take_all (x ∷ xs) (suc n) le = ap (λ ys. x ∷ ys) (take_all xs n (omega (arith, le)))
 
 -- ---- a report of the loop
 

@@ -1,5 +1,6 @@
 -- What the next entry gives to a tally, by the passes of a job's loop.
 use Rattle.std.proofs.Common.{◌≡◌, ℕ, zero, suc, ◌+◌, true, false, List, [], ◌∷◌, ◌++◌, length, take, Some, sym, ◌∙◌, ap, arith, slice_get, if◌then◌else◌}
+use Rattle.lemmas.proofs.Places.{mapped_at}
 use Rattle.rdf_values.specs.Bookings.{ActionAt, Booking, Pass, ReportOn, named_before}
 use Rattle.rdf_values.specs.Path.{Path, history}
 use Rattle.rdf_values.specs.declared.action.ActionKind.{ActionKind}
@@ -11,7 +12,6 @@ use Rattle.rdf_model.specs.declared.loop_facts.Reach.TheVariants.{Stopped}
 use Rattle.graph_numbers.specs.Graphs.{graph_filters}
 use Rattle.graph_numbers.specs.Results.{FilterAt}
 use Rattle.loop_keys.specs.Jobs.{JobView, job_graph, passes_in}
-use Rattle.loop_keys.proofs.PassTies.{get_mapped}
 use Rattle.pass_laws.specs.Turns.{actions_before}
 use Rattle.pass_laws.proofs.Covered.{filters_are}
 
@@ -78,10 +78,10 @@ module _ (d : Dataset) (row : List Value) where
 
 module _ (j : JobView) (entry : ℕ) (row : List Value) (here : slice_get j.dataset.rows entry ≡ Some row) (f : ℕ) (x : FilterAt) (q : slice_get (graph_filters (job_graph j)) f ≡ Some x) where
   pub filter_at : slice_get (named_before (history j.script)) f ≡ Some x.at
-  filter_at = ap (λ ps. slice_get ps f) (sym (filters_are j.dataset.columns _ (history j.script))) ∙ get_mapped (λ (y : FilterAt). y.at) (graph_filters (job_graph j)) f x q
+  filter_at = ap (λ ps. slice_get ps f) (sym (filters_are j.dataset.columns _ (history j.script))) ∙ mapped_at (λ (y : FilterAt). y.at) (graph_filters (job_graph j)) f x q
 
   its_reach : slice_get (own_reaches j entry row here) f ≡ Some (if is_covered (passes_in j) x.at then filter_reach j.dataset row x.at else Stopped)
-  its_reach = get_mapped (λ g. if is_covered (passes_in j) g then filter_reach j.dataset row g else Stopped) (named_before (history j.script)) f x.at filter_at
+  its_reach = mapped_at (λ g. if is_covered (passes_in j) g then filter_reach j.dataset row g else Stopped) (named_before (history j.script)) f x.at filter_at
 
   pub uncovered_reach : is_covered (passes_in j) x.at ≡ false → slice_get (own_reaches j entry row here) f ≡ Some Stopped
   uncovered_reach h = its_reach ∙ ap (λ b. Some (if b then filter_reach j.dataset row x.at else Stopped)) h

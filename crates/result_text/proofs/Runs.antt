@@ -47,10 +47,6 @@ flow_put text name l first n t1 t2 t3 t4 t5 bytes e1 e2 e e3 e4 e5 =
         → a ++ b ++ colon ++ d ++ e ++ f ++ g ++ h ++ i ++ j ++ k ++ m ++ 10 ∷ [] ≡ a ++ (b ++ colon ++ d ++ e ++ f ++ g ++ h ++ i ++ j ++ k ++ m ++ 10 ∷ [])
     front a b d e f g h i j k m colon = simp append_assoc
 
-pub on_ok : {A E : Type 0} (r : Result A E) (P Q : Type 0) → (P → Q) → OnOk r P → OnOk r Q
-on_ok (Ok x) P Q h p = h p
-on_ok (Err e) P Q h p = tt
-
 -- the line of a fault, put piece by piece
 pub fault_put : (text l shown kind bytes : List ℕ) (entry : ℕ) (t1 t2 t3 t4 t5 t6 t7 : List ℕ) → t1 ≡ text ++ codes "fault at entry " → t2 ≡ t1 ++ decimal entry → t3 ≡ t2 ++ codes " in " → t4 ≡ t3 ++ l → l ≡ shown
     → t5 ≡ t4 ++ codes ": " → t6 ≡ t5 ++ bytes → bytes ≡ kind → t7 ≡ t6 ++ 10 ∷ []

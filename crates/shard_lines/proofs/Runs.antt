@@ -4,10 +4,6 @@ use Rattle.std.specs.Prelude.{flat_map}
 use Rattle.shard_lines.specs.Spaced.{spaced}
 use Rattle.shard_lines.specs.Lines.{joined_words}
 
-pub on_ok : {A E : Type 0} (r : Result A E) (P Q : Type 0) → (P → Q) → OnOk r P → OnOk r Q
-on_ok (Ok x) P Q f h = f h
-on_ok (Err e) P Q f h = h
-
 -- a map of lists joins what it makes of two parts
 pub joins : {A B : Type 0} (f : A → List B) (xs ys : List A) → flat_map f (xs ++ ys) ≡ flat_map f xs ++ flat_map f ys
 joins f [] ys = refl

@@ -4,12 +4,12 @@ use Rattle.std.specs.Prelude.{All, option_map, slice_get}
 use Rattle.std.proofs.lemmas.Grind.{flat_map-append}
 use Rattle.std.proofs.lemmas.List.{map-append}
 use Rattle.std.proofs.lemmas.Option.{same_Some, slice_get-map}
+use Rattle.lemmas.proofs.Parts.{take_next}
 use Rattle.rdf_values.specs.Bookings.{ActionAt, Booking, Pass, ReportOn, named_before}
 use Rattle.rdf_values.specs.Path.{Path, history}
 use Rattle.rdf_values.specs.declared.action.ActionKind.{ActionKind}
 use Rattle.rdf_model.specs.LoopFacts.{kind_in, kinds_in}
 use Rattle.rdf_model.specs.PartialResults.{over_clusters}
-use Rattle.cluster_tally.proofs.ListPlaces.{take_next}
 use Rattle.graph_numbers.specs.Graphs.{GraphView, graph_filters, graph_results, graph_under}
 use Rattle.graph_numbers.specs.Results.{FilterAt, ResultAt, kind_of_booking}
 use Rattle.graph_numbers.specs.declared.pass.Pass.{Pass as NumberedPass}

@@ -3,7 +3,7 @@ use Rattle.std.proofs.Common.{◌≡◌, ℕ, ◌+◌, ◌<◌, List, [], ◌∷
 use Rattle.std.specs.Prelude.{slice_get}
 use Rattle.std.proofs.lemmas.List.{map-append}
 use Rattle.std.proofs.lemmas.Option.{get_or_from_slice_get}
-use Rattle.cluster_tally.proofs.ListPlaces.{take_next}
+use Rattle.lemmas.proofs.Parts.{take_next}
 use Rattle.filters_report.specs.Flows.{nothing}
 use Rattle.filters_report.specs.declared.flow.Counts.{Counts}
 

@@ -5,6 +5,7 @@ use Rattle.std.specs.List.{cons_option}
 use Rattle.std.proofs.lemmas.List.{append-nil, append_assoc}
 use Rattle.std.proofs.lemmas.List.Concat.{flat_map-append}
 use Rattle.std.proofs.lemmas.Option.{unwrap_or-slice_get}
+use Rattle.lemmas.proofs.Parts.{take_full}
 use Rattle.rdf_values.specs.declared.fault.EntryFault.{EntryFault}
 use Rattle.rdf_values.specs.declared.value.Value.{Value}
 use Rattle.rdf_model.specs.Evaluation.{Gives, Faults}
@@ -38,11 +39,6 @@ get_or_drop xs zero i d = let e : i ≡ 0 + i = omega arith in ap (λ k. get_or 
 get_or_drop [] (suc a) i d = refl
 get_or_drop (x ∷ xs) (suc a) i d = get_or_drop xs a i d ∙ (let e : suc (a + i) ≡ suc a + i = omega arith in ap (λ k. get_or (x ∷ xs) k d) e)
 
-take_long : {A : Type 0} (n : ℕ) (xs : List A) → n ≤ length xs → length (take n xs) ≡ n
-take_long zero xs le = refl
-take_long (suc n) [] le = absurd (omega (arith, le))
-take_long (suc n) (x ∷ xs) le = let r = take_long n xs (omega (arith, le)) in omega (arith, r)
-
 module _ (rows : List (List Value)) (lo e : ℕ) (low : lo ≤ e) (lt : e < length rows) where
   at_row : get_or (drop lo rows) (e - lo) [] ≡ row_in rows e
   at_row = get_or_drop rows lo (e - lo) [] ∙ (let s : lo + (e - lo) ≡ e = omega (arith, low) in ap (λ k. get_or rows k []) s) ∙ sym (unwrap_or-slice_get rows e [])
@@ -54,7 +50,7 @@ module _ (rows : List (List Value)) (lo e : ℕ) (low : lo ≤ e) (lt : e < leng
       ap (λ k. take k (drop lo rows)) s ∙ take_next (drop lo rows) (e - lo) [] inside ∙ ap (λ r. slice_range rows lo e ++ r ∷ []) at_row
 
   range_long : e ≡ lo + length (slice_range rows lo e)
-  range_long = (let n = length-drop lo rows in let m = take_long (e - lo) (drop lo rows) (omega (arith, low, lt, n)) in omega (arith, low, m))
+  range_long = (let n = length-drop lo rows in let m = take_full (e - lo) (drop lo rows) (omega (arith, low, lt, n)) in omega (arith, low, m))
 
   range_split : (hi : ℕ) → e < hi → hi ≤ length rows → (rest : List (List Value)) × (slice_range rows lo hi ≡ slice_range rows lo e ++ row_in rows e ∷ rest)
   range_split hi up most =

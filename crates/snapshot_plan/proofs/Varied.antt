@@ -3,18 +3,14 @@ use Rattle.std.proofs.Common.{◌≡◌, ◌<◌, ℕ, Bool, true, false, ◌&&�
 use Rattle.std.proofs.lemmas.List.Folds.{list_any_at}
 use Rattle.std.proofs.lemmas.Option.{slice_get-get_or}
 use Rattle.std.proofs.lemmas.Slice.Eq.{bytes_eq-Decides}
+use Rattle.lemmas.proofs.Booleans.{both_true}
 use Rattle.rdf_values.specs.Names.{same}
 use Rattle.rdf_values.specs.Path.{Variation, same_variation}
 use Rattle.snapshot_plan.specs.Views.{IsNumber, no_variation}
 
-and_both : (x y : Bool) → (x && y) ≡ true → (x ≡ true) × (y ≡ true)
-and_both true true h = (refl, refl)
-and_both true false h = cc h
-and_both false y h = cc h
-
 same_is : (u v : Variation) → same_variation u v ≡ true → v ≡ u
 same_is u v h =
-    let both = and_both (same u.name v.name) (same u.tag v.tag) h in
+    let both = both_true (same u.name v.name) (same u.tag v.tag) h in
     sym (ap₂ (λ (n t : List ℕ). record { name = n; tag = t }) ((bytes_eq-Decides u.name v.name).0 both.0) ((bytes_eq-Decides u.tag v.tag).0 both.1))
 
 pub number_is : (all : List Variation) (v : ℕ) (u : Variation) → v < length all → same_variation u (get_or all v no_variation) ≡ true → IsNumber all (Some v) (Some u)

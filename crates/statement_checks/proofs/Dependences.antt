@@ -6,7 +6,7 @@ use Rattle.rdf_values.specs.Kinds.{scope_of}
 use Rattle.rdf_values.specs.Path.{Variation, history, variations}
 use Rattle.rdf_values.specs.Verdict.{AreAccepted}
 use Rattle.std.proofs.lemmas.List.{length-map}
-use Rattle.rdf_model.proofs.Accepted.{there}
+use Rattle.lemmas.proofs.Places.{mapped_at, something_at}
 use Rattle.rdf_model.proofs.Verdicts.{verdict_is_the_first_refusal}
 use Rattle.graph_numbers.specs.Graphs.{GraphView, IsGraph, holds_at}
 use Rattle.graph_numbers.specs.Results.{ResultAt, results}
@@ -15,7 +15,6 @@ use Rattle.graph_numbers.proofs.Resulting.{booked_are}
 use Rattle.statement_checks.specs.Dependence.{Numbers, depends_at, site_sets, result_sets}
 use Rattle.statement_checks.specs.Laws.{VersionsDependAsColumns, SiteSetsAreDependence, ResultSetsAreDependence}
 use Rattle.statement_checks.proofs.Depending.{visible_set, set_is}
-use Rattle.statement_checks.proofs.Listing.{map_at}
 use Rattle.statement_checks.proofs.ResultSets.{site_is, site_beyond, site_set_count, result_is, result_beyond, result_set_count}
 use Rattle.statement_checks.proofs.Telling.{tells}
 
@@ -30,7 +29,7 @@ beyond : {A : Type 0} (xs : List A) (v : ℕ) → slice_get xs v ≡ None → le
 beyond xs v e = by (nat_lt v (length xs)) refl (Decides-ltb v (length xs))
   where
     by : (c : Bool) → nat_lt v (length xs) ≡ c → Decides (nat_lt v (length xs)) (v < length xs) → length xs ≤ v
-    by true q d = let t = there xs v (d.0 q) in cc (sym e ∙ t.1)
+    by true q d = let t = something_at xs v (d.0 q) in cc (sym e ∙ t.1)
     by false q d = let no : (v < length xs → ⊥) = λ l. absurd (cc (sym q ∙ d.1 l)) in omega (arith, no)
 
 none_there : (ds : List Numbers) (s v : ℕ) → length ds ≤ s → depends_at ds s v ≡ false
@@ -70,5 +69,5 @@ results_depend g h r v = go (slice_get (results g.header g.names (history g.scri
         none_there (result_sets g.header g.names (history g.script)) r v
         (let b = beyond (results g.header g.names (history g.script)) r e in let c = result_set_count g.header g.names (history g.script) in omega (arith, b, c, count))
     go (Some x) e =
-        at x.booked (ap (λ (bs : List Booked). slice_get bs r) (sym (booked_are g.header g.names (history g.script))) ∙ map_at (λ (y : ResultAt). y.booked) (results g.header g.names (history g.script)) r x e)
+        at x.booked (ap (λ (bs : List Booked). slice_get bs r) (sym (booked_are g.header g.names (history g.script))) ∙ mapped_at (λ (y : ResultAt). y.booked) (results g.header g.names (history g.script)) r x e)
         (slice_get (variations (history g.script)) v) refl

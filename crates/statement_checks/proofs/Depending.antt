@@ -2,6 +2,7 @@
 use Rattle.std.proofs.Common.{◌≡◌, ℕ, zero, suc, ◌+◌, Bool, true, false, ◌&&◌, ◌||◌, List, [], ◌∷◌, ◌++◌, map, length, Option, Some, None, option_map, Ok, slice_get, refl, sym, ◌∙◌, ap, subst, arith}
 use Rattle.std.specs.List.{list_any}
 use Rattle.std.proofs.lemmas.List.{length-append, length-map}
+use Rattle.lemmas.proofs.Places.{kept_at}
 use Rattle.rdf_values.specs.Depends.{columns_in, columns_in_all, named_depends, column_depends, site_depends, is_own}
 use Rattle.rdf_values.specs.EachColumn.{EachColumn, EachArgument}
 use Rattle.rdf_values.specs.Kinds.{FunctionNames, scope_of, column_kind, kind_of, shape_of}
@@ -19,7 +20,7 @@ use Rattle.rdf_model.proofs.Accepted.{kind_known, checked_of, names_equal, sound
 use Rattle.rdf_model.proofs.KnownColumns.{IsKnownColumn, known_columns, each_weaker}
 use Rattle.graph_numbers.specs.Graphs.{holds_at}
 use Rattle.graph_numbers.specs.Versions.{column_place, own_columns, own_version, version_or, version_count, named_version, version_at}
-use Rattle.graph_numbers.proofs.Listed.{kept_at, next_at}
+use Rattle.graph_numbers.proofs.Listed.{next_at}
 use Rattle.statement_checks.specs.Dependence.{Numbers, depends_at, is_among_own, expression_set, varied_set, own_version_sets, version_sets}
 use Rattle.statement_checks.proofs.Listing.{any_map, any_append}
 use Rattle.statement_checks.proofs.Telling.{Tells}

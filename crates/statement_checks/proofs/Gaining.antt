@@ -2,6 +2,7 @@
 use Rattle.std.proofs.Common.{◌≡◌, ℕ, suc, ◌+◌, ◌≤◌, ◌||◌, false, List, [], ◌∷◌, ◌++◌, map, length, Option, None, Result, Ok, Err, OnOk, refl, sym, ◌∙◌, ap, subst, arith}
 use Rattle.std.proofs.lemmas.List.{length-append}
 use Rattle.std.proofs.lemmas.List.Elements.{All-weaker}
+use Rattle.lemmas.proofs.Places.{kept_at}
 use Rattle.rdf_values.specs.Bookings.{Booked, ReportOn, booked_by, bookings, covered}
 use Rattle.rdf_values.specs.Kinds.{FunctionNames, scope_of}
 use Rattle.rdf_values.specs.Path.{path, own_variations, variations}
@@ -15,7 +16,6 @@ use Rattle.rdf_values.specs.declared.statement.Statement.TheVariants.{Define, Re
 use Rattle.rdf_values.specs.declared.value.ColType.{ColType}
 use Rattle.rdf_model.specs.Demanded.{Site, site_at}
 use Rattle.expr_check.specs.NumKinds.{CheckedExpr}
-use Rattle.graph_numbers.proofs.Listed.{kept_at}
 use Rattle.graph_numbers.specs.Kinds.{own_kinds, version_kinds}
 use Rattle.graph_numbers.specs.Sites.{SiteAt, site_in, list_sites, lists_sites, own_sites, sites}
 use Rattle.graph_numbers.specs.Versions.{named_version}

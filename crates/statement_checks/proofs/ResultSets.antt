@@ -3,6 +3,8 @@ use Rattle.std.proofs.Common.{◌≡◌, ◌⊎◌, inl, inr, ℕ, zero, suc, �
 use Rattle.std.specs.List.{list_any, AllByRecursion}
 use Rattle.std.proofs.lemmas.List.{length-append, length-map, append-nil}
 use Rattle.std.proofs.lemmas.Option.{slice_get_within}
+use Rattle.lemmas.proofs.Booleans.{or_false}
+use Rattle.lemmas.proofs.Places.{mapped_at}
 use Rattle.rdf_values.specs.Bookings.{ActionAt, ReportOn, Booked, covered, booked_by, bookings, columns_of, result_depends}
 use Rattle.rdf_values.specs.Depends.{columns_in, column_depends, site_depends, filters_depend}
 use Rattle.rdf_values.specs.Kinds.{FunctionNames, scope_of, column_kind, kind_of}
@@ -25,7 +27,7 @@ use Rattle.graph_numbers.proofs.Placing.{own_placed}
 use Rattle.graph_numbers.proofs.Ranges.{AreBelow, filter_sites_below}
 use Rattle.statement_checks.specs.Dependence.{Numbers, depends_at, any_depends, varied_set, own_version_sets, version_sets, site_set, own_site_sets, site_sets, action_set, own_result_sets, result_sets}
 use Rattle.statement_checks.proofs.Depending.{visible_set, set_is, expression_set_is}
-use Rattle.statement_checks.proofs.Listing.{any_append, any_none, map_at, or_false}
+use Rattle.statement_checks.proofs.Listing.{any_append, any_none}
 use Rattle.statement_checks.proofs.Telling.{Tells, after_own, own_count}
 
 -- ---- sets of places that are kept
@@ -151,7 +153,7 @@ module _ (header : List Column) (names : FunctionNames) (v : ℕ) (w : Variation
           depends_kept (site_sets header names before) (own_site_sets header names before t) s v (let c = site_set_count header names before in omega (arith, l, c)) ∙ next q
       go next (inr q) =
           let n : s ≡ length (site_sets header names before) + q.0 = (let c = site_set_count header names before in let e = q.1 in omega (arith, c, e)) in
-          ap (holds_at (λ (d : Numbers). d v)) (next_at (site_sets header names before) (own_site_sets header names before t) q.0 s n ∙ map_at (site_set header names before) (own_sites header names before t) q.0 x q.2) ∙ own q.0 q.2
+          ap (holds_at (λ (d : Numbers). d v)) (next_at (site_sets header names before) (own_site_sets header names before t) q.0 s n ∙ mapped_at (site_set header names before) (own_sites header names before t) q.0 x q.2) ∙ own q.0 q.2
 
   -- the filters of a node do so
   pub filters_are : (before : List Statement) → AreAccepted names (scope_of header) before → Tells v w before → (node : List ℕ)

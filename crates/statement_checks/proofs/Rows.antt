@@ -2,6 +2,7 @@
 use Rattle.std.proofs.Common.{◌≡◌, ℕ, suc, ◌+◌, ◌≤◌, ◌<◌, Bool, true, false, ◌||◌, List, [], ◌∷◌, ◌++◌, map, length, Option, Some, None, slice_get, nat_lt, refl, sym, ◌∙◌, ap, subst, arith, Decides}
 use Rattle.std.proofs.lemmas.Bool.Decides.{Decides-ltb}
 use Rattle.std.proofs.lemmas.List.{length-append}
+use Rattle.lemmas.proofs.Places.{something_at}
 use Rattle.rdf_values.specs.Bookings.{Booked, ActionAt, bookings, columns_of, result_depends}
 use Rattle.rdf_values.specs.Kinds.{FunctionNames, scope_of}
 use Rattle.rdf_values.specs.Path.{Variation, path, own_variations, variations}
@@ -13,7 +14,7 @@ use Rattle.rdf_values.specs.declared.graph_cause.GraphCause.TheVariants as cause
 use Rattle.rdf_values.specs.declared.vary_values.VaryValues.{VaryValues}
 use Rattle.rdf_values.specs.declared.statement.Statement.{Statement}
 use Rattle.rdf_values.specs.declared.statement.Statement.TheVariants.{Vary, Action}
-use Rattle.rdf_model.proofs.Accepted.{both_none, if_fails, there}
+use Rattle.rdf_model.proofs.Accepted.{both_none, if_fails}
 use Rattle.graph_numbers.specs.Graphs.{holds_at}
 use Rattle.graph_numbers.specs.Versions.{version_at}
 use Rattle.variation_sets.specs.Sets.{has}
@@ -68,7 +69,7 @@ module _ (header : List Column) (names : FunctionNames) where
   beyond before v e = by (nat_lt v (length (variations before))) refl (Decides-ltb v (length (variations before)))
     where
       by : (c : Bool) → nat_lt v (length (variations before)) ≡ c → Decides (nat_lt v (length (variations before))) (v < length (variations before)) → length (variations before) ≤ v
-      by true q d = let t = there (variations before) v (d.0 q) in cc (sym e ∙ t.1)
+      by true q d = let t = something_at (variations before) v (d.0 q) in cc (sym e ∙ t.1)
       by false q d = let no : (v < length (variations before) → ⊥) = λ l. absurd (cc (sym q ∙ d.1 l)) in omega (arith, no)
 
   -- a result's set has the numbers of the variations on which it depends

@@ -3,6 +3,7 @@ use Rattle.std.proofs.Common.{◌≡◌, ℕ, zero, suc, ◌<◌, Bool, true, fa
 use Rattle.std.specs.List.{AllByRecursion}
 use Rattle.std.proofs.lemmas.Bool.Decides.{Decides-eqb}
 use Rattle.std.proofs.lemmas.List.Elements.{All-push, All-weaker, recursion_from_All}
+use Rattle.lemmas.proofs.Places.{within}
 use Rattle.rdf_values.specs.Depends.{columns_in, columns_in_all}
 use Rattle.rdf_values.specs.EachColumn.{EachColumn, EachArgument}
 use Rattle.rdf_values.specs.Kinds.{FunctionNames, Scope, Shape, scope_of, column_kind, kind_of, kind_by, kinds_by, shape_of, ◌>>=◌, operator_kind, negated_kind, inverted_kind, chosen_kind, picked_kind, args_count, result_kind}
@@ -34,12 +35,6 @@ invisible (c ∷ cs) name h = go (same c.0 name) h (invisible cs name)
     go : (b : Bool) → (b || is_visible cs name) ≡ false → (is_visible cs name ≡ false → column_kind cs name ≡ Err UnknownColumn) → (if b then Ok c.1 else column_kind cs name) ≡ Err UnknownColumn
     go true q next = cc q
     go false q next = next q
-
--- what stands at a place is within
-pub within : {A : Type 0} (xs : List A) (i : ℕ) (x : A) → slice_get xs i ≡ Some x → i < length xs
-within [] i x h = cc h
-within (y ∷ xs) zero x h = omega (arith)
-within (y ∷ xs) (suc i) x h = let q = within xs i x h in omega (arith, q)
 
 -- a refusal of a name says that it is unknown
 only_unknown : (scope : Scope) (name : List ℕ) (c : GraphCause) → column_kind scope name ≡ Err c → column_kind scope name ≡ Err UnknownColumn

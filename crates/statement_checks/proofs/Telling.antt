@@ -6,6 +6,8 @@ use Rattle.std.proofs.lemmas.Bool.{le-leb}
 use Rattle.std.proofs.lemmas.Bool.Decides.{leb_tells}
 use Rattle.std.proofs.lemmas.List.{length-append}
 use Rattle.std.proofs.lemmas.Option.{slice_get_within}
+use Rattle.lemmas.proofs.Booleans.{and_holds, and_left_false, and_right_false, neither}
+use Rattle.lemmas.proofs.Orders.{le_false}
 use Rattle.rdf_values.specs.Depends.{is_own}
 use Rattle.rdf_values.specs.Kinds.{FunctionNames, scope_of}
 use Rattle.rdf_values.specs.Names.{same, among}
@@ -31,33 +33,14 @@ Tells v w (s ∷ before) = OwnTells v w s (length (variations before)) × Tells 
 
 -- ---- numbers
 
-le_false : (a b : ℕ) → b < a → nat_le a b ≡ false
-le_false a b h = go (leb_tells a b)
-  where
-    go : ((nat_le a b ≡ true) × (a ≤ b)) ⊎ ((nat_le a b ≡ false) × (b < a)) → nat_le a b ≡ false
-    go (inl q) = let l = q.1 in absurd (omega (arith, l, h))
-    go (inr q) = q.0
-
-both_true : (a b : Bool) → a ≡ true → b ≡ true → (a && b) ≡ true
-both_true true b h k = k
-both_true false b h k = cc h
-
-second_false : (a b : Bool) → b ≡ false → (a && b) ≡ false
-second_false true b h = h
-second_false false b h = refl
-
-same_first : (a b : Bool) → a ≡ false → (a && b) ≡ false
-same_first true b h = cc h
-same_first false b h = refl
-
 before_own : (first count v : ℕ) → v < first → is_among_own first count v ≡ false
-before_own first count v h = same_first (nat_le first v) (nat_lt v (first + count)) (le_false first v h)
+before_own first count v h = and_left_false (nat_le first v) (nat_lt v (first + count)) (le_false first v h)
 
 pub after_own : (first count v : ℕ) → first + count ≤ v → is_among_own first count v ≡ false
-after_own first count v h = second_false (nat_le first v) (nat_lt v (first + count)) (le_false (suc v) (first + count) (omega (arith, h)))
+after_own first count v h = and_right_false (nat_le first v) (nat_lt v (first + count)) (le_false (suc v) (first + count) (omega (arith, h)))
 
 in_own : (first count k v : ℕ) → v ≡ first + k → k < count → is_among_own first count v ≡ true
-in_own first count k v e h = both_true (nat_le first v) (nat_lt v (first + count)) (le-leb first v (omega (arith, e))) (le-leb (suc v) (first + count) (omega (arith, e, h)))
+in_own first count k v e h = and_holds (nat_le first v) (nat_lt v (first + count)) (le-leb first v (omega (arith, e))) (le-leb (suc v) (first + count) (omega (arith, e, h)))
 
 -- ---- names
 
@@ -74,14 +57,10 @@ pub own_count : (vary : List ℕ) (tags : List (List ℕ)) → length {A = Varia
 own_count vary [] = refl
 own_count vary (t ∷ tags) = ap suc (own_count vary tags)
 
-neither : (a b : Bool) → (a || b) ≡ false → (a ≡ false) × (b ≡ false)
-neither true b h = cc h
-neither false b h = (refl, h)
-
 -- a Vary of another name has no variation of that name
 other_vary : (w : Variation) (vary : List ℕ) (tags : List (List ℕ)) → list_any (λ (x : Variation). same x.name w.name) (map (λ t. record { name = vary; tag = t }) tags) ≡ false → is_own w vary tags ≡ false
-other_vary w vary [] h = second_false (same w.name vary) false refl
-other_vary w vary (t ∷ tags) h = same_first (same w.name vary) (among w.tag (t ∷ tags)) (other_way vary w.name (neither (same vary w.name) _ h).0)
+other_vary w vary [] h = and_right_false (same w.name vary) false refl
+other_vary w vary (t ∷ tags) h = and_left_false (same w.name vary) (among w.tag (t ∷ tags)) (other_way vary w.name (neither (same vary w.name) _ h).0)
 
 -- the statements before have none of the name, and the number is above theirs
 foreign : (v : ℕ) (w : Variation) (before : List Statement) → is_variation_name before w.name ≡ false → length (variations before) ≤ v → Tells v w before
@@ -107,12 +86,12 @@ module _ (header : List Column) (names : FunctionNames) where
       go (Vary node parent columns values tags vary) next ok (inl q) =
           let l = slice_get_within (variations before) v w q in
           let f : same w.name vary ≡ false = any_false (λ (x : Variation). same x.name vary) (variations before) v w (tags_checked header names before node parent vary columns tags values ok).1 q in
-          (same_first (same w.name vary) (among w.tag tags) f ∙ sym (before_own (length (variations before)) (length tags) v l), next q)
+          (and_left_false (same w.name vary) (among w.tag tags) f ∙ sym (before_own (length (variations before)) (length tags) v l), next q)
       go (Vary node parent columns values tags vary) next ok (inr q) =
           let t = of_tags tags vary q.0 w q.2 in
           let l = slice_get_within tags q.0 w.tag t.1 in
           let n : length (variations before) ≤ v = let e = q.1 in omega (arith, e) in (
-            both_true (same w.name vary) (among w.tag tags) (ap (λ x. same x vary) t.0 ∙ itself vary) (among_at tags q.0 w.tag t.1) ∙ sym (in_own (length (variations before)) (length tags) q.0 v q.1 l),
+            and_holds (same w.name vary) (among w.tag tags) (ap (λ x. same x vary) t.0 ∙ itself vary) (among_at tags q.0 w.tag t.1) ∙ sym (in_own (length (variations before)) (length tags) q.0 v q.1 l),
             foreign v w before (ap (is_variation_name before) t.0 ∙ (tags_checked header names before node parent vary columns tags values ok).1) n,
           )
       go t next ok (inl q) = (tt, next q)

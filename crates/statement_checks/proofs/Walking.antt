@@ -10,11 +10,8 @@ use Rattle.rdf_values.specs.declared.statement.Statement.TheVariants.{Action, Re
 use Rattle.rdf_values.specs.declared.value.ColType.{ColType}
 use Rattle.rdf_model.proofs.Accepted.{names_equal}
 use Rattle.std.proofs.lemmas.Slice.Eq.{bytes_eq-Decides}
+use Rattle.lemmas.proofs.Booleans.{or_false}
 use Rattle.statement_checks.specs.Lookups.{books}
-
-or_false : (b : Bool) → (b || false) ≡ b
-or_false true = refl
-or_false false = refl
 
 -- a name among the names of two lists
 among_both : (name : List ℕ) (xs ys : List Booked) → among name (names_of (xs ++ ys)) ≡ (among name (names_of xs) || among name (names_of ys))

@@ -2,6 +2,7 @@
 use Rattle.std.proofs.Common.{◌≡◌, ℕ, zero, suc, ◌+◌, ◌<◌, List, [], ◌∷◌, ◌++◌, length, Some, refl, sym, ◌∙◌, ap, ap₂, subst, arith, append_assoc, length-append}
 use Rattle.std.specs.Prelude.{flat_map, slice_get}
 use Rattle.std.proofs.lemmas.List.{length-map}
+use Rattle.lemmas.proofs.Places.{something_at}
 use Rattle.rdf_values.specs.Path.{Path}
 use Rattle.rdf_values.specs.Bookings.{Booked, Booking, ActionAt, Pass}
 use Rattle.rdf_values.specs.declared.action.ActionKind.{ActionKind}
@@ -18,11 +19,6 @@ use Rattle.loop_pieces.specs.declared.loop_piece.LoopPiece.{LoopPiece}
 use Rattle.loop_pieces.proofs.WholeLoops.{piece_holds_results}
 use Rattle.result_text.specs.FilledLines.{acc_lines, lines_from}
 use Rattle.lazy_loop.proofs.Found.{AreOf, kinds-append}
-
-something_at : {A : Type 0} (xs : List A) (k : ℕ) → k < length xs → (x : A) × (slice_get xs k ≡ Some x)
-something_at [] k lt = absurd (omega arith)
-something_at (x ∷ xs) zero lt = (x, refl)
-something_at (x ∷ xs) (suc k) lt = something_at xs k (omega arith)
 
 module _ (b : Booked) (k : ActionKind) (at : Path) (action : b.booking ≡ ActionAt k at) where
   its_kinds : (p : Pass) → p.result ≡ b → kind_in p.result.booking ≡ k ∷ []

@@ -3,6 +3,7 @@ use Rattle.std.proofs.Common.{◌≡◌, ℕ, zero, suc, ◌+◌, ◌<◌, ◌�
 use Rattle.std.specs.Prelude.{slice_get}
 use Rattle.std.proofs.lemmas.List.{length-map}
 use Rattle.std.proofs.lemmas.Option.{slice_get_within}
+use Rattle.lemmas.proofs.Places.{something_at}
 use Rattle.rdf_values.specs.Cuts.{cut, stride}
 use Rattle.rdf_values.specs.Path.{history}
 use Rattle.rdf_values.specs.declared.span.Span.{Span}
@@ -86,11 +87,6 @@ one_left : (xs : List Access) (n : ℕ) (x : Access) → slice_get xs n ≡ Some
 one_left [] n x at = absurd (cc)
 one_left (y ∷ ys) zero x at = let is : y ≡ x = cc in ap (λ z. z ∷ ys) is
 one_left (y ∷ ys) (suc n) x at = rw add-one (rw add-one at (one_left ys n x at))
-
-something_at : {A : Type 0} (xs : List A) (k : ℕ) → k < length xs → (x : A) × (slice_get xs k ≡ Some x)
-something_at [] k lt = absurd (omega arith)
-something_at (x ∷ xs) zero lt = (x, refl)
-something_at (x ∷ xs) (suc k) lt = something_at xs k (omega arith)
 
 module _ (s0 old : SessionView) (parts : HasSameParts s0 old) (n : ℕ) (before after : List ℕ) (so_far : IsSoFar s0 old before n) where
   gives : Course → GraphView → Dataset → Access → Printed → Printed

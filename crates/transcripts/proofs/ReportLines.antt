@@ -3,6 +3,7 @@ use Rattle.std.proofs.Common.{◌≡◌, ◌⊎◌, inl, inr, ℕ, zero, suc, �
 use Rattle.std.specs.Prelude.{filter, option_map, slice_get, unwrap_or}
 use Rattle.std.proofs.lemmas.List.{append-nil, length-map, map-append}
 use Rattle.std.proofs.lemmas.Option.{slice_get-map}
+use Rattle.lemmas.proofs.Answers.{same_some}
 use Rattle.rdf_values.specs.Cuts.{below}
 use Rattle.rdf_values.proofs.Below.{length-below}
 use Rattle.rdf_values.specs.Functions.{Function, fn_names}
@@ -29,9 +30,6 @@ use Rattle.loop_pieces.specs.Whole.{counts_of}
 use Rattle.loop_pieces.specs.declared.loop_piece.LoopPiece.{LoopPiece}
 use Rattle.loop_pieces.proofs.WholeLoops.{piece_holds_counts}
 use Rattle.result_text.specs.FilledLines.{counts_seen, flow_at}
-
-same_some : {A : Type 0} {a b : A} → ◌≡◌ {A = Option A} (Some a) (Some b) → a ≡ b
-same_some q = cc
 
 -- what stands before and behind an element
 pub record IsBetween {A : Type 0} (xs : List A) (n : ℕ) (x : A) : Type 0 where

@@ -2,6 +2,7 @@
 use Rattle.std.proofs.Common.{◌≡◌, ◌⊎◌, inl, inr, ℕ, zero, suc, ◌+◌, ◌<◌, ◌≤◌, ◌^◌, Bool, true, false, List, [], ◌∷◌, ◌++◌, length, map, Option, Some, None, refl, sym, ◌∙◌, ap, ap₂, subst, arith, if◌then◌else◌, append-nil, append_assoc}
 use Rattle.std.specs.Prelude.{Result, Ok, Err, OnOk, All, flat_map, option_map, slice_get, unwrap_or}
 use Rattle.std.proofs.lemmas.List.{length-map}
+use Rattle.lemmas.proofs.Places.{something_at}
 use Rattle.rdf_values.specs.Bookings.{Booked, Booking, ActionAt, ReportOn, Pass, is_watched, named_before, passes_of, varied_passes, has_variations}
 use Rattle.rdf_values.specs.Cuts.{Lead, below, cut}
 use Rattle.rdf_values.specs.Path.{Path, history}
@@ -202,11 +203,6 @@ module _ (s : SessionView) (is : IsSession s) where
         go (ReportOn fs) q = ap (booking_text s.graph x f) q ∙ report_text fs q
 
 -- ---- by the result's number
-
-something_at : {A : Type 0} (xs : List A) (k : ℕ) → k < length xs → (x : A) × (slice_get xs k ≡ Some x)
-something_at [] k lt = absurd (omega arith)
-something_at (x ∷ xs) zero lt = (x, refl)
-something_at (x ∷ xs) (suc k) lt = something_at xs k (omega arith)
 
 module _ (s : SessionView) (is : IsSession s) (r : ℕ) where
   pub runs_at : r < length (graph_results s.graph) → (lines : List PartialLine) → ((x : ResultAt) → slice_get (graph_results s.graph) r ≡ Some x → ArePartials s x.booked lines ⊎ ((lines ≡ []) × HasNoPartials s x.booked))

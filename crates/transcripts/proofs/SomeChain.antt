@@ -4,6 +4,7 @@ use Rattle.std.specs.Prelude.{All, Contains, option_map, slice_get}
 use Rattle.std.specs.List.Sorted.{IsStrictlyIncreasing}
 use Rattle.std.proofs.lemmas.List.{length-map}
 use Rattle.std.proofs.lemmas.Option.{get_or_from_slice_get, slice_get-map, slice_get_within}
+use Rattle.lemmas.proofs.Answers.{same_some}
 use native.Mathlib.Nat.{div-add-mod', mul-le-mul_right}
 use Rattle.rdf_values.specs.Cuts.{below}
 use Rattle.rdf_values.proofs.Below.{length-below, slice_get-below}
@@ -17,9 +18,6 @@ first_clusters g j = below ((j + 1) * g)
 -- the first clusters, each time g more
 abbrev pub first_sets : ℕ → ℕ → List (List ℕ)
 first_sets c g = map (first_clusters g) (below (c / g))
-
-same_some : {A : Type 0} {a b : A} → ◌≡◌ {A = Option A} (Some a) (Some b) → a ≡ b
-same_some q = cc
 
 its_set : (c g j : ℕ) (set : List ℕ) → slice_get (first_sets c g) j ≡ Some set → (j < c / g) × (first_clusters g j ≡ set)
 its_set c g j set at =

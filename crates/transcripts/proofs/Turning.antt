@@ -3,6 +3,8 @@ use Rattle.std.proofs.Common.{◌≡◌, ℕ, zero, suc, ◌<◌, Bool, true, fa
 use Rattle.std.specs.Prelude.{IfSome, flat_map, option_map, slice_get, unwrap_or}
 use Rattle.std.proofs.lemmas.List.{length-map}
 use Rattle.std.proofs.lemmas.Option.{slice_get-map, slice_get_within}
+use Rattle.lemmas.proofs.Answers.{same_some}
+use Rattle.lemmas.proofs.Places.{something_at}
 use Rattle.rdf_values.specs.Bookings.{Booked, Pass, bookings, results_named}
 use Rattle.rdf_values.specs.Names.{same}
 use Rattle.rdf_values.specs.Path.{history}
@@ -27,14 +29,6 @@ use Rattle.lazy_loop.proofs.Filling.{many, one_number}
 use Rattle.lazy_loop.proofs.Found.{in_turn}
 use Rattle.lazy_loop.proofs.Printed.{place_at}
 use Rattle.transcripts.specs.Turns.{FitsCourse, GoesOn}
-
-same_some : {A : Type 0} {a b : A} → ◌≡◌ {A = Option A} (Some a) (Some b) → a ≡ b
-same_some q = cc
-
-something_at : {A : Type 0} (xs : List A) (k : ℕ) → k < length xs → (x : A) × (slice_get xs k ≡ Some x)
-something_at [] k lt = absurd (omega arith)
-something_at (x ∷ xs) zero lt = (x, refl)
-something_at (x ∷ xs) (suc k) lt = something_at xs k (omega arith)
 
 -- ---- the only one that passes a test
 

@@ -1,9 +1,9 @@
 use Rattle.std.proofs.Common.{sym, ap, ◌∙◌}
 use Rattle.std.specs.Prelude.{option_map, slice_get}
+use Rattle.lemmas.proofs.Answers.{on_ok}
 use Rattle.rdf_values.specs.Bookings.{is_watched}
 use Rattle.graph_numbers.specs.Graphs.{GraphView, booked_statements, graph_results}
 use Rattle.graph_numbers.specs.Results.{ResultAt}
-use Rattle.result_text.proofs.Runs.{on_ok}
 use Rattle.lazy_loop.specs.Sessions.{session_of}
 use Rattle.transcripts.proofs.SessionLines.{runs_at, unwatched_put, watched_put}
 use Rattle.transcripts.proofs.results.put_partials.Goals as goal

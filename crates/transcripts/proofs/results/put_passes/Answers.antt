@@ -1,8 +1,8 @@
 use Rattle.std.proofs.Common.{◌++◌, List, ℕ, sym, ap, subst, ◌∙◌}
 use Rattle.std.specs.Prelude.{slice_get}
+use Rattle.lemmas.proofs.Answers.{on_ok}
 use Rattle.graph_numbers.specs.Graphs.{GraphView, graph_results}
 use Rattle.result_text.specs.FilledLines.{FitsResult, filled_text}
-use Rattle.result_text.proofs.Runs.{on_ok}
 use Rattle.lazy_loop.specs.Sessions.{session_of}
 use Rattle.transcripts.proofs.SessionLines.{fits, never_unfilled, text_is}
 use Rattle.transcripts.proofs.results.put_passes.Goals as goal

@@ -1,8 +1,9 @@
 use Rattle.std.proofs.Common.{◌≡◌, ◌<◌, ◌∙◌, ℕ, ap, sym, subst, arith, refl, length, false}
+use Rattle.lemmas.proofs.Booleans.{or_left}
 use Rattle.expr_check.specs.NumKinds.{is_vector}
 use Rattle.expr_lanes.specs.Places.{is_marked, EachPlace}
 use Rattle.block_lanes.specs.Lanes.{LaneView}
-use Rattle.block_lanes.proofs.LaneSteps.{come_as, either_held, evaluated_after, in_given, lane_after, marks_as, newly_as, written}
+use Rattle.block_lanes.proofs.LaneSteps.{come_as, evaluated_after, in_given, lane_after, marks_as, newly_as, written}
 use Rattle.block_lanes.proofs.lane.Lane.evaluate.Goals as goal
 
 pub mark-requires-2 : goal.mark-requires-2
@@ -27,7 +28,7 @@ invariant_of-self g c =
     rw (numbers, tried, held) (
       lane_after _ c.args.selection.now c.eval_lane.new.selection c.self.inside.kind c.self.inside.count c.self.inside.values.numbers.items _ c.self.inside.values.vectors scalar c.self.inside.tried.items _ c.self.inside.held.items _ tried_at held_at _ _ c.self.invariant.0 inside unknown come
           (c.eval_lane.auto.lane ∙ ap length c.deref_mut-2.ensures.value) (c.mark.auto.marks ∙ ap length c.deref_mut.ensures.value) (c.mark-2.auto.marks ∙ ap length c.deref_mut-3.ensures.value),
-      c.extent_after-self-inside.ensures _ refl (λ p h. held_at p ∙ either_held _ _ h),
+      c.extent_after-self-inside.ensures _ refl (λ p h. held_at p ∙ or_left _ _ h),
     )
 
 pub returns-clause-evaluated : goal.returns-clause-evaluated

@@ -1,11 +1,12 @@
 use Rattle.std.proofs.Common.{◌≡◌, ◌<◌, ◌∙◌, not, ℕ, List, ap, sym, subst, arith, refl, length, true, false}
+use Rattle.lemmas.proofs.Booleans.{or_left}
 use Rattle.expr_lanes.specs.Places.{is_in, is_marked, EachPlace}
 use Rattle.expr_lanes.proofs.Sequence.{filtered_in}
 use Rattle.block_lanes.specs.Lanes.{LaneView}
 use Rattle.block_lanes.specs.Values.{AreWritten}
 use Rattle.block_lanes.proofs.EachLanes.{begun_after, come_to, evaluated_each, extent_as, lane_begun, lane_each, on_err}
 use Rattle.block_lanes.proofs.EachPlaces.{left_given}
-use Rattle.block_lanes.proofs.LaneSteps.{either_held, marks_as, newly_as, written}
+use Rattle.block_lanes.proofs.LaneSteps.{marks_as, newly_as, written}
 use Rattle.block_lanes.proofs.lane.Lane.evaluate_each.Goals as goal
 
 pub invariant_of-self : goal.invariant_of-self
@@ -60,7 +61,7 @@ invariant_of-self-2 g c =
     rw (tried, held) (
       lane_each c.self.inside.kind c.self.inside.count c.args.selection.now c.self.inside.values.numbers.items _ c.self.inside.values.vectors _ c.self.inside.tried.items _ c.self.inside.held.items _ tried_at w c.self.invariant.0 inside unknown (c.mark.auto.marks ∙ ap length c.deref_mut.ensures.value)
           (c.mark-2.auto.marks ∙ ap length c.deref_mut-2.ensures.value) _ c.keep_unmarked.new.self _ _ _ (c.keep_unmarked.ensures ∙ left_given (g.E.PlaceValues.gives c.args.evaluation.now) _ c.args.selection.now come.marked) held_at come,
-      c.extent_after-self-inside.ensures _ refl (λ p h. held_at p ∙ either_held _ _ h),
+      c.extent_after-self-inside.ensures _ refl (λ p h. held_at p ∙ or_left _ _ h),
     )
 
 pub returns-clause-evaluated : goal.returns-clause-evaluated
