@@ -31,10 +31,6 @@ mapped f [] i x d h = cc h
 mapped f (y ∷ ys) zero x d h = let same : y ≡ x = cc h in ap f same
 mapped f (y ∷ ys) (suc i) x d h = mapped f ys i x d h
 
--- one more element of a map
-pub map_next : {A B : Type 0} (f : A → B) (xs : List A) (i : ℕ) (d : A) → i < length xs → map f (take (i + 1) xs) ≡ map f (take i xs) ++ f (get_or xs i d) ∷ []
-map_next f xs i d l = ap (map f) (take_more xs i d l) ∙ map-append f (take i xs) (get_or xs i d ∷ [])
-
 -- a column in pieces at a place
 pub whole_at : (pieces : List ColumnPieces) (i : ℕ) (p : ColumnPieces) → i < length pieces → p ≡ get_or pieces i p → whole p ≡ get_or (map whole pieces) i (whole p)
 whole_at pieces i p l e = sym (get_or-map whole pieces i p (whole p) l ∙ ap whole (sym e))

@@ -21,11 +21,6 @@ repeat_here ns e n r l q old h =
     let next : drop e ns ≡ n ∷ drop (e + 1) ns = rw (add-one e) (drop-cons ns e n l ∙ ap (λ x. x ∷ drop (suc e) ns) (sym q)) in
     sym h ∙ ap (λ t. repeat_from e (take e ns) t) next ∙ ap (λ b. cond b (Some e) (repeat_from (e + 1) (take e ns ++ n ∷ []) (drop (e + 1) ns))) old
 
-pub same_get : {A : Type 0} (xs : List A) (i : ℕ) (d : A) → i < length xs → get_or xs i d ≡ get_or xs i (get_or xs i d)
-same_get [] i d l = absurd (omega arith)
-same_get (x ∷ xs) zero d l = refl
-same_get (x ∷ xs) (suc i) d l = same_get xs i d (omega arith)
-
 not_false : (b : Bool) → not b ≡ false → b ≡ true
 not_false true h = refl
 not_false false h = cc h
