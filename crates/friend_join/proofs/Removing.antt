@@ -1,8 +1,8 @@
 -- Lists without the element at a place, and elements that are there.
-use Rattle.std.proofs.Common.{◌≡◌, ◌<◌, ◌+◌, ℕ, zero, suc, List, [], ◌∷◌, ◌++◌, length, map, get_or, take, refl, ap, ◌∙◌, sym, arith, Some}
+use Rattle.std.proofs.Common.{◌≡◌, ◌<◌, ℕ, zero, suc, List, [], ◌∷◌, length, map, get_or, refl, ap, ◌∙◌, sym, arith, Some}
 use Rattle.std.specs.Prelude.{slice_get}
 use Rattle.std.specs.List.{remove}
-use Rattle.std.proofs.lemmas.List.{get_or-map, map-append, take_more}
+use Rattle.std.proofs.lemmas.List.{get_or-map}
 use Rattle.table_pieces.specs.Wholes.{whole}
 use Rattle.table_pieces.specs.declared.column_pieces.ColumnPieces.{ColumnPieces}
 
