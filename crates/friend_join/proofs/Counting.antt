@@ -173,9 +173,6 @@ match_below n (Some m ∷ ms) zero d h l = h.0
 match_below n (None ∷ ms) (suc i) d h l = match_below n ms i d h (omega arith)
 match_below n (Some m ∷ ms) (suc i) d h l = match_below n ms i d h.1 (omega arith)
 
-pub below_at : (n : ℕ) (ms : List (Option ℕ)) (i e : ℕ) (d : Option ℕ) → AreBelow n ms → i < length ms → get_or ms i d ≡ Some e → e < n
-below_at n ms i e d h l q = subst (λ (o : Option ℕ). MatchOption o ⊤ (λ e. e < n)) q (match_below n ms i d h l)
-
 -- ---- vectors are short
 
 pub short_for : (vs : List (List ℤ)) (m : Option ℕ) → All (λ (v : List ℤ). length v ≤ 4096) vs → MatchOption m ⊤ (λ e. e < length vs) → length (vector_for vs m) ≤ 4096

@@ -27,12 +27,12 @@ fn holds(marked: MarkedPieces, before: u32, numbers: &[i64], behind: u32) -> boo
             return false;
         };
         for piece in pieces {
-            for number in piece.as_slice() {
+            for place in 0..piece.len() {
                 let wanted = match entry.checked_sub(before) {
                     Some(i) => numbers.get(i as usize).copied().unwrap_or(0),
                     None => 0,
                 };
-                if *number != wanted || entry >= parts.entries {
+                if piece.at(place) != wanted || entry >= parts.entries {
                     return false;
                 }
                 entry += 1;

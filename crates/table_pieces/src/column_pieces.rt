@@ -3,13 +3,13 @@ ghost use Rattle.std.specs.Prelude.{◌≡◌, IfOk, OnOk};
 ghost use Rattle.table_pieces.specs.Joins.{cells_joined};
 ghost use Rattle.table_pieces.specs.Wholes.{whole};
 
-use rdf_values::{Cells, IntList, Memory, Vects};
+use rdf_values::{Cells, Memory, Numbers, Vects};
 use std::alloc::Global;
 
 /// The values of an int or a vec column in pieces: in each those of some entries, behind those of the piece before it.
 #[derive(Drop)]
 pub enum ColumnPieces {
-    Ints(Vec<IntList>),
+    Ints(Vec<Numbers>),
     Vects(Vec<Vects>),
 }
 
