@@ -45,10 +45,6 @@ take_plus zero m xs le = let e : m ≡ 0 + m = omega arith in ap (λ k. take k x
 take_plus (suc n) m [] le = absurd (omega arith)
 take_plus (suc n) m (x ∷ xs) le = ap (λ l. x ∷ l) (take_plus n m xs (omega arith)) ∙ (let e : suc (n + m) ≡ suc n + m = omega arith in ap (λ k. take k (x ∷ xs)) e)
 
-drop_none : {A : Type 0} (n : ℕ) → ◌≡◌ {A = List A} (drop n []) []
-drop_none zero = refl
-drop_none (suc n) = refl
-
 -- the rows from lo to below hi, and from there to below top
 pub ranges_join : {A : Type 0} (rows : List A) (lo hi top : ℕ) → lo ≤ hi → hi ≤ top → top ≤ length rows → slice_range rows lo hi ++ slice_range rows hi top ≡ slice_range rows lo top
 ranges_join rows lo hi top a b c =
