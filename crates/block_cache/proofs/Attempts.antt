@@ -167,6 +167,23 @@ module _
           met = told.1;
         }
 
+    none_in : (x : Stopped) → more ≡ [] → Contains more x → ⊥
+    none_in x none c = let lt : c.0 < length more = c.1 in let e : length more ≡ 0 = ap (λ (l : List Stopped). length l) none in absurd (omega (arith, lt, e))
+
+    -- where no place stops, each holds its value
+    whole_set : more ≡ [] → EachPlace group (λ p. holds_at after own_key p ≡ true)
+    whole_set none p i = go (t.told p) refl
+      where
+        go : (o : Outcome ℕ Value) → t.told p ≡ o → holds_at after own_key p ≡ true
+        go (Gives v) e =
+            let is_left : is_in p left ≡ true = ap (is_in p) t.evaluated.left_in ∙ filter_in group (λ q. is_given (t.told q)) p i (given_is (t.told p) v e) in
+            own_holds p ∙ t.evaluated.held p ∙ ap (λ b. b || is_held t.own p) is_left
+        go (Faults k) e = absurd (none_in (stopped p (Fault k)) none (stop_there t.told group more t.evaluated.joined p (Fault k) i (ap told_stop e)))
+        go (Needs c) e = absurd (none_in (stopped p (Need c)) none (stop_there t.told group more t.evaluated.joined p (Need c) i (ap told_stop e)))
+
+    pub whole : more ≡ [] → EachPlace group (λ p. holds_at new own_key p ≡ true)
+    whole none p i = ap (λ (ls : List LaneView). holds_at ls own_key p) t.written ∙ whole_set none p i
+
     module _ (found : Option PlaceFault) (least : IsLeastFault more found) (needs noted : List ℕ) (notes : (p c : ℕ) → Contains more (stopped p (Need c)) → ((x : Stopped) → Contains more x → x.place ≡ p → x.stop ≡ Need c) → need_at noted p ≡ c)
         (spares : (p : ℕ) → ((x : Stopped) → Contains more x → x.place ≡ p → ⊥) → need_at noted p ≡ need_at needs p) where
       told_at : (x : Stopped) → Contains more x → (is_in x.place group ≡ true) × (told_stop (t.told x.place) ≡ Some x.stop)
@@ -233,3 +250,7 @@ pub attempted_from : (j : JobView) (first : ℕ) (u : Option ℕ) (count s : ℕ
 attempted_from j first u count s inside group left before new old more seen none same t low lacks found least needs noted notes spares =
     attempted j first u count s inside group left before new seen
     (subst (λ (l : List Stopped). IsTriedOver j first u count s group left before new l seen) none (subst (λ (l : List Stopped). IsTriedOver j first u count s group left before new old l) (sym same) t)) low lacks found least needs noted notes spares
+
+pub whole_from : (j : JobView) (first : ℕ) (u : Option ℕ) (count s : ℕ) (inside : s < length (graph_sites (job_graph j))) (group left : List ℕ) (before new : List LaneView) (old more : List Stopped) → old ≡ [] → IsTriedOver j first u count s group left before new old more → EachPlace group (λ p. p < count)
+    → EachPlace group (λ p. holds_at before (key (job_graph j) s u) p ≡ false) → more ≡ [] → EachPlace group (λ p. holds_at new (key (job_graph j) s u) p ≡ true)
+whole_from j first u count s inside group left before new old more none t low lacks empty = whole j first u count s inside group left before new more (subst (λ (l : List Stopped). IsTriedOver j first u count s group left before new l more) none t) low lacks empty

@@ -12,9 +12,7 @@ use Rattle.expr_lanes.specs.Marks.{lane_number}
 use Rattle.expr_lanes.specs.Places.{EachPlace, at_place, given_in, is_given, is_in, is_marked, stops_in, times}
 use Rattle.expr_lanes.specs.declared.stopped.Stopped.{Stopped}
 use Rattle.expr_lanes.proofs.Sequence.{filtered_in, filtered_out}
-use Rattle.block_lanes.specs.Lanes.{LaneView, IsBegun, IsEvaluated, IsExtent, IsLane}
-use Rattle.block_lanes.specs.declared.lane.Extent.{Extent}
-use Rattle.block_lanes.specs.declared.lane.Extent.TheVariants as extent
+use Rattle.block_lanes.specs.Lanes.{LaneView, IsBegun, IsEvaluated, IsLane}
 use Rattle.block_lanes.specs.Turns.{HaveCome}
 use Rattle.block_lanes.specs.Values.{AreWritten, HasNumber, HasNumbered, value_for}
 use Rattle.block_lanes.proofs.EachPlaces.{is_there, number_read, read_back, there_more, times_append, value_more}
@@ -134,12 +132,6 @@ module _
             newly = newly;
             joined = λ t. ap (times t) come.stopped ∙ times_append t stops (stops_in f sel);
           }
-
--- what is held is all of the block, or nothing, as before
-pub extent_as : (e : Extent) (l m : LaneView) → l.count ≡ m.count → l.held ≡ m.held → IsExtent e l → IsExtent e m
-extent_as extent.Nothing l m many same is = λ p. ap (λ x. is_marked x p) (sym same) ∙ is p
-extent_as extent.Some l m many same is = tt
-extent_as extent.All l m many same is = λ p low. ap (λ x. is_marked x p) (sym same) ∙ is p (omega (arith, low, many))
 
 -- what was done at the places of a list, seen as the selection's, in a lane of that kind
 pub come_to : (k own : ColType) (f : ℕ → Outcome ℕ Value) (places sel : List ℕ) (numbers : List ℤ) (vectors : List (List ℤ)) (marks : List Bool) (stops more : List Stopped) → k ≡ own → places ≡ sel → HaveCome k f places numbers vectors marks stops more → HaveCome own f sel numbers vectors marks stops more
