@@ -13,8 +13,8 @@ use Rattle.block_laws.specs.Counts.{marked_at, marked_in, row_demands}
 use Rattle.block_laws.proofs.Lanes.{marked_within}
 use Rattle.loop_keys.specs.Jobs.{JobView, passes_in}
 use Rattle.loop_keys.specs.Store.{keys_in, row_of}
-use Rattle.pass_laws.specs.Entries.{entry_demands}
-use Rattle.pass_laws.proofs.DemandCounts.{few_keys, has_all, keys_of_all}
+use Rattle.loop_keys.specs.Entries.{entry_demands}
+use Rattle.loop_keys.proofs.DemandCounts.{few_keys, has_all, keys_of_all}
 use Rattle.block_cache.specs.Fills.{begun_at, begun_count}
 use Rattle.block_passes.specs.Blocks.{block_demands, entries_from}
 use Rattle.block_passes.specs.Spends.{Spends}

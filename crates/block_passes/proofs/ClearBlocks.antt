@@ -12,7 +12,7 @@ use Rattle.cluster_tally.specs.Tallies.{Holds, TallyView}
 use Rattle.cluster_tally.proofs.BlockFeeds.{begins_block, ends_block}
 use Rattle.loop_keys.specs.Jobs.{JobView, job_graph, passes_in}
 use Rattle.loop_keys.proofs.PassTies.{pass_of}
-use Rattle.pass_laws.specs.Entries.{facts_in, job_spans}
+use Rattle.loop_keys.specs.Entries.{facts_in, job_spans}
 use Rattle.block_passes.specs.Blocks.{IsBefore, IsBlockAnswer, IsBlockTried, after_block, block_demands, block_rows, entries_from}
 use Rattle.block_passes.specs.Clear.{IsClear}
 use Rattle.block_passes.specs.Counting.{IsAmid, IsOverAll, at_filter, at_pass}

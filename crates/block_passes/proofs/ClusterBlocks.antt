@@ -12,7 +12,7 @@ use Rattle.rdf_model.specs.PartialResults.{span_rows}
 use Rattle.rdf_model.specs.Results.{first_fault_from, first_of}
 use Rattle.columns.proofs.Joining.{span_within}
 use Rattle.loop_keys.specs.Jobs.{IsJob, JobView, passes_in}
-use Rattle.pass_laws.specs.Entries.{facts_in, job_spans}
+use Rattle.loop_keys.specs.Entries.{facts_in, job_spans}
 use Rattle.cluster_tally.specs.Stages.{at_begin}
 use Rattle.cluster_tally.specs.Tallies.{Holds, TallyView}
 use Rattle.loop_pieces.specs.Whole.{begin_of, cluster_fault}

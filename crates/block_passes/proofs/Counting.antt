@@ -14,21 +14,21 @@ use Rattle.rdf_model.specs.PartialResults.{span_rows}
 use Rattle.graph_numbers.specs.Graphs.{graph_filters}
 use Rattle.graph_numbers.specs.Outcomes.{through_sites}
 use Rattle.graph_numbers.specs.Results.{FilterAt}
-use Rattle.filters_report.specs.declared.flow.Counts.{Counts}
+use Rattle.loop_pieces.specs.declared.flow.Counts.{Counts}
 use Rattle.cluster_tally.specs.Blocks.{BlockStage, CanNoteCounts, HoldsIn, IsWithin, block_reaches}
 use Rattle.cluster_tally.specs.Stages.{counted}
 use Rattle.cluster_tally.specs.Tallies.{TallyView}
 use Rattle.loop_keys.specs.Jobs.{IsJob, JobView, job_graph, passes_in}
 use Rattle.loop_keys.specs.Store.{site_in}
-use Rattle.pass_laws.specs.Entries.{facts_in}
-use Rattle.pass_laws.specs.Plans.{covered_in}
+use Rattle.loop_keys.specs.Entries.{facts_in}
+use Rattle.loop_keys.specs.Plans.{covered_in}
 use Rattle.block_passes.specs.Counting.{AreCountable, IsAmid, at_filter}
 use Rattle.block_passes.specs.Plans.{IsLast, IsNamed, IsPlan, IsPlannedFilter, PlanView, through_chain}
 use Rattle.block_passes.specs.Selections.{AreKept, IsMade}
 use Rattle.block_passes.specs.Steps.{Chain}
 use Rattle.block_passes.specs.declared.kept.Kept.{Kept}
 use Rattle.block_passes.specs.declared.plan.NamedSteps.{NamedSteps}
-use Rattle.pass_laws.proofs.Covered.{covered_count}
+use Rattle.loop_keys.proofs.Covered.{covered_count}
 use Rattle.block_passes.proofs.Feeding.{counts, uncovered_counts}
 
 module _ (j : JobView) (first count : ℕ) (s : BlockStage) (amid : IsAmid j first count s) where

@@ -32,11 +32,11 @@ use Rattle.loop_keys.specs.Store.{row_of, site_in, version_in}
 use Rattle.loop_keys.proofs.NamedLaws.{stopped_answer, tried_answer}
 use Rattle.loop_keys.proofs.PassTies.{pass_answer, pass_of}
 use Rattle.loop_keys.proofs.TableLaws.{row_there}
-use Rattle.pass_laws.specs.Entries.{facts_in, job_spans}
-use Rattle.pass_laws.specs.Turns.{actions_before}
-use Rattle.pass_laws.proofs.Covered.{cover_at}
-use Rattle.pass_laws.proofs.Taken.{at_place, covered_reach, uncovered_reach}
-use Rattle.pass_laws.specs.Plans.{covered_in}
+use Rattle.loop_keys.specs.Entries.{facts_in, job_spans}
+use Rattle.loop_keys.specs.Turns.{actions_before}
+use Rattle.loop_keys.proofs.Covered.{cover_at}
+use Rattle.loop_keys.proofs.Taken.{at_place, covered_reach, uncovered_reach}
+use Rattle.loop_keys.specs.Plans.{covered_in}
 use Rattle.block_passes.specs.Laws as law
 use Rattle.block_passes.specs.Plans.{IsActionOf}
 use Rattle.block_passes.proofs.FirstFaults.{get_dropped, row_in_block}

@@ -12,8 +12,8 @@ use Rattle.rdf_values.specs.Tree.{NumTree}
 use Rattle.rdf_values.specs.declared.graph_cause.GraphCause.{GraphCause}
 use Rattle.rdf_values.specs.declared.value.ColType.{ColType}
 use Rattle.expr_check.specs.NumKinds.{CheckedExpr, distinct, num_kind}
-use Rattle.variation_sets.specs.Sets.{has, members_below}
-use Rattle.variation_sets.specs.declared.var_set.VarSet.{VarSet}
+use Rattle.graph.specs.Sets.{has, members_below}
+use Rattle.graph.specs.declared.var_set.VarSet.{VarSet}
 use Rattle.graph_numbers.specs.Graphs.{GraphView, IsSiteExpr, graph_kinds, graph_sites, graph_variations, holds_at, site_depends_at}
 use Rattle.graph_numbers.specs.Sites.{SiteAt, depends_on}
 use Rattle.graph_numbers.proofs.Listed.{next_at}

@@ -16,10 +16,10 @@ use Rattle.graph_numbers.specs.declared.result_kind.ResultKind.TheVariants as wh
 use Rattle.loop_keys.specs.Caches.{numbered_in}
 use Rattle.loop_keys.specs.Jobs.{IsJob, JobView, job_graph, passes_in}
 use Rattle.loop_keys.proofs.PassNumbers.{result_inside, result_there}
-use Rattle.pass_laws.specs.Plans.{covered_in}
-use Rattle.pass_laws.specs.Turns.{is_covering, numbered_passes}
-use Rattle.pass_laws.proofs.Covered.{cover_at, cover_is, passes_count}
-use Rattle.pass_laws.proofs.FilterLaws.{plan_covered}
+use Rattle.loop_keys.specs.Plans.{covered_in}
+use Rattle.loop_keys.specs.Turns.{is_covering, numbered_passes}
+use Rattle.loop_keys.proofs.Covered.{cover_at, cover_is, passes_count}
+use Rattle.loop_keys.proofs.FilterLaws.{plan_covered}
 use Rattle.block_passes.specs.Plans.{AreFiltersPlanned, ArePassesPlanned, AreStepsOf, IsActionOf, IsFilterLed, IsFilterStepped, IsLast, IsNamed, IsPassLed, IsPlan, IsPlannedFilter, IsPlannedPass, IsTried}
 use Rattle.block_passes.specs.Steps.{AreSteps, Chain, IsLed, IsStep, IsStepped, longer}
 use Rattle.block_passes.specs.declared.plan.NamedSteps.{NamedSteps}

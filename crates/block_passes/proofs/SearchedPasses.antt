@@ -10,7 +10,7 @@ use Rattle.rdf_model.specs.Results.{fault_in, first_fault_from}
 use Rattle.block_lanes.specs.Lanes.{LaneView}
 use Rattle.loop_keys.specs.Jobs.{JobView, outcome_of, passes_in}
 use Rattle.loop_keys.specs.Store.{source_at}
-use Rattle.pass_laws.specs.Turns.{pass_fault}
+use Rattle.loop_keys.specs.Turns.{pass_fault}
 use Rattle.block_passes.specs.Inputs.{AreAtHand}
 use Rattle.block_passes.specs.Spends.{Spends}
 use Rattle.block_passes.specs.Steps.{Chain}

@@ -11,7 +11,7 @@ use Rattle.block_lanes.specs.Lanes.{LaneView}
 use Rattle.loop_keys.specs.Jobs.{JobView}
 use Rattle.loop_keys.specs.Store.{row_of}
 use Rattle.rdf_values.specs.declared.value.Value.{Value}
-use Rattle.pass_laws.specs.Turns.{HasAllDemands}
+use Rattle.loop_keys.specs.Turns.{HasAllDemands}
 use Rattle.block_cache.specs.Blocks.{AreReady}
 use Rattle.block_cache.specs.Leads.{IsFilledTo}
 use Rattle.block_cache.specs.Fills.{IsSettled, IsSpentOver, site_fault}

@@ -16,10 +16,9 @@ use Rattle.block_lanes.specs.Lanes.{LaneView}
 use Rattle.loop_keys.specs.Jobs.{JobView, job_graph}
 use Rattle.loop_keys.specs.Keys.{key, key_count}
 use Rattle.loop_keys.specs.Plain.{ArePlainVersions}
-use Rattle.loop_keys.specs.Store.{IsSourceIn, held_element, held_in, source_at, version_in}
+use Rattle.loop_keys.specs.Store.{IsSourceIn, held_element, held_in, source_at, version_in, is_held as is_known}
 use Rattle.loop_keys.specs.declared.held.Held.{Held}
-use Rattle.loop_keys.specs.Store.{is_held as is_known}
-use Rattle.pass_laws.specs.Turns.{HasAllDemands}
+use Rattle.loop_keys.specs.Turns.{HasAllDemands}
 use Rattle.block_cache.specs.Blocks.{AreReady, cells_at}
 use Rattle.block_cache.specs.Fills.{holds_at}
 use Rattle.block_passes.specs.Inputs.{AreAtHand, CanServe, DemandsInputs, DemandsSource, IsAtHand, IsServedTo, inputs_fault, source_fault}

@@ -17,10 +17,9 @@ use Rattle.loop_keys.specs.Caches.{IsCovered}
 use Rattle.loop_keys.specs.Jobs.{IsJob, JobView, job_graph}
 use Rattle.loop_keys.specs.Store.{site_in}
 use Rattle.loop_keys.proofs.TableLaws.{row_there}
-use Rattle.pass_laws.specs.Plans.{covered_in}
-use Rattle.pass_laws.specs.Turns.{IsReportPass, covers_of, is_covering, numbered_passes, pass_fault}
-use Rattle.pass_laws.proofs.ReportTies.{contained_at, filter_there}
-use Rattle.pass_laws.proofs.ReportTies.{report_fault as its_fault}
+use Rattle.loop_keys.specs.Plans.{covered_in}
+use Rattle.loop_keys.specs.Turns.{IsReportPass, covers_of, is_covering, numbered_passes, pass_fault}
+use Rattle.loop_keys.proofs.ReportTies.{contained_at, filter_there, report_fault as its_fault}
 use Rattle.block_passes.specs.Parts.{where_passed}
 use Rattle.block_passes.specs.Plans.{IsActionOf, IsLast, IsNamed, IsPlan, IsPlannedFilter, PlanView, through_chain}
 use Rattle.block_passes.specs.Selections.{IsSelectedTo}

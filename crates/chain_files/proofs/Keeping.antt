@@ -15,7 +15,7 @@ use Rattle.rdf_values.specs.declared.action.ReduceOp.TheVariants as op
 use Rattle.rdf_values.specs.declared.value.ColType.{ColType}
 use Rattle.rdf_values.specs.declared.value.ColType.TheVariants as k
 use Rattle.rdf_values.specs.declared.value.Scalar.{Scalar}
-use Rattle.filters_report.specs.declared.flow.Counts.{Counts}
+use Rattle.loop_pieces.specs.declared.flow.Counts.{Counts}
 use Rattle.histograms.specs.declared.cell_sum.CellSum.{CellSum}
 use Rattle.shard_lines.specs.Joining.{added_cells, added_counts, better_of, cells_of, count_of, counts_of, extreme_of, joined_line, joined_lines, number_of, sum_of, taken_of}
 use Rattle.shard_lines.specs.Lines.{EachFits, FitLines, FitsCell, FitsCount, FitsExtreme, FitsLine, FitsScalar, FitsTake, are_alike, is_number, is_truth}

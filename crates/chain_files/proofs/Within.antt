@@ -5,7 +5,7 @@ use Rattle.std.specs.List.{list_all}
 use Rattle.std.proofs.lemmas.Bool.Decides.{nat_tests}
 use Rattle.lemmas.proofs.Booleans.{both_true}
 use Rattle.lemmas.proofs.Orders.{le_says, le_true}
-use Rattle.filters_report.specs.declared.flow.Counts.{Counts}
+use Rattle.loop_pieces.specs.declared.flow.Counts.{Counts}
 use Rattle.histograms.specs.declared.cell_sum.CellSum.{CellSum}
 use Rattle.shard_lines.specs.Lines.{EachFits, FitLines, FitsCell, FitsCount, FitsLine}
 use Rattle.shard_lines.specs.declared.shard_line.ShardLine.{ShardLine}

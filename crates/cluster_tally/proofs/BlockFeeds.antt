@@ -14,7 +14,7 @@ use Rattle.actions.specs.Batches.{EachPlace, SuitsAt, batch_items, places_of, va
 use Rattle.actions.specs.Feeding.{Fed, from_cluster}
 use Rattle.actions.specs.Holding.{IsTake}
 use Rattle.actions.specs.declared.batch.Batch.{Batch}
-use Rattle.filters_report.specs.Flows.{both}
+use Rattle.loop_pieces.specs.Flows.{both}
 use Rattle.loop_pieces.specs.LoopPieces.{counts_at, entries_over, fed_over}
 use Rattle.cluster_tally.specs.Blocks.{BlockStage, CanFeedBatch, CanTakeIn, HoldsIn, IsFedAloneIn, IsFedIn, TakesIn, TookIn, TookInIfThere, alone_in, block_begin, block_end, block_items, counts_in, fed_in, pass_done, taken_in}
 use Rattle.cluster_tally.specs.Laws as law

@@ -19,7 +19,7 @@ use Rattle.rdf_model.specs.declared.loop_facts.LoopFacts.{LoopFacts}
 use Rattle.rdf_model.specs.declared.loop_facts.Reach.{Reach}
 use Rattle.actions.specs.Accumulators.{Accumulator, HasFed}
 use Rattle.actions.specs.Feeding.{from_cluster, in_file_order}
-use Rattle.filters_report.specs.Flows.{both}
+use Rattle.loop_pieces.specs.Flows.{both}
 use Rattle.merge_core.specs.declared.noted.Noted.{Noted}
 use Rattle.loop_pieces.specs.LoopPieces.{cluster_items, counts_at, fed_over}
 use Rattle.loop_pieces.specs.Trails.{IsTrail, watch_facts}

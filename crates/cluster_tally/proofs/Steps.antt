@@ -15,8 +15,8 @@ use Rattle.rdf_model.specs.PartialResults.{rows_in, span_rows}
 use Rattle.rdf_model.specs.declared.loop_facts.LoopFacts.{LoopFacts}
 use Rattle.rdf_model.specs.declared.loop_facts.Reach.{Reach}
 use Rattle.actions.specs.Feeding.{Fed, from_cluster}
-use Rattle.filters_report.specs.Flows.{both}
-use Rattle.filters_report.specs.declared.flow.Counts.{Counts}
+use Rattle.loop_pieces.specs.Flows.{both}
+use Rattle.loop_pieces.specs.declared.flow.Counts.{Counts}
 use Rattle.loop_pieces.specs.LoopPieces.{counts_at, entries_over, fed_over}
 use Rattle.loop_pieces.proofs.Rows.{counts_few, entries_few}
 use Rattle.cluster_tally.specs.Feedings.{after_filter, after_pass}

@@ -6,7 +6,7 @@ use Rattle.std.proofs.lemmas.Option.{slice_get-get_or, slice_get-map, slice_get_
 use Rattle.rdf_values.specs.Kept.{AreKept, Keep, count, rows_kept}
 use Rattle.rdf_values.specs.Cuts.{cut}
 use Rattle.rdf_values.proofs.Leading.{cuts_lead}
-use Rattle.clusters.specs.Ranges.{Holds}
+use Rattle.columns.specs.Ranges.{Holds}
 use Rattle.rdf_values.specs.Tables.{IsIntColumn, TableView, kind_at}
 use Rattle.rdf_values.specs.declared.column.Column.{Column}
 use Rattle.rdf_values.specs.declared.span.Span.{Span}
@@ -14,8 +14,8 @@ use Rattle.rdf_values.specs.declared.value.ColType.{ColType}
 use Rattle.rdf_values.specs.declared.value.ColType.TheVariants as k
 use Rattle.rdf_values.specs.declared.value.Value.TheVariants as v
 use Rattle.rdf_values.proofs.KeptLemmas.{ints_column, kept_within, no_ints, no_vects, vects_column}
-use Rattle.table_pieces.specs.Wholes.{joined, whole}
-use Rattle.table_pieces.specs.declared.column_pieces.ColumnPieces.{ColumnPieces}
+use Rattle.columns.specs.Wholes.{joined, whole}
+use Rattle.columns.specs.declared.column_pieces.ColumnPieces.{ColumnPieces}
 use Rattle.columns.specs.Blocks.{cluster_values}
 use Rattle.columns.specs.KeptColumns.{IsByCluster, cells_of}
 use Rattle.columns.specs.declared.kept.Kept.{Kept}

@@ -3,14 +3,14 @@ ghost use Rattle.std.specs.Prelude.{◌≡◌, ◌≤◌, ◌<◌, ◌+◌, ◌+
 ghost use Rattle.rdf_values.specs.Cuts.{cut};
 ghost use Rattle.columns.specs.Blocks.{IsBlock, cluster_values};
 ghost use Rattle.columns.specs.Packings.{packed_of, packing_of};
-ghost use Rattle.table_pieces.specs.Wholes.{joined};
+ghost use Rattle.columns.specs.Wholes.{joined};
 
 use crate::block::Block;
 use crate::bytes::{number_at, push_packed, read_packed};
+use crate::cuts::Cuts;
 use crate::grown::Grown;
 use crate::packing::Packing;
 use crate::pieces::gather;
-use clusters::Cuts;
 use rdf_values::{Memory, Numbers, Span};
 use std::alloc::Global;
 use std::marker::Model;

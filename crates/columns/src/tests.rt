@@ -1,14 +1,14 @@
 ghost use Rattle.std.specs.Prelude.{◌≡◌, ⊤, [], ◌∷◌, length, pos, IfOk, MatchOption, Some};
 ghost use Rattle.rdf_values.specs.Tables.{kind_at};
-ghost use Rattle.table_pieces.specs.Wholes.{joined};
+ghost use Rattle.columns.specs.Wholes.{joined};
 
-use crate::pieces::gather;
 use crate::{Columns, Packing};
-use clusters::cut;
+use crate::cuts::cut;
+use crate::pieces::gather;
+use crate::table_pieces::TablePieces;
 use rdf_values::{ColType, Column, IntList, ListOf, Marks, Memory, Name, Numbers, Table, Value};
 use std::alloc::Global;
 use std::test::Fail;
-use table_pieces::TablePieces;
 
 // An int column of two entries.
 fn ints(alloc: Global) -> Result<Option<Table>, Memory>

@@ -16,8 +16,8 @@ use Rattle.loop_pieces.specs.declared.filled_result.PartialLine.{PartialLine}
 use Rattle.loop_pieces.specs.declared.loop_piece.LoopPiece.{LoopPiece}
 use Rattle.merge_core.specs.Pieces.{Stand}
 use Rattle.rdf_model.specs.declared.loop_facts.LoopFacts.{LoopFacts}
-use Rattle.partial_lines.specs.Chains.{AreNoted, HavePartialsOver, noted_sets}
-use Rattle.partial_lines.specs.Trails.{HasSameBody, HaveAllTrails, HaveSameBodies}
+use Rattle.partial_watch.specs.Chains.{AreNoted, HavePartialsOver, noted_sets}
+use Rattle.partial_watch.specs.Trails.{HasSameBody, HaveAllTrails, HaveSameBodies}
 use Rattle.partial_watch.specs.Shares.{BookSeen, ShareSeen, many_in}
 use Rattle.partial_watch.specs.Shares as book
 use Rattle.slot_state.specs.Jobs.{JobFacts}

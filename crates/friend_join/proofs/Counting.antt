@@ -18,7 +18,7 @@ use Rattle.rdf_values.specs.declared.value.Value.TheVariants as v
 use Rattle.rdf_values.proofs.Below.{slice_get-below}
 use Rattle.rdf_values.proofs.KeptLemmas.{map_below}
 use Rattle.friend_join.specs.JoinRefused.{elements, elements_of, row_elements}
-use Rattle.table_pieces.specs.Wholes.{joined}
+use Rattle.columns.specs.Wholes.{joined}
 use Rattle.friend_join.specs.Matches.{AreBelow, AreEntries, AreSmall, IsSmall, column_elements, length_for, matched_cells, matched_elements, vector_for}
 use Rattle.friend_join.proofs.Removing.{remove_nil, there}
 

@@ -3,8 +3,8 @@ use Rattle.std.proofs.Common.{◌≡◌, ◌<◌, ℕ, zero, suc, List, [], ◌�
 use Rattle.std.specs.Prelude.{slice_get}
 use Rattle.std.specs.List.{remove}
 use Rattle.std.proofs.lemmas.List.{get_or-map}
-use Rattle.table_pieces.specs.Wholes.{whole}
-use Rattle.table_pieces.specs.declared.column_pieces.ColumnPieces.{ColumnPieces}
+use Rattle.columns.specs.Wholes.{whole}
+use Rattle.columns.specs.declared.column_pieces.ColumnPieces.{ColumnPieces}
 
 pub remove_nil : {A : Type 0} (p : ℕ) → remove {X = A} [] p ≡ []
 remove_nil zero = refl

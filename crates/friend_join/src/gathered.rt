@@ -1,13 +1,13 @@
 // Columns at the entries that match.
 ghost use Rattle.std.specs.Prelude.{◌≡◌, ◌<◌, ◌++◌, ⊤, IfOk, MatchOption, length, map};
 ghost use Rattle.rdf_values.specs.Kept.{count};
-ghost use Rattle.table_pieces.specs.Wholes.{whole};
+ghost use Rattle.columns.specs.Wholes.{whole};
 ghost use Rattle.friend_join.specs.Matches.{AreBelow, AreEntries, matched_cells, number_for, vector_for};
 
 use crate::friend_entry::FriendEntry;
+use columns::ColumnPieces;
 use rdf_values::{Cells, Memory, Numbers, Vects};
 use std::alloc::Global;
-use table_pieces::ColumnPieces;
 
 // The number at an entry that matches, and this one where none does.
 fn number_for(numbers: &Numbers, entry: &FriendEntry, missing: i64) -> i64

@@ -1,17 +1,17 @@
 // The friend's entries that match.
 ghost use Rattle.std.specs.Prelude.{◌≡◌, ◌≤◌, ◌<◌, ◌^◌, ◌⊎◌, ◌++◌, ⊤, ℕ, None, Some, length, map, IfOk, OnOk, MatchOption, MatchResult};
 ghost use Rattle.rdf_values.specs.Kept.{count};
-ghost use Rattle.table_pieces.specs.Wholes.{joined, whole};
+ghost use Rattle.columns.specs.Wholes.{joined, whole};
 ghost use Rattle.friend_join.specs.JoinRefused.{first_repeat};
 ghost use Rattle.friend_join.specs.Matches.{AreInts, entry_of, ints_in};
 
 use crate::cause::JoinCause;
 use crate::friend_entry::FriendEntry;
 use crate::refusal::JoinRefusal;
+use columns::ColumnPieces;
 use indexmap::IndexSet;
 use rdf_values::{Cells, Memory, Numbers};
 use std::alloc::Global;
-use table_pieces::ColumnPieces;
 
 // The keys in a set, in which each has its entry as its place; or the first one that stood before.
 fn numbered_keys(alloc: Global, keys: &Numbers) -> Result<IndexSet<i64>, JoinRefusal>

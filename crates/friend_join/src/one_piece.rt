@@ -1,10 +1,10 @@
 // Columns in one piece each.
 ghost use Rattle.std.specs.Prelude.{◌≡◌, IfOk, map};
-ghost use Rattle.table_pieces.specs.Wholes.{joined, whole};
+ghost use Rattle.columns.specs.Wholes.{joined, whole};
 
+use columns::ColumnPieces;
 use rdf_values::{Cells, Memory, Numbers, Vects};
 use std::alloc::Global;
-use table_pieces::ColumnPieces;
 
 // The numbers of all pieces; the first piece grows.
 fn join_ints(alloc: Global, pieces: Vec<Numbers>) -> Result<Numbers, Memory>

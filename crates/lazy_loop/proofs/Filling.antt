@@ -18,8 +18,8 @@ use Rattle.graph_numbers.proofs.Extending.{Extends, itself as all_of_it, further
 use Rattle.graph_numbers.proofs.Listed.{of_joined}
 use Rattle.graph_numbers.proofs.Looping.{loops_are}
 use Rattle.graph_numbers.proofs.Passing.{shorter}
-use Rattle.node_graph.specs.LoopRows.{AreNamedInTurn}
-use Rattle.node_graph.proofs.Filled.{later_named}
+use Rattle.graph.specs.LoopRows.{AreNamedInTurn}
+use Rattle.graph.proofs.Filled.{later_named}
 use Rattle.lazy_loop.specs.Places.{fills}
 use Rattle.lazy_loop.proofs.Splits.{NoneOf, refused_none, split_at}
 

@@ -14,7 +14,7 @@ use Rattle.graph_numbers.proofs.Extending.{itself}
 use Rattle.graph_numbers.proofs.Listed.{next_at}
 use Rattle.loop_keys.specs.Jobs.{passes_in}
 use Rattle.loop_pieces.specs.Trails.{place_if_watched, watched_from, watched_places}
-use Rattle.node_graph.proofs.Looped.{loops_few}
+use Rattle.graph.proofs.Looped.{loops_few}
 use Rattle.event_loop.specs.declared.end.FilledLoop.{FilledLoop}
 use Rattle.lazy_loop.specs.Places.{IsFilledPlace, IsPlaced, fills}
 use Rattle.lazy_loop.specs.Sessions.{ArePartials, IsFilledAt, IsFoundAt, IsSession, IsUnfilled, SessionView, session_job}

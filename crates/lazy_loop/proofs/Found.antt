@@ -22,8 +22,8 @@ use Rattle.graph_numbers.specs.Results.{ResultAt, pass_at, result_passes}
 use Rattle.graph_numbers.specs.declared.pass.Pass.{Pass as NumberedPass}
 use Rattle.graph_numbers.proofs.Extending.{itself}
 use Rattle.loop_pieces.specs.Trails.{watched_places}
-use Rattle.node_graph.specs.LoopRows.{AreNamedInTurn}
-use Rattle.node_graph.proofs.Filled.{all_in_turn}
+use Rattle.graph.specs.LoopRows.{AreNamedInTurn}
+use Rattle.graph.proofs.Filled.{all_in_turn}
 use Rattle.result_text.proofs.Passes.{is_pass_at, result_within}
 use Rattle.result_text.proofs.Within.{is_in_for, variation_within}
 use Rattle.lazy_loop.specs.Places.{IsFilledPlace, IsPassOf, fills}

@@ -3,8 +3,8 @@ use Rattle.std.proofs.Common.{◌≡◌, ◌⊎◌, inl, inr, ℕ, zero, suc, �
 use Rattle.std.specs.Prelude.{count_by}
 use Rattle.std.proofs.lemmas.Option.{slice_get-get_or}
 use Rattle.lemmas.proofs.Places.{something_at}
-use Rattle.variation_sets.specs.Sets.{has, members_below}
-use Rattle.variation_sets.specs.declared.var_set.VarSet.{VarSet}
+use Rattle.graph.specs.Sets.{has, members_below}
+use Rattle.graph.specs.declared.var_set.VarSet.{VarSet}
 use Rattle.graph_numbers.specs.Graphs.{GraphView, graph_sites, graph_variations, holds_at, site_depends_at}
 use Rattle.graph_numbers.specs.Sites.{SiteAt, depends_on}
 use Rattle.graph_numbers.proofs.Listed.{of_joined}

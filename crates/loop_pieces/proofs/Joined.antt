@@ -6,8 +6,8 @@ use Rattle.rdf_values.specs.Cuts.{below}
 use Rattle.rdf_values.specs.declared.action.ActionKind.{ActionKind}
 use Rattle.rdf_model.specs.declared.loop_facts.LoopFacts.{LoopFacts}
 use Rattle.actions.specs.Accumulators.{Accumulator}
-use Rattle.filters_report.specs.declared.flow.Counts.{Counts}
-use Rattle.filters_report.specs.Flows.{HaveRoom, added, both}
+use Rattle.loop_pieces.specs.declared.flow.Counts.{Counts}
+use Rattle.loop_pieces.specs.Flows.{HaveRoom, added, both}
 use Rattle.rdf_values.specs.Draws.{IsUnion}
 use Rattle.loop_pieces.specs.declared.loop_piece.LoopPiece.{LoopPiece}
 use Rattle.loop_pieces.specs.Accs.{AreMerged, CanMerge}

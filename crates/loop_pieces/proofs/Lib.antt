@@ -1,3 +1,4 @@
+pub mod Added
 pub mod Agreeing
 pub mod ByCluster
 pub mod ClusterFaults

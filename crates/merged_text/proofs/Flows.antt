@@ -12,7 +12,7 @@ use Rattle.rdf_values.specs.declared.statement.Statement.{Statement}
 use Rattle.rdf_values.specs.declared.statement.Statement.TheVariants.{Filter}
 use Rattle.rdf_model.specs.ResultLines.{filter_label, flow_line, flow_lines}
 use Rattle.rdf_model.specs.Results.{FilterCounts}
-use Rattle.filters_report.specs.declared.flow.Counts.{Counts}
+use Rattle.loop_pieces.specs.declared.flow.Counts.{Counts}
 use Rattle.graph_numbers.specs.Results.{FilterAt, filters, own_filters}
 use Rattle.result_text.specs.FilledLines.{counts_seen}
 use Rattle.result_text.proofs.Lists.{one_left, put_last, put_next}

@@ -12,14 +12,13 @@ use Rattle.rdf_model.specs.PartialResults.{Course}
 use Rattle.rdf_model.specs.Transcript.{transcript}
 use Rattle.script_read.proofs.Answered.{answered}
 use Rattle.table_csv.specs.Csv.{csv_records}
-use Rattle.transcripts.proofs.SomeChain.{first_sets, first_sets_are_a_chain}
+use Rattle.lazy_loop.proofs.SomeChain.{first_sets, first_sets_are_a_chain}
 use Rattle.command_words.specs.Asked.{asked_of}
 use Rattle.command_words.specs.declared.command.Command.{Command}
 use Rattle.command_words.specs.declared.command.Friend.{Friend}
 use Rattle.command_words.specs.declared.command.Input.{Input}
 use Rattle.command_words.specs.declared.command.Input.TheVariants as input
-use Rattle.rdf_values.specs.Generator.{generated_script}
-use Rattle.rdf_values.specs.Generator.{generated_table}
+use Rattle.rdf_values.specs.Generator.{generated_script, generated_table}
 use Rattle.friend_join.specs.JoinRefused.{join_of}
 use Rattle.result_text.specs.FriendLines.{friend_cause_line, join_cause_line, long_friend_line}
 use Rattle.result_text.specs.RefusalText.{usage_line}

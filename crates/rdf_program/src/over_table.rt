@@ -13,15 +13,14 @@ ghost use Rattle.rdf_program.specs.Running.{AreSettings, columns_over};
 use crate::answer::Answer;
 use crate::means::Means;
 use crate::status::Status;
-use clusters::cut;
-use columns::Columns;
-use node_graph::{Graph, GraphRefusal};
+use columns::{Columns, cut};
+use lazy_loop::run_prints;
+use graph::{Graph, GraphRefusal};
 use rdf_outside::Gate;
 use rdf_values::{Memory, Script};
 use result_text::Refusal;
 use std::thread::Threads;
 use table_csv::MarkedPieces;
-use transcripts::run_prints;
 
 // The columns of a table over its clusters.
 fn columns_of<R: Threads + Sync, G>(

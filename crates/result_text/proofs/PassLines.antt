@@ -12,7 +12,7 @@ use Rattle.rdf_values.specs.declared.statement.Statement.{Statement}
 use Rattle.rdf_model.specs.ResultLines.{filled_lines, flow_line, flow_lines, label}
 use Rattle.rdf_model.specs.Results.{FilterCounts}
 use Rattle.actions.specs.Accumulators.{Accumulator}
-use Rattle.filters_report.specs.declared.flow.Counts.{Counts}
+use Rattle.loop_pieces.specs.declared.flow.Counts.{Counts}
 use Rattle.graph_numbers.specs.Graphs.{GraphView, booked_statements, graph_results, graph_variations, holds_at, result_depends_at}
 use Rattle.graph_numbers.specs.Results.{ResultAt, kind_of_booking}
 use Rattle.graph_numbers.specs.declared.result_kind.ResultKind.{ResultKind}

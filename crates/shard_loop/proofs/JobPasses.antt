@@ -18,7 +18,7 @@ use Rattle.graph_numbers.specs.declared.result_kind.ResultKind.TheVariants as wh
 use Rattle.graph_numbers.proofs.AcceptedNumbers.{filters_are_the_scripts, reports_cover_filters}
 use Rattle.loop_keys.specs.Caches.{numbered_in}
 use Rattle.loop_keys.specs.Jobs.{JobView, job_graph, passes_in}
-use Rattle.pass_laws.specs.Entries.{job_spans}
+use Rattle.loop_keys.specs.Entries.{job_spans}
 use Rattle.loop_pieces.specs.declared.loop_piece.LoopPiece.{LoopPiece}
 use Rattle.slot_state.proofs.Adding.{its_pass, its_result, of_action, of_report, result_is}
 use Rattle.shard_spans.specs.Spans.{clusters_in, pass_line}

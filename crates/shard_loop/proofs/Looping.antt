@@ -17,7 +17,7 @@ use Rattle.graph_numbers.specs.Results.{pass_at}
 use Rattle.graph_numbers.proofs.Extending.{itself}
 use Rattle.graph_numbers.proofs.Looping.{loops_are}
 use Rattle.loop_keys.specs.Jobs.{JobView, passes_in}
-use Rattle.pass_laws.specs.Entries.{job_spans}
+use Rattle.loop_keys.specs.Entries.{job_spans}
 use Rattle.loop_pieces.specs.declared.loop_piece.LoopPiece.{LoopPiece}
 use Rattle.shard_lines.specs.declared.shard_line.ShardLine.{ShardLine}
 use Rattle.shard_files.specs.LoopsAt.{is_faulty}

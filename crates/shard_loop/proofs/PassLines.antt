@@ -23,8 +23,8 @@ use Rattle.rdf_model.specs.LoopFacts.{kind_in, kinds_in, loop_facts}
 use Rattle.rdf_model.specs.PartialResults.{over_clusters}
 use Rattle.rdf_model.specs.Results.{Dataset, cutflow, fault_at, fault_or, first_fault, first_fault_from, first_fault_in, first_of, pass_result}
 use Rattle.actions.specs.Accumulators.{Accumulator}
-use Rattle.filters_report.specs.Flows.{nothing}
-use Rattle.filters_report.specs.declared.flow.Counts.{Counts}
+use Rattle.loop_pieces.specs.Flows.{nothing}
+use Rattle.loop_pieces.specs.declared.flow.Counts.{Counts}
 use Rattle.graph_numbers.proofs.Listed.{next_at, of_joined}
 use Rattle.loop_pieces.specs.LoopPieces.{StandsFor, counts_at}
 use Rattle.loop_pieces.specs.Whole.{counts_of}

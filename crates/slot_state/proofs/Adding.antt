@@ -28,10 +28,10 @@ use Rattle.loop_keys.specs.Jobs.{IsJob, JobView, job_graph, passes_in}
 use Rattle.loop_keys.proofs.EvaluateLaws.{accepted_of}
 use Rattle.loop_keys.proofs.PassNumbers.{result_inside, result_there}
 use Rattle.loop_keys.proofs.PassTies.{of_chosen, of_mapped, pass_of}
-use Rattle.pass_laws.specs.Turns.{numbered_passes}
-use Rattle.pass_laws.proofs.Covered.{covered_count, passes_count}
-use Rattle.pass_laws.proofs.EntryLaws.{read_pass}
-use Rattle.pass_laws.proofs.PassCounts.{few_passes}
+use Rattle.loop_keys.specs.Turns.{numbered_passes}
+use Rattle.loop_keys.proofs.Covered.{covered_count, passes_count}
+use Rattle.loop_keys.proofs.EntryLaws.{read_pass}
+use Rattle.loop_keys.proofs.PassCounts.{few_passes}
 use Rattle.actions.specs.Holding.{HasEdges}
 use Rattle.cluster_tally.specs.Feedings.{IsFresh, place_if}
 use Rattle.cluster_tally.specs.Tallies.{CanWatch, TallyView}

@@ -14,11 +14,11 @@ use Rattle.graph_numbers.specs.Graphs.{graph_loops}
 use Rattle.graph_numbers.specs.Results.{pass_at}
 use Rattle.graph_numbers.proofs.Extending.{itself}
 use Rattle.graph_numbers.proofs.Looping.{loops_are}
-use Rattle.filters_report.specs.Flows.{nothing}
+use Rattle.loop_pieces.specs.Flows.{nothing}
 use Rattle.block_passes.specs.States.{CountsVectors, IsStateOf}
 use Rattle.loop_keys.specs.Jobs.{IsJob, JobView, job_graph, passes_in}
-use Rattle.pass_laws.specs.Entries.{facts_in, job_spans}
-use Rattle.pass_laws.proofs.EntryLaws.{all_taken}
+use Rattle.loop_keys.specs.Entries.{facts_in, job_spans}
+use Rattle.loop_keys.proofs.EntryLaws.{all_taken}
 use Rattle.cluster_tally.specs.Feedings.{IsFresh}
 use Rattle.cluster_tally.specs.Stages.{at_begin}
 use Rattle.cluster_tally.specs.Tallies.{Holds}

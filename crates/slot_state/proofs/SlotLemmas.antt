@@ -13,7 +13,7 @@ use Rattle.rdf_values.specs.declared.fault.Fault.{Fault}
 use Rattle.block_passes.specs.Clusters.{at_end}
 use Rattle.block_passes.specs.States.{CountsVectors, IsStateOf}
 use Rattle.loop_keys.specs.Jobs.{JobView, job_graph, passes_in}
-use Rattle.pass_laws.specs.Entries.{facts_in, job_spans}
+use Rattle.loop_keys.specs.Entries.{facts_in, job_spans}
 use Rattle.cluster_tally.specs.Feedings.{IsAtEnd}
 use Rattle.cluster_tally.specs.Stages.{at_begin}
 use Rattle.cluster_tally.specs.Tallies.{Holds}

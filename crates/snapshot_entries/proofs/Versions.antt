@@ -8,9 +8,9 @@ use Rattle.graph_numbers.specs.Graphs.{booked_statements, graph_sites, graph_ver
 use Rattle.graph_numbers.specs.Sites.{filter_sites}
 use Rattle.graph_numbers.specs.Versions.{named_version, version_count}
 use Rattle.graph_numbers.proofs.Extending.{versions_count}
-use Rattle.statement_checks.specs.SiteNumbers.{filter_numbers, site_total}
-use Rattle.statement_checks.proofs.SiteTotals.{numbers_are, total_is}
-use Rattle.node_graph.proofs.Walked.{named_few}
+use Rattle.graph.specs.SiteNumbers.{filter_numbers, site_total}
+use Rattle.graph.proofs.SiteTotals.{numbers_are, total_is}
+use Rattle.graph.proofs.Walked.{named_few}
 use Rattle.snapshot_plan.specs.Views.{PlanView}
 use Rattle.snapshot_entries.specs.Jobs.{IsWork}
 

@@ -17,7 +17,7 @@ use Rattle.rdf_values.specs.declared.span.Span.{Span}
 use Rattle.rdf_values.specs.declared.value.Value.{Value}
 use Rattle.rdf_values.proofs.Leading.{cuts_lead}
 use Rattle.rdf_model.specs.Results.{Dataset}
-use Rattle.clusters.specs.CutsView.{CutsView}
+use Rattle.columns.specs.CutsView.{CutsView}
 use Rattle.cluster_claims.specs.Seats.{ClaimsSeen, SeatSeen, fresh_seat, fresh_seats}
 use Rattle.graph_numbers.specs.Graphs.{GraphView, IsGraph}
 use Rattle.graph_numbers.specs.Laws.{graph_of}

@@ -1,9 +1,9 @@
-use crate::slots::read_side_by_side;
 use crate::{MarkedPieces, TableRefusal, read_table_in_slots};
+use crate::slots::read_side_by_side;
+use columns::ColumnPieces;
 use rdf_values::TableCause;
 use std::alloc::{AllocError, Global};
 use std::test::Fail;
-use table_pieces::ColumnPieces;
 
 // A column of these lines, with so many lines of 0 before and behind them.
 fn padded(alloc: Global, before: u32, lines: &str, behind: u32) -> Result<String, AllocError> {
