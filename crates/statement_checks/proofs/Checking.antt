@@ -1,11 +1,9 @@
 -- Steps of the checks of a statement.
-use Rattle.std.proofs.Common.{◌≡◌, Bool, true, false, List, [], ◌∷◌, ◌++◌, Option, Some, None, Result, Ok, Err, refl, sym, ◌∙◌, ap, subst}
-use Rattle.rdf_values.specs.Kinds.{same_kind}
-use Rattle.rdf_values.specs.Verdict.{first_refusal, expect_kind, refusal_in, refuse_unless}
+use Rattle.std.proofs.Common.{◌≡◌, List, [], ◌∷◌, ◌++◌, Option, Some, None, Result, Ok, Err, refl, sym, ◌∙◌, ap, subst}
+use Rattle.std.specs.Result.{IsErrAnd}
+use Rattle.rdf_values.specs.Verdict.{first_refusal, refusal_in}
 use Rattle.rdf_values.specs.declared.value.ColType.{ColType}
-use Rattle.rdf_values.specs.declared.value.ColType.TheVariants as kind
 use Rattle.rdf_values.specs.declared.graph_cause.GraphCause.{GraphCause}
-use Rattle.rdf_values.specs.declared.graph_cause.GraphCause.TheVariants as cause
 use Rattle.statement_checks.specs.Checks.{IsStop, Decides}
 use Rattle.statement_checks.specs.declared.stop.Stop.{Stop}
 use Rattle.statement_checks.specs.declared.stop.Stop.TheVariants as stop
@@ -40,7 +38,7 @@ passed_before xs rest x h k = go xs (sym h ∙ k)
     go (None ∷ ys) q = go ys q
     go (Some d ∷ ys) q = cc q
 
-alone : (o : Option GraphCause) → first_refusal (o ∷ []) ≡ o
+pub alone : (o : Option GraphCause) → first_refusal (o ∷ []) ≡ o
 alone None = refl
 alone (Some c) = refl
 
@@ -48,20 +46,26 @@ alone (Some c) = refl
 pub decided_last : {A : Type 0} (xs : List (Option GraphCause)) (last x : Option GraphCause) → x ≡ first_refusal xs → x ≡ None → (r : Result A Stop) → Decides last r → Decides (first_refusal (xs ++ last ∷ [])) r
 decided_last xs last x h k r d = subst (λ o. Decides o r) (sym (passed_before xs (last ∷ []) x h k ∙ alone last)) d
 
--- a truth value
-pub truth_is : (k : Result ColType GraphCause) (t : ColType) → k ≡ Ok t → (b : Bool) → b ≡ same_kind t kind.Bool → b ≡ true → expect_kind kind.Bool k ≡ None
-truth_is k t h b e q = ap (expect_kind kind.Bool) h ∙ ap (λ c. refuse_unless c cause.WrongType) (sym e ∙ q)
-
-pub truth_isnt : (k : Result ColType GraphCause) (t : ColType) → k ≡ Ok t → (b : Bool) → b ≡ same_kind t kind.Bool → b ≡ false → expect_kind kind.Bool k ≡ Some cause.WrongType
-truth_isnt k t h b e q = ap (expect_kind kind.Bool) h ∙ ap (λ c. refuse_unless c cause.WrongType) (sym e ∙ q)
-
-pub truth_stopped : (k : Result ColType GraphCause) (s : Stop) → IsStop (refusal_in k) s → IsStop (expect_kind kind.Bool k) s
-truth_stopped k stop.Memory h = tt
-truth_stopped (Ok t) (stop.Cause c) h = cc h
-truth_stopped (Err d) (stop.Cause c) h = h
-
-pub five : (a b c d e f g h k l x : Option GraphCause) → a ≡ f → b ≡ g → c ≡ h → d ≡ k → e ≡ l → x ≡ first_refusal (a ∷ b ∷ c ∷ d ∷ e ∷ []) → x ≡ first_refusal (f ∷ g ∷ h ∷ k ∷ l ∷ [])
-five a b c d e f g h k l x p q r s t z = z ∙ λ i. first_refusal (p i ∷ q i ∷ r i ∷ s i ∷ t i ∷ [])
-
 pub four : (a b c d e f g h x : Option GraphCause) → a ≡ e → b ≡ f → c ≡ g → d ≡ h → x ≡ first_refusal (a ∷ b ∷ c ∷ d ∷ []) → x ≡ first_refusal (e ∷ f ∷ g ∷ h ∷ [])
 four a b c d e f g h x p q r s z = z ∙ λ i. first_refusal (p i ∷ q i ∷ r i ∷ s i ∷ [])
+
+-- the tests so far stop
+pub stopped_before : (xs rest : List (Option GraphCause)) (x : Option GraphCause) (s : Stop) → x ≡ first_refusal xs → IsStop x s → IsStop (first_refusal (xs ++ rest)) s
+stopped_before xs rest x (stop.Cause c) h k = refused_before xs rest x c h k
+stopped_before xs rest x stop.Memory h k = tt
+
+-- what the exit of a `?` hands on, and where memory was wanting
+pub handed_on : {A : Type 0} (wanted : Option GraphCause) (r : Result A Stop) (s : Stop) → IsErrAnd r (λ t. t ≡ s) → IsStop wanted s → Decides wanted r
+handed_on wanted (Ok a) s is h = elim is [ ]
+handed_on wanted (Err t) s is h = subst (IsStop wanted) (sym is) h
+
+pub no_memory : {A : Type 0} (wanted : Option GraphCause) (r : Result A Stop) → IsErrAnd r (λ t. t ≡ stop.Memory) → Decides wanted r
+no_memory wanted r is = handed_on wanted r stop.Memory is tt
+
+-- the last test stops
+pub stopped_last : (xs : List (Option GraphCause)) (last x : Option GraphCause) → x ≡ first_refusal xs → x ≡ None → (s : Stop) → IsStop last s → IsStop (first_refusal (xs ++ last ∷ [])) s
+stopped_last xs last x h k s d = subst (λ o. IsStop o s) (sym (passed_before xs (last ∷ []) x h k ∙ alone last)) d
+
+-- the same refusal stops
+pub stops_for : (a b : Option GraphCause) (s : Stop) → a ≡ b → IsStop a s → IsStop b s
+stops_for a b s e h = subst (λ o. IsStop o s) e h

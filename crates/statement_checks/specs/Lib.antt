@@ -4,6 +4,7 @@ pub mod Dependence
 pub mod Gains
 pub mod Laws
 pub mod Lookups
+pub mod OneProof
 pub mod SiteNumbers
 pub mod VarSets
 pub mod VaryChecks

@@ -6,13 +6,13 @@
 mod action_checks;
 pub mod amounts;
 mod asked_checks;
+mod before;
 pub mod check;
 pub mod columns;
 pub mod gain;
 mod gains;
 pub mod laws;
 pub mod lookup;
-mod node_checks;
 mod parts;
 mod push;
 mod refusals;
