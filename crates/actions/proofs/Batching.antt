@@ -198,10 +198,6 @@ none_found k s (p ∷ ps) h =
     ap (λ o. fault_or_later p o (first_fault_in k s ps)) (All-head (λ q. feed_fault k (values_at s q) ≡ None) p ps h)
     ∙ none_found k s ps (All-tail (λ q. feed_fault k (values_at s q) ≡ None) p ps h)
 
-pub either_false : (a b : Bool) → (a || b) ≡ false → (a ≡ false) × (b ≡ false)
-either_false true b h = cc h
-either_false false b h = (refl, h)
-
 pub one_more_light : (zs : List ℤ) (ps : List ℕ) (i : ℕ) → i < length ps → All (λ p. nat_abs (get_or zs p (pos 0)) < 2 ^ 31) (take i ps) → nat_abs (get_or zs (get_or ps i 0) (pos 0)) < 2 ^ 31
     → All (λ p. nat_abs (get_or zs p (pos 0)) < 2 ^ 31) (take (i + 1) ps)
 one_more_light zs ps i h all one =

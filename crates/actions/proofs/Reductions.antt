@@ -79,10 +79,6 @@ pub bits_small : (z : ℤ) → FitsSigned w64 z → cast_unsigned w64 z % 2 ^ 64
 bits_small (pos n) h = let s = h.sfits in mod-eq_of_lt (let l : n < 2 ^ 64 = omega arith in l)
 bits_small (negsuc n) h = mod-eq_of_lt (let l : 2 ^ 64 - suc n < 2 ^ 64 = omega arith in l)
 
--- the operation on two such numbers
-pub bits_as_they_are : (f : ℕ → ℕ → ℕ) (x y : ℤ) → FitsSigned w64 x → FitsSigned w64 y → cast_signed w64 (f (cast_unsigned w64 x) (cast_unsigned w64 y)) ≡ on_bits f x y
-bits_as_they_are f x y h k = sym (ap (λ m. cast_signed w64 (f m (cast_unsigned w64 y % 2 ^ 64))) (bits_small x h) ∙ ap (λ n. cast_signed w64 (f (cast_unsigned w64 x) n)) (bits_small y k))
-
 -- a Reduce of the items of two lists
 pub reduce_both : (o : ReduceOp) (a b : List Fed)
     → fold (reduce_step o) (reduce_start o) (numbers_of (in_file_order (a ++ b)))

@@ -1,5 +1,5 @@
 -- An expression over numbers reads numbers alone.
-use Rattle.std.proofs.Common.{◌≡◌, ℕ, ℤ, Bool, true, false, List, [], ◌∷◌, Result, Ok, All, sym, ◌∙◌, cond, nat_eq, zero, suc}
+use Rattle.std.proofs.Common.{◌≡◌, ℕ, ℤ, Bool, true, false, List, [], ◌∷◌, Result, Ok, All, sym, ◌∙◌, cond, nat_eq}
 use Rattle.std.specs.List.{AllByRecursion}
 use Rattle.std.proofs.lemmas.List.Elements.{recursion_from_All, All-from_recursion}
 use Rattle.expr_check.proofs.ScopeKinds.{each_weaker}
@@ -7,10 +7,9 @@ use Rattle.rdf_values.specs.Numbered.{ScopeColumn}
 use Rattle.rdf_values.specs.declared.value.ColType.{ColType}
 use Rattle.rdf_values.specs.declared.value.ColType.TheVariants.{Int}
 use Rattle.rdf_values.specs.declared.graph_cause.GraphCause.{GraphCause}
-use Rattle.rdf_model.specs.Laws.{FitsOutcome}
 use Rattle.expr_check.specs.NumKinds.{number_kind}
 use Rattle.expr_check.specs.Scopes.{numbers_in}
-use Rattle.bench_kernels.specs.Entries.{AreInts, entry_outcome}
+use Rattle.bench_kernels.specs.Entries.{AreInts}
 
 int_number : (columns : List ScopeColumn) (n : ℕ) (k : ColType) → AllByRecursion (λ (c : ScopeColumn). c.kind ≡ Int) columns → number_kind (numbers_in columns) n ≡ Ok k → k ≡ Int
 int_number [] n k each is = cc is
@@ -28,18 +27,3 @@ all_ints columns kinds ints known =
     All-from_recursion (λ (k : ℕ × ColType). k.1 ≡ Int) kinds
     (each_weaker (λ (k : ℕ × ColType). number_kind (numbers_in columns) k.0 ≡ Ok k.1) (λ (k : ℕ × ColType). k.1 ≡ Int) (λ k is. int_number columns k.0 k.1 each is) kinds
     (recursion_from_All (λ (k : ℕ × ColType). number_kind (numbers_in columns) k.0 ≡ Ok k.1) kinds known))
-
-fits_int : (pt eta w : ℤ) (n : ℕ) → FitsOutcome Int (entry_outcome pt eta w n)
-fits_int pt eta w zero = tt
-fits_int pt eta w (suc zero) = tt
-fits_int pt eta w (suc (suc zero)) = tt
-fits_int pt eta w (suc (suc (suc n))) = tt
-
-fits_kind : (pt eta w : ℤ) (k : ℕ × ColType) → k.1 ≡ Int → FitsOutcome k.1 (entry_outcome pt eta w k.0)
-fits_kind pt eta w k e = rw e (fits_int pt eta w k.0)
-
--- such an expression can be evaluated over every entry
-pub entry_fits : (pt eta w : ℤ) (kinds : List (ℕ × ColType)) → AreInts kinds → All (λ (k : ℕ × ColType). FitsOutcome k.1 (entry_outcome pt eta w k.0)) kinds
-entry_fits pt eta w kinds ints =
-    All-from_recursion (λ (k : ℕ × ColType). FitsOutcome k.1 (entry_outcome pt eta w k.0)) kinds
-    (each_weaker (λ (k : ℕ × ColType). k.1 ≡ Int) (λ (k : ℕ × ColType). FitsOutcome k.1 (entry_outcome pt eta w k.0)) (fits_kind pt eta w) kinds (recursion_from_All (λ (k : ℕ × ColType). k.1 ≡ Int) kinds ints))

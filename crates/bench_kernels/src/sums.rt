@@ -5,8 +5,7 @@ ghost use Rattle.rdf_values.specs.Tables.{kind_at};
 
 use crate::entries::Entry;
 use crate::failure::Failure;
-use clusters::cut;
-use columns::Columns;
+use columns::{Columns, cut};
 use rdf_values::{ColType, Column, ListOf, Marks, Name, Table, Value};
 use std::alloc::Global;
 

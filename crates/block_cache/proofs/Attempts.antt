@@ -4,6 +4,7 @@ use Rattle.std.specs.Prelude.{Contains, count_by}
 use Rattle.std.proofs.lemmas.Bool.{cases_eq, ltb-true}
 use Rattle.std.proofs.lemmas.List.Elements.{All-contains}
 use Rattle.std.proofs.lemmas.Option.{slice_get_within}
+use Rattle.lemmas.proofs.Places.{something_at}
 use Rattle.rdf_values.specs.declared.fault.EntryFault.{EntryFault}
 use Rattle.rdf_values.specs.declared.value.Value.{Value}
 use Rattle.rdf_model.specs.Evaluation.{Outcome, Gives, Faults, Needs}
@@ -20,7 +21,6 @@ use Rattle.block_lanes.specs.Lanes.{LaneView, is_held, is_tried}
 use Rattle.loop_keys.specs.Jobs.{JobView, job_graph}
 use Rattle.loop_keys.specs.Keys.{key, key_count, keys_before, slot_at}
 use Rattle.loop_keys.specs.Store.{IsMissingSource, IsSiteOf, held_in, is_held as has_held, source_at}
-use Rattle.loop_keys.proofs.FillLaws.{there}
 use Rattle.loop_keys.proofs.KeyLaws.{key_below}
 use Rattle.block_cache.specs.Blocks.{AreReady, IsTelling, IsTriedOver, cells_at}
 use Rattle.block_cache.specs.Faults.{IsLeastFault, fault_of}
@@ -35,7 +35,7 @@ use Rattle.block_cache.proofs.StopLists.{stop_there, stop_told, told_stop}
 -- a lower site has a lower key
 pub key_lower : (g : GraphView) (t s : ℕ) (w u : Option ℕ) → t < s → s < length (graph_sites g) → key g t w < key g s u
 key_lower g t s w u low inside =
-    let x = there (graph_sites g) t (omega (arith, low, inside)) in
+    let x = something_at (graph_sites g) t (omega (arith, low, inside)) in
     let l = key_below (graph_variations g) (graph_sites g) t s x.0 w x.1 low in
     let p = ap (λ o. keys_before (graph_variations g) (graph_sites g) t + slot_at (graph_variations g) o w) x.1 in
     omega (arith, l, p)
@@ -156,7 +156,7 @@ module _
         let told : IsTelling j (first + p) u (cells_at keys (take own_key before) p) s (Needs c) = subst (λ (o : Outcome ℕ Value). IsTelling j (first + p) u (cells_at keys (take own_key before) p) s o) is (t.telling p near) in
         let m = missing_site j u s (take own_key before) p (source_at j u c) told.0.1 in
         record {
-          there = told.0.0;
+          something_at = told.0.0;
           site = m.0;
           source = m.1;
           lower = m.2;
@@ -166,6 +166,23 @@ module _
               same_holds keys before after (key (job_graph j) m.0 u) p (attempt_same (key (job_graph j) m.0 u) p (inl other)) ∙ ap (λ o. lane_holds o p) (sym (get_take before own_key (key (job_graph j) m.0 u) lower)) ∙ m.3);
           met = told.1;
         }
+
+    none_in : (x : Stopped) → more ≡ [] → Contains more x → ⊥
+    none_in x none c = let lt : c.0 < length more = c.1 in let e : length more ≡ 0 = ap (λ (l : List Stopped). length l) none in absurd (omega (arith, lt, e))
+
+    -- where no place stops, each holds its value
+    whole_set : more ≡ [] → EachPlace group (λ p. holds_at after own_key p ≡ true)
+    whole_set none p i = go (t.told p) refl
+      where
+        go : (o : Outcome ℕ Value) → t.told p ≡ o → holds_at after own_key p ≡ true
+        go (Gives v) e =
+            let is_left : is_in p left ≡ true = ap (is_in p) t.evaluated.left_in ∙ filter_in group (λ q. is_given (t.told q)) p i (given_is (t.told p) v e) in
+            own_holds p ∙ t.evaluated.held p ∙ ap (λ b. b || is_held t.own p) is_left
+        go (Faults k) e = absurd (none_in (stopped p (Fault k)) none (stop_there t.told group more t.evaluated.joined p (Fault k) i (ap told_stop e)))
+        go (Needs c) e = absurd (none_in (stopped p (Need c)) none (stop_there t.told group more t.evaluated.joined p (Need c) i (ap told_stop e)))
+
+    pub whole : more ≡ [] → EachPlace group (λ p. holds_at new own_key p ≡ true)
+    whole none p i = ap (λ (ls : List LaneView). holds_at ls own_key p) t.written ∙ whole_set none p i
 
     module _ (found : Option PlaceFault) (least : IsLeastFault more found) (needs noted : List ℕ) (notes : (p c : ℕ) → Contains more (stopped p (Need c)) → ((x : Stopped) → Contains more x → x.place ≡ p → x.stop ≡ Need c) → need_at noted p ≡ c)
         (spares : (p : ℕ) → ((x : Stopped) → Contains more x → x.place ≡ p → ⊥) → need_at noted p ≡ need_at needs p) where
@@ -225,7 +242,7 @@ place_inside j first u count s group left before new old more none t low x insid
     let joined = subst (λ (l : List Stopped). IsJoined l (stops_in t.told group) more) none t.evaluated.joined in
     low x.place (stop_told t.told group more joined x inside).0
 
--- with the stops that there were, none
+-- with the stops that something_at were, none
 pub attempted_from : (j : JobView) (first : ℕ) (u : Option ℕ) (count s : ℕ) (inside : s < length (graph_sites (job_graph j))) (group left : List ℕ) (before new : List LaneView) (old more seen : List Stopped) → old ≡ [] → seen ≡ more → IsTriedOver j first u count s group left before new old more
     → EachPlace group (λ p. p < count) → EachPlace group (λ p. holds_at before (key (job_graph j) s u) p ≡ false) → (found : Option PlaceFault) → IsLeastFault seen found → (needs noted : List ℕ)
     → ((p c : ℕ) → Contains seen (stopped p (Need c)) → ((x : Stopped) → Contains seen x → x.place ≡ p → x.stop ≡ Need c) → need_at noted p ≡ c) → ((p : ℕ) → ((x : Stopped) → Contains seen x → x.place ≡ p → ⊥) → need_at noted p ≡ need_at needs p)
@@ -233,3 +250,7 @@ pub attempted_from : (j : JobView) (first : ℕ) (u : Option ℕ) (count s : ℕ
 attempted_from j first u count s inside group left before new old more seen none same t low lacks found least needs noted notes spares =
     attempted j first u count s inside group left before new seen
     (subst (λ (l : List Stopped). IsTriedOver j first u count s group left before new l seen) none (subst (λ (l : List Stopped). IsTriedOver j first u count s group left before new old l) (sym same) t)) low lacks found least needs noted notes spares
+
+pub whole_from : (j : JobView) (first : ℕ) (u : Option ℕ) (count s : ℕ) (inside : s < length (graph_sites (job_graph j))) (group left : List ℕ) (before new : List LaneView) (old more : List Stopped) → old ≡ [] → IsTriedOver j first u count s group left before new old more → EachPlace group (λ p. p < count)
+    → EachPlace group (λ p. holds_at before (key (job_graph j) s u) p ≡ false) → more ≡ [] → EachPlace group (λ p. holds_at new (key (job_graph j) s u) p ≡ true)
+whole_from j first u count s inside group left before new old more none t low lacks empty = whole j first u count s inside group left before new more (subst (λ (l : List Stopped). IsTriedOver j first u count s group left before new l more) none t) low lacks empty

@@ -2,6 +2,7 @@
 use Rattle.std.proofs.Common.{◌≡◌, ◌<◌, ◌≤◌, ℕ, ℤ, zero, suc, Bool, true, false, not, List, [], ◌∷◌, length, map, take, All, get_or, Option, Some, None, refl, sym, ◌∙◌, ap, subst, arith, nat_eq, slice_get, if◌then◌else◌}
 use Rattle.std.specs.Prelude.{filter, option_map}
 use Rattle.std.proofs.lemmas.Option.{get_or_from_slice_get}
+use Rattle.lemmas.proofs.Places.{something_at}
 use Rattle.rdf_values.specs.Depends.{columns_in}
 use Rattle.rdf_values.specs.Path.{history}
 use Rattle.rdf_values.specs.Tree.{NumTree}
@@ -22,7 +23,6 @@ use Rattle.loop_keys.specs.Jobs.{JobView, IsJob, job_graph}
 use Rattle.loop_keys.specs.Keys.{key, key_count}
 use Rattle.loop_keys.specs.Store.{source_at}
 use Rattle.loop_keys.proofs.EvaluateLaws.{accepted_of}
-use Rattle.loop_keys.proofs.FillLaws.{there}
 use Rattle.loop_keys.proofs.RowLaws.{key_small}
 use Rattle.block_cache.specs.Blocks.{AreReady, CanTry, HasLane, HasSource, IsTriable}
 use Rattle.block_cache.specs.Fills.{CanFill, IsLoaded}
@@ -85,7 +85,7 @@ module _
         let lower = key_lower (job_graph j) t s u u below inside in
         let small = key_small (job_graph j) s u inside in
         let among : key (job_graph j) t u < length lanes = omega (arith, lower, small, ready.many) in
-        let l = there lanes (key (job_graph j) t u) among in
+        let l = something_at lanes (key (job_graph j) t u) among in
         (l.0, get_take lanes (key (job_graph j) s u) (key (job_graph j) t u) lower ∙ l.1, counted l.0 (key (job_graph j) t u) l.1 among)
 
     source_of : (src : Source) → IsLoaded j first count cells src → IsBelow (length j.dataset.columns) s src → HasSource j first u count (take (key (job_graph j) s u) lanes) cells src

@@ -13,7 +13,7 @@ use Rattle.block_cache.specs.Blocks.{cells_at}
 use Rattle.block_cache.specs.Fills.{IsGrownOver, IsOnlyCalled, IsSameAt, IsSettled, begun_at, holds_at}
 use Rattle.block_cache.specs.Turns.{IsSettledTo}
 use Rattle.block_cache.proofs.Attempts.{key_lower}
-use Rattle.block_cache.proofs.Knowns.{holds_on, same_on, same_refl}
+use Rattle.block_cache.proofs.Knowns.{holds_on, same_on}
 
 -- all sites are closed
 pub all_closed : (j : JobView) (entry : ℕ) (u : Option ℕ) → IsClosed j entry u (λ t. true)
@@ -27,9 +27,6 @@ all_closed j entry u = record { each = λ s c d met. go (source_at j u c) }
 module _ (j : JobView) (first : ℕ) (u : Option ℕ) (s : ℕ) (sel : List ℕ) where
   abbrev n : ℕ
   n = key_count (job_graph j)
-
-  pub grown_none : (a : List LaneView) → IsGrownOver j first u s sel a a
-  grown_none a = record { kinds = refl; rooms = refl; stays = λ k p h. h; grows = λ p k h. refl; only = λ D each k p. inl (same_refl n a k p) }
 
   only_on : (a b c : List LaneView) → IsOnlyCalled j first u s sel a b → IsOnlyCalled j first u s sel b c → IsOnlyCalled j first u s sel a c
   only_on a b c h i D each k p = go (h D each k p) (i D each k p)

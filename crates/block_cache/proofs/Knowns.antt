@@ -1,5 +1,5 @@
 -- What is known of a key at a place, by its lane.
-use Rattle.std.proofs.Common.{◌≡◌, ◌<◌, ◌+◌, not, ℕ, zero, suc, Bool, true, false, List, [], ◌∷◌, length, map, set, Option, Some, None, refl, sym, ◌∙◌, ap, subst, arith, if◌then◌else◌, slice_get, get_or}
+use Rattle.std.proofs.Common.{◌≡◌, ◌<◌, ◌+◌, not, ℕ, zero, suc, Bool, true, false, List, [], ◌∷◌, length, map, set, Option, Some, None, refl, sym, ◌∙◌, ap, subst, arith, slice_get, get_or}
 use Rattle.std.specs.List.{filter}
 use Rattle.std.proofs.lemmas.List.Sums.{sum_by-set}
 use Rattle.std.proofs.lemmas.Option.{slice_get-get_or, slice_get_within, get_or_from_slice_get}
@@ -34,21 +34,8 @@ holds_is n lanes k p = ap has_held (held_of_lane n lanes p k) ∙ lane_says (sli
 pub same_holds : (n : ℕ) (a b : List LaneView) (k p : ℕ) → IsSameAt n a b k p → holds_at b k p ≡ holds_at a k p
 same_holds n a b k p same = sym (holds_is n b k p) ∙ ap has_held same.1 ∙ holds_is n a k p
 
-pub same_refl : (n : ℕ) (a : List LaneView) (k p : ℕ) → IsSameAt n a a k p
-same_refl n a k p = (refl, refl)
-
 pub same_on : (n : ℕ) (a b c : List LaneView) (k p : ℕ) → IsSameAt n a b k p → IsSameAt n b c k p → IsSameAt n a c k p
 same_on n a b c k p h i = (i.0 ∙ h.0, i.1 ∙ h.1)
-
-nothing_is : (h : Held) → has_held h ≡ false → h ≡ held.Nothing
-nothing_is held.Nothing e = refl
-nothing_is (held.Int z) e = cc e
-nothing_is (held.Bool b) e = cc e
-nothing_is (held.Vect zs) e = cc e
-nothing_is (held.Faulted k) e = cc e
-
-pub nothing_held : (n : ℕ) (lanes : List LaneView) (k p : ℕ) → holds_at lanes k p ≡ false → held_in (cells_at n lanes p) k ≡ held.Nothing
-nothing_held n lanes k p lacks = nothing_is (held_in (cells_at n lanes p) k) (holds_is n lanes k p ∙ lacks)
 
 pub holds_nothing : (n : ℕ) (lanes : List LaneView) (k p : ℕ) → held_in (cells_at n lanes p) k ≡ held.Nothing → holds_at lanes k p ≡ false
 holds_nothing n lanes k p none = sym (holds_is n lanes k p) ∙ ap has_held none

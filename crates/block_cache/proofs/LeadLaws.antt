@@ -1,5 +1,5 @@
 -- What an evaluation reads first is met in every entry, and a site may be filled behind it.
-use Rattle.std.proofs.Common.{◌≡◌, ◌<◌, ◌≤◌, ◌+◌, ◌⊎◌, inl, inr, ℕ, ℤ, Bool, true, false, List, [], ◌∷◌, length, Option, Some, None, Result, Ok, Err, IfOk, refl, sym, ◌∙◌, ap, subst, arith, cond, nat_eq, nat_lt, slice_get, if◌then◌else◌}
+use Rattle.std.proofs.Common.{◌≡◌, ◌<◌, ◌≤◌, ◌+◌, ◌⊎◌, inl, inr, ℕ, ℤ, Bool, true, false, List, [], ◌∷◌, length, Option, Some, None, refl, sym, ◌∙◌, ap, subst, arith, cond, nat_eq, nat_lt, slice_get}
 use Rattle.std.specs.Prelude.{option_map}
 use Rattle.std.specs.List.{filter}
 use Rattle.std.proofs.lemmas.Bool.{lt-ltb, ltb-true}
@@ -9,7 +9,6 @@ use Rattle.rdf_values.specs.Path.{history}
 use Rattle.rdf_values.specs.Tree.{NumTree, Tree, Trees, Lit, Truth, Col, Neg, Not, Bin, Cond, Pick, Call, End, More}
 use Rattle.rdf_values.specs.declared.expr.BinOp.{BinOp}
 use Rattle.rdf_values.specs.declared.expr.BinOp.TheVariants as op
-use Rattle.rdf_values.specs.declared.memory.Memory.{Memory}
 use Rattle.rdf_values.specs.declared.value.ColType.{ColType}
 use Rattle.rdf_values.specs.declared.value.Value.{Value}
 use Rattle.rdf_values.specs.declared.value.Value.TheVariants as val
@@ -265,8 +264,3 @@ module _ (j : JobView) (job : IsJob j) (first : ℕ) (u : Option ℕ) (count s t
           held = filled'.held;
           ready = filled'.ready;
         }
-
--- without a lead
-pub filled_alone : (j : JobView) (first : ℕ) (u : Option ℕ) (count s : ℕ) (sel left : List ℕ) (before after : List LaneView) (start end : ℕ) (r : Result (Option PlaceFault) Memory) → IfOk r (λ found. IsFilledOver j first u count s sel left before after found start end) → IfOk r (IsFilledTo j first u count s sel left after)
-filled_alone j first u count s sel left before after start end (Ok found) h = record { fault = h.fault; left_is = h.left_is; held = h.held; ready = h.ready }
-filled_alone j first u count s sel left before after start end (Err e) h = tt

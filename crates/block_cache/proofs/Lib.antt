@@ -4,7 +4,6 @@ pub mod BlockLaws
 pub mod BrokenOff
 pub mod CanFills
 pub mod CanTries
-pub mod ColumnCells
 pub mod Fulls
 pub mod GrownLaws
 pub mod Knowns
@@ -19,4 +18,3 @@ pub mod LeadLaws
 pub mod StopLists
 pub mod TableVectors
 pub mod UnderwayLaws
-pub mod Wholes

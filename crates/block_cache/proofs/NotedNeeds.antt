@@ -1,5 +1,5 @@
 -- What is noted of stops, one after another.
-use Rattle.std.proofs.Common.{◌≡◌, ◌<◌, ◌+◌, ◌++◌, ◌⊎◌, inl, inr, All, ℕ, Bool, true, false, List, [], ◌∷◌, length, length-set, take, set, get_or, refl, sym, ◌∙◌, ap, subst, arith, get_or-set_same, get_or-set_other}
+use Rattle.std.proofs.Common.{◌≡◌, ◌<◌, ◌+◌, ◌++◌, ◌⊎◌, inl, inr, All, ℕ, Bool, true, false, List, [], ◌∷◌, length, length-set, take, set, get_or, sym, ◌∙◌, ap, subst, arith, get_or-set_same, get_or-set_other}
 use Rattle.std.specs.Prelude.{Contains}
 use Rattle.std.proofs.lemmas.Bool.{cases_eq}
 use Rattle.std.proofs.lemmas.List.Elements.{Contains-append_left, Contains-push, Contains-push_cases}
@@ -15,9 +15,6 @@ pub record IsNotedTo (stops : List Stopped) (before needs : List ℕ) : Type 0 w
   pub long : length needs ≡ length before
   pub noted : (p c : ℕ) → Contains stops (stopped p (Need c)) → ((x : Stopped) → Contains stops x → x.place ≡ p → x.stop ≡ Need c) → need_at needs p ≡ c
   pub others : (p : ℕ) → ((x : Stopped) → Contains stops x → x.place ≡ p → ⊥) → need_at needs p ≡ need_at before p
-
-pub noted_none : (before : List ℕ) → IsNotedTo [] before before
-noted_none before = record { long = refl; noted = λ p c h each. let l = h.1 in absurd (omega (arith, l)); others = λ p none. refl }
 
 need_is : (a b : ℕ) → Need a ≡ Need b → a ≡ b
 need_is a b e = cc e

@@ -2,6 +2,7 @@
 use Rattle.std.proofs.Common.{◌≡◌, ◌<◌, ◌+◌, ◌&&◌, ◌||◌, not, ℕ, zero, suc, Bool, true, false, List, [], ◌∷◌, length, Option, Some, None, refl, sym, ◌∙◌, ap, subst, arith, cond, nat_eq, get_or}
 use Rattle.std.specs.Prelude.{Contains}
 use Rattle.std.proofs.lemmas.Bool.Decides.{Decides-eqb}
+use Rattle.lemmas.proofs.Booleans.{both_true, not_false}
 use Rattle.rdf_values.specs.declared.fault.EntryFault.{EntryFault}
 use Rattle.rdf_values.specs.declared.fault.EntryFault.TheVariants as kind
 use Rattle.rdf_values.specs.declared.value.Value.{Value}
@@ -65,13 +66,9 @@ scalar_same (Need c) = (Decides-eqb c c).1 refl
 abbrev same_stop : Stopped → Stopped → Bool
 same_stop x y = nat_eq x.place y.place && same_scalar x.stop y.stop
 
-both : (a b : Bool) → (a && b) ≡ true → (a ≡ true) × (b ≡ true)
-both true b h = (refl, h)
-both false b h = cc h
-
 stop_is : (x y : Stopped) → same_stop x y ≡ true → x ≡ y
 stop_is x y e =
-    let h = both (nat_eq x.place y.place) (same_scalar x.stop y.stop) e in
+    let h = both_true (nat_eq x.place y.place) (same_scalar x.stop y.stop) e in
     let p : x.place ≡ y.place = (Decides-eqb x.place y.place).0 h.0 in
     let a : x.stop ≡ y.stop = scalar_is x.stop y.stop h.1 in
     λ i. stopped (p i) (a i)
@@ -123,10 +120,6 @@ stop_of (Some b) a e = ap Some (scalar_is b a e)
 is_told : (ℕ → Outcome ℕ Value) → List ℕ → Stopped → Bool
 is_told f sel x = is_in x.place sel && is_stop (told_stop (f x.place)) x.stop
 
-not_false : (b : Bool) → not b ≡ false → b ≡ true
-not_false true e = refl
-not_false false e = cc e
-
 module _ (f : ℕ → Outcome ℕ Value) where
   told_head : (sel : List ℕ) (p : ℕ) (a : ScalarStop) → is_in p sel ≡ true → told_stop (f p) ≡ Some a → is_told f sel (stopped p a) ≡ true
   unfolding is_told
@@ -151,7 +144,7 @@ module _ (f : ℕ → Outcome ℕ Value) where
       let all : times (λ x. not (is_told f sel x)) more ≡ 0 + times (λ x. not (is_told f sel x)) (stops_in f sel) = joined (λ x. not (is_told f sel x)) in
       let untold = none_untold sel sel (λ p i. i) in
       let none : times (λ x. not (is_told f sel x)) more ≡ 0 = omega (arith, all, untold) in
-      let h = both (is_in x.place sel) (is_stop (told_stop (f x.place)) x.stop) (not_false (is_told f sel x) (none_passes more (λ x. not (is_told f sel x)) x none inside)) in
+      let h = both_true (is_in x.place sel) (is_stop (told_stop (f x.place)) x.stop) (not_false (is_told f sel x) (none_passes more (λ x. not (is_told f sel x)) x none inside)) in
       (h.0, stop_of (told_stop (f x.place)) x.stop h.1)
 
   one_head : (p : ℕ) (a : ScalarStop) (o : Outcome ℕ Value) → told_stop o ≡ Some a → times (same_stop (stopped p a)) (with_stop p o []) ≡ 1

@@ -5,6 +5,7 @@ use Rattle.std.specs.List.{filter}
 use Rattle.std.proofs.lemmas.Bool.{cases_lt, lt-ltb, ltb-true}
 use Rattle.std.proofs.lemmas.Bool.Decides.{Decides-eqb}
 use Rattle.std.proofs.lemmas.List.Sums.{length-filter, sum_by-cons}
+use Rattle.lemmas.proofs.Booleans.{not_true}
 use Rattle.rdf_values.specs.declared.fault.EntryFault.{EntryFault}
 use Rattle.rdf_values.specs.declared.memory.Memory.{Memory}
 use Rattle.rdf_values.specs.declared.value.Value.{Value}
@@ -16,12 +17,13 @@ use Rattle.graph_numbers.specs.Graphs.{graph_sites}
 use Rattle.graph_numbers.specs.declared.source.Source.{Source}
 use Rattle.graph_numbers.specs.declared.source.Source.TheVariants as from
 use Rattle.block_lanes.specs.Lanes.{LaneView}
+use Rattle.block_lanes.proofs.LaneSteps.{filter_none}
 use Rattle.loop_keys.specs.Jobs.{JobView, IsJob, job_graph}
 use Rattle.loop_keys.specs.Keys.{key, key_count}
 use Rattle.loop_keys.specs.Store.{IsSiteOf, MeetsAt, site_in, source_at}
 use Rattle.block_cache.specs.Blocks.{AreReady}
 use Rattle.block_cache.specs.Fills.{IsFilledOver, IsGrownOver, IsSameAt, IsSettled, IsSpentOver, below_fault, begun_at, holds_at, is_below, site_fault}
-use Rattle.block_cache.specs.Turns.{IsBrokenOff, IsFaultOf, IsResumedOver, IsSettledTo, IsUnderway, IsWaiting, found_or, left_to_begin, need_at}
+use Rattle.block_cache.specs.Turns.{IsAttemptedOver, IsBrokenOff, IsFaultOf, IsResumedOver, IsSettledTo, IsUnderway, IsWaiting, found_or, left_to_begin, need_at}
 use Rattle.block_cache.specs.declared.faults.PlaceFault.{PlaceFault}
 use Rattle.block_cache.proofs.Attempts.{key_lower}
 use Rattle.block_cache.proofs.GrownLaws.{grown_below, grown_on, later_keys, other_places, settled_all}
@@ -31,10 +33,6 @@ use Rattle.block_cache.proofs.Members.{below_among, below_in, below_low, below_s
 use Rattle.block_cache.proofs.MetFaults.{met_fault}
 
 -- ---- small things
-
-not_true : (b : Bool) → not b ≡ true → b ≡ false
-not_true true h = cc h
-not_true false h = refl
 
 true_not : (b : Bool) → b ≡ false → not b ≡ true
 true_not b h = ap not h
@@ -76,6 +74,14 @@ pub faults_of : (o : Outcome ⊥ Value) (k : EntryFault) → fault_in o ≡ Some
 faults_of (Gives v) k h = cc h
 faults_of (Faults f) k h = let same : f ≡ k = (let i : ◌≡◌ {A = Option EntryFault} (Some f) (Some k) = h in cc i) in ap Faults same
 faults_of (Needs m) k h = elim m [ ]
+
+or_none : (found : Option PlaceFault) → found_or found None ≡ found
+or_none None = refl
+or_none (Some x) = refl
+
+none_below : (fault : Option PlaceFault) → below_fault fault [] ≡ []
+none_below None = refl
+none_below (Some x) = refl
 
 none_open : (ps : List ℕ) (p : ℕ) → length ps ≡ 0 → is_in p ps ≡ true → ⊥
 none_open [] p none h = cc h
@@ -171,6 +177,32 @@ module _ (j : JobView) (job : IsJob j) (first : ℕ) (u : Option ℕ) (count s :
 
           lacking_lacks : (p : ℕ) → is_in p lacking ≡ true → holds_at new own p ≡ false
           lacking_lacks p h = not_true (holds_at new own p) (filter_passes sel (lacks_in new) p (below_among least (filter (lacks_in new) sel) p (seen p h)))
+
+      -- where no place stopped, none is open
+      pub began_whole : (new : List LaneView) (needs noted lacking : List ℕ) (found : Option PlaceFault) → IsAttemptedOver j first u count s group before new needs noted found → EachPlace group (λ p. holds_at new own p ≡ true) → lacking ≡ [] → IsResumedOver j first u count s None group sel before new needs noted lacking found
+      began_whole new needs noted lacking found attempted whole none = record {
+        found = found;
+        attempted = attempted;
+        least_is = sym (or_none found);
+        open_is = none ∙ sym (ap (below_fault found) (filter_none (lacks_in new) sel (λ p i. ap not (holds p i))) ∙ none_below found);
+      }
+        where
+          holds : (p : ℕ) → is_in p sel ≡ true → holds_at new own p ≡ true
+          holds p i = go (holds_at new own p) refl
+            where
+              go : (b : Bool) → holds_at new own p ≡ b → holds_at new own p ≡ true
+              go true e = e
+              go false e = whole p (in_group p i (lacks_before n before new own p ((attempted.grown sel group_in).grows p) e))
+
+      -- else those that lack the value below the fault
+      pub began_rest : (new : List LaneView) (needs noted after was lacking : List ℕ) (found : Option PlaceFault) → IsAttemptedOver j first u count s group before new needs noted found → after ≡ noted → was ≡ sel → lacking ≡ below_fault found (filter (λ p. not (holds_at new (key (job_graph j) s u) p)) was)
+          → IsResumedOver j first u count s None group sel before new needs after lacking found
+      began_rest new needs noted after was lacking found attempted same copied open_is = record {
+        found = found;
+        attempted = subst (λ (l : List ℕ). IsAttemptedOver j first u count s group before new needs l found) (sym same) attempted;
+        least_is = sym (or_none found);
+        open_is = open_is ∙ ap (λ l. below_fault found (filter (lacks_in new) l)) copied;
+      }
 
       -- memory was wanted
       pub began_broken : (new : List LaneView) (start now : ℕ) → IsBrokenOff j first u s group before new start now → IsSpentOver j first u s sel before new start now

@@ -75,6 +75,7 @@ fn attempt<L: Ledger>(
     requires lacks { EachPlace level.old.group (λ p. holds_at lanes.old (key_of (job_graph (job_of block.now.at.now.job.now)) site block.now.at.now.under) p ≡ false) }
     ensures attempted { IfOk result (λ found. IsAttemptedOver (job_of block.now.at.now.job.now) block.now.at.now.entry block.now.at.now.under block.now.count site level.old.group lanes.old lanes.new level.old.needs level.new.needs found) }
     ensures broken { OnErr result (IsBrokenOff (job_of block.now.at.now.job.now) block.now.at.now.entry block.now.at.now.under site level.old.group lanes.old lanes.new steps.old steps.new) }
+    ensures whole { level.new.stops.items ≡ [] → OnOk result (EachPlace level.old.group (λ p. holds_at lanes.new (key_of (job_graph (job_of block.now.at.now.job.now)) site block.now.at.now.under) p ≡ true)) }
     ensures lacking { level.new.lacking ≡ level.old.lacking }
     ensures steps { OnOk result (steps.new ≡ steps.old + length level.old.group) }
     ensures plain { (used : ℕ → Bool) → ArePlain (job_of block.now.at.now.job.now) used → used site ≡ true → OnErr result ⊥ }
@@ -164,10 +165,17 @@ fn begin<L: Ledger>(
     ensures rising { AreRising selection.now }
 {
     let _places = selection.as_slice();
-    level.lacking.copy_from(selection);
     level.group.copy_from(selection);
     lanes[key(block.at, site)].keep_unknown(&mut level.group);
-    resume(block, lanes, site, None, level, scratch, steps)
+    let found = attempt(block, lanes, site, level, scratch, steps)?;
+    // Nearly always no place stops.
+    if level.stops.is_empty() {
+        level.lacking.select_first(0);
+        return Ok(found);
+    }
+    level.lacking.copy_from(selection);
+    narrow(block, lanes, site, found, level);
+    Ok(found)
 }
 
 /// Fills a site where the sites up to it are settled: it is evaluated anew at all places that wait for the same version as the first

@@ -3,6 +3,7 @@ use Rattle.std.proofs.Common.{◌≡◌, ◌<◌, ◌≤◌, ◌+◌, ◌||◌, 
 use Rattle.std.specs.List.{filter}
 use Rattle.std.proofs.lemmas.Bool.Decides.{Decides-eqb}
 use Rattle.std.specs.Prelude.{OnErr, count_by}
+use Rattle.lemmas.proofs.Booleans.{left_false, never_true, or_fails, right_false}
 use Rattle.rdf_values.specs.declared.value.ColType.{ColType}
 use Rattle.rdf_values.specs.declared.value.Value.{Value}
 use Rattle.rdf_model.specs.Evaluation.{Outcome, Gives}
@@ -11,13 +12,10 @@ use Rattle.expr_lanes.specs.Marks.{lane_number}
 use Rattle.expr_lanes.specs.Places.{EachPlace, at_place, given_in, is_given, is_in, is_marked, stops_in, times}
 use Rattle.expr_lanes.specs.declared.stopped.Stopped.{Stopped}
 use Rattle.expr_lanes.proofs.Sequence.{filtered_in, filtered_out}
-use Rattle.block_lanes.specs.Lanes.{LaneView, IsBegun, IsEvaluated, IsExtent, IsLane}
-use Rattle.block_lanes.specs.declared.lane.Extent.{Extent}
-use Rattle.block_lanes.specs.declared.lane.Extent.TheVariants as extent
+use Rattle.block_lanes.specs.Lanes.{LaneView, IsBegun, IsEvaluated, IsLane}
 use Rattle.block_lanes.specs.Turns.{HaveCome}
 use Rattle.block_lanes.specs.Values.{AreWritten, HasNumber, HasNumbered, value_for}
 use Rattle.block_lanes.proofs.EachPlaces.{is_there, number_read, read_back, there_more, times_append, value_more}
-use Rattle.block_lanes.proofs.LaneSteps.{first_false, last_false, neither, outside}
 
 -- what a filter keeps passes it
 kept_passes : (test : ℕ → Bool) (q p : ℕ) (rest : List ℕ) (b : Bool) → test p ≡ b → (is_in q rest ≡ true → test q ≡ true) → is_in q (cond b (p ∷ rest) rest) ≡ true → test q ≡ true
@@ -43,7 +41,7 @@ module _
 
     module _ (lane : IsLane before) (inside : EachPlace sel (λ p. p < count)) (unknown : EachPlace sel (λ p. is_marked held0 p ≡ false)) (long_tried : length tried ≡ length tried0) (long_held : length held ≡ length held0) where
       not_selected : (p : ℕ) → is_marked held0 p ≡ true → is_in p sel ≡ false
-      not_selected p was = outside (is_in p sel) (λ i. cc (was, unknown p i))
+      not_selected p was = never_true (is_in p sel) (λ i. cc (was, unknown p i))
 
       -- what was held is held as it was
       kept_value : (p : ℕ) → is_marked held0 p ≡ true → value_for k vectors (at_place numbers p) ≡ value_for k vectors0 (at_place numbers0 p)
@@ -56,10 +54,10 @@ module _
       kept_exact scalar p was = ap lane_number (kept_value p was) ∙ lane.exact scalar p was ∙ sym (w.others p (not_selected p was))
 
       behind : (p : ℕ) → count ≤ p → is_marked tried p ≡ false
-      behind p far = tried_at p ∙ neither (is_in p sel) (is_marked tried0 p) (outside (is_in p sel) (λ i. let near : p < count = inside p i in omega arith)) (lane.behind p far)
+      behind p far = tried_at p ∙ or_fails (is_in p sel) (is_marked tried0 p) (never_true (is_in p sel) (λ i. let near : p < count = inside p i in omega arith)) (lane.behind p far)
 
       was_not : (p : ℕ) → is_marked tried p ≡ false → is_marked held0 p ≡ false
-      was_not p none = lane.begun p (last_false (is_in p sel) (is_marked tried0 p) (sym (tried_at p) ∙ none))
+      was_not p none = lane.begun p (right_false (is_in p sel) (is_marked tried0 p) (sym (tried_at p) ∙ none))
 
       -- memory was wanted
       module _ (same : held ≡ held0) where
@@ -117,7 +115,7 @@ module _
             held = long_held ∙ lane.held ∙ sym w.long;
             within = omega (arith, lane.within, w.long);
             behind = behind;
-            begun = λ p none. held_at p ∙ neither (is_in p left) (is_marked held0 p) (ap (λ l. is_in p l) left_is ∙ filtered_out (λ q. is_given (f q)) p sel (first_false (is_in p sel) (is_marked tried0 p) (sym (tried_at p) ∙ none))) (was_not p none);
+            begun = λ p none. held_at p ∙ or_fails (is_in p left) (is_marked held0 p) (ap (λ l. is_in p l) left_is ∙ filtered_out (λ q. is_given (f q)) p sel (left_false (is_in p sel) (is_marked tried0 p) (sym (tried_at p) ∙ none))) (was_not p none);
             exact = λ scalar p is. exact_at scalar p is (is_in p left) refl;
             there = λ p is. there_at p is (is_in p left) refl;
           }
@@ -134,12 +132,6 @@ module _
             newly = newly;
             joined = λ t. ap (times t) come.stopped ∙ times_append t stops (stops_in f sel);
           }
-
--- what is held is all of the block, or nothing, as before
-pub extent_as : (e : Extent) (l m : LaneView) → l.count ≡ m.count → l.held ≡ m.held → IsExtent e l → IsExtent e m
-extent_as extent.Nothing l m many same is = λ p. ap (λ x. is_marked x p) (sym same) ∙ is p
-extent_as extent.Some l m many same is = tt
-extent_as extent.All l m many same is = λ p low. ap (λ x. is_marked x p) (sym same) ∙ is p (omega (arith, low, many))
 
 -- what was done at the places of a list, seen as the selection's, in a lane of that kind
 pub come_to : (k own : ColType) (f : ℕ → Outcome ℕ Value) (places sel : List ℕ) (numbers : List ℤ) (vectors : List (List ℤ)) (marks : List Bool) (stops more : List Stopped) → k ≡ own → places ≡ sel → HaveCome k f places numbers vectors marks stops more → HaveCome own f sel numbers vectors marks stops more

@@ -1,7 +1,7 @@
 -- One place after another.
 use Rattle.std.proofs.Common.{◌≡◌, ◌<◌, ◌≤◌, ◌+◌, ◌++◌, ◌⊎◌, inl, inr, not, ℕ, ℤ, Bool, true, false, List, [], ◌∷◌, length, get_or, take, ◌∙◌, refl, ap, sym, subst, arith, append_assoc, cond}
 use Rattle.std.specs.List.{filter}
-use Rattle.std.proofs.lemmas.List.{take_more, length-append, append-nil}
+use Rattle.std.proofs.lemmas.List.{take_more, length-append}
 use Rattle.rdf_values.specs.Tables.{FitsKind}
 use Rattle.rdf_values.specs.declared.value.ColType.{ColType}
 use Rattle.rdf_values.specs.declared.value.ColType.TheVariants as kind
@@ -17,7 +17,7 @@ use Rattle.expr_lanes.proofs.Selected.{in_more, is_in_at}
 use Rattle.expr_lanes.proofs.Sequence.{first_in, rest_in}
 use Rattle.block_lanes.specs.Turns.{HaveCome, IsTurned, IsWritten}
 use Rattle.block_lanes.specs.Values.{AreKept, AreWritten, HasNumber, HasNumbered, IsNumberOf, value_for}
-use Rattle.block_lanes.proofs.VectorLists.{kept_all, kept_on}
+use Rattle.block_lanes.proofs.VectorLists.{kept_on}
 
 -- ---- the number of a value
 
@@ -101,15 +101,6 @@ pub record AreTurnedTo (k : ColType) (f : ℕ → Outcome ℕ Value) (places : L
   pub many : length marks ≡ length marks0
   pub come : HaveCome k f (take i places) numbers vectors marks stops0 stops
 
-pub turned_none : (k : ColType) (f : ℕ → Outcome ℕ Value) (places : List ℕ) (numbers : List ℤ) (vectors : List (List ℤ)) (marks : List Bool) (stops : List Stopped) → AreTurnedTo k f places numbers numbers vectors vectors marks marks stops stops 0
-turned_none k f places numbers vectors marks stops = record {
-  long = refl;
-  others = λ p h. refl;
-  kept = kept_all vectors vectors refl;
-  many = refl;
-  come = record { values = λ p h. cc h; marked = λ p h. cc h; stopped = sym (append-nil stops); few = omega arith };
-}
-
 -- what was written at one of the places
 pub written_on : (places : List ℕ) (numbers0 numbers after : List ℤ) (vectors0 vectors more : List (List ℤ)) (q : ℕ) → is_in q places ≡ true → AreWritten places numbers0 numbers vectors0 vectors → IsWritten q numbers after vectors more → AreWritten places numbers0 after vectors0 more
 written_on places numbers0 numbers after vectors0 vectors more q among so_far w = record {
@@ -155,11 +146,6 @@ turned_more k f places numbers0 numbers after vectors0 vectors more marks0 marks
     marks_at : (p : ℕ) → (p ≡ q) ⊎ ((p ≡ q → ⊥) × (is_in p (take i places) ≡ true)) → is_marked marked p ≡ not (is_given (f p))
     marks_at p (inl e) = subst (λ (n : ℕ). is_marked marked n ≡ not (is_given (f n))) (sym e) t.mark
     marks_at p (inr n) = t.others p n.0 ∙ so_far.come.marked p n.1
-
--- all were
-pub turned_all : (k : ColType) (f : ℕ → Outcome ℕ Value) (places : List ℕ) (numbers0 numbers : List ℤ) (vectors0 vectors : List (List ℤ)) (marks0 marks : List Bool) (stops0 stops : List Stopped) (i : ℕ) → AreTurnedTo k f places numbers0 numbers vectors0 vectors marks0 marks stops0 stops i
-    → take i places ≡ places → HaveCome k f places numbers vectors marks stops0 stops
-turned_all k f places numbers0 numbers vectors0 vectors marks0 marks stops0 stops i so_far all = subst (λ (l : List ℕ). HaveCome k f l numbers vectors marks stops0 stops) all so_far.come
 
 -- ---- what is left of a selection
 

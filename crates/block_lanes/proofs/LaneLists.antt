@@ -48,9 +48,6 @@ pub record AreBegunTo (count : ℕ) (before : List LaneView) (i : ℕ) (ls : Lis
   pub enough : All (λ l. count ≤ room_of l) ls
   pub begun : AllWithin (IsUnknown count) ls 0 i
 
-pub begun_none : (count : ℕ) (before : List LaneView) → All (λ l. count ≤ room_of l) before → AreBegunTo count before 0 before
-begun_none count before enough = record { many = refl; kinds_are = refl; rooms_are = refl; enough = enough; begun = λ k d low high. absurd (omega arith) }
-
 pub begun_more : (count i : ℕ) (before ls : List LaneView) (l d : LaneView) → AreBegunTo count before i ls → i < length ls → IsSameLane (get_or ls i d) l → IsUnknown count l → AreBegunTo count before (i + 1) (set ls i l)
 begun_more count i before ls l d so_far inside same unknown = record {
   many = length-set ls i l ∙ so_far.many;

@@ -1,5 +1,5 @@
 -- A lane before and after an evaluation.
-use Rattle.std.proofs.Common.{◌≡◌, ◌<◌, ◌≤◌, ◌+◌, ◌||◌, ◌++◌, not, ℕ, ℤ, Bool, true, false, inl, inr, List, [], ◌∷◌, length, take, drop, ◌∙◌, refl, ap, sym, subst, cond, arith}
+use Rattle.std.proofs.Common.{◌≡◌, ◌<◌, ◌≤◌, ◌+◌, ◌||◌, ◌++◌, not, ℕ, ℤ, Bool, true, false, List, [], ◌∷◌, length, take, drop, ◌∙◌, refl, ap, sym, subst, cond, arith}
 use Rattle.std.specs.Prelude.{count_by}
 use Rattle.std.specs.List.{filter}
 use Rattle.std.proofs.Math.Seq.{take-append_seam}
@@ -13,8 +13,7 @@ use Rattle.expr_lanes.specs.Places.{at_place, is_given, is_in, is_marked, EachPl
 use Rattle.expr_lanes.specs.Values.{HasValues}
 use Rattle.expr_lanes.specs.declared.stopped.Stopped.{Stopped}
 use Rattle.expr_lanes.proofs.Sequence.{filtered_in, filtered_out, first_in, rest_in}
-use Rattle.std.proofs.lemmas.Bool.{cases_lt}
-use Rattle.block_lanes.proofs.Marking.{count_none}
+use Rattle.lemmas.proofs.Booleans.{left_false, never_true, or_fails, right_false}
 use Rattle.expr_lanes.specs.declared.TheConstants.{MAX_PLACES}
 use Rattle.block_lanes.specs.Lanes.{LaneView, IsEvaluated, IsLane, IsUnknown, room_of}
 use Rattle.block_lanes.specs.Values.{HasNumbered, value_for}
@@ -65,24 +64,6 @@ scalar_there kinds.Vect vectors z scalar = cc scalar
 number_is : (y z : ℤ) → ◌≡◌ {A = Outcome ℕ ℤ} (Gives y) (Gives z) → y ≡ z
 number_is y z e = cc e
 
-pub first_false : (a b : Bool) → (a || b) ≡ false → a ≡ false
-first_false true b h = h
-first_false false b h = refl
-
-pub last_false : (a b : Bool) → (a || b) ≡ false → b ≡ false
-last_false true b h = absurd (cc h)
-last_false false b h = h
-
-pub neither : (a b : Bool) → a ≡ false → b ≡ false → (a || b) ≡ false
-neither a b h k = ap (λ c. c || b) h ∙ k
-
-pub either_held : (a b : Bool) → a ≡ true → (a || b) ≡ true
-either_held a b h = ap (λ c. c || b) h
-
-pub outside : (a : Bool) → (a ≡ true → ⊥) → a ≡ false
-outside true h = absurd (h refl)
-outside false h = refl
-
 module _
     (f : ℕ → Outcome ℕ Value) (sel left : List ℕ) (kind : ColType) (count : ℕ) (numbers0 numbers : List ℤ) (vectors : List (List ℤ)) (scalar : is_vector kind ≡ false) (tried0 tried held0 held : List Bool)
     (tried_at : (p : ℕ) → is_marked tried p ≡ (is_in p sel || is_marked tried0 p)) (held_at : (p : ℕ) → is_marked held p ≡ (is_in p left || is_marked held0 p))
@@ -101,10 +82,10 @@ module _
       tried = long_tried ∙ lane.tried ∙ sym long;
       held = long_held ∙ lane.held ∙ sym long;
       within = omega (arith, lane.within);
-      behind = λ p far. tried_at p ∙ neither (is_in p sel) (is_marked tried0 p) (outside (is_in p sel) (λ i. let near : p < count = inside p i in omega arith)) (lane.behind p far);
+      behind = λ p far. tried_at p ∙ or_fails (is_in p sel) (is_marked tried0 p) (never_true (is_in p sel) (λ i. let near : p < count = inside p i in omega arith)) (lane.behind p far);
       begun = λ p none.
           let no : (is_in p sel || is_marked tried0 p) ≡ false = sym (tried_at p) ∙ none in
-          held_at p ∙ neither (is_in p left) (is_marked held0 p) (ap (λ l. is_in p l) come.left_in ∙ filtered_out (λ p. is_given (f p)) p sel (first_false (is_in p sel) (is_marked tried0 p) no)) (lane.begun p (last_false (is_in p sel) (is_marked tried0 p) no));
+          held_at p ∙ or_fails (is_in p left) (is_marked held0 p) (ap (λ l. is_in p l) come.left_in ∙ filtered_out (λ p. is_given (f p)) p sel (left_false (is_in p sel) (is_marked tried0 p) no)) (lane.begun p (right_false (is_in p sel) (is_marked tried0 p) no));
       exact = λ _ p is. ap lane_number (scalar_value kind vectors (at_place numbers p) scalar) ∙ exact_at p (is_in p left) refl (is_in p sel) refl (sym (held_at p) ∙ is);
       there = λ p is. scalar_there kind vectors (at_place numbers p) scalar;
     }
@@ -146,17 +127,6 @@ come_as kind own f sel left numbers0 seen numbers stops more same_kind same_numb
     subst (λ (k : ColType). HasValues k f sel left seen numbers stops more) same_kind (subst (λ (l : List ℤ). HasValues kind f sel left l numbers stops more) same_numbers come)
 
 -- ---- a block that begins
-
-pub unknown_after : (kind : ColType) (last size : ℕ) (numbers : List ℤ) (vectors0 vectors : List (List ℤ)) (tried0 tried held0 held : List Bool) → IsLane (record { kind = kind; count = last; numbers = numbers; vectors = vectors0; tried = tried0; held = held0 }) → ((p : ℕ) → p < last → is_marked tried p ≡ false)
-    → ((p : ℕ) → last ≤ p → is_marked tried p ≡ is_marked tried0 p) → ((p : ℕ) → p < last → is_marked held p ≡ false) → ((p : ℕ) → last ≤ p → is_marked held p ≡ is_marked held0 p)
-    → IsUnknown size (record { kind = kind; count = size; numbers = numbers; vectors = vectors; tried = tried; held = held })
-unknown_after kind last size numbers vectors0 vectors tried0 tried held0 held lane tried_first tried_rest held_first held_rest = record { count = refl; tried = no_tried; held = no_held; none = count_none tried no_tried }
-  where
-    no_tried : (p : ℕ) → is_marked tried p ≡ false
-    no_tried p = elim (cases_lt p last) [ inl low ↦ tried_first p low | inr high ↦ tried_rest p high ∙ lane.behind p high ]
-
-    no_held : (p : ℕ) → is_marked held p ≡ false
-    no_held p = elim (cases_lt p last) [ inl low ↦ held_first p low | inr high ↦ held_rest p high ∙ lane.begun p (lane.behind p high) ]
 
 -- of which nothing is known, it is a lane
 pub unknown_lane : (l : LaneView) (size : ℕ) → room_of l ≤ MAX_PLACES → length l.tried ≡ room_of l → length l.held ≡ room_of l → l.count ≤ room_of l → IsUnknown size l → IsLane l

@@ -4,3 +4,4 @@ pub mod LaneLists
 pub mod LaneSteps
 pub mod Marking
 pub mod VectorLists
+pub mod WholeMarks

@@ -1,5 +1,5 @@
 -- What is known of keys over a block.
-use Rattle.std.specs.Prelude.{◌≡◌, ◌<◌, ◌≤◌, ◌+◌, ℕ, ℤ, Bool, true, false, ◌||◌, not, List, length, map, All, count_by}
+use Rattle.std.specs.Prelude.{◌≡◌, ◌≤◌, ◌+◌, ℕ, ℤ, Bool, true, false, ◌||◌, not, List, length, map, All, count_by}
 use Rattle.rdf_values.specs.declared.value.ColType.{ColType}
 use Rattle.rdf_values.specs.declared.value.Value.{Value}
 use Rattle.rdf_model.specs.Evaluation.{Outcome, Gives}
@@ -9,8 +9,6 @@ use Rattle.expr_lanes.specs.Places.{at_place, is_in, is_marked, given_in, stops_
 use Rattle.expr_lanes.specs.declared.TheConstants.{MAX_PLACES}
 use Rattle.expr_lanes.specs.declared.stopped.Stopped.{Stopped}
 use Rattle.block_lanes.specs.Values.{HasNumbered, value_for}
-use Rattle.block_lanes.specs.declared.lane.Extent.{Extent}
-use Rattle.block_lanes.specs.declared.lane.Extent.TheVariants as extent
 
 -- the kind of the key's values and how many places the block has; for each place that a block can have a number, whether the
 -- evaluation was begun there, and whether it came to the value that the number stands for; and the vectors, by their numbers
@@ -57,12 +55,6 @@ pub record IsLane (l : LaneView) : Type 0 where
   pub begun : (p : ℕ) → is_tried l p ≡ false → is_held l p ≡ false
   pub exact : is_vector l.kind ≡ false → AreNumbers l
   pub there : (p : ℕ) → is_held l p ≡ true → HasNumbered l.kind l.vectors (at_place l.numbers p)
-
--- nothing is held, or all places of the block hold a value
-abbrev pub IsExtent : Extent → LaneView → Type 0
-IsExtent extent.Nothing l = (p : ℕ) → is_held l p ≡ false
-IsExtent extent.Some l = Unit {0}
-IsExtent extent.All l = (p : ℕ) → p < l.count → is_held l p ≡ true
 
 -- a lane of the same key, with as much room
 pub record IsSameLane (before after : LaneView) : Type 0 where

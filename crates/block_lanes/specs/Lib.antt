@@ -1,3 +1,4 @@
+pub mod BlockMarks
 pub mod Lanes
 pub mod Sizes
 pub mod Turns

@@ -11,10 +11,10 @@ ghost use Rattle.expr_lanes.specs.Depths.{depth};
 ghost use Rattle.expr_lanes.specs.Folds.{CanLane};
 ghost use Rattle.expr_lanes.specs.LaneInputs.{is_known, HasMarks};
 ghost use Rattle.expr_lanes.specs.Places.{EachPlace, IsSelected};
-ghost use Rattle.block_lanes.specs.Lanes.{is_held, room_of, value_of, AreNumbers, IsBegun, IsEvaluated, IsExtent, IsSameLane, IsUnknown, LaneView};
+ghost use Rattle.block_lanes.specs.Lanes.{is_held, room_of, value_of, AreNumbers, IsBegun, IsEvaluated, IsSameLane, IsUnknown, LaneView};
 
+use crate::block_marks::BlockMarks;
 use crate::each_place::each_place;
-use crate::marks::{are_marked, clear_first, mark};
 use crate::place_values::PlaceValues;
 use crate::values::Values;
 use crate::vectors::Vectors;
@@ -22,21 +22,11 @@ use arrayvec::ArrayVec;
 use entry_fns::FnList;
 use expr_check::Checked;
 use expr_eval::{Input, Steps};
-use expr_lanes::{
-    Known, LaneColumn, LaneInputs, MAX_PLACES, Scratch, Selection, Stopped, eval_lane,
-};
+use expr_lanes::{LaneColumn, LaneInputs, MAX_PLACES, Scratch, Selection, Stopped, eval_lane};
 use rdf_values::{ColType, Memory};
 use std::alloc::Global;
 use std::marker::Model;
 use std::sync::ledger::Ledger;
-
-/// How much of a block holds a value: nothing, some places or any, or all of them.
-#[derive(Clone, Copy, Debug)]
-pub enum Extent {
-    Nothing,
-    Some,
-    All,
-}
 
 /// A key over a block: at each place its value, whether its evaluation was begun, and whether it came to that value. Places that are
 /// marked keep their values until the next block begins.
@@ -44,22 +34,20 @@ pub enum Extent {
 pub struct Lane {
     alloc: Global,
     kind: ColType,
-    count: usize,
     values: Values,
-    tried: Vec<bool>,
-    held: Vec<bool>,
-    extent: Extent,
+    tried: BlockMarks,
+    held: BlockMarks,
 }
 
 impl Model for Lane {
-    ghost use Rattle.block_lanes.specs.Lanes.{LaneView, IsLane, IsExtent};
+    ghost use Rattle.std.specs.Prelude.{◌≡◌};
+    ghost use Rattle.block_lanes.specs.Lanes.{LaneView, IsLane};
 
     ghost Value = { LaneView };
 
-    ghost view = { λ l. record { kind = l.kind; count = l.count; numbers = l.values.numbers.items; vectors = l.values.vectors; tried = l.tried.items; held = l.held.items } };
+    ghost view = { λ l. record { kind = l.kind; count = l.held.count; numbers = l.values.numbers.items; vectors = l.values.vectors; tried = l.tried.marks; held = l.held.marks } };
 
-    ghost invariant = { λ l. IsLane (record { kind = l.kind; count = l.count; numbers = l.values.numbers.items; vectors = l.values.vectors; tried = l.tried.items; held = l.held.items })
-        × IsExtent l.extent (record { kind = l.kind; count = l.count; numbers = l.values.numbers.items; vectors = l.values.vectors; tried = l.tried.items; held = l.held.items }) };
+    ghost invariant = { λ l. (l.tried.count ≡ l.held.count) × IsLane (record { kind = l.kind; count = l.held.count; numbers = l.values.numbers.items; vectors = l.values.vectors; tried = l.tried.marks; held = l.held.marks }) };
 }
 
 impl Lane {
@@ -72,19 +60,17 @@ impl Lane {
         ensures unknown { IfOk result (IsUnknown 0) }
     {
         let numbers = vec![in alloc; 0; room]?;
-        let tried = vec![in alloc; false; room]?;
-        let held = vec![in alloc; false; room]?;
+        let tried = BlockMarks::new(alloc, room)?;
+        let held = BlockMarks::new(alloc, room)?;
         Ok(Lane {
             alloc,
             kind,
-            count: 0,
             values: Values {
                 numbers,
                 vectors: Vectors::new(alloc),
             },
             tried,
             held,
-            extent: Extent::Nothing,
         })
     }
 
@@ -94,12 +80,9 @@ impl Lane {
         ensures same { IsSameLane self.old self.new }
         ensures unknown { IsUnknown count self.new }
     {
-        let last = self.count;
-        clear_first(&mut self.tried, last);
-        clear_first(&mut self.held, last);
+        self.tried.begin(count);
+        self.held.begin(count);
         self.values.vectors.clear();
-        self.count = count;
-        self.extent = Extent::Nothing;
     }
 
     /// Leaves the places selected at which no value is held.
@@ -107,11 +90,7 @@ impl Lane {
         requires { EachPlace selection.old (λ p. p < self.now.count) }
         ensures { selection.new ≡ filter (λ p. not (is_held self.now p)) selection.old }
     {
-        match self.extent {
-            Extent::Nothing => {}
-            Extent::Some => selection.keep_unmarked(&self.held),
-            Extent::All => selection.select_first(0),
-        }
+        self.held.keep_unmarked(selection);
     }
 
     /// Of which kind the key's values are.
@@ -130,7 +109,7 @@ impl Lane {
     pub fn is_full(&self) -> bool
         ensures { result ≡ true → (p : ℕ) → p < self.now.count → is_held self.now p ≡ true }
     {
-        matches!(self.extent, Extent::All)
+        self.held.is_full()
     }
 
     /// Whether each selected place is known to hold a value.
@@ -138,7 +117,7 @@ impl Lane {
         requires { EachPlace selection.now (λ p. p < self.now.count) }
         ensures { result ≡ true → EachPlace selection.now (λ p. is_held self.now p ≡ true) }
     {
-        self.is_full() || are_marked(selection, &self.held)
+        self.held.has_all(selection)
     }
 
     /// What is known of the key at a place.
@@ -146,7 +125,7 @@ impl Lane {
         requires { place < self.now.count }
         ensures { (c : ℕ) → input_outcome c result ≡ (if is_held self.now place then Gives (value_of self.now place) else Needs c) }
     {
-        if self.held[place as usize] {
+        if self.held.has(place) {
             self.values.input(self.kind, place)
         } else {
             Input::Missing
@@ -162,12 +141,10 @@ impl Lane {
         ensures marks { HasMarks self.now.count result.known }
         ensures known { (p : ℕ) → p < self.now.count → is_known result.known p ≡ is_held self.now p }
     {
-        let numbers = self.values.numbers.as_slice();
-        let known = match self.extent {
-            Extent::All => Known::Everywhere,
-            Extent::Nothing | Extent::Some => Known::Marked(self.held.as_slice()),
-        };
-        LaneColumn { numbers, known }
+        LaneColumn {
+            numbers: self.values.numbers.as_slice(),
+            known: self.held.known(),
+        }
     }
 
     /// Evaluates the key's expression at the selected places, of which nothing is held, in a step each. Where it comes to a value the place stays selected, and
@@ -194,7 +171,7 @@ impl Lane {
         ensures evaluated { IsEvaluated (λ p. evaluate_at (I.look inputs.now p) (call_outcome (functions_in functions.now)) expr.now.tree) selection.old selection.new self.old self.new stops.old.items stops.new.items }
         ensures steps { steps.new ≡ steps.old + length selection.old }
     {
-        mark(selection, &mut self.tried);
+        self.tried.mark(selection);
         eval_lane(
             expr,
             inputs,
@@ -205,8 +182,7 @@ impl Lane {
             scratch,
             steps,
         );
-        mark(selection, &mut self.held);
-        self.extent = extent_after(selection, self.count);
+        self.held.mark(selection);
     }
 
     /// Evaluates the key at one selected place after another, of which nothing is held, in a step each. Where it comes to a value the place stays
@@ -229,7 +205,7 @@ impl Lane {
         ensures plain { E.plain evaluation.now → OnErr result ⊥ }
     {
         let mut stopped = [false; MAX_PLACES];
-        mark(selection, &mut self.tried);
+        self.tried.mark(selection);
         each_place(
             evaluation,
             selection.as_slice(),
@@ -239,18 +215,7 @@ impl Lane {
             steps,
         )?;
         selection.keep_unmarked(&stopped);
-        mark(selection, &mut self.held);
-        self.extent = extent_after(selection, self.count);
+        self.held.mark(selection);
         Ok(())
-    }
-}
-
-/// What is held where a selection is.
-fn extent_after(selection: &Selection, count: usize) -> Extent
-    ensures { (l : LaneView) → l.count ≡ count → EachPlace selection.now (λ p. is_held l p ≡ true) → IsExtent result l }
-{
-    match selection.first_count() {
-        Some(first) if first == count => Extent::All,
-        _ => Extent::Some,
     }
 }

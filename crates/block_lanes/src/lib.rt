@@ -3,6 +3,7 @@
 //! which evaluates into lanes and reads columns from them, and evaluates place by place where vectors are met.
 #![tactic(auto)]
 
+mod block_marks;
 mod each_place;
 pub mod lane;
 pub mod lanes;

@@ -2,6 +2,7 @@
 use Rattle.std.proofs.Common.{◌≡◌, ◌⊎◌, inl, inr, ℕ, zero, suc, ◌+◌, ◌<◌, ◌≤◌, Bool, true, false, List, [], ◌∷◌, length, map, take, drop, refl, sym, subst, ◌∙◌, ap, arith, if◌then◌else◌, min}
 use Rattle.std.specs.Prelude.{sum}
 use Rattle.std.proofs.lemmas.List.Sums.{sum_by-cons}
+use Rattle.lemmas.proofs.Appended.{map_length}
 use Rattle.rdf_values.specs.Cuts.{Lead}
 use Rattle.rdf_values.specs.declared.span.Span.{Span}
 use Rattle.rdf_values.specs.declared.value.Value.{Value}
@@ -129,10 +130,6 @@ none_of_them rows zero = refl
 none_of_them [] (suc n) = refl
 none_of_them (row ∷ rows) (suc n) = let h = none_of_them rows n in let t = sum_more (row_elements 0 row) (take n (map (row_elements 0) rows)) in let z : row_elements 0 row ≡ 0 = omega arith in omega (arith, h, t, z)
 
-pub lengths_same : {A B : Type 0} (f : A → B) (xs : List A) → length (map f xs) ≡ length xs
-lengths_same f [] = refl
-lengths_same f (x ∷ xs) = ap (λ n. suc n) (lengths_same f xs)
-
 pub plain_first : (size most : ℕ) (rows : List (List Value)) → 1 ≤ size → first_length size most (map (row_elements 0) rows) ≡ min size (length rows)
 plain_first size most [] one = grind arith
 plain_first size most (row ∷ rows) one = go (first_is size most (map (row_elements 0) (row ∷ rows)) one (omega arith))
@@ -140,7 +137,7 @@ plain_first size most (row ∷ rows) one = go (first_is size most (map (row_elem
     go : IsFirst size most (map (row_elements 0) (row ∷ rows)) (first_length size most (map (row_elements 0) (row ∷ rows))) → first_length size most (map (row_elements 0) (row ∷ rows)) ≡ min size (length (row ∷ rows))
     go r =
         let k = first_length size most (map (row_elements 0) (row ∷ rows)) in
-        let len = lengths_same (row_elements 0) (row ∷ rows) in
+        let len = map_length (row_elements 0) (row ∷ rows) in
         let within = r.within in
         let small = r.small in
         let all_or : (k < length (map (row_elements 0) (row ∷ rows)) → k ≡ size) = λ q. whole k (r.full q) in

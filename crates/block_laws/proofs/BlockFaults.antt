@@ -1,7 +1,8 @@
 -- The first fault of the passes of a loop, block after block.
 use Rattle.std.proofs.Common.{◌≡◌, ℕ, zero, suc, ◌+◌, ◌-◌, ◌≤◌, List, [], ◌∷◌, ◌++◌, length, length-drop, map, take, drop, Option, Some, refl, sym, ◌∙◌, ap, arith}
-use Rattle.std.specs.Prelude.{slice_get, slice_range, flat_map}
+use Rattle.std.specs.Prelude.{slice_get, slice_range}
 use Rattle.std.specs.List.{enumerate_from}
+use Rattle.lemmas.proofs.Parts.{drop_plus, range_length, take_plus}
 use Rattle.rdf_values.specs.Bookings.{Pass}
 use Rattle.rdf_values.specs.declared.fault.EntryFault.{EntryFault}
 use Rattle.rdf_values.specs.Cuts.{Lead}
@@ -43,35 +44,7 @@ module _ (d : Dataset) where
       sym (rows_are (xs ++ ys) e ps) ∙ row_major-append (fault_at d) xs ys e (enumerate_from 0 ps)
       ∙ (λ i. first_of (rows_are xs e ps i) (rows_are ys (e + length xs) ps i))
 
-  pub blocks_have : (blocks : List (List (List Value))) (e : ℕ) (ps : List Pass) → block_major (fault_at d) e blocks ps ≡ first_fault_from d e (flat_map (λ b. b) blocks) ps
-  blocks_have [] e ps = refl
-  blocks_have (b ∷ bs) e ps =
-      (λ i. first_of (is_first_fault e b ps i) (blocks_have bs (e + length b) ps i)) ∙ sym (first_fault-append b (flat_map (λ x. x) bs) e ps)
-
 -- ---- rows in two parts
-
-pub drop_none : {A : Type 0} (k : ℕ) → drop {A = A} k [] ≡ []
-drop_none zero = refl
-drop_none (suc k) = refl
-
-pub take_none : {A : Type 0} (k : ℕ) → take {A = A} k [] ≡ []
-take_none zero = refl
-take_none (suc k) = refl
-
-pub drop_plus : {A : Type 0} (m n : ℕ) (xs : List A) → drop n (drop m xs) ≡ drop (m + n) xs
-drop_plus zero n xs = let e : n ≡ 0 + n = omega arith in ap (λ k. drop k xs) e
-drop_plus (suc m) n [] = drop_none n ∙ sym (drop_none (suc m + n))
-drop_plus (suc m) n (x ∷ xs) = let e : suc (m + n) ≡ suc m + n = omega arith in drop_plus m n xs ∙ ap (λ k. drop k (x ∷ xs)) e
-
-pub take_plus : {A : Type 0} (m n : ℕ) (xs : List A) → take (m + n) xs ≡ take m xs ++ take n (drop m xs)
-take_plus zero n xs = let e : 0 + n ≡ n = omega arith in ap (λ k. take k xs) e
-take_plus (suc m) n [] = take_none (suc m + n) ∙ sym (take_none n)
-take_plus (suc m) n (x ∷ xs) = let e : suc m + n ≡ suc (m + n) = omega arith in ap (λ k. take k (x ∷ xs)) e ∙ ap (λ l. x ∷ l) (take_plus m n xs)
-
-take_full : {A : Type 0} (n : ℕ) (xs : List A) → n ≤ length xs → length (take n xs) ≡ n
-take_full zero xs h = refl
-take_full (suc n) [] h = absurd (omega (arith, h))
-take_full (suc n) (x ∷ xs) h = ap (λ k. suc k) (take_full n xs (omega (arith, h)))
 
 pub range_split : {A : Type 0} (xs : List A) (lo mid hi : ℕ) → lo ≤ mid → mid ≤ hi → slice_range xs lo hi ≡ slice_range xs lo mid ++ slice_range xs mid hi
 range_split xs lo mid hi h k =
@@ -79,9 +52,6 @@ range_split xs lo mid hi h k =
     let all : hi - lo ≡ (mid - lo) + (hi - mid) = omega (arith, h, k) in
     ap (λ n. take n (drop lo xs)) all ∙ take_plus (mid - lo) (hi - mid) (drop lo xs)
     ∙ ap (λ l. take (mid - lo) (drop lo xs) ++ take (hi - mid) l) (drop_plus lo (mid - lo) xs ∙ ap (λ n. drop n xs) at)
-
-pub range_length : {A : Type 0} (xs : List A) (lo hi : ℕ) → lo ≤ hi → hi ≤ length xs → length (slice_range xs lo hi) ≡ hi - lo
-range_length xs lo hi h k = take_full (hi - lo) (drop lo xs) (let l = length-drop lo xs in omega (arith, l, h, k))
 
 pub block_then_rest : (d : Dataset) (rows : List (List Value)) (ps : List Pass) (lo mid hi : ℕ)
     → lo ≤ mid → mid ≤ hi → hi ≤ length rows

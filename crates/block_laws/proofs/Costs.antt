@@ -5,6 +5,8 @@ use Rattle.std.specs.List.{sum_by}
 use Rattle.std.proofs.Math.Seq.{drop-append_seam}
 use Rattle.std.proofs.lemmas.List.{drop-map}
 use Rattle.std.proofs.lemmas.List.Sums.{sum_by-cons}
+use Rattle.lemmas.proofs.Appended.{map_length}
+use Rattle.lemmas.proofs.Parts.{range_length}
 use Rattle.rdf_values.specs.Bookings.{Pass}
 use Rattle.rdf_values.specs.declared.fault.EntryFault.{EntryFault}
 use Rattle.rdf_values.specs.declared.fault.Fault.{Fault}
@@ -13,8 +15,8 @@ use Rattle.rdf_values.specs.declared.value.Value.{Value}
 use Rattle.rdf_model.specs.Results.{Dataset, fault_at, fault_or, first_of, first_fault_in, first_fault_from}
 use Rattle.block_laws.specs.Blocks.{blocks_of, cluster_blocks, first_length, row_elements}
 use Rattle.block_laws.specs.Counts.{blocks_demand, cluster_demands, rows_demand, up_to_fault}
-use Rattle.block_laws.proofs.BlockCuts.{blocks_go_on, lengths_same}
-use Rattle.block_laws.proofs.BlockFaults.{range_length, range_split}
+use Rattle.block_laws.proofs.BlockCuts.{blocks_go_on}
+use Rattle.block_laws.proofs.BlockFaults.{range_split}
 
 module _ (d : Dataset) (ps : List Pass) where
   row_fault_anywhere : (qs : List Pass) (e k n : ℕ) (row : List Value) → is_some (first_fault_in d e n row qs) ≡ is_some (first_fault_in d k n row qs)
@@ -82,7 +84,7 @@ module _ (d : Dataset) (ps : List Pass) where
   cluster_goes_on size keys lo mid hi h l e k =
       let costs = map (row_elements keys) (slice_range d.rows lo hi) in
       let n = first_length size 4194304 costs in
-      let len = lengths_same (row_elements keys) (slice_range d.rows lo hi) in
+      let len = map_length (row_elements keys) (slice_range d.rows lo hi) in
       let all = range_length d.rows lo hi (omega (arith, h)) l in
       let less : mid - lo ≡ n = omega (arith, e) in
       let whole = blocks_go_on size 4194304 lo costs (omega (arith, len, all, h)) in

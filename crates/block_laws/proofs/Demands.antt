@@ -4,6 +4,7 @@ use Rattle.std.specs.Prelude.{flat_map, All, Contains}
 use Rattle.std.specs.List.{list_any}
 use Rattle.std.proofs.lemmas.Bool.Decides.{Decides-eqb}
 use Rattle.std.proofs.lemmas.List.Elements.{All-from_recursion}
+use Rattle.lemmas.proofs.Booleans.{both_true}
 use Rattle.rdf_values.specs.Bookings.{Pass}
 use Rattle.rdf_values.specs.Names.{same}
 use Rattle.rdf_values.specs.Path.{Under, Variation, same_variation}
@@ -14,10 +15,6 @@ use Rattle.rdf_model.proofs.Accepted.{names_equal}
 use Rattle.block_laws.proofs.Members.{In, any_in, in_flat, contained, each_in}
 
 -- ---- equal demands
-
-both_true : (a b : Bool) → (a && b) ≡ true → (a ≡ true) × (b ≡ true)
-both_true true b h = (refl, h)
-both_true false b h = cc h
 
 site_is : (s t : Site) → same_site s t ≡ true → s ≡ t
 site_is s t h =

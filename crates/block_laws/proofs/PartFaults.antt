@@ -1,5 +1,6 @@
 -- Trying passes in parts finds what trying them whole finds.
 use Rattle.std.proofs.Common.{◌≡◌, ℕ, Bool, true, false, List, [], ◌∷◌, ◌++◌, map, take, arith, Option, Some, None, refl, sym, ◌∙◌, ap, if◌then◌else◌}
+use Rattle.lemmas.proofs.Parts.{take_at_most}
 use Rattle.rdf_values.specs.Bookings.{Booking, ActionAt, ReportOn, Pass, columns_of}
 use Rattle.rdf_values.specs.Path.{Path, Under}
 use Rattle.rdf_values.specs.Spread.{feed_fault}
@@ -12,7 +13,7 @@ use Rattle.rdf_model.specs.EntryOutcomes.{Entry, Skip, through, unless_fault, fe
 use Rattle.rdf_model.specs.Results.{Dataset, fault_in, fault_at}
 use Rattle.block_laws.specs.PassMajor.{RowFault, Search, one_further, in_front_or, lowered, first_row, after_trial, trial_major}
 use Rattle.block_laws.specs.PassParts.{kind_or, first_kind, Filters, Input, Feeding, booking_parts, pass_parts, given_fault, part_fault}
-use Rattle.block_laws.proofs.Searches.{rows_left, first_within, take-take_low, length-take_low}
+use Rattle.block_laws.proofs.Searches.{rows_left, first_within, take-take_low}
 
 -- ---- the parts of one pass
 
@@ -70,7 +71,7 @@ module _ {R S : Type 0} (part : R → S → Option EntryFault) where
       go None h next = next s ∙ only (first_row (first_kind part) (take s.limit rows) ss) ∙ ap (λ o. lowered e n s (or_else (first_row (first_kind part) (rows_left (take s.limit rows) o) ss) o)) (sym h)
       go (Some f) h next =
           let low = first_within part (take s.limit rows) x f h in
-          let few = length-take_low s.limit rows in
+          let few = take_at_most s.limit rows in
           let cut = take-take_low f.place s.limit rows (omega (arith, low, few)) in
           next (lowered e n s (Some f))
           ∙ ap (λ l. lowered e n (lowered e n s (Some f)) (first_row (first_kind part) l ss)) (sym cut)

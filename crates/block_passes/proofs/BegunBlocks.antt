@@ -1,5 +1,5 @@
 -- A block that begins with what a slot reserves.
-use Rattle.std.proofs.Common.{◌≡◌, ℕ, zero, suc, ◌+◌, ◌<◌, ◌≤◌, ℤ, true, false, List, [], ◌∷◌, length, All, get_or, Option, Some, None, refl, sym, ◌∙◌, ap, subst, arith, slice_get, if◌then◌else◌}
+use Rattle.std.proofs.Common.{◌≡◌, ℕ, zero, suc, ◌+◌, ◌<◌, ◌≤◌, ℤ, true, false, List, [], ◌∷◌, length, All, get_or, Option, Some, None, refl, sym, ◌∙◌, ap, subst, arith, slice_get}
 use Rattle.std.proofs.lemmas.List.{length-map}
 use Rattle.std.proofs.lemmas.List.Elements.{All-weaker}
 use Rattle.std.proofs.lemmas.Option.{get_or_from_slice_get, slice_get_within}
@@ -63,9 +63,6 @@ all_rooms size before after same rooms k d low =
     room_at [] k d low = absurd (omega (arith, low))
     room_at (l ∷ ls) zero d low = refl
     room_at (l ∷ ls) (suc k) d low = room_at ls k d (omega (arith, low))
-
-pub enough_room : (size count : ℕ) (ls : List LaneView) → count ≤ size → HaveRoom size ls → All (λ l. count ≤ room_of l) ls
-enough_room size count ls le rooms k d low = let r = rooms k d low in omega (arith, r, le)
 
 pub same_many : (before after : List LaneView) → kinds_of after ≡ kinds_of before → length after ≡ length before
 same_many before after same = sym (length-map after (λ (l : LaneView). l.kind)) ∙ ap length same ∙ length-map before (λ (l : LaneView). l.kind)

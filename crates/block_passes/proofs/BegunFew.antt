@@ -5,6 +5,7 @@ use Rattle.std.specs.List.{AllByRecursion, slice_index_or}
 use Rattle.std.proofs.lemmas.List.Elements.{All-from_recursion, recursion_from_All}
 use Rattle.std.proofs.lemmas.List.Sums.{sum_by-cons}
 use Rattle.std.proofs.lemmas.Option.{slice_get_within}
+use Rattle.lemmas.proofs.Parts.{range_length}
 use Rattle.rdf_values.specs.declared.value.Value.{Value}
 use Rattle.expr_lanes.specs.Places.{is_marked}
 use Rattle.block_lanes.specs.Lanes.{AreUnknown, IsUnknown, LaneView, tried_count}
@@ -12,9 +13,8 @@ use Rattle.block_laws.specs.Counts.{marked_at, marked_in, row_demands}
 use Rattle.block_laws.proofs.Lanes.{marked_within}
 use Rattle.loop_keys.specs.Jobs.{JobView, passes_in}
 use Rattle.loop_keys.specs.Store.{keys_in, row_of}
-use Rattle.pass_laws.specs.Entries.{entry_demands}
-use Rattle.pass_laws.proofs.DemandCounts.{few_keys, has_all, keys_of_all}
-use Rattle.loop_pieces.proofs.Places.{range_length}
+use Rattle.loop_keys.specs.Entries.{entry_demands}
+use Rattle.loop_keys.proofs.DemandCounts.{few_keys, has_all, keys_of_all}
 use Rattle.block_cache.specs.Fills.{begun_at, begun_count}
 use Rattle.block_passes.specs.Blocks.{block_demands, entries_from}
 use Rattle.block_passes.specs.Spends.{Spends}

@@ -1,6 +1,7 @@
 -- A block that was searched without a fault is clear, and is taken in.
 use Rattle.std.proofs.Common.{◌≡◌, ℕ, ◌+◌, ◌-◌, ◌*◌, ◌≤◌, List, length, None, Some, Ok, Err, refl, ◌∙◌, ap, subst, arith, slice_get}
 use Rattle.std.proofs.lemmas.Option.{slice_get_within}
+use Rattle.lemmas.proofs.Places.{something_at}
 use Rattle.rdf_model.specs.LoopFacts.{kinds_in}
 use Rattle.rdf_model.specs.Results.{first_fault_from}
 use Rattle.graph_numbers.specs.Graphs.{graph_filters}
@@ -10,9 +11,8 @@ use Rattle.cluster_tally.specs.Stages.{Stage}
 use Rattle.cluster_tally.specs.Tallies.{Holds, TallyView}
 use Rattle.cluster_tally.proofs.BlockFeeds.{begins_block, ends_block}
 use Rattle.loop_keys.specs.Jobs.{JobView, job_graph, passes_in}
-use Rattle.loop_keys.proofs.FillLaws.{there}
 use Rattle.loop_keys.proofs.PassTies.{pass_of}
-use Rattle.pass_laws.specs.Entries.{facts_in, job_spans}
+use Rattle.loop_keys.specs.Entries.{facts_in, job_spans}
 use Rattle.block_passes.specs.Blocks.{IsBefore, IsBlockAnswer, IsBlockTried, after_block, block_demands, block_rows, entries_from}
 use Rattle.block_passes.specs.Clear.{IsClear}
 use Rattle.block_passes.specs.Counting.{IsAmid, IsOverAll, at_filter, at_pass}
@@ -40,7 +40,7 @@ module _ (j : JobView) (first count : ℕ) (plan : PlanView) (p : IsPlan j plan)
       let w = is m at in
       let low = slice_get_within kept k m at in
       let many = ready.kept_are.many in
-      let c = there p.chains k (omega (arith, low, many)) in
+      let c = something_at p.chains k (omega (arith, low, many)) in
       let under = (ready.kept_are.each k w.0 c.0 m c.1 at w.1).under in
       let le = w.2 in
       let same : w.0 ≡ count = omega (arith, under, le) in w.1 ∙ ap Some same

@@ -2,6 +2,8 @@
 use Rattle.std.proofs.Common.{◌≡◌, ℕ, ◌+◌, ◌-◌, ◌*◌, ◌<◌, ◌≤◌, List, length, map, Option, None, Some, refl, sym, ap, ◌∙◌, subst, arith, slice_get}
 use Rattle.std.specs.Prelude.{Err, slice_range}
 use Rattle.std.proofs.lemmas.List.{length-map}
+use Rattle.lemmas.proofs.Appended.{map_length}
+use Rattle.lemmas.proofs.Parts.{range_length}
 use Rattle.rdf_values.proofs.Leading.{cuts_lead}
 use Rattle.rdf_values.specs.declared.fault.Fault.{Fault}
 use Rattle.rdf_values.specs.declared.span.Span.{Span}
@@ -10,14 +12,14 @@ use Rattle.rdf_model.specs.PartialResults.{span_rows}
 use Rattle.rdf_model.specs.Results.{first_fault_from, first_of}
 use Rattle.columns.proofs.Joining.{span_within}
 use Rattle.loop_keys.specs.Jobs.{IsJob, JobView, passes_in}
-use Rattle.pass_laws.specs.Entries.{facts_in, job_spans}
+use Rattle.loop_keys.specs.Entries.{facts_in, job_spans}
 use Rattle.cluster_tally.specs.Stages.{at_begin}
 use Rattle.cluster_tally.specs.Tallies.{Holds, TallyView}
 use Rattle.loop_pieces.specs.Whole.{begin_of, cluster_fault}
-use Rattle.loop_pieces.proofs.Places.{range_length, range_none}
+use Rattle.loop_pieces.proofs.Places.{range_none}
 use Rattle.block_laws.specs.Blocks.{IsFirst, first_length, row_elements}
 use Rattle.block_laws.specs.Counts.{cluster_demands}
-use Rattle.block_laws.proofs.BlockCuts.{first_is, lengths_same}
+use Rattle.block_laws.proofs.BlockCuts.{first_is}
 use Rattle.block_laws.proofs.BlockFaults.{block_then_rest, is_first_fault}
 use Rattle.block_laws.proofs.Costs.{count_goes_on}
 use Rattle.block_passes.specs.Blocks.{IsBefore, IsBlockAnswer, IsBlockOf, after_block, block_demands, block_rows}
@@ -61,7 +63,7 @@ module _ (j : JobView) (job : IsJob j) (cluster size keys : ℕ) (some : 1 ≤ s
     b = record { lo = lo; hi = hi }
 
     rows_left : length (map (row_elements keys) (slice_range j.dataset.rows lo span.hi)) ≡ span.hi - lo
-    rows_left = lengths_same (row_elements keys) (slice_range j.dataset.rows lo span.hi) ∙ range_length j.dataset.rows lo span.hi (omega (arith, lt)) ends_within
+    rows_left = map_length (row_elements keys) (slice_range j.dataset.rows lo span.hi) ∙ range_length j.dataset.rows lo span.hi (omega (arith, lt)) ends_within
 
     first_block : IsFirst size 4194304 (map (row_elements keys) (slice_range j.dataset.rows lo span.hi)) (first_length size 4194304 (map (row_elements keys) (slice_range j.dataset.rows lo span.hi)))
     first_block = first_is size 4194304 (map (row_elements keys) (slice_range j.dataset.rows lo span.hi)) some (let l = rows_left in omega (arith, l, lt))

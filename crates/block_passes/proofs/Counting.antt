@@ -3,6 +3,8 @@ use Rattle.std.proofs.Common.{◌≡◌, ◌<◌, ◌+◌, ◌⊎◌, inl, inr, 
 use Rattle.std.specs.List.{filter, range_with_len}
 use Rattle.std.proofs.lemmas.List.{length-map}
 use Rattle.std.proofs.lemmas.Option.{slice_get-get_or, slice_get_within}
+use Rattle.lemmas.proofs.Parts.{range_length}
+use Rattle.lemmas.proofs.Places.{something_at}
 use Rattle.rdf_model.specs.Results.{fault_in, is_true}
 use Rattle.rdf_values.specs.Bookings.{named_before}
 use Rattle.rdf_values.specs.Path.{history}
@@ -10,25 +12,23 @@ use Rattle.rdf_values.specs.declared.span.Span.{Span}
 use Rattle.rdf_model.specs.LoopFacts.{is_covered, spreads_of}
 use Rattle.rdf_model.specs.PartialResults.{span_rows}
 use Rattle.graph_numbers.specs.Graphs.{graph_filters}
-use Rattle.loop_pieces.proofs.Places.{range_length}
 use Rattle.graph_numbers.specs.Outcomes.{through_sites}
 use Rattle.graph_numbers.specs.Results.{FilterAt}
-use Rattle.filters_report.specs.declared.flow.Counts.{Counts}
+use Rattle.loop_pieces.specs.declared.flow.Counts.{Counts}
 use Rattle.cluster_tally.specs.Blocks.{BlockStage, CanNoteCounts, HoldsIn, IsWithin, block_reaches}
 use Rattle.cluster_tally.specs.Stages.{counted}
 use Rattle.cluster_tally.specs.Tallies.{TallyView}
 use Rattle.loop_keys.specs.Jobs.{IsJob, JobView, job_graph, passes_in}
 use Rattle.loop_keys.specs.Store.{site_in}
-use Rattle.loop_keys.proofs.FillLaws.{there}
-use Rattle.pass_laws.specs.Entries.{facts_in}
-use Rattle.pass_laws.specs.Plans.{covered_in}
+use Rattle.loop_keys.specs.Entries.{facts_in}
+use Rattle.loop_keys.specs.Plans.{covered_in}
 use Rattle.block_passes.specs.Counting.{AreCountable, IsAmid, at_filter}
 use Rattle.block_passes.specs.Plans.{IsLast, IsNamed, IsPlan, IsPlannedFilter, PlanView, through_chain}
 use Rattle.block_passes.specs.Selections.{AreKept, IsMade}
 use Rattle.block_passes.specs.Steps.{Chain}
 use Rattle.block_passes.specs.declared.kept.Kept.{Kept}
 use Rattle.block_passes.specs.declared.plan.NamedSteps.{NamedSteps}
-use Rattle.pass_laws.proofs.Covered.{covered_count}
+use Rattle.loop_keys.proofs.Covered.{covered_count}
 use Rattle.block_passes.proofs.Feeding.{counts, uncovered_counts}
 
 module _ (j : JobView) (first count : ℕ) (s : BlockStage) (amid : IsAmid j first count s) where
@@ -72,7 +72,7 @@ module _ (j : JobView) (first count : ℕ) (s : BlockStage) (amid : IsAmid j fir
 
 module _ (j : JobView) (plan : PlanView) (p : IsPlan j plan) (f : ℕ) (inside : f < length (graph_filters (job_graph j))) where
   abbrev pub named_at : (x : FilterAt) × (slice_get (graph_filters (job_graph j)) f ≡ Some x)
-  named_at = there (graph_filters (job_graph j)) f inside
+  named_at = something_at (graph_filters (job_graph j)) f inside
 
   pub planned_there : f < length plan.filters
   planned_there = let h = p.filters f named_at.0 named_at.1 in slice_get_within plan.filters f h.0 h.1

@@ -24,8 +24,8 @@ use Rattle.loop_keys.specs.Store.{HasPassed, HasTried, row_of, site_in}
 use Rattle.loop_keys.proofs.DemandSets.{demanded_in, demands_closed, demands_keys, in_demands}
 use Rattle.loop_keys.proofs.EvaluateLaws.{accepted_of}
 use Rattle.loop_keys.proofs.PassTies.{pass_of}
-use Rattle.pass_laws.specs.Turns.{HasAllDemands}
-use Rattle.pass_laws.proofs.ReportTies.{has_filter}
+use Rattle.loop_keys.specs.Turns.{HasAllDemands}
+use Rattle.loop_keys.proofs.ReportTies.{has_filter}
 use Rattle.block_passes.specs.Demands.{Demands, IsDemandedAt}
 use Rattle.block_passes.specs.Plans.{IsActionOf, IsTried}
 use Rattle.block_passes.specs.Steps.{Chain}

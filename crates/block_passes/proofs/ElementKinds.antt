@@ -1,5 +1,6 @@
 -- The site of an element is one of vectors.
 use Rattle.std.proofs.Common.{◌≡◌, ◌⊎◌, inl, inr, ℕ, zero, suc, ◌+◌, List, [], ◌∷◌, length, Option, Some, None, refl, sym, ◌∙◌, ap, subst, arith, nat_eq, option_map, slice_get}
+use Rattle.lemmas.proofs.Places.{kept_at}
 use Rattle.rdf_values.specs.Kinds.{FunctionNames, kind_of, scope_of}
 use Rattle.rdf_values.specs.Functions.{fn_names}
 use Rattle.rdf_values.specs.Path.{history}
@@ -25,7 +26,7 @@ use Rattle.graph_numbers.specs.Versions.{named_version}
 use Rattle.graph_numbers.specs.declared.source.Source.{Source}
 use Rattle.graph_numbers.specs.declared.source.Source.TheVariants as from
 use Rattle.graph_numbers.proofs.Extending.{further, itself}
-use Rattle.graph_numbers.proofs.Listed.{kept_at, next_at, of_joined}
+use Rattle.graph_numbers.proofs.Listed.{next_at, of_joined}
 use Rattle.graph_numbers.proofs.Placing.{IsPlaced}
 use Rattle.loop_keys.specs.Jobs.{IsJob, JobView, job_graph}
 use Rattle.loop_keys.specs.Store.{source_at}

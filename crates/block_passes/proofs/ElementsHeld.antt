@@ -1,11 +1,13 @@
 -- Elements of a site's vector, where the site's value is held.
-use Rattle.std.proofs.Common.{◌≡◌, ◌⊎◌, inl, inr, ℤ, get_or, option_map, Result, ℕ, ◌+◌, ◌<◌, ◌≤◌, Bool, true, false, ◌&&◌, List, [], Option, None, Some, refl, sym, ◌∙◌, ap, subst, arith, slice_get, nat_lt, length, pos, if◌then◌else◌}
+use Rattle.std.proofs.Common.{◌≡◌, ◌⊎◌, inl, inr, ℤ, get_or, option_map, Result, ℕ, ◌+◌, ◌<◌, ◌≤◌, Bool, true, false, ◌&&◌, List, [], Option, None, Some, refl, sym, ◌∙◌, ap, subst, arith, slice_get, nat_lt, length, pos}
 use Rattle.std.specs.Prelude.{nat_abs, slice_index_or}
 use Rattle.std.specs.List.{filter}
 use Rattle.std.proofs.lemmas.Option.{slice_get-get_or}
 use Rattle.rdf_values.specs.Tables.{kind_at}
 use Rattle.rdf_values.specs.declared.column.Column.{Column}
 use Rattle.std.proofs.lemmas.Bool.Decides.{Decides-ltb}
+use Rattle.lemmas.proofs.Booleans.{and_true, both_true}
+use Rattle.lemmas.proofs.Places.{something_at}
 use Rattle.rdf_values.specs.declared.fault.EntryFault.{EntryFault}
 use Rattle.rdf_values.specs.declared.value.ColType.{ColType}
 use Rattle.rdf_values.specs.declared.value.ColType.TheVariants as kind
@@ -23,7 +25,6 @@ use Rattle.graph_numbers.specs.Graphs.{graph_sites}
 use Rattle.graph_numbers.specs.declared.source.Source.TheVariants as from
 use Rattle.expr_lanes.specs.Places.{EachPlace, at_place, is_in}
 use Rattle.block_lanes.specs.Values.{value_for}
-use Rattle.loop_keys.proofs.FillLaws.{there}
 use Rattle.loop_keys.proofs.RowLaws.{key_small}
 use Rattle.block_lanes.specs.Lanes.{LaneView, is_held, kinds_of, value_of}
 use Rattle.loop_keys.specs.Jobs.{JobView, job_graph}
@@ -164,15 +165,12 @@ number_of o tags n zs r e h = subst (λ (x : Outcome ⊥ Value). IsNumberOf (x >
 pub no_number : (o : Outcome ⊥ Value) (k : EntryFault) → (v : Value) × (o ≡ Gives v) → o ≡ Faults k → ⊥
 no_number o k v e = let f : ◌≡◌ {A = Outcome ⊥ Value} (Gives v.0) (Faults k) = sym v.1 ∙ e in cc f
 
-pub fault_of_number : (o : Outcome ⊥ Value) (z : ℤ) → o ≡ Gives (val.Int z) → fault_in o ≡ None
-fault_of_number o z e = ap fault_in e
-
 pub fault_is : (o : Outcome ⊥ Value) (k : EntryFault) → o ≡ Faults k → fault_in o ≡ Some k
 fault_is o k e = ap fault_in e
 
 -- a site has a lane
 pub lane_there : (j : JobView) (first count : ℕ) (u : Option ℕ) (s : ℕ) → s < length (graph_sites (job_graph j)) → (lanes : List LaneView) → AreReady j first count lanes → (l : LaneView) × (slice_get lanes (key (job_graph j) s u) ≡ Some l)
-lane_there j first count u s inside lanes ready = there lanes (key (job_graph j) s u) (let small = key_small (job_graph j) s u inside in let many = ready.many in omega (arith, small, many))
+lane_there j first count u s inside lanes ready = something_at lanes (key (job_graph j) s u) (let small = key_small (job_graph j) s u inside in let many = ready.many in omega (arith, small, many))
 
 -- the kind of a column
 pub kind_got : (cs now : List Column) → now ≡ cs → (i : ℕ) → i < length cs → (d : Column) (t : ColType) → (get_or now i d).kind ≡ t → kind_at cs i ≡ Some t
@@ -183,14 +181,6 @@ element_or : (o : Outcome ⊥ Value) (tags n : ℕ) → or_else (fault_in o) (fa
 element_or (Gives v) tags n = refl
 element_or (Faults k) tags n = refl
 element_or (Needs m) tags n = elim m [ ]
-
-and_true : (b : Bool) → (b && true) ≡ b
-and_true true = refl
-and_true false = refl
-
-both_true : (a b : Bool) → (a && b) ≡ true → (a ≡ true) × (b ≡ true)
-both_true true b h = (refl, h)
-both_true false b h = cc h
 
 -- ---- the site is filled, and then its elements are tested
 

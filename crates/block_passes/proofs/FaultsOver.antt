@@ -2,6 +2,7 @@
 use Rattle.std.proofs.Common.{◌≡◌, ◌⊎◌, inl, inr, ℕ, ◌<◌, Bool, true, false, ◌&&◌, ◌||◌, cond, List, [], ◌∷◌, Option, None, Some, refl, sym, ◌∙◌, ap, subst, arith, nat_eq, nat_lt, if◌then◌else◌}
 use Rattle.std.specs.List.{filter, range_with_len}
 use Rattle.std.proofs.lemmas.Bool.Decides.{Decides-eqb, Decides-ltb}
+use Rattle.lemmas.proofs.Orders.{eq_says}
 use Rattle.rdf_values.specs.declared.fault.EntryFault.{EntryFault}
 use Rattle.expr_lanes.specs.Places.{AreRising, EachPlace, is_in}
 use Rattle.expr_lanes.proofs.Dense.{below_range, first_in_range}
@@ -13,18 +14,15 @@ use Rattle.block_passes.proofs.Searching.{fault_lowers, none_lowers}
 
 -- ---- places of selections
 
-same_place : (p q : ℕ) → nat_eq p q ≡ true → p ≡ q
-same_place p q h = (Decides-eqb p q).0 h
-
 pub in_filtered : (f : ℕ → Bool) (p : ℕ) (sel : List ℕ) → is_in p (filter f sel) ≡ (is_in p sel && f p)
 in_filtered f p [] = refl
 in_filtered f p (q ∷ sel) = go (f q) refl (nat_eq p q) refl (in_filtered f p sel)
   where
     go : (b : Bool) → f q ≡ b → (e : Bool) → nat_eq p q ≡ e → is_in p (filter f sel) ≡ (is_in p sel && f p) → is_in p (cond b (q ∷ filter f sel) (filter f sel)) ≡ ((e || is_in p sel) && f p)
-    go true h true i next = ap (λ x. x || is_in p (filter f sel)) i ∙ sym (ap f (same_place p q i) ∙ h)
+    go true h true i next = ap (λ x. x || is_in p (filter f sel)) i ∙ sym (ap f (eq_says p q i) ∙ h)
     go true h false i next = ap (λ x. x || is_in p (filter f sel)) i ∙ next
     go false h false i next = next
-    go false h true i next = next ∙ ap (λ x. is_in p sel && x) (ap f (same_place p q i) ∙ h) ∙ none (is_in p sel) ∙ sym (ap f (same_place p q i) ∙ h)
+    go false h true i next = next ∙ ap (λ x. is_in p sel && x) (ap f (eq_says p q i) ∙ h) ∙ none (is_in p sel) ∙ sym (ap f (eq_says p q i) ∙ h)
       where
         none : (x : Bool) → (x && false) ≡ false
         none true = refl
@@ -67,7 +65,7 @@ module _ (f : ℕ → Option EntryFault) where
   first_or_rest p q sel h = go (nat_eq q p) refl h
     where
       go : (b : Bool) → nat_eq q p ≡ b → (b || is_in q sel) ≡ true → (q ≡ p) ⊎ (is_in q sel ≡ true)
-      go true e k = inl (same_place q p e)
+      go true e k = inl (eq_says q p e)
       go false e k = inr k
 
   pub over : (sel : List ℕ) → AreRising sel → IsOver sel (fault_over f sel)

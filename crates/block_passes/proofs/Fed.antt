@@ -19,8 +19,8 @@ use Rattle.cluster_tally.specs.Blocks.{BlockStage, CanFeedBatch, HoldsIn, block_
 use Rattle.cluster_tally.specs.Tallies.{TallyView}
 use Rattle.loop_keys.specs.Jobs.{IsJob, JobView}
 use Rattle.loop_keys.specs.Store.{site_in, version_in}
-use Rattle.pass_laws.specs.Entries.{facts_in}
-use Rattle.pass_laws.specs.Turns.{actions_before}
+use Rattle.loop_keys.specs.Entries.{facts_in}
+use Rattle.loop_keys.specs.Turns.{actions_before}
 use Rattle.block_cache.proofs.Members.{filter_short}
 use Rattle.block_passes.specs.Counting.{IsAmid}
 use Rattle.block_passes.specs.Fed.{CanFeedAny, IsFeedable}

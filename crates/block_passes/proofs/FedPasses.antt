@@ -15,10 +15,10 @@ use Rattle.loop_keys.specs.Caches.{IsActionBooking, IsActionPass}
 use Rattle.loop_keys.specs.Jobs.{IsJob, JobView, passes_in}
 use Rattle.loop_keys.proofs.PassNumbers.{some_same}
 use Rattle.loop_keys.proofs.PassTies.{pass_of}
-use Rattle.pass_laws.specs.Entries.{IsNoTake, facts_in}
-use Rattle.pass_laws.specs.Turns.{actions_before}
-use Rattle.pass_laws.proofs.EntryLaws.{all_actions}
-use Rattle.pass_laws.proofs.Taken.{at_place}
+use Rattle.loop_keys.specs.Entries.{IsNoTake, facts_in}
+use Rattle.loop_keys.specs.Turns.{actions_before}
+use Rattle.loop_keys.proofs.EntryLaws.{all_actions}
+use Rattle.loop_keys.proofs.Taken.{at_place}
 use Rattle.block_passes.specs.Clear.{IsClear}
 use Rattle.block_passes.specs.Counting.{IsAmid, at_pass}
 use Rattle.block_passes.specs.Fed.{IsFeedable}

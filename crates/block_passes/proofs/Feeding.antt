@@ -4,6 +4,8 @@ use Rattle.std.specs.Prelude.{count_by, flat_map, slice_range}
 use Rattle.std.specs.List.{filter, range_with_len}
 use Rattle.std.proofs.lemmas.List.{length-map}
 use Rattle.std.proofs.lemmas.List.Sums.{sum_by-cons}
+use Rattle.lemmas.proofs.Parts.{range_length}
+use Rattle.lemmas.proofs.Places.{mapped_at}
 use Rattle.rdf_values.specs.Bookings.{Booking, Pass, named_before}
 use Rattle.rdf_values.specs.Path.{history}
 use Rattle.rdf_values.specs.Spread.{feed_fault, spread}
@@ -23,19 +25,18 @@ use Rattle.graph_numbers.specs.Graphs.{graph_filters, graph_under}
 use Rattle.graph_numbers.specs.Outcomes.{action_numbers, booking_numbers, through_sites}
 use Rattle.graph_numbers.specs.Results.{FilterAt, ResultAt}
 use Rattle.graph_numbers.specs.declared.pass.Pass.{Pass as NumberedPass}
-use Rattle.loop_pieces.proofs.Places.{range_length}
 use Rattle.cluster_tally.specs.Blocks.{BlockStage, block_items, block_reaches}
 use Rattle.cluster_tally.specs.Stages.{counted}
 use Rattle.loop_keys.specs.Jobs.{IsJob, JobView, job_graph, outcome_of, pass_outcome, passes_in}
 use Rattle.loop_keys.specs.Store.{row_of, site_in, version_in}
 use Rattle.loop_keys.proofs.NamedLaws.{stopped_answer, tried_answer}
-use Rattle.loop_keys.proofs.PassTies.{get_mapped, pass_answer, pass_of}
+use Rattle.loop_keys.proofs.PassTies.{pass_answer, pass_of}
 use Rattle.loop_keys.proofs.TableLaws.{row_there}
-use Rattle.pass_laws.specs.Entries.{facts_in, job_spans}
-use Rattle.pass_laws.specs.Turns.{actions_before}
-use Rattle.pass_laws.proofs.Covered.{cover_at}
-use Rattle.pass_laws.proofs.Taken.{at_place, covered_reach, uncovered_reach}
-use Rattle.pass_laws.specs.Plans.{covered_in}
+use Rattle.loop_keys.specs.Entries.{facts_in, job_spans}
+use Rattle.loop_keys.specs.Turns.{actions_before}
+use Rattle.loop_keys.proofs.Covered.{cover_at}
+use Rattle.loop_keys.proofs.Taken.{at_place, covered_reach, uncovered_reach}
+use Rattle.loop_keys.specs.Plans.{covered_in}
 use Rattle.block_passes.specs.Laws as law
 use Rattle.block_passes.specs.Plans.{IsActionOf}
 use Rattle.block_passes.proofs.FirstFaults.{get_dropped, row_in_block}
@@ -99,7 +100,7 @@ module _ (j : JobView) (s : BlockStage) (span : Span) (its : slice_get (job_span
       same_step x (f (row_of j (entry_at q)))
       (sym h ∙ ap (λ l. slice_get l q) (left_is f) ∙ get_dropped s.entries (slice_range (map f j.dataset.rows) span.lo span.hi) q
       ∙ row_in_block (map f j.dataset.rows) span.lo span.hi (s.entries + q) (omega (arith, lt, within)) ∙ ap (slice_get (map f j.dataset.rows)) e
-      ∙ get_mapped f j.dataset.rows (entry_at q) (row_of j (entry_at q)) (row_here q lt))
+      ∙ mapped_at f j.dataset.rows (entry_at q) (row_of j (entry_at q)) (row_here q lt))
 
   left_long : {A : Type 0} (f : List Value → A) → s.block ≤ length (rows_left f)
   left_long f =

@@ -5,6 +5,7 @@ use Rattle.std.specs.List.{AllByRecursion}
 use Rattle.std.proofs.lemmas.Bool.Decides.{Decides-eqb}
 use Rattle.std.proofs.lemmas.List.{append-nil}
 use Rattle.std.proofs.lemmas.List.Elements.{recursion_from_All}
+use Rattle.lemmas.proofs.Places.{kept_at}
 use Rattle.rdf_values.specs.Depends.{columns_in}
 use Rattle.rdf_values.specs.Kinds.{FunctionNames, column_kind, kind_by, kind_of, scope_of, shape_of}
 use Rattle.rdf_values.specs.Numbered.{callee, renamed}
@@ -31,7 +32,7 @@ use Rattle.graph_numbers.specs.Results.{FilterAt, ResultAt, covered_at, filters,
 use Rattle.graph_numbers.specs.Sites.{SiteAt, filter_sites, own_filter_site, own_sites, site_count, site_in, sites}
 use Rattle.graph_numbers.specs.Versions.{version_at}
 use Rattle.graph_numbers.proofs.Extending.{further, itself}
-use Rattle.graph_numbers.proofs.Listed.{kept_at, next_at, of_joined}
+use Rattle.graph_numbers.proofs.Listed.{next_at, of_joined}
 use Rattle.graph_numbers.proofs.Placing.{IsPlaced}
 use Rattle.graph_numbers.proofs.VersionKinds.{kind_later, visible_kind}
 use Rattle.loop_keys.specs.Jobs.{IsJob, JobView, job_graph}

@@ -4,14 +4,15 @@ use Rattle.std.specs.Prelude.{nat_le, option_and_then, option_map, slice_range}
 use Rattle.std.specs.List.{sum_by}
 use Rattle.std.proofs.lemmas.Bool.{le-leb, le-ltb, lt-leb, lt-ltb}
 use Rattle.std.proofs.lemmas.List.Sums.{sum_by-cons}
+use Rattle.lemmas.proofs.Parts.{range_length}
+use Rattle.lemmas.proofs.Places.{something_at}
 use Rattle.rdf_values.specs.Tables.{FitsColumn, FitsKind, FitRows, FitsRow, IsTable, TableView, cell, kind_at}
 use Rattle.rdf_values.specs.declared.column.Column.{Column}
 use Rattle.rdf_values.specs.declared.value.ColType.{ColType}
 use Rattle.rdf_values.specs.declared.value.ColType.TheVariants as kind
 use Rattle.rdf_values.specs.declared.value.Value.{Value}
 use Rattle.rdf_values.specs.declared.value.Value.TheVariants as val
-use Rattle.loop_keys.proofs.FillLaws.{there}
-use Rattle.loop_pieces.proofs.Places.{range_length, range_none}
+use Rattle.loop_pieces.proofs.Places.{range_none}
 use Rattle.block_laws.specs.Blocks.{elements_in, first_length, more_fit, one_more_fits, row_elements}
 use Rattle.block_laws.proofs.BlockCuts.{plain_first}
 
@@ -88,7 +89,7 @@ module _ (t : TableView) (table : IsTable t) (e i : ℕ) (inside : i < length t.
   -- a vector has few
   pub vect_cell : kind_at t.columns i ≡ Some kind.Vect → e < length t.rows → (zs : List ℤ) → cell t e i ≡ Some (val.Vect zs) → length zs ≤ 4096
   vect_cell its lt zs at =
-      let r = there t.rows e lt in
+      let r = something_at t.rows e lt in
       let w = fits_at t.columns r.0 i (row_fits t.columns t.rows e r.0 table.fit r.1) inside in
       let same : w.0.kind ≡ kind.Vect = some_same w.0.kind kind.Vect (sym (ap (option_map (λ (c : Column). c.kind)) w.2) ∙ its) in
       let here : slice_get r.0 i ≡ Some (val.Vect zs) = sym (ap (option_and_then (λ (row : List Value). slice_get row i)) r.1) ∙ at in
@@ -181,7 +182,7 @@ module _ (rows : List (List Value)) (keys size most hi : ℕ) where
         ap (λ b. if b then suc (more_fit size most (suc n) (s + x) xs) else 0)
         (let e : one_more_fits size most n s x ≡ false = ap (λ b. b && nat_le (s + x) most) (le-ltb n size le) in e)
 
-    -- the block is as long as any, or there are no more entries
+    -- the block is as long as any, or something_at are no more entries
     pub at_last : (end ≡ lo + size) ⊎ (end ≡ hi) → end ≡ lo + first_length size most (costs_from lo)
     at_last (inl e) =
         let a = full (end - lo) elements (costs_from end) (omega (arith, e)) in
@@ -200,17 +201,17 @@ module _ (rows : List (List Value)) (keys size most hi : ℕ) where
 
   module _ (inside : hi ≤ length rows) (lo : ℕ) where
     pub begin_at : (n : ℕ) → lo < hi → AreOf lo n → IsAtEnd lo (lo + 1) n
-    begin_at n lt is = let r = there rows lo (omega (arith, lt, inside)) in subst (λ (m : ℕ). IsAtEnd lo (lo + 1) m) (sym (is r.0 r.1)) (one_entry lo r.0 r.1 lt)
+    begin_at n lt is = let r = something_at rows lo (omega (arith, lt, inside)) in subst (λ (m : ℕ). IsAtEnd lo (lo + 1) m) (sym (is r.0 r.1)) (one_entry lo r.0 r.1 lt)
 
     pub next_at : (end elements n : ℕ) → IsAtEnd lo end elements → end < hi → end - lo < size → AreOf end n → elements + n ≤ most → IsAtEnd lo (end + 1) (elements + n)
     next_at end elements n at lt room is few =
-        let r = there rows end (omega (arith, lt, inside)) in
+        let r = something_at rows end (omega (arith, lt, inside)) in
         let e = is r.0 r.1 in
         subst (λ (m : ℕ). IsAtEnd lo (end + 1) (elements + m)) (sym e) (one_more lo end elements at r.0 r.1 lt room (omega (arith, e, few)))
 
     pub stop_at : (end elements n : ℕ) → IsAtEnd lo end elements → end < hi → end - lo < size → AreOf end n → most < elements + n → end ≡ lo + first_length size most (costs_from lo)
     stop_at end elements n at lt room is many =
-        let r = there rows end (omega (arith, lt, inside)) in
+        let r = something_at rows end (omega (arith, lt, inside)) in
         let e = is r.0 r.1 in no_more lo end elements at r.0 r.1 lt room (omega (arith, e, many))
 
 -- ---- without vectors

@@ -6,18 +6,18 @@ use Rattle.std.proofs.lemmas.Bool.{cases_eq}
 use Rattle.std.proofs.lemmas.List.{length-replicate}
 use Rattle.std.proofs.lemmas.List.Elements.{recursion_from_All}
 use Rattle.std.proofs.lemmas.Option.{slice_get_within}
+use Rattle.lemmas.proofs.Places.{kept_at, something_at}
 use Rattle.rdf_values.specs.Depends.{columns_in}
 use Rattle.rdf_values.specs.Tree.{NumTree}
 use Rattle.rdf_values.specs.declared.graph_cause.GraphCause.{GraphCause}
 use Rattle.rdf_values.specs.declared.value.ColType.{ColType}
 use Rattle.expr_check.specs.NumKinds.{CheckedExpr, distinct, num_kind}
-use Rattle.variation_sets.specs.Sets.{has, members_below}
-use Rattle.variation_sets.specs.declared.var_set.VarSet.{VarSet}
+use Rattle.graph.specs.Sets.{has, members_below}
+use Rattle.graph.specs.declared.var_set.VarSet.{VarSet}
 use Rattle.graph_numbers.specs.Graphs.{GraphView, IsSiteExpr, graph_kinds, graph_sites, graph_variations, holds_at, site_depends_at}
 use Rattle.graph_numbers.specs.Sites.{SiteAt, depends_on}
-use Rattle.graph_numbers.proofs.Listed.{kept_at, next_at}
+use Rattle.graph_numbers.proofs.Listed.{next_at}
 use Rattle.loop_keys.specs.Keys.{key, keys_before, own_keys, slot, slot_at}
-use Rattle.loop_keys.proofs.FillLaws.{there}
 use Rattle.loop_keys.proofs.KeptKeys.{members_all}
 use Rattle.loop_keys.proofs.KeyLaws.{keys_next, slot_small}
 use Rattle.block_cache.specs.Fills.{AreSiteKinds}
@@ -69,10 +69,10 @@ module _ (g : GraphView) (site : ℕ) (inside : site < length (graph_sites g)) (
     (above : (v : ℕ) → 128 ≤ v → has depends v ≡ false) (e : CheckedExpr) (expr : IsSiteExpr g site e) (kinds : List ColType) (many : length kinds ≡ keys_before (graph_variations g) (graph_sites g) site)
     (more : List ColType) (are : more ≡ kinds ++ replicate (1 + count) e.kind) where
   abbrev x : SiteAt
-  x = (there (graph_sites g) site inside).0
+  x = (something_at (graph_sites g) site inside).0
 
   at : slice_get (graph_sites g) site ≡ Some x
-  at = (there (graph_sites g) site inside).1
+  at = (something_at (graph_sites g) site inside).1
 
   own_count : 1 + count ≡ own_keys (graph_variations g) x
   own_count =

@@ -1,6 +1,7 @@
 -- One more filter of a step, over the selections of all steps.
 use Rattle.std.proofs.Common.{◌≡◌, ◌⊎◌, inl, inr, ℕ, zero, suc, ◌+◌, ◌<◌, ◌≤◌, List, [], ◌∷◌, ◌++◌, length, length-append, Option, None, Some, refl, sym, ◌∙◌, ap, subst, arith, slice_get, if◌then◌else◌}
 use Rattle.std.specs.Prelude.{slice_set}
+use Rattle.lemmas.proofs.Places.{kept_at}
 use Rattle.rdf_model.specs.Results.{fault_in, is_true}
 use Rattle.expr_lanes.specs.Places.{EachPlace, is_in}
 use Rattle.block_lanes.specs.Lanes.{LaneView}
@@ -44,11 +45,6 @@ set_there [] [] y h = absurd (omega (arith, h))
 set_there [] (z ∷ ys) y h = refl
 set_there (w ∷ xs) ys y h = set_there xs ys y h
 
-get_front : {A : Type 0} (xs ys : List A) (k : ℕ) (x : A) → slice_get xs k ≡ Some x → slice_get (xs ++ ys) k ≡ Some x
-get_front [] ys k x h = cc h
-get_front (z ∷ xs) ys zero x h = h
-get_front (z ∷ xs) ys (suc k) x h = get_front xs ys k x h
-
 -- ---- the step
 
 module _ (j : JobView) (job : IsJob j) (first count pass : ℕ) (plan : PlanView) (p : IsPlan j plan) (k parent site : ℕ) (u : Option ℕ) (its : slice_get plan.steps k ≡ Some (step.Filter parent site u))
@@ -62,7 +58,7 @@ module _ (j : JobView) (job : IsJob j) (first count pass : ℕ) (plan : PlanView
 
   -- the selection of the parent
   from_is : from.places ≡ chosen j first s.up f1.limit
-  from_is = (ready.kept_are.each parent f1.limit s.up from s.its_up (get_front above own parent from here) made).is
+  from_is = (ready.kept_are.each parent f1.limit s.up from s.its_up (kept_at above own parent from here) made).is
 
   pub from_inside : EachPlace from.places (λ q. q < f1.limit)
   from_inside q i = chosen_below (λ n. is_true (through_chain j (first + n) s.up)) q f1.limit (sym (ap (is_in q) from_is) ∙ i)
@@ -83,7 +79,7 @@ module _ (j : JobView) (job : IsJob j) (first count pass : ℕ) (plan : PlanView
     own_made : IsMade j first (longer s.up site u) f2.limit f2.limit to.places
     own_made =
         step_made j first s.up site u s.alike count pass to after f1 f1 f2
-        (none_lowers (λ q. fault_in (through_chain j (first + q) s.up)) first pass f1 (ready.kept_are.each parent f1.limit s.up from s.its_up (get_front above own parent from here) made).clear)
+        (none_lowers (λ q. fault_in (through_chain j (first + q) s.up)) first pass f1 (ready.kept_are.each parent f1.limit s.up from s.its_up (kept_at above own parent from here) made).clear)
         done
 
     falls : f2.limit ≤ f1.limit

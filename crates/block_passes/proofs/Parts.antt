@@ -1,5 +1,5 @@
 -- A pass in parts, by numbers: its filters one after another, the versions that it reads, and whether their values can be fed.
-use Rattle.std.proofs.Common.{◌≡◌, ℕ, Bool, true, false, ◌&&◌, List, [], ◌∷◌, ◌++◌, Option, None, Some, refl, sym, ◌∙◌, ap, if◌then◌else◌, slice_get}
+use Rattle.std.proofs.Common.{◌≡◌, ℕ, Bool, true, false, ◌&&◌, List, [], ◌∷◌, ◌++◌, Option, None, Some, refl, sym, ◌∙◌, ap, slice_get}
 use Rattle.rdf_values.specs.Spread.{feed_fault}
 use Rattle.rdf_values.specs.declared.action.ActionKind.{ActionKind}
 use Rattle.rdf_values.specs.declared.fault.EntryFault.{EntryFault}
@@ -117,9 +117,3 @@ where_split (Gives true) a b = refl
 where_split (Gives false) a b = refl
 where_split (Faults k) a b = refl
 where_split (Needs m) a b = elim m [ ]
-
-pub where_none : (o : Outcome ⊥ Bool) → where_passed o None ≡ None
-where_none (Gives true) = refl
-where_none (Gives false) = refl
-where_none (Faults k) = refl
-where_none (Needs m) = elim m [ ]

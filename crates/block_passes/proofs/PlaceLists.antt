@@ -1,20 +1,9 @@
 -- Places of a block in their order, and those among them that pass a test.
-use Rattle.std.proofs.Common.{◌≡◌, ℕ, zero, suc, ◌+◌, ◌<◌, ◌≤◌, Bool, true, false, ◌&&◌, cond, List, [], ◌∷◌, ◌++◌, length, length-drop, take, drop, refl, sym, ◌∙◌, ap, ap₂, arith, nat_lt}
-use Rattle.std.specs.Prelude.{flat_map, count_by, slice_get, Some}
+use Rattle.std.proofs.Common.{◌≡◌, ℕ, zero, suc, ◌+◌, ◌<◌, ◌≤◌, Bool, true, false, ◌&&◌, cond, List, [], ◌∷◌, ◌++◌, length, take, refl, ◌∙◌, ap, ap₂, arith, nat_lt}
+use Rattle.std.specs.Prelude.{flat_map, slice_get, Some}
 use Rattle.std.specs.List.{filter, range_with_len}
 use Rattle.std.proofs.lemmas.Bool.Decides.{Decides-ltb}
-use Rattle.std.proofs.lemmas.List.Sums.{sum_by-cons}
-use Rattle.block_passes.proofs.FirstFaults.{get_dropped}
-
-lt_true : (a b : ℕ) → a < b → nat_lt a b ≡ true
-lt_true a b h = (Decides-ltb a b).1 h
-
-lt_false : (a b : ℕ) → b ≤ a → nat_lt a b ≡ false
-lt_false a b h = go (nat_lt a b) refl
-  where
-    go : (t : Bool) → nat_lt a b ≡ t → nat_lt a b ≡ false
-    go true q = let l = (Decides-ltb a b).0 q in absurd (omega (arith, l, h))
-    go false q = q
+use Rattle.lemmas.proofs.Orders.{lt_false, lt_true}
 
 -- ---- filters
 
@@ -71,14 +60,6 @@ all_pass (suc n) a = ap (λ l. a ∷ l) (all_pass n (a + 1))
 
 -- ---- what the places that pass give
 
-pub flat_filtered : {A B : Type 0} (f g : A → List B) (p : A → Bool) (xs : List A) → ((x : A) → p x ≡ true → f x ≡ g x) → ((x : A) → p x ≡ false → f x ≡ []) → flat_map f xs ≡ flat_map g (filter p xs)
-flat_filtered f g p [] gives none = refl
-flat_filtered f g p (x ∷ xs) gives none = go (p x) refl (flat_filtered f g p xs gives none)
-  where
-    go : (b : Bool) → p x ≡ b → flat_map f xs ≡ flat_map g (filter p xs) → f x ++ flat_map f xs ≡ flat_map g (cond b (x ∷ filter p xs) (filter p xs))
-    go true q h = ap₂ (λ a b. a ++ b) (gives x q) h
-    go false q h = ap (λ l. l ++ flat_map f xs) (none x q) ∙ h
-
 -- the same of the places from a on below a + n
 pub flat_filtered_range : {B : Type 0} (f g : ℕ → List B) (p : ℕ → Bool) (n a : ℕ) → ((i : ℕ) → a ≤ i → i < a + n → p i ≡ true → f i ≡ g i) → ((i : ℕ) → a ≤ i → i < a + n → p i ≡ false → f i ≡ [])
     → flat_map f (range_with_len a n) ≡ flat_map g (filter p (range_with_len a n))
@@ -104,27 +85,3 @@ flat_taken f g (suc n) (x ∷ xs) a h e =
 pub flat_first : {A B : Type 0} (f : A → List B) (g : ℕ → List B) (n : ℕ) (xs : List A) → n ≤ length xs
     → ((i : ℕ) (x : A) → i < n → slice_get xs i ≡ Some x → f x ≡ g i) → flat_map f (take n xs) ≡ flat_map g (range_with_len 0 n)
 flat_first f g n xs h e = flat_taken f g n xs 0 h (λ i x lt q. (let u : i ≡ 0 + i = omega arith in e i x lt q ∙ ap g u))
-
-pub flat_rows : {A B : Type 0} (f : A → List B) (g : ℕ → List B) (n lo : ℕ) (xs : List A) → lo + n ≤ length xs
-    → ((i : ℕ) (x : A) → i < n → slice_get xs (lo + i) ≡ Some x → f x ≡ g i) → flat_map f (take n (drop lo xs)) ≡ flat_map g (range_with_len 0 n)
-flat_rows f g n lo xs h e =
-    flat_taken f g n (drop lo xs) 0 (let l = length-drop lo xs in omega (arith, l, h)) (λ i x lt q. (let u : i ≡ 0 + i = omega arith in e i x lt (sym (get_dropped lo xs i) ∙ q) ∙ ap g u))
-
--- how many rows pass, by their places
-count_taken : {A : Type 0} (f : A → Bool) (g : ℕ → Bool) (n : ℕ) (xs : List A) (a : ℕ) → n ≤ length xs
-    → ((i : ℕ) (x : A) → i < n → slice_get xs i ≡ Some x → f x ≡ g (a + i)) → count_by f (take n xs) ≡ length (filter g (range_with_len a n))
-count_taken f g zero xs a h e = refl
-count_taken f g (suc n) [] a h e = absurd (omega (arith, h))
-count_taken f g (suc n) (x ∷ xs) a h e =
-    let z : a + 0 ≡ a = omega arith in
-    let rest = count_taken f g n xs (a + 1) (omega (arith, h)) (λ i y lt q. (let u : a + suc i ≡ a + 1 + i = omega arith in e (suc i) y (omega (arith, lt)) q ∙ ap g u)) in
-    sum_by-cons (λ y. cond (f y) 1 0) x (take n xs) ∙ ap₂ (λ b c. cond b 1 0 + c) (e 0 x (omega arith) refl ∙ ap g z) rest ∙ one (g a)
-  where
-    one : (b : Bool) → cond b 1 0 + length (filter g (range_with_len (a + 1) n)) ≡ length (cond b (a ∷ filter g (range_with_len (a + 1) n)) (filter g (range_with_len (a + 1) n)))
-    one true = omega arith
-    one false = omega arith
-
-pub count_rows : {A : Type 0} (f : A → Bool) (g : ℕ → Bool) (n lo : ℕ) (xs : List A) → lo + n ≤ length xs
-    → ((i : ℕ) (x : A) → i < n → slice_get xs (lo + i) ≡ Some x → f x ≡ g i) → count_by f (take n (drop lo xs)) ≡ length (filter g (range_with_len 0 n))
-count_rows f g n lo xs h e =
-    count_taken f g n (drop lo xs) 0 (let l = length-drop lo xs in omega (arith, l, h)) (λ i x lt q. (let u : i ≡ 0 + i = omega arith in e i x lt (sym (get_dropped lo xs i) ∙ q) ∙ ap g u))

@@ -1,15 +1,12 @@
 -- Places one after another.
-use Rattle.std.proofs.Common.{◌≡◌, ◌⊎◌, inl, inr, ℕ, zero, suc, ◌+◌, ◌-◌, ◌<◌, ◌≤◌, ℤ, Bool, true, false, ◌||◌, List, [], ◌∷◌, ◌++◌, length, length-append, length-drop, length-set, take, drop, set, get_or, get_or-set_same, get_or-set_other, Option, None, Some, refl, sym, ◌∙◌, ap, subst, arith, nat_eq, pos}
-use Rattle.std.specs.List.{slice_range}
+use Rattle.std.proofs.Common.{◌≡◌, ◌⊎◌, inl, inr, ℕ, zero, suc, ◌+◌, ◌-◌, ◌<◌, ◌≤◌, ℤ, Bool, true, false, ◌||◌, List, [], ◌∷◌, ◌++◌, length, length-set, set, get_or, get_or-set_same, get_or-set_other, Option, None, Some, refl, sym, ◌∙◌, ap, subst, arith, nat_eq, pos}
 use Rattle.std.proofs.lemmas.Bool.{cases_eq}
 use Rattle.std.proofs.lemmas.Bool.Decides.{Decides-eqb}
-use Rattle.std.proofs.lemmas.List.{drop-append-le, drop_at, take-append-le, take_all}
 use Rattle.rdf_values.specs.declared.fault.EntryFault.{EntryFault}
 use Rattle.rdf_values.specs.declared.span.Span.{Span}
 use Rattle.rdf_values.specs.declared.value.Value.{Value}
 use Rattle.rdf_values.specs.declared.value.Value.TheVariants as val
 use Rattle.rdf_model.specs.Evaluation.{Outcome, Gives}
-use Rattle.actions.specs.Batches.{span_at}
 use Rattle.expr_lanes.specs.Places.{EachPlace, at_place, is_in}
 use Rattle.block_cache.specs.Faults.{fault_at}
 use Rattle.block_cache.specs.Fills.{fault_before, fault_over}
@@ -79,39 +76,6 @@ module _ (o : ℕ → Outcome ⊥ Value) (sel : List ℕ) (i q : ℕ) (here : q 
 
 -- ---- one more vector
 
-abbrev no_span : Span
-no_span = record { lo = 0; hi = 0 }
-
 module _ (xs ys : List ℤ) (spans after : List Span) (p : ℕ) (span : Span) (is : after ≡ set spans p span) (lo : span.lo ≡ length xs) (hi : span.hi ≡ length xs + length ys) where
   long : length after ≡ length spans
   long = ap length is ∙ length-set spans p span
-
-  pub put_own : p < length spans → HasVector (xs ++ ys) after p ys
-  put_own inside = record {
-    there = omega (arith, long, inside);
-    ordered = subst (λ (s : Span). s.lo ≤ s.hi) (sym at) (omega (arith, lo, hi));
-    within = subst (λ (s : Span). s.hi ≤ length (xs ++ ys)) (sym at) (let e = length-append xs ys in omega (arith, hi, e));
-    is = ap (λ (s : Span). slice_range (xs ++ ys) s.lo s.hi) at ∙ ap (take (span.hi - span.lo)) (drop_at xs ys span.lo (sym lo)) ∙ take_all (span.hi - span.lo) ys (omega (arith, lo, hi));
-  }
-    where
-      at : span_at after p ≡ span
-      at = ap (λ (l : List Span). span_at l p) is ∙ get_or-set_same spans p span no_span inside
-
-  pub put_other : (q : ℕ) (zs : List ℤ) → (q ≡ p → ⊥) → HasVector xs spans q zs → HasVector (xs ++ ys) after q zs
-  put_other q zs n h = record {
-    there = (let t = h.there in omega (arith, long, t));
-    ordered = subst (λ (s : Span). s.lo ≤ s.hi) (sym at) h.ordered;
-    within = subst (λ (s : Span). s.hi ≤ length (xs ++ ys)) (sym at) (let e = length-append xs ys in let w = h.within in omega (arith, w, e));
-    is = ap (λ (s : Span). slice_range (xs ++ ys) s.lo s.hi) at ∙ same ∙ h.is;
-  }
-    where
-      at : span_at after q ≡ span_at spans q
-      at = ap (λ (l : List Span). span_at l q) is ∙ get_or-set_other spans p q span no_span n
-
-      same : slice_range (xs ++ ys) (span_at spans q).lo (span_at spans q).hi ≡ slice_range xs (span_at spans q).lo (span_at spans q).hi
-      same =
-          let o = h.ordered in
-          let w = h.within in
-          let d = length-drop (span_at spans q).lo xs in
-          ap (take ((span_at spans q).hi - (span_at spans q).lo)) (drop-append-le (span_at spans q).lo xs ys (omega (arith, o, w)))
-          ∙ take-append-le ((span_at spans q).hi - (span_at spans q).lo) (drop (span_at spans q).lo xs) ys (omega (arith, o, w, d))

@@ -6,9 +6,9 @@ use Rattle.graph_numbers.specs.Graphs.{graph_filters, graph_results}
 use Rattle.graph_numbers.specs.Results.{FilterAt}
 use Rattle.loop_keys.specs.Caches.{IsCovered}
 use Rattle.loop_keys.specs.Jobs.{IsJob, JobView, job_graph, passes_in}
-use Rattle.pass_laws.specs.Turns.{IsReportPass, is_covering, numbered_passes}
-use Rattle.pass_laws.proofs.Covered.{covered_there, passes_count}
-use Rattle.pass_laws.proofs.ReportTies.{contained_at, of_report}
+use Rattle.loop_keys.specs.Turns.{IsReportPass, is_covering, numbered_passes}
+use Rattle.loop_keys.proofs.Covered.{covered_there, passes_count}
+use Rattle.loop_keys.proofs.ReportTies.{contained_at, of_report}
 use Rattle.block_passes.specs.Plans.{IsPlan, IsPlannedFilter, PlanView}
 use Rattle.block_passes.specs.Tries.{IsNamedMade, IsPassMade, IsPlanMade}
 use Rattle.block_passes.specs.declared.kept.Kept.{Kept}

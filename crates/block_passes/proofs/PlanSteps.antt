@@ -4,6 +4,8 @@ use Rattle.std.specs.Prelude.{slice_get, Result, Ok, Err, IfOk}
 use Rattle.std.specs.List.{list_any}
 use Rattle.std.proofs.lemmas.List.{append-nil}
 use Rattle.std.proofs.lemmas.Option.{slice_get_within}
+use Rattle.lemmas.proofs.Orders.{lt_or_last}
+use Rattle.lemmas.proofs.Places.{kept_at, last_at, something_at}
 use Rattle.rdf_values.specs.Bookings.{ActionAt, Booking, ReportOn}
 use Rattle.rdf_values.specs.declared.action.ActionKind.{ActionKind}
 use Rattle.graph_numbers.specs.Graphs.{GraphView, graph_filters, graph_results}
@@ -13,26 +15,25 @@ use Rattle.graph_numbers.specs.declared.result_kind.ResultKind.{ResultKind}
 use Rattle.graph_numbers.specs.declared.result_kind.ResultKind.TheVariants as what
 use Rattle.loop_keys.specs.Caches.{numbered_in}
 use Rattle.loop_keys.specs.Jobs.{IsJob, JobView, job_graph, passes_in}
-use Rattle.loop_keys.proofs.FillLaws.{there}
 use Rattle.loop_keys.proofs.PassNumbers.{result_inside, result_there}
-use Rattle.pass_laws.specs.Plans.{covered_in}
-use Rattle.pass_laws.specs.Turns.{is_covering, numbered_passes}
-use Rattle.pass_laws.proofs.Covered.{cover_at, cover_is, passes_count}
-use Rattle.pass_laws.proofs.FilterLaws.{plan_covered}
+use Rattle.loop_keys.specs.Plans.{covered_in}
+use Rattle.loop_keys.specs.Turns.{is_covering, numbered_passes}
+use Rattle.loop_keys.proofs.Covered.{cover_at, cover_is, passes_count}
+use Rattle.loop_keys.proofs.FilterLaws.{plan_covered}
 use Rattle.block_passes.specs.Plans.{AreFiltersPlanned, ArePassesPlanned, AreStepsOf, IsActionOf, IsFilterLed, IsFilterStepped, IsLast, IsNamed, IsPassLed, IsPlan, IsPlannedFilter, IsPlannedPass, IsTried}
 use Rattle.block_passes.specs.Steps.{AreSteps, Chain, IsLed, IsStep, IsStepped, longer}
 use Rattle.block_passes.specs.declared.plan.NamedSteps.{NamedSteps}
 use Rattle.block_passes.specs.declared.steps.Step.{Step}
 use Rattle.block_passes.specs.declared.steps.Step.TheVariants as step
-use Rattle.block_passes.proofs.StepLaws.{get_joined, get_kept, get_last, same_step}
+use Rattle.block_passes.proofs.StepLaws.{get_joined, same_step}
 
 -- ---- more chains
 
 pub last_kept : (chains more : List Chain) (path : List ℕ) (u : Option ℕ) (k : ℕ) → IsLast chains path u k → IsLast (chains ++ more) path u k
-last_kept chains more path u k h = record { chain = h.chain; its = get_kept chains more k h.chain h.its; sites = h.sites; alike = h.alike }
+last_kept chains more path u k h = record { chain = h.chain; its = kept_at chains more k h.chain h.its; sites = h.sites; alike = h.alike }
 
 pub pass_kept : (j : JobView) (chains more : List Chain) (passes others : List ℕ) (n : ℕ) → IsPlannedPass j chains passes n → IsPlannedPass j (chains ++ more) (passes ++ others) n
-pass_kept j chains more passes others n h m r k of = let w = h m r k of in (w.0, get_kept passes others n w.0 w.1, last_kept chains more r.filters m.variation w.0 w.2)
+pass_kept j chains more passes others n h m r k of = let w = h m r k of in (w.0, kept_at passes others n w.0 w.1, last_kept chains more r.filters m.variation w.0 w.2)
 
 pub filter_kept : (j : JobView) (chains more : List Chain) (f : ℕ) (x : FilterAt) (o : Option NamedSteps) → IsPlannedFilter j chains f x o → IsPlannedFilter j (chains ++ more) f x o
 filter_kept j chains more f x None h = h
@@ -121,21 +122,18 @@ module _ (j : JobView) (n : ℕ) (m : NumberedPass) (its : numbered_in j n ≡ S
 pub passes_begin : (j : JobView) (chains : List Chain) (steps : List Step) (passes : List ℕ) → passes ≡ [] → AreSteps chains steps → ArePassesPlanned j chains steps 0 passes
 passes_begin j chains steps passes e are = record { more = []; steps_of = none_more j chains steps are; many = ap length e; each = λ n lt. absurd (omega (arith, lt)) }
 
-before_or_last : (n count : ℕ) → n < count + 1 → (n < count) ⊎ (n ≡ count)
-before_or_last n count h = grind (arith, h)
-
 pub passes_go_on : (j : JobView) (chains : List Chain) (old new : List Step) (count last : ℕ) (passes now : List ℕ) → (h : ArePassesPlanned j chains old count passes) → IsPassLed j (chains ++ h.more) new count last → now ≡ passes ++ last ∷ []
     → ArePassesPlanned j chains new (count + 1) now
 passes_go_on j chains old new count last passes now h led e = record {
   more = h.more ++ led.more;
   steps_of = more_steps j chains h.more led.more old new h.steps_of led.steps_of;
   many = (let a = ap length e in let b = length-append passes (last ∷ []) in let c = h.many in omega (arith, a, b, c));
-  each = λ n lt. subst (λ (ps : List ℕ). IsPlannedPass j (chains ++ (h.more ++ led.more)) ps n) (sym e) (subst (λ (cs : List Chain). IsPlannedPass j cs (passes ++ last ∷ []) n) (append_assoc chains h.more led.more) (one n (before_or_last n count lt)));
+  each = λ n lt. subst (λ (ps : List ℕ). IsPlannedPass j (chains ++ (h.more ++ led.more)) ps n) (sym e) (subst (λ (cs : List Chain). IsPlannedPass j cs (passes ++ last ∷ []) n) (append_assoc chains h.more led.more) (one n (lt_or_last n count lt)));
 }
   where
     one : (n : ℕ) → (n < count) ⊎ (n ≡ count) → IsPlannedPass j ((chains ++ h.more) ++ led.more) (passes ++ last ∷ []) n
     one n (inl lt) = pass_kept j (chains ++ h.more) led.more passes (last ∷ []) n (h.each n lt)
-    one n (inr i) = λ a b t of. (last, ap (slice_get (passes ++ last ∷ [])) (i ∙ sym h.many) ∙ get_last passes last, led.each a b t (subst (λ (x : ℕ). IsActionOf j x a b t) i of))
+    one n (inr i) = λ a b t of. (last, ap (slice_get (passes ++ last ∷ [])) (i ∙ sym h.many) ∙ last_at passes last, led.each a b t (subst (λ (x : ℕ). IsActionOf j x a b t) i of))
 
 pub passes_end : (j : JobView) (chains : List Chain) (steps : List Step) (n count : ℕ) (passes : List ℕ) → n ≡ count → ArePassesPlanned j chains steps n passes → ArePassesPlanned j chains steps count passes
 passes_end j chains steps n count passes e h = subst (λ (x : ℕ). ArePassesPlanned j chains steps x passes) e h
@@ -143,7 +141,7 @@ passes_end j chains steps n count passes e h = subst (λ (x : ℕ). ArePassesPla
 -- ---- named filters
 
 pub covered_is : (j : JobView) (job : IsJob j) (f : ℕ) → f < length (graph_filters (job_graph j)) → (b : Bool) → b ≡ list_any (is_covering (graph_results (job_graph j)) f) (numbered_passes j) → slice_get (covered_in j) f ≡ Some b
-covered_is j job f lt b h = let x = there (graph_filters (job_graph j)) f lt in cover_at j job f x.0 x.1 ∙ ap Some (sym (h ∙ cover_is j job f x.0 x.1))
+covered_is j job f lt b h = let x = something_at (graph_filters (job_graph j)) f lt in cover_at j job f x.0 x.1 ∙ ap Some (sym (h ∙ cover_is j job f x.0 x.1))
 
 module _ (j : JobView) (job : IsJob j) (f : ℕ) (covered : slice_get (covered_in j) f ≡ Some true) (path up : List ℕ) (site : ℕ) (split : path ≡ up ++ site ∷ [])
     (g : GraphView) (e : g ≡ job_graph j) (p : option_map (λ (x : FilterAt). x.sites) (slice_get (graph_filters g) f) ≡ Some path)
@@ -186,7 +184,7 @@ module _ (j : JobView) (job : IsJob j) (f : ℕ) (covered : slice_get (covered_i
             up = up;
             site = site;
             sites = its_sites ∙ split;
-            above = record { chain = led.last; its = get_kept (chains ++ led.more) stepped.more above led.last led.its; sites = led.sites; alike = led.alike };
+            above = record { chain = led.last; its = kept_at (chains ++ led.more) stepped.more above led.last led.its; sites = led.sites; alike = led.alike };
             own = record { chain = longer led.last site None; its = stepped.its; sites = own_sites ∙ sym its_sites; alike = inr refl };
           }
 
@@ -201,15 +199,15 @@ module _ (j : JobView) (chains : List Chain) (old : List Step) (count : ℕ) (na
     steps_of = more_steps j chains h.more more old new h.steps_of of;
     many = (let a = ap length e in let b = length-append named (o ∷ []) in let c = h.many in omega (arith, a, b, c));
     each = λ f x lt q. (
-        let w = one f x q (before_or_last f count lt) in
+        let w = one f x q (lt_or_last f count lt) in
         (w.0, ap (λ ns. slice_get ns f) e ∙ w.1, subst (λ (cs : List Chain). IsPlannedFilter j cs f x w.0) (append_assoc chains h.more more) w.2));
   }
     where
       one : (f : ℕ) (x : FilterAt) → slice_get (graph_filters (job_graph j)) f ≡ Some x → (f < count) ⊎ (f ≡ count) → (p : Option NamedSteps) × (slice_get (named ++ o ∷ []) f ≡ Some p) × IsPlannedFilter j ((chains ++ h.more) ++ more) f x p
-      one f x q (inl lt) = let w = h.each f x lt q in (w.0, get_kept named (o ∷ []) f w.0 w.1, filter_kept j (chains ++ h.more) more f x w.0 w.2)
+      one f x q (inl lt) = let w = h.each f x lt q in (w.0, kept_at named (o ∷ []) f w.0 w.1, filter_kept j (chains ++ h.more) more f x w.0 w.2)
       one f x q (inr i) = (
         o,
-        ap (slice_get (named ++ o ∷ [])) (i ∙ sym h.many) ∙ get_last named o,
+        ap (slice_get (named ++ o ∷ [])) (i ∙ sym h.many) ∙ last_at named o,
         subst (λ (n : ℕ). IsPlannedFilter j ((chains ++ h.more) ++ more) n x o) (sym i) (its x (ap (slice_get (graph_filters (job_graph j))) (sym i) ∙ q)),
       )
 
@@ -225,7 +223,7 @@ uncovered_step j chains steps f b h e are = record { more = []; steps_of = none_
 pub covered_step : (j : JobView) (chains : List Chain) (steps : List Step) (f : ℕ) (b : Bool) (s : NamedSteps) → slice_get (covered_in j) f ≡ Some b → b ≡ true → IsFilterLed j chains steps f s → IsFilterStepped j chains steps f (Some s)
 covered_step j chains steps f b s h e led = record { more = led.more; steps_of = led.steps_of; each = λ x q. (h ∙ ap Some e, led.each x q) }
 
--- the last step of a path is there
+-- the last step of a path is something_at
 pub led_there : (chains : List Chain) (path : List ℕ) (u : Option ℕ) (steps : List Step) (k : ℕ) → IsLed chains path u steps k → k < length steps
 led_there chains path u steps k led = let l = slice_get_within (chains ++ led.more) k led.last led.its in let m = led.are.many in omega (arith, l, m)
 

@@ -2,6 +2,7 @@
 use Rattle.std.proofs.Common.{◌≡◌, ◌⊎◌, inl, inr, ℕ, ◌<◌, List, [], ◌∷◌, ◌++◌, Option, Some, Result, Ok, Err, sym, ◌∙◌, ap, subst, slice_get, length}
 use Rattle.std.specs.Prelude.{OnOk, slice_set}
 use Rattle.std.specs.List.{AllByRecursion}
+use Rattle.lemmas.proofs.Places.{set_at}
 use Rattle.block_lanes.specs.Lanes.{LaneView}
 use Rattle.loop_keys.specs.Jobs.{JobView}
 use Rattle.block_passes.specs.Selections.{AreRemade, IsMadeAt, IsMadeBelow, IsSelectedTo}
@@ -12,7 +13,7 @@ use Rattle.block_passes.specs.Tries.{IsNamedMade, IsPassMade}
 use Rattle.block_passes.specs.declared.kept.Kept.{Kept}
 use Rattle.block_passes.specs.declared.plan.NamedSteps.{NamedSteps}
 use Rattle.block_passes.proofs.NextPlaces.{set_behind}
-use Rattle.block_passes.proofs.StepCases.{set_here, set_other}
+use Rattle.block_passes.proofs.StepCases.{set_other}
 use Rattle.block_passes.proofs.StepLaws.{same_step}
 
 module _ (count : ℕ) where
@@ -48,7 +49,7 @@ module _ (count : ℕ) where
       go (inr q) = q
 
   pub made_set : (kept : List Kept) (k : ℕ) (x : Kept) → k < length kept → IsMadeBelow count x → IsMadeAt count (slice_set kept k x) k
-  made_set kept k x lt made m e = subst (λ (y : Kept). IsMadeBelow count y) (same_step x m (sym (set_here kept k x lt) ∙ e)) made
+  made_set kept k x lt made m e = subst (λ (y : Kept). IsMadeBelow count y) (same_step x m (sym (set_at kept k x lt) ∙ e)) made
 
   -- a step that was selected
   pub made_selected : (j : JobView) (first : ℕ) (chains : List Chain) (pass k : ℕ) (lanes : List LaneView) (kept : List Kept) (old new : Found) → IsSelectedTo j first count chains pass k lanes kept old new → IsMadeAt count kept k

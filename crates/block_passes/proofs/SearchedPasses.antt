@@ -1,17 +1,17 @@
 -- One pass after another over a block.
 use Rattle.std.proofs.Common.{◌∙◌, length, slice_get, ◌-◌, ◌≡◌, ◌⊎◌, inl, inr, ℕ, ◌+◌, ◌<◌, ◌≤◌, List, [], ◌∷◌, Option, None, Some, refl, sym, ap, subst, arith}
 use Rattle.std.specs.Prelude.{slice_range}
+use Rattle.lemmas.proofs.Orders.{lt_or_last}
+use Rattle.lemmas.proofs.Parts.{range_length}
 use Rattle.rdf_values.specs.Bookings.{Pass}
 use Rattle.rdf_values.specs.declared.fault.EntryFault.{EntryFault}
 use Rattle.rdf_values.specs.declared.value.Value.{Value}
 use Rattle.rdf_model.specs.Results.{fault_in, first_fault_from}
 use Rattle.block_lanes.specs.Lanes.{LaneView}
 use Rattle.loop_keys.specs.Jobs.{JobView, outcome_of, passes_in}
-use Rattle.loop_pieces.proofs.Places.{range_length}
 use Rattle.loop_keys.specs.Store.{source_at}
-use Rattle.pass_laws.specs.Turns.{pass_fault}
+use Rattle.loop_keys.specs.Turns.{pass_fault}
 use Rattle.block_passes.specs.Inputs.{AreAtHand}
-use Rattle.block_passes.specs.Selections.{IsReadyBelow}
 use Rattle.block_passes.specs.Spends.{Spends}
 use Rattle.block_passes.specs.Steps.{Chain}
 use Rattle.block_passes.specs.Tries.{IsPassTried, IsReadBelow, IsSearchedTo}
@@ -19,21 +19,12 @@ use Rattle.block_passes.specs.declared.found.Found.{Found}
 use Rattle.block_passes.specs.declared.kept.Kept.{Kept}
 use Rattle.block_passes.specs.Searches.{IsSearched, fault_of}
 use Rattle.block_passes.proofs.FirstFaults.{row_in_block, searched, searched_as}
-use Rattle.block_passes.proofs.Searching.{or_else, part_tried, pass_begins, pass_ends, search_begins}
+use Rattle.block_passes.proofs.Searching.{or_else, part_tried, pass_begins, pass_ends}
 use Rattle.block_passes.proofs.ServingInputs.{still_at_hand}
 
 or_none : (o : Option EntryFault) → o ≡ or_else o None
 or_none None = refl
 or_none (Some k) = refl
-
-before_or_last : (n passes : ℕ) → n < passes + 1 → (n < passes) ⊎ (n ≡ passes)
-before_or_last n passes h = grind (arith, h)
-
--- none was tried
-pub none_searched : (j : JobView) (first count : ℕ) (chains : List Chain) (lanes : List LaneView) (kept : List Kept) (s : Found) → s ≡ record { limit = count; best = None } → IsReadyBelow j first count chains count lanes kept → IsSearchedTo j first count chains 0 lanes kept s
-none_searched j first count chains lanes kept s e ready =
-    subst (λ (x : Found). IsSearchedTo j first count chains 0 lanes kept x) (sym e)
-    (record { ready = ready; searched = search_begins (λ q n. pass_fault j (first + q) n) first count; read = λ n lt. absurd (omega (arith, lt)) })
 
 module _ (j : JobView) (first count : ℕ) (before after : List LaneView) (start end : ℕ) (spends : Spends j first count before after start end) where
   all_still : (u : Option ℕ) (p : ℕ) (cs : List ℕ) → AreAtHand j before u cs p → AreAtHand j after u cs p
@@ -52,7 +43,7 @@ module _ (j : JobView) (first count : ℕ) (before after : List LaneView) (start
   next_searched chains n kept now s t h k = record {
     ready = k.ready;
     searched = pass_ends fault first count (λ p. None) n t (part_tried fault first count (λ p. fault p n) (λ p. fault p n) (λ p. None) n s t (pass_begins fault first count n s h.searched) (λ p lt. or_none (fault p n)) k.lowers) (λ p lt. refl);
-    read = λ m lt. at m (before_or_last m n lt);
+    read = λ m lt. at m (lt_or_last m n lt);
   }
     where
       at : (m : ℕ) → (m < n) ⊎ (m ≡ n) → IsReadBelow j first after t.limit m

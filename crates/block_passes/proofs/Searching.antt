@@ -62,9 +62,6 @@ lowers_as a b first pass old new e h = record {
 -- ---- the passes
 
 module _ (fault : ℕ → ℕ → Option EntryFault) (first count : ℕ) where
-  pub search_begins : IsSearched fault first count 0 (record { limit = count; best = None })
-  search_begins = record { clear = λ p n lt k. absurd (omega (arith, k)); whole = λ e. refl; within = omega arith; at_limit = λ f e. cc e }
-
   pub pass_begins : (pass : ℕ) (s : Found) → IsSearched fault first count pass s → IsAmid fault (λ p. fault p pass) first count pass s
   pass_begins pass s h = record {
     clear = h.clear;
@@ -133,11 +130,3 @@ module _ (fault : ℕ → ℕ → Option EntryFault) (first count : ℕ) where
             → (f.entry ≡ first + t.limit) × (t.limit < count) × (f.pass < pass + 1) × (fault t.limit f.pass ≡ Some f.kind) × ((n : ℕ) → n < f.pass → fault t.limit n ≡ None)
         at f e (inl q) = at_found q f e
         at f e (inr q) = at_same (low.same q) f e
-
--- the last fault stands where none was found before
-pub still_none : (part : ℕ → Option EntryFault) (first pass : ℕ) (s t : Found) → Lowers part first pass s t → t.best ≡ None → t ≡ s
-still_none part first pass s t low e = go (below_or_at t.limit s.limit low.falls)
-  where
-    go : (t.limit < s.limit) ⊎ (t.limit ≡ s.limit) → t ≡ s
-    go (inl q) = let w = low.found q in absurd (let x : ◌≡◌ {A = Option Fault} None (Some (record { entry = first + t.limit; pass = pass; kind = w.0 })) = sym e ∙ ap (λ (x : Found). x.best) w.2 in cc x)
-    go (inr q) = low.same q

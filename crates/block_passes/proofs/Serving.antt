@@ -8,14 +8,13 @@ use Rattle.graph_numbers.specs.declared.source.Source.{Source}
 use Rattle.graph_numbers.specs.declared.source.Source.TheVariants as from
 use Rattle.expr_lanes.specs.Places.{AreRising, EachPlace, is_in}
 use Rattle.block_lanes.specs.Lanes.{LaneView}
-use Rattle.loop_keys.specs.Jobs.{JobView, job_graph}
-use Rattle.loop_keys.specs.Keys.{key}
+use Rattle.loop_keys.specs.Jobs.{JobView}
 use Rattle.loop_keys.specs.Store.{row_of}
 use Rattle.rdf_values.specs.declared.value.Value.{Value}
-use Rattle.pass_laws.specs.Turns.{HasAllDemands}
+use Rattle.loop_keys.specs.Turns.{HasAllDemands}
 use Rattle.block_cache.specs.Blocks.{AreReady}
 use Rattle.block_cache.specs.Leads.{IsFilledTo}
-use Rattle.block_cache.specs.Fills.{IsSettled, IsSpentOver, holds_at, site_fault}
+use Rattle.block_cache.specs.Fills.{IsSettled, IsSpentOver, site_fault}
 use Rattle.block_cache.specs.declared.faults.PlaceFault.{PlaceFault}
 use Rattle.block_passes.specs.Demands.{Demands}
 use Rattle.block_passes.specs.Inputs.{DemandsSource, IsAtHand, IsServedTo, source_fault}
@@ -79,14 +78,6 @@ element_spends j first count u s k tags limit x e sel le inside demanded before 
   where
     of_site : (p : ℕ) (T : ℕ → Bool) → DemandsSource j (first + p) u T (from.Element s k tags) → Demands j (first + p) u T s
     of_site p T d = (d.0, d.1, d.2)
-
-pub version_served : (j : JobView) (first count : ℕ) (u : Option ℕ) (s pass : ℕ) (x : Source) → x ≡ from.Site s → (sel : List ℕ) (to : Kept) (lanes : List LaneView) (old new : Found)
-    → IsServedTo j first count (site_fault j first u s) pass sel to lanes old new → IsServedTo j first count (source_fault j first u x) pass sel to lanes old new
-version_served j first count u s pass x e sel to lanes old new h = subst (λ (y : Source). IsServedTo j first count (source_fault j first u y) pass sel to lanes old new) (sym e) h
-
-pub version_held : (j : JobView) (lanes : List LaneView) (u : Option ℕ) (s : ℕ) (x : Source) → x ≡ from.Site s → (sel : List ℕ) → EachPlace sel (λ p. holds_at lanes (key (job_graph j) s u) p ≡ true)
-    → EachPlace sel (λ p. IsAtHand j lanes u p x)
-version_held j lanes u s x e sel h p i = subst (λ (y : Source). IsAtHand j lanes u p y) (sym e) (h p i)
 
 -- what faults at no selected place lowers nothing
 pub none_served : (j : JobView) (first count : ℕ) (u : Option ℕ) (x : Source) (pass : ℕ) (to : Kept) (lanes : List LaneView) (s : Found) → AreReady j first count lanes → to.limit ≡ Some s.limit → EachPlace to.places (λ p. p < s.limit) → ((p : ℕ) → p < s.limit → IsSettledAt lanes p)

@@ -1,7 +1,8 @@
 -- Filling what an action reads, one version after another.
-use Rattle.std.proofs.Common.{◌≡◌, ℕ, ◌+◌, ◌<◌, Bool, true, false, ◌&&◌, List, [], ◌∷◌, Option, None, Some, refl, sym, ◌∙◌, ap, subst, arith, nat_lt, if◌then◌else◌, ℤ, length}
+use Rattle.std.proofs.Common.{◌≡◌, ℕ, ◌+◌, ◌<◌, Bool, true, false, ◌&&◌, List, [], ◌∷◌, Option, None, Some, refl, sym, ◌∙◌, ap, subst, arith, nat_lt, ℤ, length}
 use Rattle.std.specs.List.{filter, AllByRecursion}
 use Rattle.std.proofs.lemmas.Bool.Decides.{Decides-ltb}
+use Rattle.lemmas.proofs.Booleans.{and_true, both_true}
 use Rattle.rdf_values.specs.declared.fault.EntryFault.{EntryFault}
 use Rattle.rdf_values.specs.declared.value.ColType.{ColType}
 use Rattle.rdf_values.specs.declared.value.Value.{Value}
@@ -15,10 +16,9 @@ use Rattle.block_lanes.specs.Lanes.{LaneView}
 use Rattle.loop_keys.specs.Jobs.{JobView, job_graph}
 use Rattle.loop_keys.specs.Keys.{key, key_count}
 use Rattle.loop_keys.specs.Plain.{ArePlainVersions}
-use Rattle.loop_keys.specs.Store.{IsSourceIn, held_element, held_in, source_at, version_in}
+use Rattle.loop_keys.specs.Store.{IsSourceIn, held_element, held_in, source_at, version_in, is_held as is_known}
 use Rattle.loop_keys.specs.declared.held.Held.{Held}
-use Rattle.loop_keys.specs.Store.{is_held as is_known}
-use Rattle.pass_laws.specs.Turns.{HasAllDemands}
+use Rattle.loop_keys.specs.Turns.{HasAllDemands}
 use Rattle.block_cache.specs.Blocks.{AreReady, cells_at}
 use Rattle.block_cache.specs.Fills.{holds_at}
 use Rattle.block_passes.specs.Inputs.{AreAtHand, CanServe, DemandsInputs, DemandsSource, IsAtHand, IsServedTo, inputs_fault, source_fault}
@@ -32,14 +32,6 @@ use Rattle.block_passes.proofs.Parts.{inputs_fault as all_fault}
 use Rattle.block_passes.proofs.PlaceLists.{filter_twice}
 use Rattle.block_passes.proofs.Searching.{both_lower, lowers_as, none_lowers, or_else}
 use Rattle.block_passes.proofs.Spending.{known_is}
-
-and_true : (b : Bool) → (b && true) ≡ b
-and_true true = refl
-and_true false = refl
-
-both_true : (a b : Bool) → (a && b) ≡ true → (a ≡ true) × (b ≡ true)
-both_true true b h = (refl, h)
-both_true false b h = cc h
 
 -- what is held stays so
 pub still_held : (j : JobView) (first count : ℕ) (before after : List LaneView) (start end : ℕ) → Spends j first count before after start end → (k p : ℕ) → holds_at before k p ≡ true → holds_at after k p ≡ true
@@ -97,9 +89,6 @@ first_plain used j u inputs cs c e all = (subst (λ (l : List ℕ). ArePlainVers
 
 module _ (j : JobView) (first : ℕ) (u : Option ℕ) (inputs cs : List ℕ) (c : ℕ) (e : inputs ≡ c ∷ cs) where
   -- ---- what is asked
-
-  pub first_can : (count : ℕ) (kinds : List ColType) (cells : List (List ℤ)) (scratch levels : ℕ) → AllByRecursion (CanServe j first u count kinds cells scratch levels) inputs → CanServe j first u count kinds cells scratch levels c
-  first_can count kinds cells scratch levels h = (subst (λ (l : List ℕ). AllByRecursion (CanServe j first u count kinds cells scratch levels) l) e h).0
 
   pub rest_can : (count : ℕ) (kinds more : List ColType) (cells : List (List ℤ)) (scratch levels scratch2 levels2 : ℕ) → more ≡ kinds → scratch2 ≡ scratch → levels2 ≡ levels
       → AllByRecursion (CanServe j first u count kinds cells scratch levels) inputs → AllByRecursion (CanServe j first u count more cells scratch2 levels2) cs

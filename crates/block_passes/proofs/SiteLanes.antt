@@ -1,6 +1,7 @@
 -- What the lane of a site has at a place.
 use Rattle.std.proofs.Common.{◌≡◌, ◌<◌, ◌≤◌, ◌+◌, ℕ, zero, suc, ℤ, pos, negsuc, true, List, length, Option, Some, refl, sym, ◌∙◌, ap, subst, slice_get, arith, IfSome, None}
 use Rattle.std.proofs.lemmas.Option.{get_or_from_slice_get, slice_get_within}
+use Rattle.lemmas.proofs.Places.{something_at}
 use Rattle.rdf_values.specs.declared.value.ColType.{ColType}
 use Rattle.rdf_values.specs.declared.value.ColType.TheVariants as kind
 use Rattle.rdf_values.specs.declared.value.Value.TheVariants as val
@@ -19,7 +20,6 @@ use Rattle.loop_keys.specs.Keys.{key, key_count, key_under, place_of}
 use Rattle.loop_keys.specs.Store.{IsRight, held_in, row_of, site_in}
 use Rattle.loop_keys.specs.declared.held.Held.{Held}
 use Rattle.loop_keys.specs.declared.rows.Place.TheVariants as stands
-use Rattle.loop_keys.proofs.FillLaws.{there}
 use Rattle.loop_keys.proofs.RowLaws.{key_small}
 use Rattle.block_cache.specs.Blocks.{AreReady, cells_at}
 use Rattle.block_cache.specs.Fills.{holds_at, lane_holds}
@@ -65,7 +65,7 @@ module _ (lanes : List LaneView) (k : ℕ) (r : LaneView) (its : slice_get lanes
   )
 
 pub vector_kind : (lanes : List LaneView) (k : ℕ) (r : LaneView) → slice_get lanes k ≡ Some r → r.kind ≡ kind.Vect → slice_get (kinds_of lanes) k ≡ Some kind.Vect
-vector_kind lanes k r there is = got_kind lanes k r there ∙ ap Some is
+vector_kind lanes k r something_at is = got_kind lanes k r something_at ∙ ap Some is
 
 -- ---- where a version stands
 
@@ -98,13 +98,13 @@ module _ (j : JobView) (first count : ℕ) (u : Option ℕ) (kinds : List ColTyp
   pub lane_gives : (lanes : List LaneView) → AreReady j first count lanes → (fed : Lane) → ((l : LaneView) → slice_get lanes k ≡ Some l → HasHeld l fed) → (p : ℕ) → p < count → IsAtHand j lanes u p x
       → IsLaneOf (source_value {M = ⊥} (row_of j (first + p)) (site_in j (first + p) u) x) fed p
   lane_gives lanes ready fed has p low hand =
-      let got = there lanes k (key_inside lanes ready) in
+      let got = something_at lanes k (key_inside lanes ready) in
       let l = got.0 in
       let has_p = has l got.1 p (let c = ready.counts k l (slice_get_within lanes k l got.1) in let e = ap (λ (y : LaneView). y.count) (get_or_from_slice_get lanes k l l got.1) in omega (arith, c, e, low)) in
       let at : slice_get lanes (key (job_graph j) site_is.0 u) ≡ Some l = ap (slice_get lanes) site_is.2 ∙ got.1 in
       let holds : holds_at lanes (key (job_graph j) site_is.0 u) p ≡ true = subst (IsAtHand j lanes u p) site_is.1 hand in
       record {
-        there = has_p.0;
+        something_at = has_p.0;
         value = ap (source_value {M = ⊥} (row_of j (first + p)) (site_in j (first + p) u)) site_is.1 ∙ gives_value j first count u site_is.0 site_inside lanes ready l at p low holds ∙ ap Gives (sym has_p.1);
       }
 

@@ -3,15 +3,14 @@ use Rattle.std.proofs.Common.{◌≡◌, ◌⊎◌, inl, inr, ℕ, zero, suc, �
 use Rattle.block_lanes.specs.Lanes.{LaneView, is_held, value_of}
 use Rattle.loop_keys.specs.Jobs.{JobView, job_graph}
 use Rattle.loop_keys.specs.Keys.{key, key_count}
-use Rattle.loop_keys.specs.Store.{IsClosed, IsSourceIn, held_in, source_at}
-use Rattle.loop_keys.specs.Store.{is_held as is_known}
+use Rattle.loop_keys.specs.Store.{IsClosed, IsSourceIn, held_in, source_at, is_held as is_known}
 use Rattle.loop_keys.specs.declared.held.Held.TheVariants.{Nothing}
 use Rattle.graph_numbers.specs.declared.source.Source.{Source}
 use Rattle.graph_numbers.specs.declared.source.Source.TheVariants as from
 use Rattle.rdf_values.specs.declared.value.Value.{Value}
 use Rattle.rdf_values.specs.declared.value.Value.TheVariants as val
 use Rattle.expr_lanes.specs.Places.{EachPlace, is_in}
-use Rattle.pass_laws.specs.Turns.{HasAllDemands}
+use Rattle.loop_keys.specs.Turns.{HasAllDemands}
 use Rattle.block_cache.specs.Blocks.{cells_at, held_at, held_value}
 use Rattle.block_cache.specs.Fills.{IsSpentOver, begun_at, holds_at, lane_holds}
 use Rattle.block_passes.specs.Demands.{Demands}

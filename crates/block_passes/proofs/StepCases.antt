@@ -3,6 +3,7 @@ use Rattle.std.proofs.Common.{◌≡◌, ◌⊎◌, inl, inr, ℕ, zero, suc, �
 use Rattle.std.specs.Prelude.{slice_set}
 use Rattle.std.specs.List.{range_with_len}
 use Rattle.std.proofs.lemmas.Option.{slice_get_within, slice_get-get_or}
+use Rattle.lemmas.proofs.Places.{set_at, set_length}
 use Rattle.rdf_model.specs.Results.{fault_in}
 use Rattle.block_lanes.specs.Lanes.{LaneView}
 use Rattle.loop_keys.specs.Jobs.{JobView}
@@ -32,16 +33,6 @@ set_other (z ∷ xs) (suc k) y (suc i) x h = go (set_other xs k y i x h)
     go (inl q) = inl q
     go (inr q) = inr (ap (λ n. suc n) q.0, q.1)
 
-pub set_here : {A : Type 0} (xs : List A) (k : ℕ) (y : A) → k < length xs → slice_get (slice_set xs k y) k ≡ Some y
-set_here [] k y h = absurd (omega (arith, h))
-set_here (z ∷ xs) zero y h = refl
-set_here (z ∷ xs) (suc k) y h = set_here xs k y (omega (arith, h))
-
-set_long : {A : Type 0} (xs : List A) (k : ℕ) (y : A) → length (slice_set xs k y) ≡ length xs
-set_long [] k y = refl
-set_long (z ∷ xs) zero y = refl
-set_long (z ∷ xs) (suc k) y = ap (λ n. suc n) (set_long xs k y)
-
 module _ (j : JobView) (first count : ℕ) (chains : List Chain) (pass k : ℕ) (c : Chain) (its : slice_get chains k ≡ Some c) (lanes : List LaneView) (kept now : List Kept) (s : Found)
     (ready : IsReadyBelow j first count chains s.limit lanes kept) (x : Kept) (limit : x.limit ≡ Some s.limit) (made : IsMade j first c s.limit s.limit x.places) (written : now ≡ slice_set kept k x) where
   inside : k < length kept
@@ -54,13 +45,13 @@ module _ (j : JobView) (first count : ℕ) (chains : List Chain) (pass k : ℕ) 
       ready = ready.ready;
       settled = ready.settled;
       kept_are = record {
-        many = ap length written ∙ set_long kept k x ∙ ready.kept_are.many;
+        many = ap length written ∙ set_length kept k x ∙ ready.kept_are.many;
         each = λ i m d y q r l. one i m d y q l (set_other kept k x i y (ap (λ ks. slice_get ks i) (sym written) ∙ r));
       };
       within = ready.within;
     };
     lowers = λ d q. none_lowers (λ p. fault_in (through_chain j (first + p) d)) first pass s (λ p lt. ap (λ (y : Chain). fault_in (through_chain j (first + p) y)) (same_step d c (sym q ∙ its)) ∙ made.clear p lt);
-    made = λ y q. (let e : x ≡ y = same_step x y (sym (set_here kept k x inside) ∙ ap (λ ks. slice_get ks k) (sym written) ∙ q) in ap (λ (z : Kept). z.limit) (sym e) ∙ limit);
+    made = λ y q. (let e : x ≡ y = same_step x y (sym (set_at kept k x inside) ∙ ap (λ ks. slice_get ks k) (sym written) ∙ q) in ap (λ (z : Kept). z.limit) (sym e) ∙ limit);
   }
     where
       one : (i m : ℕ) (d : Chain) (y : Kept) → slice_get chains i ≡ Some d → y.limit ≡ Some m → (slice_get kept i ≡ Some y) ⊎ ((i ≡ k) × (y ≡ x)) → IsMade j first d s.limit m y.places

@@ -3,31 +3,12 @@ use Rattle.std.proofs.Common.{◌≡◌, ◌⊎◌, inl, inr, ℕ, zero, suc, �
 use Rattle.std.specs.Prelude.{slice_get}
 use Rattle.std.proofs.lemmas.List.{append-nil}
 use Rattle.std.proofs.lemmas.Option.{slice_get_within}
+use Rattle.lemmas.proofs.Places.{before_or_last, kept_at, last_at}
 use Rattle.block_passes.specs.Steps.{AreSteps, Chain, IsBegin, IsFilterStep, IsLed, IsStep, IsStepped, longer}
 use Rattle.block_passes.specs.declared.steps.Step.{Step}
 use Rattle.block_passes.specs.declared.steps.Step.TheVariants as step
 
 -- ---- lists that grow
-
-pub get_kept : {A : Type 0} (xs ys : List A) (k : ℕ) (x : A) → slice_get xs k ≡ Some x → slice_get (xs ++ ys) k ≡ Some x
-get_kept [] ys k x h = cc h
-get_kept (z ∷ xs) ys zero x h = h
-get_kept (z ∷ xs) ys (suc k) x h = get_kept xs ys k x h
-
-pub get_last : {A : Type 0} (xs : List A) (x : A) → slice_get (xs ++ x ∷ []) (length xs) ≡ Some x
-get_last [] x = refl
-get_last (y ∷ xs) x = get_last xs x
-
--- an element of a list with one more is that one, or was there
-pub get_more : {A : Type 0} (xs : List A) (y : A) (k : ℕ) (x : A) → slice_get (xs ++ y ∷ []) k ≡ Some x → (slice_get xs k ≡ Some x) ⊎ ((k ≡ length xs) × (y ≡ x))
-get_more [] y zero x h = inr (refl, cc h)
-get_more [] y (suc k) x h = cc h
-get_more (z ∷ xs) y zero x h = inl h
-get_more (z ∷ xs) y (suc k) x h = go (get_more xs y k x h)
-  where
-    go : (slice_get xs k ≡ Some x) ⊎ ((k ≡ length xs) × (y ≡ x)) → (slice_get xs k ≡ Some x) ⊎ ((suc k ≡ suc (length xs)) × (y ≡ x))
-    go (inl q) = inl q
-    go (inr q) = inr (ap (λ n. suc n) q.0, q.1)
 
 -- an element of two lists is of the one or the other
 pub get_joined : {A : Type 0} (xs ys : List A) (k : ℕ) (x : A) → slice_get (xs ++ ys) k ≡ Some x → (slice_get xs k ≡ Some x) ⊎ ((i : ℕ) × (slice_get ys i ≡ Some x))
@@ -38,8 +19,8 @@ get_joined (z ∷ xs) ys (suc k) x h = get_joined xs ys k x h
 -- ---- steps
 
 pub step_kept : (chains more : List Chain) (k : ℕ) (x : Step) → IsStep chains k x → IsStep (chains ++ more) k x
-step_kept chains more k step.Block h = get_kept chains more k _ h
-step_kept chains more k (step.Filter parent site u) h = record { before = h.before; up = h.up; its_up = get_kept chains more parent h.up h.its_up; alike = h.alike; own = get_kept chains more k _ h.own }
+step_kept chains more k step.Block h = kept_at chains more k _ h
+step_kept chains more k (step.Filter parent site u) h = record { before = h.before; up = h.up; its_up = kept_at chains more parent h.up h.its_up; alike = h.alike; own = kept_at chains more k _ h.own }
 
 pub same_step : {A : Type 0} (x y : A) → ◌≡◌ {A = Option A} (Some x) (Some y) → x ≡ y
 same_step x y e = cc e
@@ -63,7 +44,7 @@ module _ (chains : List Chain) (steps : List Step) (are : AreSteps chains steps)
   added now e = record {
     more = longer up site u ∷ [];
     are = subst (λ (x : List Step). AreSteps (chains ++ longer up site u ∷ []) x) (sym e) all;
-    its = ap (slice_get (chains ++ longer up site u ∷ [])) (sym are.many) ∙ get_last chains (longer up site u);
+    its = ap (slice_get (chains ++ longer up site u ∷ [])) (sym are.many) ∙ last_at chains (longer up site u);
     only = λ i d q. only i d q;
   }
     where
@@ -75,9 +56,9 @@ module _ (chains : List Chain) (steps : List Step) (are : AreSteps chains steps)
       own = record {
         before = (let l = slice_get_within chains parent up its in let m = are.many in omega (arith, l, m));
         up = up;
-        its_up = get_kept chains _ parent up its;
+        its_up = kept_at chains _ parent up its;
         alike = alike;
-        own = ap (slice_get (chains ++ longer up site u ∷ [])) (sym are.many) ∙ get_last chains (longer up site u);
+        own = ap (slice_get (chains ++ longer up site u ∷ [])) (sym are.many) ∙ last_at chains (longer up site u);
       }
 
       each : (k : ℕ) (x : Step) → (slice_get steps k ≡ Some x) ⊎ ((k ≡ length steps) × (step.Filter parent site u ≡ x)) → IsStep (chains ++ longer up site u ∷ []) k x
@@ -87,8 +68,8 @@ module _ (chains : List Chain) (steps : List Step) (are : AreSteps chains steps)
       all : AreSteps (chains ++ longer up site u ∷ []) (steps ++ step.Filter parent site u ∷ [])
       all = record {
         many = (let a = length-append chains (longer up site u ∷ []) in let b = length-append steps (step.Filter parent site u ∷ []) in let m = are.many in omega (arith, a, b, m));
-        whole = get_kept steps _ 0 step.Block are.whole;
-        each = λ k x q. each k x (get_more steps (step.Filter parent site u) k x q);
+        whole = kept_at steps _ 0 step.Block are.whole;
+        each = λ k x q. each k x (before_or_last steps (step.Filter parent site u) k x q);
       }
 
 -- ---- paths

@@ -10,7 +10,7 @@ use Rattle.loop_keys.specs.Jobs.{IsJob, JobView}
 use Rattle.loop_keys.specs.Known.{truth_in}
 use Rattle.loop_keys.specs.Store.{site_in}
 use Rattle.loop_keys.proofs.TableLaws.{row_there}
-use Rattle.pass_laws.specs.Turns.{HasAllDemands}
+use Rattle.loop_keys.specs.Turns.{HasAllDemands}
 use Rattle.block_cache.specs.Fills.{IsSpentOver}
 use Rattle.block_passes.specs.Demands.{Demands}
 use Rattle.block_passes.specs.Parts.{where_passed}

@@ -24,7 +24,7 @@ use Rattle.loop_keys.specs.Plain.{ArePlainVersions, IsPlainVersion}
 use Rattle.loop_keys.proofs.ActionLaws.{can_act}
 use Rattle.loop_keys.proofs.PassTies.{pass_answer}
 use Rattle.loop_keys.proofs.TableLaws.{row_there}
-use Rattle.pass_laws.specs.Turns.{HasAllDemands, pass_fault}
+use Rattle.loop_keys.specs.Turns.{HasAllDemands, pass_fault}
 use Rattle.block_passes.specs.Feeds.{CanGather, unfed}
 use Rattle.block_passes.specs.Inputs.{AreAtHand, CanServe, DemandsInputs, IsServedTo, inputs_fault}
 use Rattle.block_passes.specs.Parts.{where_passed}

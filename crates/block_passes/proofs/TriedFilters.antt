@@ -3,6 +3,7 @@ use Rattle.std.proofs.Common.{◌≡◌, ◌⊎◌, inl, inr, ℕ, zero, suc, �
 use Rattle.std.specs.List.{list_any}
 use Rattle.std.proofs.lemmas.Bool.Decides.{Decides-eqb}
 use Rattle.std.proofs.lemmas.Option.{slice_get_within}
+use Rattle.lemmas.proofs.Places.{any_at}
 use Rattle.rdf_values.specs.Bookings.{ActionAt, ReportOn}
 use Rattle.rdf_values.specs.declared.action.ActionKind.{ActionKind}
 use Rattle.rdf_values.specs.declared.fault.EntryFault.{EntryFault}
@@ -16,13 +17,12 @@ use Rattle.loop_keys.specs.Caches.{IsCovered}
 use Rattle.loop_keys.specs.Jobs.{IsJob, JobView, job_graph}
 use Rattle.loop_keys.specs.Store.{site_in}
 use Rattle.loop_keys.proofs.TableLaws.{row_there}
-use Rattle.pass_laws.specs.Plans.{covered_in}
-use Rattle.pass_laws.specs.Turns.{IsReportPass, covers_of, is_covering, numbered_passes, pass_fault}
-use Rattle.pass_laws.proofs.ReportTies.{contained_at, filter_there}
-use Rattle.pass_laws.proofs.ReportTies.{report_fault as its_fault}
+use Rattle.loop_keys.specs.Plans.{covered_in}
+use Rattle.loop_keys.specs.Turns.{IsReportPass, covers_of, is_covering, numbered_passes, pass_fault}
+use Rattle.loop_keys.proofs.ReportTies.{contained_at, filter_there, report_fault as its_fault}
 use Rattle.block_passes.specs.Parts.{where_passed}
 use Rattle.block_passes.specs.Plans.{IsActionOf, IsLast, IsNamed, IsPlan, IsPlannedFilter, PlanView, through_chain}
-use Rattle.block_passes.specs.Selections.{IsReadyBelow, IsSelectedTo}
+use Rattle.block_passes.specs.Selections.{IsSelectedTo}
 use Rattle.block_passes.specs.Steps.{Chain}
 use Rattle.block_passes.specs.Tries.{IsPassTried, IsTriedTo, filter_fault, filters_fault}
 use Rattle.block_passes.specs.declared.found.Found.{Found}
@@ -30,7 +30,7 @@ use Rattle.block_passes.specs.declared.kept.Kept.{Kept}
 use Rattle.block_passes.specs.declared.plan.NamedSteps.{NamedSteps}
 use Rattle.block_passes.proofs.Parts.{report_fault, step_fault}
 use Rattle.block_passes.proofs.PlanSteps.{covered_is}
-use Rattle.block_passes.proofs.Searching.{both_lower, lowers_as, none_lowers, or_else}
+use Rattle.block_passes.proofs.Searching.{both_lower, lowers_as, or_else}
 use Rattle.block_passes.proofs.StepLaws.{same_step}
 
 or_else_same : (a b : Option EntryFault) → or_else a (or_else a b) ≡ or_else a b
@@ -38,15 +38,6 @@ or_else_same None b = refl
 or_else_same (Some k) b = refl
 
 -- ---- covered filters
-
-or_true : (b : Bool) → (b || true) ≡ true
-or_true true = refl
-or_true false = refl
-
-any_at : {A : Type 0} (g : A → Bool) (xs : List A) (n : ℕ) (x : A) → slice_get xs n ≡ Some x → g x ≡ true → list_any g xs ≡ true
-any_at g [] n x e h = cc e
-any_at g (y ∷ ys) zero x e h = let same : y ≡ x = cc e in ap (λ b. b || list_any g ys) (ap g same ∙ h)
-any_at g (y ∷ ys) (suc n) x e h = ap (λ b. g y || b) (any_at g ys n x e h) ∙ or_true (g y)
 
 module _ (j : JobView) (job : IsJob j) (f : ℕ) (covered : IsCovered j f) where
   covering : is_covering (graph_results (job_graph j)) f covered.numbered ≡ true
@@ -117,13 +108,6 @@ module _ (j : JobView) (job : IsJob j) (f : ℕ) (covered : IsCovered j f) where
       }
 
 -- ---- one after another
-
-pub no_filters : (j : JobView) (first count : ℕ) (chains : List Chain) (pass : ℕ) (filters : List ℕ) → filters ≡ [] → (lanes : List LaneView) (kept : List Kept) (s : Found) → IsReadyBelow j first count chains s.limit lanes kept
-    → IsTriedTo j first count chains (filters_fault j first filters) pass lanes kept s s
-no_filters j first count chains pass filters e lanes kept s ready = record {
-  ready = ready;
-  lowers = none_lowers (filters_fault j first filters) first pass s (λ p lt. ap (λ l. filters_fault j first l p) e);
-}
 
 pub filters_tried : (j : JobView) (first count : ℕ) (chains : List Chain) (pass : ℕ) (filters fs : List ℕ) (f : ℕ) → filters ≡ f ∷ fs → (lanes after : List LaneView) (kept now : List Kept) (a b c : Found)
     → IsTriedTo j first count chains (filter_fault j first f) pass lanes kept a b → IsTriedTo j first count chains (filters_fault j first fs) pass after now b c → IsTriedTo j first count chains (filters_fault j first filters) pass after now a c

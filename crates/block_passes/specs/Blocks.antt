@@ -6,7 +6,7 @@ use Rattle.rdf_model.specs.Results.{first_fault_from}
 use Rattle.cluster_tally.specs.Stages.{Stage}
 use Rattle.cluster_tally.specs.Tallies.{Holds, TallyView}
 use Rattle.loop_keys.specs.Jobs.{JobView, passes_in}
-use Rattle.pass_laws.specs.Entries.{facts_in, job_spans}
+use Rattle.loop_keys.specs.Entries.{facts_in, job_spans}
 use Rattle.block_laws.specs.Counts.{rows_demand}
 use Rattle.block_passes.specs.declared.stop.BlockStop.{BlockStop}
 use Rattle.block_passes.specs.declared.stop.BlockStop.TheVariants as stop

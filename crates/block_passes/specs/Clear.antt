@@ -3,7 +3,7 @@ use Rattle.std.specs.Prelude.{◌≡◌, ◌<◌, ◌+◌, ℕ, List, Option, No
 use Rattle.rdf_values.specs.declared.action.ActionKind.{ActionKind}
 use Rattle.block_lanes.specs.Lanes.{LaneView}
 use Rattle.loop_keys.specs.Jobs.{JobView, passes_in}
-use Rattle.pass_laws.specs.Turns.{pass_fault}
+use Rattle.loop_keys.specs.Turns.{pass_fault}
 use Rattle.block_cache.specs.Blocks.{AreReady}
 use Rattle.block_passes.specs.Counting.{AreCountable, IsOverAll}
 use Rattle.block_passes.specs.Plans.{PlanView}

@@ -6,7 +6,7 @@ use Rattle.rdf_model.specs.declared.loop_facts.LoopFacts.{LoopFacts}
 use Rattle.cluster_tally.specs.Stages.{Stage}
 use Rattle.block_laws.specs.Counts.{cluster_demands}
 use Rattle.loop_keys.specs.Jobs.{JobView, passes_in}
-use Rattle.pass_laws.specs.Entries.{job_spans}
+use Rattle.loop_keys.specs.Entries.{job_spans}
 use Rattle.loop_pieces.specs.Whole.{cluster_fault}
 use Rattle.block_passes.specs.declared.stop.BlockStop.{BlockStop}
 use Rattle.block_passes.specs.declared.stop.BlockStop.TheVariants as stop

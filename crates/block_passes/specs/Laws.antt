@@ -16,9 +16,9 @@ use Rattle.cluster_tally.specs.Blocks.{BlockStage, block_items, block_reaches}
 use Rattle.cluster_tally.specs.Stages.{counted}
 use Rattle.loop_keys.specs.Jobs.{IsJob, JobView, job_graph}
 use Rattle.loop_keys.specs.Store.{site_in, version_in}
-use Rattle.pass_laws.specs.Entries.{facts_in, job_spans}
-use Rattle.pass_laws.specs.Plans.{covered_in}
-use Rattle.pass_laws.specs.Turns.{HasAllDemands, actions_before}
+use Rattle.loop_keys.specs.Entries.{facts_in, job_spans}
+use Rattle.loop_keys.specs.Plans.{covered_in}
+use Rattle.loop_keys.specs.Turns.{HasAllDemands, actions_before}
 use Rattle.block_passes.specs.Demands.{Demands}
 use Rattle.block_passes.specs.Plans.{IsActionOf, IsTried}
 use Rattle.block_passes.specs.Searches.{IsSearched, fault_of}

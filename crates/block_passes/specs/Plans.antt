@@ -11,7 +11,7 @@ use Rattle.graph_numbers.specs.declared.pass.Pass.{Pass as NumberedPass}
 use Rattle.loop_keys.specs.Caches.{IsCovered, numbered_in}
 use Rattle.loop_keys.specs.Jobs.{JobView, job_graph}
 use Rattle.loop_keys.specs.Store.{site_in}
-use Rattle.pass_laws.specs.Plans.{covered_in}
+use Rattle.loop_keys.specs.Plans.{covered_in}
 use Rattle.block_passes.specs.Steps.{AreSteps, Chain, IsBegin}
 use Rattle.block_passes.specs.declared.plan.NamedSteps.{NamedSteps}
 use Rattle.block_passes.specs.declared.steps.Step.{Step}

@@ -4,7 +4,7 @@ use Rattle.block_lanes.specs.Lanes.{LaneView, kinds_of, rooms_of}
 use Rattle.loop_keys.specs.Jobs.{JobView, job_graph}
 use Rattle.loop_keys.specs.Keys.{key_count}
 use Rattle.loop_keys.specs.Store.{Grows}
-use Rattle.pass_laws.specs.Turns.{HasAllDemands}
+use Rattle.loop_keys.specs.Turns.{HasAllDemands}
 use Rattle.block_cache.specs.Blocks.{cells_at}
 use Rattle.block_cache.specs.Fills.{begun_at, begun_count, holds_at}
 

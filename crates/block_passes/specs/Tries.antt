@@ -12,7 +12,7 @@ use Rattle.graph_numbers.specs.declared.pass.Pass.{Pass as NumberedPass}
 use Rattle.block_lanes.specs.Lanes.{LaneView}
 use Rattle.loop_keys.specs.Jobs.{JobView, job_graph}
 use Rattle.loop_keys.specs.Store.{site_in}
-use Rattle.pass_laws.specs.Turns.{IsReportPass, pass_fault}
+use Rattle.loop_keys.specs.Turns.{IsReportPass, pass_fault}
 use Rattle.block_passes.specs.Inputs.{AreAtHand, AreWhole, CanServe}
 use Rattle.block_passes.specs.Plans.{IsActionOf, PlanView}
 use Rattle.block_passes.specs.Searches.{IsSearched, Lowers}

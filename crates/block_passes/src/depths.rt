@@ -5,7 +5,7 @@ ghost use Rattle.block_passes.specs.States.{AreDeepEnough};
 
 use expr_check::Checked;
 use expr_lanes::is_deep_enough;
-use node_graph::Graph;
+use graph::Graph;
 use rdf_values::Memory;
 
 // How many levels are enough for an expression, from so many on.

@@ -8,7 +8,7 @@ ghost use Rattle.cluster_tally.specs.Tallies.{Holds};
 ghost use Rattle.loop_keys.specs.Caches.{IsPlainLoop};
 ghost use Rattle.loop_keys.specs.Jobs.{Fits, job_graph, job_of, passes_in};
 ghost use Rattle.loop_keys.specs.Keys.{AreKeys};
-ghost use Rattle.pass_laws.specs.Entries.{IsNoTake, facts_in};
+ghost use Rattle.loop_keys.specs.Entries.{IsNoTake, facts_in};
 ghost use Rattle.block_passes.specs.Blocks.{IsBefore, IsBlockTried, after_block, entries_from};
 ghost use Rattle.block_passes.specs.Clear.{IsClear};
 ghost use Rattle.block_passes.specs.Plans.{IsPlan};

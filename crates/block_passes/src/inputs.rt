@@ -10,7 +10,7 @@ ghost use Rattle.loop_keys.specs.Plain.{ArePlain, ArePlainVersions};
 ghost use Rattle.loop_keys.specs.Jobs.{Fits, job_graph, job_of};
 ghost use Rattle.loop_keys.specs.Keys.{AreKeys, key};
 ghost use Rattle.loop_keys.specs.Store.{IsSourceIn, source_at};
-ghost use Rattle.pass_laws.specs.Turns.{HasAllDemands};
+ghost use Rattle.loop_keys.specs.Turns.{HasAllDemands};
 ghost use Rattle.block_cache.specs.Blocks.{AreReady};
 ghost use Rattle.block_cache.specs.Fills.{CanFill, IsSpentOver, holds_at, site_fault};
 ghost use Rattle.block_passes.specs.Inputs.{AreAtHand, CanServe, DemandsInputs, DemandsSource, IsAtHand, IsServedTo, element_fault, inputs_fault, source_fault};

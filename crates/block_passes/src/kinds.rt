@@ -4,7 +4,7 @@ ghost use Rattle.graph_numbers.specs.Graphs.{graph_sites};
 ghost use Rattle.loop_keys.specs.Keys.{key_count};
 ghost use Rattle.block_passes.specs.States.{CountsVectors, HaveKinds};
 
-use node_graph::Graph;
+use graph::Graph;
 use rdf_values::{ColType, ListOf, Memory};
 use std::alloc::Global;
 

@@ -4,14 +4,14 @@ ghost use Rattle.graph_numbers.specs.Graphs.{graph_filters};
 ghost use Rattle.cluster_tally.specs.Blocks.{BlockStage, HoldsIn, block_reaches};
 ghost use Rattle.cluster_tally.specs.Stages.{counted};
 ghost use Rattle.loop_keys.specs.Jobs.{Fits, job_graph, job_of};
-ghost use Rattle.pass_laws.specs.Entries.{facts_in};
+ghost use Rattle.loop_keys.specs.Entries.{facts_in};
 ghost use Rattle.block_passes.specs.Counting.{AreCountable, IsAmid, at_filter};
 ghost use Rattle.block_passes.specs.Plans.{IsPlan};
 
 use crate::kept::Kept;
 use crate::turn::Turn;
 use cluster_tally::Tally;
-use filters_report::Counts;
+use loop_pieces::Counts;
 
 /// How many entries of the block reach a named filter, and how many pass it: the sizes of two selections.
 fn counts_of(at: &Turn<'_>, kept: &[Kept], filter: u32) -> Counts

@@ -6,7 +6,7 @@ ghost use Rattle.block_lanes.specs.Lanes.{kinds_of};
 ghost use Rattle.loop_keys.specs.Caches.{IsPlainLoop, numbered_in};
 ghost use Rattle.loop_keys.specs.Jobs.{Fits, job_graph, job_of, passes_in};
 ghost use Rattle.loop_keys.specs.Keys.{AreKeys};
-ghost use Rattle.pass_laws.specs.Turns.{IsReportPass};
+ghost use Rattle.loop_keys.specs.Turns.{IsReportPass};
 ghost use Rattle.block_passes.specs.Plans.{IsPlan};
 ghost use Rattle.block_passes.specs.Selections.{AreRemade, CanSelect, IsReadyBelow};
 ghost use Rattle.block_passes.specs.Spends.{Spends};

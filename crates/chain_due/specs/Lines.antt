@@ -13,9 +13,6 @@ table_line name refused = codes "table " ++ name ++ drop 5 refused
 abbrev pub differs_line : List ℕ → List ℕ
 differs_line name = line (codes "file " ++ name ++ codes " differs")
 
-abbrev pub changed_line : List ℕ → List ℕ
-changed_line name = line (codes "file " ++ name ++ codes " changed")
-
 abbrev pub file_refused_line : List ℕ → ℕ → List ℕ
 file_refused_line name number = line (codes "file " ++ name ++ codes " refused at line " ++ decimal number)
 

@@ -1,8 +1,11 @@
 -- What was read so far, line after line: the lines so far begin some part, and the lines of each part can be read.
 use Rattle.std.proofs.Common.{◌≡◌, ◌≤◌, ◌<◌, ◌*◌, ◌-◌, ℕ, Bool, true, false, ◌&&◌, None, Some, List, [], ◌∷◌, ◌++◌, length, map, flat_map, refl, ap, ap₂, ◌∙◌, sym, subst, arith, append_assoc, append-nil, codes, length-append}
-use Rattle.std.specs.Prelude.{◌||◌, if◌then◌else◌, nat_eq, nat_le, nat_lt}
+use Rattle.std.specs.Prelude.{◌||◌, nat_eq, nat_le, nat_lt}
 use Rattle.std.specs.List.{list_all}
 use Rattle.std.proofs.lemmas.Bool.Decides.{nat_tests}
+use Rattle.lemmas.proofs.Answers.{if_none, if_some}
+use Rattle.lemmas.proofs.Appended.{map_next}
+use Rattle.lemmas.proofs.Booleans.{both_true, neither}
 use Rattle.rdf_values.specs.Names.{is_name}
 use Rattle.rdf_values.specs.Tables.{AreColumns, IsHeader, has_name}
 use Rattle.rdf_values.specs.declared.column.Column.{Column}
@@ -10,7 +13,7 @@ use Rattle.rdf_values.specs.declared.value.ColType.TheVariants as k
 use Rattle.shard_lines.specs.Lines.{EachFits, FitLines, FitsLine}
 use Rattle.shard_lines.specs.declared.shard_line.ShardLine.{ShardLine}
 use Rattle.shard_lines.specs.declared.shard_line.ShardLine.TheVariants as pass
-use Rattle.chain_files.specs.Reading.{behind_columns, is_within, on_columns, on_within, part_of, step, step_at}
+use Rattle.chain_files.specs.Reading.{is_within, on_columns, on_within, part_of, step, step_at}
 use Rattle.chain_files.specs.Parts.{Begins, FitLoops, FitsFault, IsPart, PartView, is_digest, loop_lines, part_limits, part_lines}
 use Rattle.chain_files.specs.declared.chain_fault.ChainFault.{ChainFault}
 use Rattle.chain_files.specs.declared.part_line.PartLine.{PartLine}
@@ -119,17 +122,9 @@ columns_push : (seen cs : List Column) (c : Column) → AreColumns seen cs → h
 columns_push seen [] c h n f = (subst (λ xs. has_name xs c.name ≡ false) (append-nil seen) n, f.1, tt)
 columns_push seen (d ∷ cs) c h n f = (h.0, h.1, columns_push (seen ++ d ∷ []) cs c h.2 (subst (λ xs. has_name xs c.name ≡ false) (sym (append_assoc seen (d ∷ []) cs)) n) f)
 
-and_true : (a b : Bool) → (a && b) ≡ true → (a ≡ true) × (b ≡ true)
-and_true true b h = (refl, h)
-and_true false b h = cc h
-
 named_push : (cs : List Column) (c : Column) → list_all (λ (c : Column). is_name c.name) cs ≡ true → is_name c.name ≡ true → list_all (λ (c : Column). is_name c.name) (cs ++ c ∷ []) ≡ true
 named_push [] c h n = ap (λ b. b && true) n
-named_push (d ∷ cs) c h n = let both = and_true (is_name d.name) (list_all (λ (c : Column). is_name c.name) cs) h in ap (λ b. b && list_all (λ (c : Column). is_name c.name) (cs ++ c ∷ [])) both.0 ∙ named_push cs c both.1 n
-
-map_push : {A B : Type 0} (f : A → B) (xs : List A) (x : A) → map f (xs ++ x ∷ []) ≡ map f xs ++ f x ∷ []
-map_push f [] x = refl
-map_push f (y ∷ xs) x = ap (λ t. f y ∷ t) (map_push f xs x)
+named_push (d ∷ cs) c h n = let both = both_true (is_name d.name) (list_all (λ (c : Column). is_name c.name) cs) h in ap (λ b. b && list_all (λ (c : Column). is_name c.name) (cs ++ c ∷ [])) both.0 ∙ named_push cs c both.1 n
 
 flat_push : (loops : List PartLoop) (x : PartLoop) → flat_map loop_lines (loops ++ x ∷ []) ≡ flat_map loop_lines loops ++ loop_lines x
 flat_push [] x = append-nil (loop_lines x)
@@ -142,19 +137,6 @@ Followed before l q = IsProgress q × (lines_so_far q ≡ before ++ l ∷ [])
 
 some_is : {A : Type 0} (P : A → Type 0) (x y : A) → Some x ≡ Some y → P x → P y
 some_is P x y e h = let same : x ≡ y = cc e in subst P same h
-
--- where a test of a step holds, so does what it says
-if_some : {A : Type 0} (b : Bool) (x : A) (q : A) → (if b then Some x else None) ≡ Some q → (b ≡ true) × (x ≡ q)
-if_some true x q h = (refl, cc h)
-if_some false x q h = cc h
-
-if_none : {A : Type 0} (b : Bool) (x : A) (q : A) → (if b then None else Some x) ≡ Some q → (b ≡ false) × (x ≡ q)
-if_none true x q h = cc h
-if_none false x q h = (refl, cc h)
-
-or_false : (a b : Bool) → (a || b) ≡ false → (a ≡ false) × (b ≡ false)
-or_false true b h = cc h
-or_false false b h = (refl, h)
 
 -- the head is whole where there is a column
 headed : (p : Progress) → HasColumns p → nat_lt 0 (length p.columns) ≡ true → IsPart (with_loops p [])
@@ -171,7 +153,7 @@ columns_follow p q (on.Entries k) h f s e = cc e
 columns_follow p q (on.Script w) h f s e = cc e
 columns_follow p q (on.Column c) h f s e =
     let found = if_none (has_name p.columns c.name || nat_le 64 (length p.columns)) (record p { columns = p.columns ++ c ∷ [] }) q e in
-    let tests = or_false (has_name p.columns c.name) (nat_le 64 (length p.columns)) found.0 in
+    let tests = neither (has_name p.columns c.name) (nat_le 64 (length p.columns)) found.0 in
     let room : length p.columns < 64 = let full = tests.1 in grind (arith, nat_tests) in
     let has = h.0 in
     let more : length (p.columns ++ c ∷ []) ≤ 64 = omega (arith, length-append p.columns (c ∷ []), room) in
@@ -179,7 +161,7 @@ columns_follow p q (on.Column c) h f s e =
     let kept : HasColumns (record p { columns = p.columns ++ c ∷ [] }) =
     record { files = files; entries = has.entries; digest = has.digest; few = more; distinct = columns_push [] p.columns c has.distinct tests.0 f; named = named_push p.columns c has.named f.0 } in
     let lines : lines_at at.Columns (record p { columns = p.columns ++ c ∷ [] }) ≡ top p ++ on.Column c ∷ [] =
-    ap (λ t. on.Version ∷ on.Files p.first_file p.end_file ∷ on.Entries p.entries ∷ on.Script p.script ∷ t) (map_push on.Column p.columns c) in
+    ap (λ t. on.Version ∷ on.Files p.first_file p.end_file ∷ on.Entries p.entries ∷ on.Script p.script ∷ t) (map_next on.Column p.columns c) in
     subst (Followed (top p) (on.Column c)) found.1
     (subst (λ (t : Stage). Holds t (record p { columns = p.columns ++ c ∷ [] }) × (lines_at t (record p { columns = p.columns ++ c ∷ [] }) ≡ top p ++ on.Column c ∷ [])) (sym s) ((kept, h.1), lines))
 columns_follow p q on.Loop h f s e =
@@ -218,15 +200,15 @@ within_follow p q (on.Pass l) h f s e =
     let fits : FitsLine (part_limits p.entries) l = within_says p.entries l f found.0 in
     let before = flat_map loop_lines p.loops in
     let lines : lines_at at.Within n ≡ lines_at at.Within p ++ on.Pass l ∷ [] =
-    ap (λ t. top p ++ (before ++ on.Loop ∷ t)) (map_push on.Pass p.lines l)
+    ap (λ t. top p ++ (before ++ on.Loop ∷ t)) (map_next on.Pass p.lines l)
     ∙ ap (λ t. top p ++ t) (sym (append_assoc before (on.Loop ∷ map on.Pass p.lines) (on.Pass l ∷ []))) ∙ sym (append_assoc (top p) (before ++ on.Loop ∷ map on.Pass p.lines) (on.Pass l ∷ [])) in
     subst (Followed (lines_at at.Within p) (on.Pass l)) found.1
     (subst (λ (t : Stage). Holds t n × (lines_at t n ≡ lines_at at.Within p ++ on.Pass l ∷ [])) (sym s) ((h.0, h.1, fits_push (FitsLine (part_limits p.entries)) p.lines l h.2 fits), lines))
 within_follow p q (on.Fault g) h f s e =
     let n = record p { stage = at.Faulted; loops = p.loops ++ Faulted g ∷ [] } in
     let found = if_some (nat_eq (length p.lines) 0 && (nat_le p.first_file g.file && nat_lt g.file p.end_file)) n q e in
-    let tests = and_true (nat_eq (length p.lines) 0) (nat_le p.first_file g.file && nat_lt g.file p.end_file) found.0 in
-    let place = and_true (nat_le p.first_file g.file) (nat_lt g.file p.end_file) tests.1 in
+    let tests = both_true (nat_eq (length p.lines) 0) (nat_le p.first_file g.file && nat_lt g.file p.end_file) found.0 in
+    let place = both_true (nat_le p.first_file g.file) (nat_lt g.file p.end_file) tests.1 in
     let low : p.first_file ≤ g.file = let t = place.0 in grind (arith, nat_tests) in
     let high : g.file < p.end_file = let t = place.1 in grind (arith, nat_tests) in
     let empty : p.lines ≡ [] = none p.lines tests.0 in
@@ -388,7 +370,7 @@ begin_at at.Within p h =
       part = with_loops p loops;
       valid = revalid p loops h.0 fits;
       more = more;
-      lines = closed_lines (top p) p.loops lines (on.End ∷ []) ∙ ap (λ t. (top p ++ (before ++ on.Loop ∷ t)) ++ on.End ∷ []) (map_push on.Pass p.lines (pass.Count 0))
+      lines = closed_lines (top p) p.loops lines (on.End ∷ []) ∙ ap (λ t. (top p ++ (before ++ on.Loop ∷ t)) ++ on.End ∷ []) (map_next on.Pass p.lines (pass.Count 0))
           ∙ ap (λ t. (top p ++ t) ++ on.End ∷ []) (sym (append_assoc before (on.Loop ∷ map on.Pass p.lines) (on.Pass (pass.Count 0) ∷ [])))
           ∙ ap (λ t. t ++ on.End ∷ []) (sym (append_assoc (top p) (before ++ on.Loop ∷ map on.Pass p.lines) (on.Pass (pass.Count 0) ∷ [])))
           ∙ append_assoc (top p ++ (before ++ on.Loop ∷ map on.Pass p.lines)) (on.Pass (pass.Count 0) ∷ []) (on.End ∷ []);
@@ -398,9 +380,3 @@ begin_at at.Ended p h = record { part = part_of p; valid = revalid p p.loops h.0
 
 pub begins : (p : Progress) → IsProgress p → Begins (lines_so_far p)
 begins p h = begin_at p.stage p h
-
--- where the end was read, the lines are those of the part
-pub ended_lines : (p : Progress) → p.stage ≡ at.Ended → IsProgress p → IsPart (part_of p) × (part_lines (part_of p) ≡ lines_so_far p)
-ended_lines p s h =
-    let held : Holds at.Ended p = subst (λ (t : Stage). Holds t p) s h in
-    (revalid p p.loops held.0 held.1, sym (ap (λ (t : Stage). lines_at t p) s))

@@ -1,6 +1,6 @@
 -- A digest's digits, and digests computed.
-use Rattle.std.proofs.Common.{◌≡◌, ◌<◌, ◌+◌, ◌/◌, ◌%◌, ◌++◌, ℕ, zero, suc, Bool, true, false, ◌&&◌, cond, List, [], ◌∷◌, length, length-append, refl, ap, ap₂, ◌∙◌, sym, arith, codes}
-use Rattle.std.specs.Prelude.{◌||◌, nat_eq, nat_le, nat_lt}
+use Rattle.std.proofs.Common.{◌≡◌, ◌<◌, ◌+◌, ◌/◌, ◌%◌, ◌++◌, ℕ, zero, suc, Bool, true, false, ◌&&◌, cond, List, [], ◌∷◌, length, length-append, refl, ap, ap₂, ◌∙◌, arith}
+use Rattle.std.specs.Prelude.{◌||◌, nat_eq, nat_lt}
 use Rattle.std.specs.List.{list_all}
 use Rattle.std.proofs.lemmas.Bool.Decides.{nat_tests}
 use Rattle.chain_files.specs.Digests.{digest_of, hash_of, hex_digit, hex_digits}
@@ -31,12 +31,3 @@ so_many (suc k) n = omega (arith, length-append (hex_digits k (n / 16)) (hex_dig
 
 pub are_digits : (bytes : List ℕ) → is_digest (digest_of bytes) ≡ true
 are_digits bytes = ap₂ (λ n b. nat_eq n 16 && b) (so_many 16 (hash_of bytes)) (all_hex 16 (hash_of bytes))
-
-pub of_nothing : digest_of [] ≡ codes "cbf29ce484222325"
-of_nothing = refl
-
-pub of_a_letter : digest_of (codes "a") ≡ codes "af63dc4c8601ec8c"
-of_a_letter = refl
-
-pub of_a_word : digest_of (codes "foobar") ≡ codes "85944171f73967e8"
-of_a_word = refl

@@ -4,6 +4,7 @@ use Rattle.std.specs.Prelude.{not, position}
 use Rattle.std.specs.List.{list_all, position_from}
 use Rattle.std.proofs.lemmas.Iterator.Adapters.{position_from-zero}
 use Rattle.std.proofs.lemmas.Slice.Eq.{bytes_eq-Decides}
+use Rattle.lemmas.proofs.Booleans.{both_true}
 use Rattle.rdf_values.specs.Names.{same}
 use Rattle.rdf_values.specs.declared.column.Column.{Column}
 use Rattle.rdf_values.specs.declared.value.ColType.{ColType}
@@ -16,10 +17,6 @@ use Rattle.chain_files.specs.Laws.{AcceptedCanJoin}
 use Rattle.chain_files.specs.Parts.{PartView}
 use Rattle.chain_files.specs.Refusing.{first_differing, first_misshapen, is_of}
 use Rattle.chain_files.proofs.Covered.{covered_are_next}
-
-and_both : (a b : Bool) → (a && b) ≡ true → (a ≡ true) × (b ≡ true)
-and_both true b h = (refl, h)
-and_both false b h = cc h
 
 -- ---- what is the same
 
@@ -39,14 +36,14 @@ kinds_equal k.Vect k.Vect h = refl
 
 column_equal : (c d : Column) → same_column c d ≡ true → c ≡ d
 column_equal c d h =
-    let both = and_both (same c.name d.name) (same_kind c.kind d.kind) h in
+    let both = both_true (same c.name d.name) (same_kind c.kind d.kind) h in
     ap₂ (λ n t. record { name = n; kind = t }) (names_equal c.name d.name both.0) (kinds_equal c.kind d.kind both.1)
 
 columns_equal : (cs ds : List Column) → same_columns cs ds ≡ true → cs ≡ ds
 columns_equal [] [] h = refl
 columns_equal [] (d ∷ ds) h = cc h
 columns_equal (c ∷ cs) [] h = cc h
-columns_equal (c ∷ cs) (d ∷ ds) h = let both = and_both (same_column c d) (same_columns cs ds) h in ap₂ (λ x xs. x ∷ xs) (column_equal c d both.0) (columns_equal cs ds both.1)
+columns_equal (c ∷ cs) (d ∷ ds) h = let both = both_true (same_column c d) (same_columns cs ds) h in ap₂ (λ x xs. x ∷ xs) (column_equal c d both.0) (columns_equal cs ds both.1)
 
 -- ---- all parts pass a test
 
@@ -64,7 +61,7 @@ module _ (test : PartView → Bool) where
 
   placed_pass : (s : PartView) (ts : List PartView) → test s ≡ true → list_all test ts ≡ true → list_all test (placed s ts) ≡ true
   placed_pass s [] h g = ap₂ (λ x y. x && y) h g
-  placed_pass s (t ∷ ts) h g = let both = and_both (test t) (list_all test ts) g in by (not_behind s t) both.0 (placed_pass s ts h both.1)
+  placed_pass s (t ∷ ts) h g = let both = both_true (test t) (list_all test ts) g in by (not_behind s t) both.0 (placed_pass s ts h both.1)
     where
       by : (b : Bool) → test t ≡ true → list_all test (placed s ts) ≡ true → list_all test (cond b (s ∷ t ∷ ts) (t ∷ placed s ts)) ≡ true
       by true p q = ap₂ (λ x y. x && y) h g
@@ -72,7 +69,7 @@ module _ (test : PartView → Bool) where
 
   in_order_pass : (ss : List PartView) → list_all test ss ≡ true → list_all test (in_order ss) ≡ true
   in_order_pass [] h = refl
-  in_order_pass (s ∷ ss) h = let both = and_both (test s) (list_all test ss) h in placed_pass s (in_order ss) both.0 (in_order_pass ss both.1)
+  in_order_pass (s ∷ ss) h = let both = both_true (test s) (list_all test ss) h in placed_pass s (in_order ss) both.0 (in_order_pass ss both.1)
 
 -- ---- parts behind each other
 
@@ -80,12 +77,12 @@ module _ (loops : List (List PassShape)) (script : List ℕ) (columns : List Col
   joinable : (s : PartView) (ss : List PartView) → AreNext (s ∷ ss) → list_all (is_of script columns) (s ∷ ss) ≡ true → list_all (λ (t : PartView). are_loops loops t.loops) (s ∷ ss) ≡ true → CanJoinAll loops s ss
   joinable s [] n h g = tt
   joinable s (t ∷ ts) n h g =
-      let one = and_both (is_of script columns s) (list_all (is_of script columns) (t ∷ ts)) h in
-      let other = and_both (is_of script columns t) (list_all (is_of script columns) ts) one.1 in
-      let first = and_both (same s.script script) (same_columns s.columns columns) one.0 in
-      let second = and_both (same t.script script) (same_columns t.columns columns) other.0 in
-      let shape = and_both (are_loops loops s.loops) (list_all (λ (x : PartView). are_loops loops x.loops) (t ∷ ts)) g in
-      let shapes = and_both (are_loops loops t.loops) (list_all (λ (x : PartView). are_loops loops x.loops) ts) shape.1 in (
+      let one = both_true (is_of script columns s) (list_all (is_of script columns) (t ∷ ts)) h in
+      let other = both_true (is_of script columns t) (list_all (is_of script columns) ts) one.1 in
+      let first = both_true (same s.script script) (same_columns s.columns columns) one.0 in
+      let second = both_true (same t.script script) (same_columns t.columns columns) other.0 in
+      let shape = both_true (are_loops loops s.loops) (list_all (λ (x : PartView). are_loops loops x.loops) (t ∷ ts)) g in
+      let shapes = both_true (are_loops loops t.loops) (list_all (λ (x : PartView). are_loops loops x.loops) ts) shape.1 in (
         record {
           next = n.0;
           script = names_equal s.script script first.0 ∙ sym (names_equal t.script script second.0);

@@ -1,14 +1,9 @@
 -- Where joining the loops of two parts ends.
 use Rattle.std.proofs.Common.{◌≡◌, ◌≤◌, ◌⊎◌, ℕ, zero, suc, List, [], ◌∷◌, ◌++◌, length, drop, refl, ap, ◌∙◌, sym, arith, append-nil, inl, inr}
+use Rattle.lemmas.proofs.Parts.{dropped_all}
 use Rattle.shard_lines.specs.declared.pass_shape.PassShape.{PassShape}
 use Rattle.chain_files.specs.declared.part_loop.PartLoop.{PartLoop}
 use Rattle.chain_files.specs.Joining.{joined_loops}
-
-gone : {A : Type 0} (i : ℕ) (xs : List A) → length xs ≤ i → drop i xs ≡ []
-gone zero [] h = refl
-gone zero (x ∷ xs) h = absurd (omega arith)
-gone (suc i) [] h = refl
-gone (suc i) (x ∷ xs) h = gone i xs (omega arith)
 
 no_earlier : (ss : List (List PassShape)) (ms : List PartLoop) → joined_loops ss [] ms ≡ []
 no_earlier [] ms = refl
@@ -20,8 +15,8 @@ no_later (s ∷ ss) [] = refl
 no_later (s ∷ ss) (l ∷ ls) = refl
 
 pub loops_end : (ss : List (List PassShape)) (ls ms all joined : List PartLoop) (i : ℕ) → all ++ joined_loops (drop i ss) ls (drop i ms) ≡ joined → (length ss ≤ i) ⊎ (length ms ≤ i) → all ≡ joined
-loops_end ss ls ms all joined i h (inl l) = sym (append-nil all) ∙ ap (λ t. all ++ t) (sym (ap (λ xs. joined_loops xs ls (drop i ms)) (gone i ss l))) ∙ h
-loops_end ss ls ms all joined i h (inr l) = sym (append-nil all) ∙ ap (λ t. all ++ t) (sym (ap (joined_loops (drop i ss) ls) (gone i ms l) ∙ no_later (drop i ss) ls)) ∙ h
+loops_end ss ls ms all joined i h (inl l) = sym (append-nil all) ∙ ap (λ t. all ++ t) (sym (ap (λ xs. joined_loops xs ls (drop i ms)) (dropped_all i ss l))) ∙ h
+loops_end ss ls ms all joined i h (inr l) = sym (append-nil all) ∙ ap (λ t. all ++ t) (sym (ap (joined_loops (drop i ss) ls) (dropped_all i ms l) ∙ no_later (drop i ss) ls)) ∙ h
 
 pub loops_over : (ss : List (List PassShape)) (ls ms all joined : List PartLoop) → length ls ≡ 0 → all ++ joined_loops ss ls ms ≡ joined → all ≡ joined
 loops_over ss [] ms all joined e h = sym (append-nil all) ∙ ap (λ t. all ++ t) (sym (no_earlier ss ms)) ∙ h

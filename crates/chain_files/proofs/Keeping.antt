@@ -5,6 +5,8 @@ use Rattle.std.specs.Int.{cast_signed, int_max, int_min}
 use Rattle.std.specs.List.{list_all}
 use Rattle.std.proofs.lemmas.Bool.Decides.{nat_tests}
 use Rattle.std.proofs.lemmas.Int.{ints}
+use Rattle.lemmas.proofs.Booleans.{both_true, or_true}
+use Rattle.lemmas.proofs.Orders.{abs_add}
 use borrow.Author.Differences.{read_fits, up, down}
 use Rattle.rdf_values.specs.Fold.{reduce_step}
 use Rattle.rdf_values.specs.Words.{Has64Bits}
@@ -13,7 +15,7 @@ use Rattle.rdf_values.specs.declared.action.ReduceOp.TheVariants as op
 use Rattle.rdf_values.specs.declared.value.ColType.{ColType}
 use Rattle.rdf_values.specs.declared.value.ColType.TheVariants as k
 use Rattle.rdf_values.specs.declared.value.Scalar.{Scalar}
-use Rattle.filters_report.specs.declared.flow.Counts.{Counts}
+use Rattle.loop_pieces.specs.declared.flow.Counts.{Counts}
 use Rattle.histograms.specs.declared.cell_sum.CellSum.{CellSum}
 use Rattle.shard_lines.specs.Joining.{added_cells, added_counts, better_of, cells_of, count_of, counts_of, extreme_of, joined_line, joined_lines, number_of, sum_of, taken_of}
 use Rattle.shard_lines.specs.Lines.{EachFits, FitLines, FitsCell, FitsCount, FitsExtreme, FitsLine, FitsScalar, FitsTake, are_alike, is_number, is_truth}
@@ -133,29 +135,18 @@ same_tests : (f g : Scalar → Bool) → ((x : Scalar) → f x ≡ g x) → (xs 
 same_tests f g h [] = refl
 same_tests f g h (x ∷ xs) = ap₂ (λ a b. a && b) (h x) (same_tests f g h xs)
 
-or_true : (b : Bool) → (b || true) ≡ true
-or_true true = refl
-or_true false = refl
-
 alike : (column : ColType) (xs : List Scalar) → list_all (is_taken_from column) xs ≡ true → are_alike xs ≡ true
 alike k.Int xs h = ap (λ b. b || list_all is_truth xs) (sym (same_tests (is_taken_from k.Int) is_number (λ x. refl) xs) ∙ h)
 alike k.Bool xs h = ap (λ b. list_all is_number xs || b) (sym (same_tests (is_taken_from k.Bool) is_truth (λ x. refl) xs) ∙ h) ∙ or_true (list_all is_number xs)
 alike k.Vect xs h = ap (λ b. b || list_all is_truth xs) (sym (same_tests (is_taken_from k.Vect) is_number (λ x. refl) xs) ∙ h)
 
-and_both : (a b : Bool) → (a && b) ≡ true → (a ≡ true) × (b ≡ true)
-and_both true b h = (refl, h)
-and_both false b h = cc h
-
 all_joined : (f : Scalar → Bool) (xs ys : List Scalar) → list_all f xs ≡ true → list_all f ys ≡ true → list_all f (xs ++ ys) ≡ true
 all_joined f [] ys h g = g
-all_joined f (x ∷ xs) ys h g = let both = and_both (f x) (list_all f xs) h in ap₂ (λ a b. a && b) both.0 (all_joined f xs ys both.1 g)
+all_joined f (x ∷ xs) ys h g = let both = both_true (f x) (list_all f xs) h in ap₂ (λ a b. a && b) both.0 (all_joined f xs ys both.1 g)
 
 fits_joined : (xs ys : List Scalar) → EachFits FitsScalar xs → EachFits FitsScalar ys → EachFits FitsScalar (xs ++ ys)
 fits_joined [] ys h g = g
 fits_joined (x ∷ xs) ys h g = (h.0, fits_joined xs ys h.1 g)
-
-abs_add : (a b : ℤ) → nat_abs (a +ℤ b) ≤ nat_abs a + nat_abs b
-abs_add a b = grind (arith, ints)
 
 module _ (n m : ℕ) where
   cells_fit : (cs ds : List CellSum) → EachFits (FitsCell (part_limits n)) cs → EachFits (FitsCell (part_limits m)) ds → EachFits (FitsCell (part_limits (n + m))) (added_cells cs ds)
@@ -208,8 +199,8 @@ module _ (n m : ℕ) where
   lines_fit (s ∷ ss) [] qs e f h g = tt
   lines_fit (s ∷ ss) (p ∷ ps) [] e f h g = tt
   lines_fit (s ∷ ss) (p ∷ ps) (q ∷ qs) e f h g =
-      let a = and_both (has_shape s p) (have_shapes ss ps) e in
-      let b = and_both (has_shape s q) (have_shapes ss qs) f in
+      let a = both_true (has_shape s p) (have_shapes ss ps) e in
+      let b = both_true (has_shape s q) (have_shapes ss qs) f in
       (line_fits s p q a.0 b.0 h.0 g.0, lines_fit ss ps qs a.1 b.1 h.1 g.1)
 
 some_lines : (ss : List PassShape) (ps qs : List ShardLine) → have_shapes ss ps ≡ true → 0 < length ps → 0 < length qs → 0 < length (joined_lines ss ps qs)
@@ -231,8 +222,8 @@ module _ (a b c n m : ℕ) (low : a < b) (high : b < c) where
   loops_fit (ss ∷ shapes) (Whole ps ∷ ks) (Faulted x ∷ []) e f h g = let over = g.0 in (omega arith, g.1, g.2, g.3)
   loops_fit (ss ∷ shapes) (Whole ps ∷ ks) (Faulted x ∷ l ∷ ls) e f h g = absurd g
   loops_fit (ss ∷ shapes) (Whole ps ∷ ks) (Whole qs ∷ ls) e f h g =
-      let one = and_both (have_shapes ss ps) (are_loops shapes ks) e in
-      let other = and_both (have_shapes ss qs) (are_loops shapes ls) f in
+      let one = both_true (have_shapes ss ps) (are_loops shapes ks) e in
+      let other = both_true (have_shapes ss qs) (are_loops shapes ls) f in
       (some_lines ss ps qs one.0 h.0 g.0, lines_fit n m ss ps qs one.0 other.0 h.1 g.1, loops_fit shapes ks ls one.1 other.1 h.2 g.2)
 
 pub joined_is_part : JoinedIsPart
@@ -328,8 +319,8 @@ lines_keep [] ps qs e f = refl
 lines_keep (s ∷ ss) [] qs e f = cc e
 lines_keep (s ∷ ss) (p ∷ ps) [] e f = cc f
 lines_keep (s ∷ ss) (p ∷ ps) (q ∷ qs) e f =
-    let a = and_both (has_shape s p) (have_shapes ss ps) e in
-    let b = and_both (has_shape s q) (have_shapes ss qs) f in
+    let a = both_true (has_shape s p) (have_shapes ss ps) e in
+    let b = both_true (has_shape s q) (have_shapes ss qs) f in
     ap₂ (λ x y. x && y) (line_keeps s p q a.0 b.0) (lines_keep ss ps qs a.1 b.1)
 
 pub joined_keeps_shape : JoinedKeepsShape
@@ -339,8 +330,8 @@ joined_keeps_shape (ss ∷ loops) (k ∷ ks) [] e f = cc f
 joined_keeps_shape (ss ∷ loops) (Faulted x ∷ ks) (l ∷ ls) e f = e
 joined_keeps_shape (ss ∷ loops) (Whole ps ∷ ks) (Faulted x ∷ ls) e f = f
 joined_keeps_shape (ss ∷ loops) (Whole ps ∷ ks) (Whole qs ∷ ls) e f =
-    let a = and_both (have_shapes ss ps) (are_loops loops ks) e in
-    let b = and_both (have_shapes ss qs) (are_loops loops ls) f in
+    let a = both_true (have_shapes ss ps) (are_loops loops ks) e in
+    let b = both_true (have_shapes ss qs) (are_loops loops ls) f in
     ap₂ (λ x y. x && y) (lines_keep ss ps qs a.0 b.0) (joined_keeps_shape loops ks ls a.1 b.1)
 
 -- the part of two is followed by what follows the second

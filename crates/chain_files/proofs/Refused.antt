@@ -6,13 +6,13 @@ use Rattle.shard_lines.specs.Reading.{words_in}
 use Rattle.shard_lines.proofs.Runs.{joins}
 use Rattle.shard_files.specs.Endless.{Endless}
 use Rattle.shard_files.proofs.Splitting.{ends_same, joined_again, no_line}
-use Rattle.chain_files.specs.Reading.{part_line_of, part_of, step, step_on}
-use Rattle.chain_files.specs.Parts.{Begins, BreaksAt, IsAll, IsPartText, part_lines, line_text, lines_text, words_of}
+use Rattle.chain_files.specs.Reading.{part_line_of, step, step_on}
+use Rattle.chain_files.specs.Parts.{Begins, BreaksAt, IsAll, line_text, lines_text, words_of}
 use Rattle.chain_files.specs.declared.part_line.PartLine.{PartLine}
 use Rattle.chain_files.specs.declared.progress.Progress.{Progress}
 use Rattle.chain_files.specs.declared.progress.Stage.TheVariants as at
 use Rattle.chain_files.proofs.PartLines.{FitsPartLine, part_reads, part_says}
-use Rattle.chain_files.proofs.Following.{IsProgress, begins, ended_lines, follows, lines_so_far}
+use Rattle.chain_files.proofs.Following.{IsProgress, begins, follows, lines_so_far}
 use Rattle.chain_files.proofs.Running.{agrees, ended, run, runs_on, start}
 use Rattle.chain_files.proofs.Splitting.{endless_line, fit_front, fit_last, found_again, lines_fit, text_is}
 
@@ -23,9 +23,6 @@ pub record Read (bytes : List ℕ) (p : Progress) (rest : List ℕ) (number : �
   pub holds : IsProgress p
   pub count : length (lines_so_far p) + 1 ≡ number
   pub room : number + length rest ≤ length bytes + 1
-
-pub read_nothing : (bytes : List ℕ) → Read bytes start bytes 1
-read_nothing bytes = record { text = refl; ran = refl; holds = (refl, (refl, refl)); count = refl; room = omega arith }
 
 lines_push : (ls : List PartLine) (l : PartLine) → lines_text (ls ++ l ∷ []) ≡ lines_text ls ++ line_text l
 lines_push ls l = joins line_text ls (l ∷ []) ∙ ap (λ t. lines_text ls ++ t) (append-nil (line_text l))
@@ -96,12 +93,6 @@ module _ (bytes : List ℕ) (p : Progress) (rest : List ℕ) (number : ℕ) (so 
           let goes : Some p ≡ Some (ended all.part all.part.loops) = agrees (lines_so_far p) [] p all.part so.ran all.valid (all.lines ∙ sym (append-nil (lines_so_far p))) in
           let same : p ≡ ended all.part all.part.loops = cc goes in
           ap (λ (q : Progress). q.stage) same
-
-  pub read_whole : rest ≡ [] → p.stage ≡ at.Ended → IsPartText bytes (part_of p)
-  read_whole none over =
-      let lines = ended_lines p over so.holds in
-      let text : lines_text (part_lines (part_of p)) ≡ bytes = ap lines_text lines.1 ∙ sym (append-nil (lines_text (lines_so_far p))) ∙ ap (λ t. lines_text (lines_so_far p) ++ t) (sym none) ∙ sym so.text in
-      record { text = text; valid = lines.0 }
 
 pub unended : (b : Bool) (P : Type 0) → IsTrue b ↔ P → b ≡ false → P → ⊥
 unended true P h e p = cc e

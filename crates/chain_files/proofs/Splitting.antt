@@ -3,6 +3,7 @@ use Rattle.std.proofs.Common.{◌≡◌, ◌≢◌, ◌≤◌, ◌<◌, ◌*◌,
 use Rattle.std.specs.Prelude.{nat_eq}
 use Rattle.std.specs.List.{list_all}
 use Rattle.std.proofs.lemmas.Bool.Decides.{nat_tests}
+use Rattle.lemmas.proofs.Booleans.{and_left, and_right}
 use Rattle.rdf_values.specs.Names.{is_name}
 use Rattle.rdf_values.specs.Tables.{AreColumns}
 use Rattle.rdf_values.specs.declared.column.Column.{Column}
@@ -12,7 +13,7 @@ use Rattle.shard_lines.specs.declared.shard_line.ShardLine.{ShardLine}
 use Rattle.shard_lines.proofs.Plain.{AllPlain, Plain, decimal_plain, line_plain, line_some, words_found, written}
 use Rattle.shard_files.specs.Endless.{Endless}
 use Rattle.shard_files.specs.Shards.{fault_number}
-use Rattle.shard_files.proofs.Splitting.{and_first, and_second, ends_same, endless_words, kind_plain, name_plain}
+use Rattle.shard_files.proofs.Splitting.{ends_same, endless_words, kind_plain, name_plain}
 use Rattle.chain_files.specs.Parts.{FitLoops, IsPart, PartView, is_digest, is_hex, line_text, lines_text, loop_lines, part_limits, part_lines, words_of}
 use Rattle.chain_files.specs.declared.part_line.PartLine.{PartLine}
 use Rattle.chain_files.specs.declared.part_line.PartLine.TheVariants as on
@@ -28,10 +29,10 @@ hex_plain b e = grind (arith, nat_tests)
 
 hexes_plain : (bs : List ℕ) → list_all is_hex bs ≡ true → Plain bs
 hexes_plain [] h = tt
-hexes_plain (b ∷ bs) h = (hex_plain b (and_first (is_hex b) (list_all is_hex bs) h), hexes_plain bs (and_second (is_hex b) (list_all is_hex bs) h))
+hexes_plain (b ∷ bs) h = (hex_plain b (and_left (is_hex b) (list_all is_hex bs) h), hexes_plain bs (and_right (is_hex b) (list_all is_hex bs) h))
 
 digest_plain : (w : List ℕ) → is_digest w ≡ true → Plain w
-digest_plain w h = hexes_plain w (and_second (nat_eq (length w) 16) (list_all is_hex w) h)
+digest_plain w h = hexes_plain w (and_right (nat_eq (length w) 16) (list_all is_hex w) h)
 
 part_plain : (l : PartLine) → FitsPartLine l → AllPlain (words_of l)
 part_plain on.Version h = (written (codes "rdfpart") refl, (written (codes "1") refl, tt))
@@ -111,7 +112,7 @@ fit_last (m ∷ ls) l f = fit_last ls l f.1
 columns_fit : (seen cs : List Column) → AreColumns seen cs → list_all (λ (c : Column). is_name c.name) cs ≡ true → AllFit (map on.Column cs)
 columns_fit seen [] a h = tt
 columns_fit seen (c ∷ cs) a h =
-    ((and_first (is_name c.name) (list_all (λ (d : Column). is_name d.name) cs) h, a.1), columns_fit (seen ++ c ∷ []) cs a.2 (and_second (is_name c.name) (list_all (λ (d : Column). is_name d.name) cs) h))
+    ((and_left (is_name c.name) (list_all (λ (d : Column). is_name d.name) cs) h, a.1), columns_fit (seen ++ c ∷ []) cs a.2 (and_right (is_name c.name) (list_all (λ (d : Column). is_name d.name) cs) h))
 
 module _ (first end n : ℕ) (low : end ≤ 16777216) (few : n ≤ 16777216000000) where
   passes_fit : (ls : List ShardLine) → FitLines (part_limits n) ls → AllFit (map on.Pass ls)

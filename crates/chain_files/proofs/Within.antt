@@ -3,7 +3,9 @@ use Rattle.std.proofs.Common.{◌≡◌, ◌≤◌, ◌*◌, ◌^◌, ℕ, ℤ, 
 use Rattle.std.specs.Prelude.{nat_abs, nat_le}
 use Rattle.std.specs.List.{list_all}
 use Rattle.std.proofs.lemmas.Bool.Decides.{nat_tests}
-use Rattle.filters_report.specs.declared.flow.Counts.{Counts}
+use Rattle.lemmas.proofs.Booleans.{both_true}
+use Rattle.lemmas.proofs.Orders.{le_says, le_true}
+use Rattle.loop_pieces.specs.declared.flow.Counts.{Counts}
 use Rattle.histograms.specs.declared.cell_sum.CellSum.{CellSum}
 use Rattle.shard_lines.specs.Lines.{EachFits, FitLines, FitsCell, FitsCount, FitsLine}
 use Rattle.shard_lines.specs.declared.shard_line.ShardLine.{ShardLine}
@@ -11,19 +13,9 @@ use Rattle.shard_lines.specs.declared.shard_line.ShardLine.TheVariants as pass
 use Rattle.chain_files.specs.Parts.{part_limits, widest}
 use Rattle.chain_files.specs.Reading.{is_cell_within, is_count_within, is_within}
 
-le_true : (a b : ℕ) → a ≤ b → nat_le a b ≡ true
-le_true a b h = grind (arith, nat_tests)
-
-le_says : (a b : ℕ) → nat_le a b ≡ true → a ≤ b
-le_says a b h = grind (arith, nat_tests)
-
-and_says : (a b : Bool) → (a && b) ≡ true → (a ≡ true) × (b ≡ true)
-and_says true b h = (refl, h)
-and_says false b h = cc h
-
 all_says : {A : Type 0} (test : A → Bool) (Fits : A → Type 0) (xs : List A) → ((x : A) → test x ≡ true → Fits x) → list_all test xs ≡ true → EachFits Fits xs
 all_says test Fits [] f h = tt
-all_says test Fits (x ∷ xs) f h = let both = and_says (test x) (list_all test xs) h in (f x both.0, all_says test Fits xs f both.1)
+all_says test Fits (x ∷ xs) f h = let both = both_true (test x) (list_all test xs) h in (f x both.0, all_says test Fits xs f both.1)
 
 all_true : {A : Type 0} (test : A → Bool) (Fits : A → Type 0) (xs : List A) → ((x : A) → Fits x → test x ≡ true) → EachFits Fits xs → list_all test xs ≡ true
 all_true test Fits [] f h = refl
@@ -65,12 +57,12 @@ within_says n (pass.Cells cs) f h = all_says (is_cell_within n) (FitsCell (part_
   where
     cell : (c : CellSum) → is_cell_within n c ≡ true → FitsCell (part_limits n) c
     cell c t =
-        let both = and_says (nat_le (nat_abs c.sum) (n * 2 ^ 43)) (nat_le (nat_abs c.squares) (n * 2 ^ 74)) t in
+        let both = both_true (nat_le (nat_abs c.sum) (n * 2 ^ 43)) (nat_le (nat_abs c.squares) (n * 2 ^ 74)) t in
         (le_says (nat_abs c.sum) (n * 2 ^ 43) both.0, le_says (nat_abs c.squares) (n * 2 ^ 74) both.1)
 within_says n (pass.Report cs) f h = all_says (is_count_within n) (FitsCount (part_limits n)) cs count h
   where
     count : (c : Counts) → is_count_within n c ≡ true → FitsCount (part_limits n) c
-    count c t = let both = and_says (nat_le c.all n) (nat_le c.pass n) t in (le_says c.all n both.0, le_says c.pass n both.1)
+    count c t = let both = both_true (nat_le c.all n) (nat_le c.pass n) t in (le_says c.all n both.0, le_says c.pass n both.1)
 
 pub is_within_true : (n : ℕ) (l : ShardLine) → FitsLine (part_limits n) l → is_within n l ≡ true
 is_within_true n (pass.Count k) h = le_true k n h

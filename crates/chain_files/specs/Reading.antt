@@ -5,7 +5,7 @@ use Rattle.rdf_values.specs.Integers.{magnitude_of}
 use Rattle.rdf_values.specs.Names.{same}
 use Rattle.rdf_values.specs.Tables.{has_name}
 use Rattle.rdf_values.specs.declared.fault.EntryFault.{EntryFault}
-use Rattle.filters_report.specs.declared.flow.Counts.{Counts}
+use Rattle.loop_pieces.specs.declared.flow.Counts.{Counts}
 use Rattle.histograms.specs.declared.cell_sum.CellSum.{CellSum}
 use Rattle.shard_lines.specs.Reading.{both_of, line_of_words, lone}
 use Rattle.shard_lines.specs.declared.shard_line.ShardLine.{ShardLine}

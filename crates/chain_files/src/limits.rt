@@ -5,8 +5,8 @@ ghost use Rattle.chain_files.specs.Parts.{is_digest, is_hex, widest};
 ghost use Rattle.chain_files.specs.Reading.{is_cell_within, is_count_within, is_small, is_within};
 ghost use Rattle.shard_lines.specs.Lines.{AreLimits};
 
-use filters_report::Counts;
 use histograms::CellSum;
+use loop_pieces::Counts;
 use shard_lines::{LineLimits, ShardLine};
 
 /// How many entries the longest chain has.

@@ -7,6 +7,8 @@ use Rattle.std.proofs.lemmas.Bool.{le-ltb}
 use Rattle.std.proofs.lemmas.Bool.Decides.{nat_tests}
 use Rattle.std.proofs.lemmas.List.{length-map}
 use Rattle.std.proofs.lemmas.List.Elements.{All-from_recursion, recursion_from_All}
+use Rattle.lemmas.proofs.Orders.{le_true, lt_not}
+use Rattle.lemmas.proofs.Parts.{range_length}
 use Rattle.rdf_values.specs.Functions.{Function, fn_names}
 use Rattle.rdf_values.specs.RefusalLines.{graph_cause_line, long_table_line, table_cause_line}
 use Rattle.rdf_values.specs.TableText.{MarkedTable, table_of}
@@ -18,7 +20,6 @@ use Rattle.rdf_values.specs.declared.span.Span.{Span}
 use Rattle.rdf_values.specs.declared.table_cause.TableCause.{TableCause}
 use Rattle.rdf_values.specs.declared.value.Value.{Value}
 use Rattle.table_csv.specs.Csv.{csv_records}
-use Rattle.loop_pieces.proofs.Places.{range_length}
 use Rattle.shard_runs.specs.Laws.{IsChecked}
 use Rattle.graph_shapes.specs.GraphShapes.{graph_shapes, pass_kind}
 use Rattle.input_files.specs.Due.{WithFile, due_of, max_table}
@@ -118,12 +119,6 @@ module _ (P : PartView → Type 0) where
   all_in_order (s ∷ ss) h = placed_all s (in_order ss) h.0 (all_in_order ss h.1)
 
 -- ---- numbers
-
-lt_not : (a b : ℕ) → nat_lt a b ≡ false → b ≤ a
-lt_not a b h = grind (arith, nat_tests)
-
-le_true : (a b : ℕ) → a ≤ b → nat_le a b ≡ true
-le_true a b h = grind (arith, nat_tests)
 
 not_longer : (n : ℕ) → nat_lt max_part n ≡ false → nat_lt max_parts (0 + n) ≡ false
 not_longer n h = (let few = lt_not max_part n h in le-ltb max_parts (0 + n) (omega (arith, few)))

@@ -1,9 +1,10 @@
 -- The loops of a graph over a table, one after another.
 use Rattle.std.proofs.Common.{◌≡◌, ℕ, ◌+◌, ◌<◌, ◌≤◌, true, false, List, [], ◌∷◌, ◌++◌, length, drop, refl, sym, ap, ◌∙◌, append-nil, append_assoc}
+use Rattle.lemmas.proofs.Parts.{none_left}
 use Rattle.rdf_values.specs.declared.script.Script.{Script}
 use Rattle.shard_spans.specs.Spans.{loops_of}
 use Rattle.shard_loop.specs.LoopSpans.{loop_in}
-use Rattle.shard_loop.proofs.Looping.{all_dropped, loop_there, one_left}
+use Rattle.shard_loop.proofs.Looping.{loop_there, one_left}
 use Rattle.chain_files.specs.Joining.{is_faulty, up_to_fault}
 use Rattle.chain_files.specs.declared.part_loop.PartLoop.{PartLoop}
 use Rattle.chain_files.specs.declared.part_loop.PartLoop.TheVariants.{Whole, Faulted}
@@ -40,4 +41,4 @@ module _ (c : Chain) (file : ℕ) (script : Script) where
       pushed ∙ sym (ap (λ l. all ++ l) (left n one lt is ∙ after_fault one (chain_loops c file (drop (n + 1) (loops_of script))) faulty)) ∙ h
 
   pub no_loop_left : (n : ℕ) (all : List PartLoop) → length (loops_of script) ≤ n → IsUpToLoop n all → all ≡ chain_loops c file (loops_of script)
-  no_loop_left n all le h = sym (append-nil all) ∙ sym (ap (λ l. all ++ chain_loops c file l) (all_dropped (loops_of script) n le)) ∙ h
+  no_loop_left n all le h = sym (append-nil all) ∙ sym (ap (λ l. all ++ chain_loops c file l) (none_left (loops_of script) n le)) ∙ h

@@ -11,7 +11,7 @@ use Rattle.rdf_values.proofs.Leading.{cuts_lead}
 use Rattle.rdf_model.specs.PartialResults.{over_clusters}
 use Rattle.rdf_model.specs.Results.{Dataset, first_fault}
 use Rattle.loop_keys.specs.Jobs.{IsJob, JobView, passes_in}
-use Rattle.pass_laws.specs.Entries.{facts_in, job_spans}
+use Rattle.loop_keys.specs.Entries.{facts_in, job_spans}
 use Rattle.loop_pieces.specs.LoopPieces.{StandsFor}
 use Rattle.loop_pieces.specs.Whole.{cluster_fault}
 use Rattle.loop_pieces.specs.declared.loop_piece.LoopPiece.{LoopPiece}

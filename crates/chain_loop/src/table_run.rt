@@ -1,7 +1,7 @@
 // One table of a chain.
 use columns::Columns;
 use entry_fns::FnList;
-use node_graph::Graph;
+use graph::Graph;
 
 /// A graph over the columns of one table, which is that file of the chain; so many slots share its clusters out.
 #[derive(Clone, Copy)]

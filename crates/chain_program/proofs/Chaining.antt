@@ -6,6 +6,7 @@ use Rattle.std.specs.List.{AllByRecursion, list_all}
 use Rattle.std.proofs.lemmas.List.{length-append, length-map, map-append}
 use Rattle.std.proofs.lemmas.List.Elements.{All-from_recursion}
 use Rattle.std.proofs.lemmas.Slice.Eq.{bytes_eq-Decides}
+use Rattle.lemmas.proofs.Booleans.{both_true}
 use Rattle.rdf_values.specs.Functions.{Function, fn_names}
 use Rattle.rdf_values.specs.Names.{is_name, same}
 use Rattle.rdf_values.specs.Path.{history}
@@ -50,14 +51,10 @@ use Rattle.chain_program.specs.TableFiles.{AreRun, IsBookedOver, IsFirstOf, IsNe
 use Rattle.chain_program.specs.declared.answer.Answer.{Answer}
 use Rattle.chain_program.specs.declared.booking.Booked.{Booked}
 use Rattle.chain_program.specs.declared.first_table.FirstTable.{FirstTable}
-use Rattle.chain_program.proofs.Staging.{accepted_goes, accepted_stops, all_told, both_told, each_told, from_told, goes_on, if_true, of_files, table_goes, table_instead}
+use Rattle.chain_program.proofs.Staging.{accepted_goes, all_told, both_told, each_told, from_told, goes_on, if_true, of_files, table_goes, table_instead}
 use Rattle.chain_program.proofs.Turning.{left_from, none_from}
 
 -- ---- columns that are the same
-
-and_both : (a b : Bool) → (a && b) ≡ true → (a ≡ true) × (b ≡ true)
-and_both true b h = (refl, h)
-and_both false b h = cc h
 
 kinds_equal : (a b : ColType) → same_kind a b ≡ true → a ≡ b
 kinds_equal k.Int k.Int h = refl
@@ -72,14 +69,14 @@ kinds_equal k.Vect k.Vect h = refl
 
 column_equal : (c d : Column) → same_column c d ≡ true → c ≡ d
 column_equal c d h =
-    let both = and_both (same c.name d.name) (same_kind c.kind d.kind) h in
+    let both = both_true (same c.name d.name) (same_kind c.kind d.kind) h in
     ap₂ (λ n t. record { name = n; kind = t }) ((bytes_eq-Decides c.name d.name).0 both.0) (kinds_equal c.kind d.kind both.1)
 
 pub columns_equal : (cs ds : List Column) → same_columns cs ds ≡ true → cs ≡ ds
 columns_equal [] [] h = refl
 columns_equal [] (d ∷ ds) h = cc h
 columns_equal (c ∷ cs) [] h = cc h
-columns_equal (c ∷ cs) (d ∷ ds) h = let both = and_both (same_column c d) (same_columns cs ds) h in ap₂ (λ x xs. x ∷ xs) (column_equal c d both.0) (columns_equal cs ds both.1)
+columns_equal (c ∷ cs) (d ∷ ds) h = let both = both_true (same_column c d) (same_columns cs ds) h in ap₂ (λ x xs. x ∷ xs) (column_equal c d both.0) (columns_equal cs ds both.1)
 
 -- the rows of a table
 abbrev rows_in : MarkedTable → List (List Value)
@@ -133,15 +130,6 @@ module _ (fns : List Function) (script : Script) where
     due = from_told told name (HoldsTheTable t) (λ files. (d : ChainDue) → WithTables files t.table.columns (t ∷ []) (drop 1 names) (IsRunEnd fns script t.table.columns) d → IsRunOver fns script names files d) hold
         (λ files h d next. first_goes files names name t d at h over.accepted next);
   }
-
-  -- the answer where the first table is refused
-  pub first_stops : (files : Files) (names : List (List ℕ)) (name : List ℕ) (d : ChainDue) → slice_get names 0 ≡ Some name → WithTableFile files name (λ t e. WithAccepted fns script t.table.columns (λ g. ⊥) e) d → IsRunOver fns script names files d
-  first_stops files [] name d at h = absurd (cc at)
-  first_stops files (first ∷ names) name d at h =
-      let same : first ≡ name = cc at in
-      table_instead files first (λ t e. WithAccepted fns script t.table.columns (λ g. ⊥) e) (λ u e. WithAccepted fns script u.table.columns (λ g. WithTables files u.table.columns (u ∷ []) names (IsRunEnd fns script u.table.columns) g) e) d
-      (λ t e. accepted_stops fns script t.table.columns (λ g. WithTables files t.table.columns (t ∷ []) names (IsRunEnd fns script t.table.columns) g) d e)
-      (subst (λ n. WithTableFile files n (λ t e. WithAccepted fns script t.table.columns (λ g. ⊥) e) d) (sym same) h)
 
   -- ---- one table more
 

@@ -1,35 +1,27 @@
 -- Parts of a script, joined or printed.
-use Rattle.std.proofs.Common.{◌≡◌, ◌<◌, ◌+◌, ℕ, suc, Bool, true, false, ◌&&◌, cond, Option, None, Some, List, [], ◌∷◌, length, refl, ap, ap₂, ◌∙◌, sym, subst, arith}
-use Rattle.std.specs.Prelude.{MatchOption, not, position, slice_get}
+use Rattle.std.proofs.Common.{◌≡◌, ◌<◌, ◌+◌, ℕ, suc, Bool, true, false, ◌&&◌, cond, None, Some, List, [], ◌∷◌, length, refl, ap, ap₂, ◌∙◌, sym, subst, arith}
+use Rattle.std.specs.Prelude.{not, position, slice_get}
 use Rattle.std.specs.List.{AllByRecursion, list_all, position_from}
 use Rattle.std.proofs.lemmas.Iterator.Adapters.{position_from-zero}
+use Rattle.lemmas.proofs.Booleans.{both_true}
 use Rattle.rdf_values.specs.Functions.{Function}
 use Rattle.rdf_values.specs.Names.{same}
 use Rattle.rdf_values.specs.declared.column.Column.{Column}
 use Rattle.rdf_values.specs.declared.script.Script.{Script}
 use Rattle.graph_numbers.specs.Graphs.{GraphView}
-use Rattle.shard_lines.specs.declared.pass_shape.PassShape.{PassShape}
 use Rattle.shard_files.specs.Merging.{same_columns}
 use Rattle.graph_shapes.specs.GraphShapes.{graph_shapes, pass_kind}
-use Rattle.input_files.specs.Due.{due_of}
-use Rattle.chain_files.specs.Covering.{first_uncovered, in_order, not_behind, placed}
+use Rattle.chain_files.specs.Covering.{in_order, not_behind, placed}
 use Rattle.chain_files.specs.Digests.{digest_of}
-use Rattle.chain_files.specs.Joining.{CanJoinAll, are_loops, joined_parts}
-use Rattle.chain_files.specs.Laws.{AcceptedCanJoin}
-use Rattle.chain_files.specs.Parts.{IsPart, PartView, part_text}
+use Rattle.chain_files.specs.Joining.{are_loops}
+use Rattle.chain_files.specs.Parts.{IsPart, PartView}
 use Rattle.chain_files.specs.Refusing.{first_misshapen, is_of}
 use Rattle.chain_text.specs.ChainPrints.{FitGraph}
 use Rattle.chain_text.proofs.Fitting.{shaped_loops_fit}
-use Rattle.chain_due.specs.Due.{ChainDue, IsEachPrinted, IsJoined, IsText, graph_over}
-use Rattle.chain_due.specs.Lines.{uncovered_line}
-use Rattle.chain_due.specs.declared.status.ChainStatus.TheVariants.{Done, NotCovered}
+use Rattle.chain_due.specs.Due.{ChainDue, IsEachPrinted, IsJoined, graph_over}
 use Rattle.chain_program.specs.PartFiles.{AllFitScript, AreJoinable, CanPrint, IsJoinedBy, IsPrintedBy}
 use Rattle.chain_program.specs.declared.fitting.Fitting.{Fitting}
 use Rattle.chain_program.proofs.Chaining.{columns_equal}
-
-and_both : (a b : Bool) → (a && b) ≡ true → (a ≡ true) × (b ≡ true)
-and_both true b h = (refl, h)
-and_both false b h = cc h
 
 -- ---- all parts pass a test
 
@@ -47,7 +39,7 @@ module _ (test : PartView → Bool) where
 
   placed_pass : (s : PartView) (ts : List PartView) → test s ≡ true → list_all test ts ≡ true → list_all test (placed s ts) ≡ true
   placed_pass s [] h g = ap₂ (λ x y. x && y) h g
-  placed_pass s (t ∷ ts) h g = let both = and_both (test t) (list_all test ts) g in by (not_behind s t) both.0 (placed_pass s ts h both.1)
+  placed_pass s (t ∷ ts) h g = let both = both_true (test t) (list_all test ts) g in by (not_behind s t) both.0 (placed_pass s ts h both.1)
     where
       by : (b : Bool) → test t ≡ true → list_all test (placed s ts) ≡ true → list_all test (cond b (s ∷ t ∷ ts) (t ∷ placed s ts)) ≡ true
       by true p q = ap₂ (λ x y. x && y) h g
@@ -55,7 +47,7 @@ module _ (test : PartView → Bool) where
 
   in_order_pass : (ss : List PartView) → list_all test ss ≡ true → list_all test (in_order ss) ≡ true
   in_order_pass [] h = refl
-  in_order_pass (s ∷ ss) h = let both = and_both (test s) (list_all test ss) h in placed_pass s (in_order ss) both.0 (in_order_pass ss both.1)
+  in_order_pass (s ∷ ss) h = let both = both_true (test s) (list_all test ss) h in placed_pass s (in_order ss) both.0 (in_order_pass ss both.1)
 
 -- ---- as many in order
 
@@ -76,28 +68,6 @@ in_order_many (s ∷ ss) = placed_many s (in_order ss) ∙ ap suc (in_order_many
 pub some_in_order : (f : Fitting) (parts sorted : List PartView) → AreJoinable f parts → sorted ≡ in_order parts → 0 < length sorted
 some_in_order f parts sorted h e = (let some = h.some in let many : length sorted ≡ length parts = ap length e ∙ in_order_many parts in omega arith)
 
--- parts that nothing refuses can be joined
-pub can_join : AcceptedCanJoin → (f : Fitting) (parts : List PartView) (first : PartView) (others : List PartView) → AreJoinable f parts → in_order parts ≡ first ∷ others → first_uncovered (first ∷ others) ≡ None → CanJoinAll f.shapes first others
-can_join law f [] first others h e covered = (let some = h.some in absurd (omega arith))
-can_join law f (s ∷ ss) first others h e covered = law f.shapes h.script s ss first others h.alike h.shaped e covered
-
--- the answer to joined parts
-pub joined_due : (shapes : List (List PassShape)) (parts : List PartView) (first : PartView) (others : List PartView) (d : ChainDue) → in_order parts ≡ first ∷ others → first_uncovered (first ∷ others) ≡ None
-    → IsText Done (part_text (joined_parts shapes first others)) d → IsJoinedBy shapes (in_order parts) d
-joined_due shapes parts first others d e covered h = subst (λ ss. IsJoinedBy shapes ss d) (sym e) (go (first_uncovered (first ∷ others)) covered)
-  where
-    go : (o : Option ℕ) → o ≡ None → MatchOption o (IsText Done (part_text (joined_parts shapes first others)) d) (λ file. d ≡ due_of NotCovered (uncovered_line file))
-    go None q = h
-    go (Some file) q = absurd (cc q)
-
-pub uncovered_due : (shapes : List (List PassShape)) (sorted : List PartView) (file : ℕ) (d : ChainDue) → 0 < length sorted → first_uncovered sorted ≡ Some file → d ≡ due_of NotCovered (uncovered_line file) → IsJoinedBy shapes sorted d
-uncovered_due shapes [] file d some e h = absurd (omega arith)
-uncovered_due shapes (first ∷ others) file d some e h = go (first_uncovered (first ∷ others)) e
-  where
-    go : (o : Option ℕ) → o ≡ Some file → MatchOption o (IsText Done (part_text (joined_parts shapes first others)) d) (λ file. d ≡ due_of NotCovered (uncovered_line file))
-    go None q = absurd (cc q)
-    go (Some other) q = h ∙ ap (λ n. due_of NotCovered (uncovered_line n)) (sym (let same : other ≡ file = cc q in same))
-
 module _ (fns : List Function) (bytes : List ℕ) (script : Script) where
   pub joinable : (parts : List PartView) (f : Fitting) → AllFitScript fns bytes script parts f → AreJoinable f parts
   joinable [] f h = absurd h
@@ -115,8 +85,8 @@ module _ (fns : List Function) (bytes : List ℕ) (script : Script) where
       go : (sorted : List PartView) → list_all (is_of (digest_of bytes) first.columns) sorted ≡ true → IsJoinedBy f.shapes sorted d → IsJoined fns script sorted d
       go [] p k = k
       go (s ∷ ss) p k =
-          let one = and_both (is_of (digest_of bytes) first.columns s) (list_all (is_of (digest_of bytes) first.columns) ss) p in
-          let head = and_both (same s.script (digest_of bytes)) (same_columns s.columns first.columns) one.0 in
+          let one = both_true (is_of (digest_of bytes) first.columns s) (list_all (is_of (digest_of bytes) first.columns) ss) p in
+          let head = both_true (same s.script (digest_of bytes)) (same_columns s.columns first.columns) one.0 in
           let shapes : f.shapes ≡ graph_shapes (graph_over fns script s.columns) = h.shapes ∙ ap (λ (cs : List Column). graph_shapes (graph_over fns script cs)) (sym (columns_equal s.columns first.columns head.1)) in
           subst (λ l. IsJoinedBy l (s ∷ ss) d) shapes k
 
@@ -128,7 +98,7 @@ module _ (fns : List Function) (bytes : List ℕ) (script : Script) where
       go : AllByRecursion IsPart (part ∷ []) → AllFitScript fns bytes script (part ∷ []) f → CanPrint f.graph part
       go v k =
           let shaped = all_pass (λ (s : PartView). are_loops (graph_shapes (graph_over fns script part.columns)) s.loops) (part ∷ []) k.shaped in
-          let one = and_both (are_loops (graph_shapes (graph_over fns script part.columns)) part.loops) true shaped in
+          let one = both_true (are_loops (graph_shapes (graph_over fns script part.columns)) part.loops) true shaped in
           (v.0, subst (λ (g : GraphView). are_loops (graph_shapes g) part.loops ≡ true) (sym k.graph) one.0)
 
   pub printed_is_due : (parts : List PartView) (part : PartView) (f : Fitting) (count : ℕ) (d : ChainDue) → parts ≡ part ∷ [] → AllFitScript fns bytes script parts f → IsPrintedBy f.graph count part d → IsEachPrinted fns script count parts d

@@ -13,7 +13,7 @@ use Rattle.chain_files.specs.Digests.{digest_of}
 use Rattle.chain_files.specs.Parts.{IsPart, PartView, part_text}
 use Rattle.chain_runs.specs.Chains.{chain_part}
 use Rattle.chain_runs.proofs.Parts.{chains_are_part}
-use Rattle.chain_due.specs.Due.{ChainDue, Files, IsMapDue, IsText, WithAccepted, WithTableFile, chain_of}
+use Rattle.chain_due.specs.Due.{Files, IsMapDue, IsText, WithAccepted, chain_of}
 use Rattle.chain_due.specs.declared.status.ChainStatus.{ChainStatus}
 use Rattle.chain_due.specs.declared.status.ChainStatus.TheVariants.{Done, TooLong}
 use Rattle.chain_program.specs.Answers.{IsAnswer, IsOfFiles}
@@ -22,7 +22,7 @@ use Rattle.chain_program.specs.declared.answer.Answer.{Answer}
 use Rattle.chain_program.specs.declared.first_table.FirstTable.{FirstTable}
 use Rattle.chain_program.proofs.Chaining.{checked}
 use Rattle.chain_program.proofs.Refusing.{of_table}
-use Rattle.chain_program.proofs.Staging.{accepted_goes, accepted_stops, all_told, of_files, stands, table_instead}
+use Rattle.chain_program.proofs.Staging.{accepted_goes, of_files}
 
 -- a bounded text has a status that is due
 pub text_status : (a : Answer) (status : ChainStatus) → IsOfFiles status → (a.status ≡ status) ⊎ (a.status ≡ TooLong) → IsOfFiles a.status
@@ -45,15 +45,6 @@ module _ (fns : List Function) (bytes : List ℕ) (script : Script) (number : �
       chains_are_part bytes script (chain_of fns t.table.columns (t ∷ [])) number
       (checked fns script t.table.columns (record { accepted = over.accepted; words = words; answers = answers; named = over.named }) (t ∷ []) ((over.table, refl), tt))
       (omega arith) (omega (arith, few))
-
-  -- the first table is refused
-  pub no_map : (told : Option Files) (name : List ℕ) (turns : List (List ℕ)) (f0 f1 : ℕ) (a : Answer) → IsAnswer (λ files d. WithTableFile files name (λ t e. WithAccepted fns script t.table.columns (λ g. ⊥) e) d) told turns f0 f1 a
-      → IsAnswer (IsMapDue fns bytes script number name) told turns f0 f1 a
-  no_map told name turns f0 f1 a h =
-      stands told turns f0 f1 a (λ files d. WithTableFile files name (λ t e. WithAccepted fns script t.table.columns (λ g. ⊥) e) d) (IsMapDue fns bytes script number name)
-      (all_told told (λ files. (d : ChainDue) → WithTableFile files name (λ t e. WithAccepted fns script t.table.columns (λ g. ⊥) e) d → IsMapDue fns bytes script number name files d)
-      (λ files d e. table_instead files name (λ t k. WithAccepted fns script t.table.columns (λ g. ⊥) k) (λ t k. WithAccepted fns script t.table.columns (λ g. IsText Done (part_text (part_of t)) g) k) d
-      (λ t k. accepted_stops fns script t.table.columns (λ g. IsText Done (part_text (part_of t)) g) d k) e)) h
 
   -- the text of the part
   pub map_due : (told : Option Files) (name : List ℕ) (turns : List (List ℕ)) (f0 f1 : ℕ) (a : Answer) (t : MarkedTable) (f : FirstTable) (part : PartView) (text : List ℕ) → Tells told name (HoldsTheTable t) → IsOver fns script number t f

@@ -28,7 +28,7 @@ use Rattle.chain_program.specs.Turns.{HoldsPart, IsPartFile}
 use Rattle.chain_program.specs.declared.answer.Answer.{Answer}
 use Rattle.chain_program.specs.declared.fitting.Fitting.{Fitting}
 use Rattle.chain_program.specs.declared.parts.PartFile.{PartFile}
-use Rattle.chain_program.proofs.Staging.{accepted_goes, accepted_stops, all_told, as_due, both_told, each_told, from_told, goes_on, of_files}
+use Rattle.chain_program.proofs.Staging.{accepted_goes, accepted_stops, as_due, both_told, each_told, from_told, goes_on, of_files}
 use Rattle.chain_program.proofs.Turning.{left_from, none_from}
 
 -- ---- one part
@@ -70,15 +70,6 @@ is_part_file told name before p h = from_told told name (λ file. HoldsThePart p
     go (Some bytes) k = (p.part, k.1)
 
 -- ---- all parts
-
-pub begin_parts : (told : Option Files) (names : List (List ℕ)) → AreRead told names 0 0 []
-begin_parts told names = record {
-  many = refl;
-  few = omega arith;
-  valid = tt;
-  hold = all_told told (λ files. (more : List PartView) → HoldParts files 0 (drop 0 names) more → HoldParts files 0 names ([] ++ more)) (λ files more h. h);
-  due = all_told told (λ files. (d : ChainDue) → WithParts files 0 [] (drop 0 names) (λ ss e. ⊥) d → WithParts files 0 [] names (λ ss e. ⊥) d) (λ files d h. h);
-}
 
 all_more : (P : PartView → Type 0) (found : List PartView) (s : PartView) → AllByRecursion P found → P s → AllByRecursion P (found ++ s ∷ [])
 all_more P [] s h p = (p, tt)

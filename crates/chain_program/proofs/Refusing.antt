@@ -1,59 +1,30 @@
 -- Answers of the stages of tables and parts that refuse a file.
-use Rattle.std.proofs.Common.{◌≡◌, ℕ, false, List, [], ◌∷◌, Option, Some, ap, sym, ◌∙◌}
-use Rattle.std.specs.Prelude.{slice_get}
-use Rattle.std.specs.Bool.{MatchBool}
+use Rattle.std.proofs.Common.{◌≡◌, ℕ, List, [], ◌∷◌, Option, ◌∙◌}
 use Rattle.rdf_values.specs.Functions.{Function}
 use Rattle.rdf_values.specs.TableText.{MarkedTable}
-use Rattle.rdf_values.specs.declared.column.Column.{Column}
 use Rattle.rdf_values.specs.declared.script.Script.{Script}
-use Rattle.shard_files.specs.Merging.{same_columns}
 use Rattle.input_files.specs.Due.{due_of}
 use Rattle.input_files.specs.Fetching.{Tells}
 use Rattle.input_files.specs.Reading.{HoldsTheTable}
 use Rattle.chain_files.specs.Covering.{in_order}
 use Rattle.chain_files.specs.Parts.{PartView}
-use Rattle.chain_due.specs.Due.{ChainDue, Files, IsEachPrinted, IsJoinDue, IsJoined, IsPrintDue, IsRunOver, WithAccepted, WithFitting, WithParts, WithTableFile}
-use Rattle.chain_due.specs.Lines.{differs_line}
-use Rattle.chain_due.specs.declared.status.ChainStatus.TheVariants.{FilesDiffer}
+use Rattle.chain_due.specs.Due.{ChainDue, Files, IsEachPrinted, IsJoinDue, IsJoined, IsPrintDue, WithFitting, WithParts, WithTableFile}
 use Rattle.chain_program.specs.Answers.{Answers, IsAnswer}
 use Rattle.chain_program.specs.PartFiles.{AllFitScript, ArePartsOf, HoldParts, IsJoinedBy, IsPrintedBy}
 use Rattle.chain_program.specs.declared.answer.Answer.{Answer}
 use Rattle.chain_program.specs.declared.fitting.Fitting.{Fitting}
-use Rattle.chain_program.proofs.Chaining.{first_stops}
 use Rattle.chain_program.proofs.Joining.{joined_is_due, printed_is_due}
 use Rattle.chain_program.proofs.Parting.{fitting_goes, fitting_stops, parts_go, parts_stop}
-use Rattle.chain_program.proofs.Staging.{all_told, as_due, each_told, ends, from_told, if_false, of_files, stands, table_goes, table_stops}
+use Rattle.chain_program.proofs.Staging.{all_told, each_told, ends, from_told, stands, table_goes}
 
 module _ (told : Option Files) (name : List ℕ) (turns : List (List ℕ)) (f0 f1 : ℕ) (a : Answer) where
   -- ---- tables
-
-  -- no table, whatever would follow it
-  pub no_table : (Next : MarkedTable → ChainDue → Type 0) → IsAnswer (λ files d. WithTableFile files name (λ t e. ⊥) d) told turns f0 f1 a → IsAnswer (λ files d. WithTableFile files name Next d) told turns f0 f1 a
-  no_table Next h =
-      stands told turns f0 f1 a (λ files d. WithTableFile files name (λ t e. ⊥) d) (λ files d. WithTableFile files name Next d)
-      (all_told told (λ files. (d : ChainDue) → WithTableFile files name (λ t e. ⊥) d → WithTableFile files name Next d) (λ files d e. table_stops files name Next d e)) h
 
   -- a table, and an answer to it
   pub of_table : (t : MarkedTable) (Next : MarkedTable → ChainDue → Type 0) → Tells told name (HoldsTheTable t) → Answers (Next t) a → IsAnswer (λ files d. WithTableFile files name Next d) told turns f0 f1 a
   of_table t Next hold h =
       ends told turns f0 f1 a (Next t) (λ files d. WithTableFile files name Next d) h
       (from_told told name (HoldsTheTable t) (λ files. (d : ChainDue) → Next t d → WithTableFile files name Next d) hold (λ files k d next. table_goes files name t Next d k next))
-
-  -- a table with other columns
-  pub other_columns : (t : MarkedTable) (columns other : List Column) → Tells told name (HoldsTheTable t) → other ≡ t.table.columns → same_columns columns other ≡ false → a.status ≡ FilesDiffer → a.text ≡ differs_line name
-      → IsAnswer (λ files d. WithTableFile files name (λ u e. MatchBool (same_columns columns u.table.columns) ⊥ (e ≡ due_of FilesDiffer (differs_line name))) d) told turns f0 f1 a
-  other_columns t columns other hold same tested s l =
-      of_table t (λ u e. MatchBool (same_columns columns u.table.columns) ⊥ (e ≡ due_of FilesDiffer (differs_line name))) hold (
-        of_files a.status FilesDiffer tt s,
-        if_false (same_columns columns t.table.columns) ⊥ (due_of a.status a.text ≡ due_of FilesDiffer (differs_line name)) (ap (same_columns columns) (sym same) ∙ tested) (as_due a FilesDiffer (differs_line name) s l),
-      )
-
-  -- the first table is refused
-  pub no_run : (fns : List Function) (script : Script) (names : List (List ℕ)) → slice_get names 0 ≡ Some name → IsAnswer (λ files d. WithTableFile files name (λ t e. WithAccepted fns script t.table.columns (λ g. ⊥) e) d) told turns f0 f1 a
-      → IsAnswer (IsRunOver fns script names) told turns f0 f1 a
-  no_run fns script names at h =
-      stands told turns f0 f1 a (λ files d. WithTableFile files name (λ t e. WithAccepted fns script t.table.columns (λ g. ⊥) e) d) (IsRunOver fns script names)
-      (all_told told (λ files. (d : ChainDue) → WithTableFile files name (λ t e. WithAccepted fns script t.table.columns (λ g. ⊥) e) d → IsRunOver fns script names files d) (λ files d e. first_stops fns script files names name d at e)) h
 
 module _ (told : Option Files) (names : List (List ℕ)) (turns : List (List ℕ)) (f0 f1 : ℕ) (a : Answer) where
   -- ---- parts

@@ -5,7 +5,7 @@ use Rattle.std.specs.Bool.{MatchBool}
 use Rattle.std.proofs.lemmas.Bool.{le-ltb}
 use Rattle.rdf_outside.specs.Outside.{Rose}
 use Rattle.rdf_values.specs.Functions.{Function, fn_names}
-use Rattle.rdf_values.specs.RefusalLines.{graph_cause_line, long_script_line, long_table_line, no_file_line, read_failed_line, table_cause_line}
+use Rattle.rdf_values.specs.RefusalLines.{graph_cause_line, long_script_line, long_table_line, read_failed_line, table_cause_line}
 use Rattle.rdf_values.specs.Scripts.{IsScript}
 use Rattle.rdf_values.specs.TableText.{MarkedTable, table_of}
 use Rattle.rdf_values.specs.Verdict.{verdict}
@@ -15,13 +15,13 @@ use Rattle.rdf_values.specs.declared.script.Script.{Script}
 use Rattle.rdf_values.specs.declared.table_cause.TableCause.{TableCause}
 use Rattle.table_csv.specs.Csv.{csv_records}
 use Rattle.input_files.specs.Due.{ReadsScript, WithFile, WithScript, due_of, max_script, max_table}
-use Rattle.input_files.specs.Fetching.{IsLongerThan, Tells}
+use Rattle.input_files.specs.Fetching.{Tells}
 use Rattle.input_files.specs.Reading.{HoldsTheTable}
 use Rattle.chain_due.specs.Due.{ChainDue, Files, WithAccepted, WithTable, WithTableFile}
 use Rattle.chain_due.specs.Lines.{table_line}
 use Rattle.chain_due.specs.Statuses.{statuses}
 use Rattle.chain_due.specs.declared.status.ChainStatus.{ChainStatus}
-use Rattle.chain_due.specs.declared.status.ChainStatus.TheVariants.{NoFile, ReadFault, ScriptRefused, TableRefused}
+use Rattle.chain_due.specs.declared.status.ChainStatus.TheVariants.{ReadFault, ScriptRefused, TableRefused}
 use Rattle.chain_program.specs.Answers.{Answers, IsAnswer, IsOfFiles, IsUnread}
 use Rattle.chain_program.specs.Scripts.{HoldsTheText, WithText}
 use Rattle.chain_program.specs.declared.answer.Answer.{Answer}
@@ -72,47 +72,11 @@ as_due a status bytes s t = λ i. due_of (s i) (t i)
 pub unread : (turns before : List (List ℕ)) (f0 f1 : ℕ) (name : List ℕ) (a : Answer) → turns ≡ before ++ name ∷ [] → Rose f0 f1 → a.status ≡ ReadFault → a.text ≡ read_failed_line name → IsUnread turns f0 f1 a
 unread turns before f0 f1 name a at rose s t = record { status = s; rose = rose; name = name; last = record { earlier = before; last = at }; text = t }
 
--- ---- a file
-
--- a file that isn't there
-pub absent_due : (told : Option Files) (name : List ℕ) (turns : List (List ℕ)) (f0 f1 : ℕ) (a : Answer) (Next : Files → List ℕ → ChainDue → Type 0) → Tells told name (λ file. file ≡ None) → a.status ≡ NoFile → a.text ≡ no_file_line name
-    → IsAnswer (λ files d. WithFile statuses name (files name) (Next files) d) told turns f0 f1 a
-absent_due told name turns f0 f1 a Next t s l = inl (
-  of_files a.status NoFile tt s,
-  from_told told name (λ file. file ≡ None) (λ files. WithFile statuses name (files name) (Next files) (due_of a.status a.text)) t
-      (λ files e. subst (λ file. WithFile statuses name file (Next files) (due_of a.status a.text)) (sym e) (as_due a NoFile (no_file_line name) s l)),
-)
-
--- a file whose bytes are known
-pub bytes_due : (told : Option Files) (name bytes : List ℕ) (turns : List (List ℕ)) (f0 f1 : ℕ) (a : Answer) (Next : Files → List ℕ → ChainDue → Type 0) → Tells told name (λ file. file ≡ Some bytes) → IsOfFiles a.status
-    → ((files : Files) → Next files bytes (due_of a.status a.text)) → IsAnswer (λ files d. WithFile statuses name (files name) (Next files) d) told turns f0 f1 a
-bytes_due told name bytes turns f0 f1 a Next t s next = inl (
-  s,
-  from_told told name (λ file. file ≡ Some bytes) (λ files. WithFile statuses name (files name) (Next files) (due_of a.status a.text)) t
-      (λ files e. subst (λ file. WithFile statuses name file (Next files) (due_of a.status a.text)) (sym e) (next files)),
-)
-
--- a file that is too long
-pub long_due : (told : Option Files) (name : List ℕ) (max : ℕ) (turns : List (List ℕ)) (f0 f1 : ℕ) (a : Answer) (Next : Files → List ℕ → ChainDue → Type 0) → Tells told name (IsLongerThan max) → IsOfFiles a.status
-    → ((files : Files) (bytes : List ℕ) → max < length bytes → Next files bytes (due_of a.status a.text)) → IsAnswer (λ files d. WithFile statuses name (files name) (Next files) d) told turns f0 f1 a
-long_due told name max turns f0 f1 a Next t s next = inl (
-  s,
-  from_told told name (IsLongerThan max) (λ files. WithFile statuses name (files name) (Next files) (due_of a.status a.text)) t (λ files long. go files (files name) long),
-)
-  where
-    go : (files : Files) (file : Option (List ℕ)) → IsLongerThan max file → WithFile statuses name file (Next files) (due_of a.status a.text)
-    go files None long = absurd long
-    go files (Some bytes) long = next files bytes long
-
 -- ---- tests of lengths
 
 pub if_true : (b : Bool) (P Q : Type 0) → b ≡ true → P → MatchBool b P Q
 if_true true P Q e p = p
 if_true false P Q e p = absurd (cc e)
-
-pub if_false : (b : Bool) (P Q : Type 0) → b ≡ false → Q → MatchBool b P Q
-if_false true P Q e q = absurd (cc e)
-if_false false P Q e q = q
 
 -- ---- scripts
 
@@ -146,23 +110,6 @@ script_goes files name t Next d h next = go (files name) h
     go (Some bytes) k = text bytes k.0 k.2 (nat_lt max_script (length bytes)) (le-ltb max_script (length bytes) k.1)
 
 -- ---- tables
-
-pub table_text_stops : (name bytes : List ℕ) (Next : MarkedTable → ChainDue → Type 0) (d : ChainDue) → WithTable name bytes (λ t e. ⊥) d → WithTable name bytes Next d
-table_text_stops name bytes Next d h = go (nat_lt max_table (length bytes)) (table_of (csv_records bytes)) h
-  where
-    go : (b : Bool) (r : Result MarkedTable TableCause)
-        → MatchBool b (d ≡ due_of TableRefused (table_line name long_table_line)) (MatchResult r (λ t. ⊥) (λ cause. d ≡ due_of TableRefused (table_line name (table_cause_line cause))))
-        → MatchBool b (d ≡ due_of TableRefused (table_line name long_table_line)) (MatchResult r (λ t. Next t d) (λ cause. d ≡ due_of TableRefused (table_line name (table_cause_line cause))))
-    go true r e = e
-    go false (Ok t) e = absurd e
-    go false (Err cause) e = e
-
-pub table_stops : (files : Files) (name : List ℕ) (Next : MarkedTable → ChainDue → Type 0) (d : ChainDue) → WithTableFile files name (λ t e. ⊥) d → WithTableFile files name Next d
-table_stops files name Next d h = go (files name) h
-  where
-    go : (file : Option (List ℕ)) → WithFile statuses name file (λ bytes e. WithTable name bytes (λ t g. ⊥) e) d → WithFile statuses name file (λ bytes e. WithTable name bytes Next e) d
-    go None e = e
-    go (Some bytes) e = table_text_stops name bytes Next d e
 
 pub table_goes : (files : Files) (name : List ℕ) (t : MarkedTable) (Next : MarkedTable → ChainDue → Type 0) (d : ChainDue) → HoldsTheTable t (files name) → Next t d → WithTableFile files name Next d
 table_goes files name t Next d h next = go (files name) h

@@ -5,11 +5,6 @@ use Rattle.input_files.specs.Answers.{AreTurnedTo}
 use Rattle.chain_program.specs.Turns.{AreTurned}
 
 module _ (IsRead : List ℕ → Type 0) where
-  -- none of the files
-  pub turned_none : (names before after : List (List ℕ)) → after ≡ before → AreTurned IsRead names before after
-  turned_none [] before after e = e
-  turned_none (name ∷ names) before after e = inl e
-
   -- the first one alone
   pub turned_one : (name : List ℕ) (names before after : List (List ℕ)) → after ≡ before ++ name ∷ [] → AreTurned IsRead (name ∷ names) before after
   turned_one name names before after e = inr (inl e)
@@ -55,10 +50,6 @@ module _ (IsRead : List ℕ → Type 0) where
   turned (name ∷ names) before after (inl e) = record { turns = []; follow = e ∙ sym (append-nil before); rest = name ∷ names; in_order = refl; called = λ i lt. absurd (omega (arith, lt)) }
   turned (name ∷ names) before after (inr (inl e)) = record { turns = name ∷ []; follow = e; rest = names; in_order = refl; called = λ i lt. absurd (omega (arith, lt)) }
   turned (name ∷ names) before after (inr (inr h)) = one_more name names before after h.0 (turned names (before ++ name ∷ []) after h.1)
-
--- the script, and no other file
-pub turned_to_script : (script : List ℕ) (others : List (List ℕ)) (IsFileRead : ℕ → Type 0) (before after : List (List ℕ)) → after ≡ before ++ script ∷ [] → AreTurnedTo (script ∷ others) IsFileRead before after
-turned_to_script script others IsFileRead before after e = record { turns = script ∷ []; follow = e; rest = others; in_order = refl; called = λ i lt. absurd (omega (arith, lt)) }
 
 -- the script, and others
 pub turned_to_others : (script : List ℕ) (others : List (List ℕ)) (IsRead : List ℕ → Type 0) (IsFileRead : ℕ → Type 0) (before mid after : List (List ℕ)) → mid ≡ before ++ script ∷ [] → IsFileRead 0

@@ -59,9 +59,6 @@ module _ (fns : List Function) (words : List (List ℕ)) (told : Option Files) (
       go (inr (inl t)) = absurd (subst IsOfFiles s t.of_files)
       go (inr (inr n)) = (let e = n.1.status in absurd (cc (s, e)))
 
-  pub untaken_status : AnswersWords fns words told turns f0 f1 a → asked_of words ≡ None → a.status ≡ Words
-  untaken_status h e = (subst (λ o. MatchOption o ((a.status ≡ Words) × (a.text ≡ usage_line)) (λ command. IsAnswer (IsDueToCommand fns command) told turns f0 f1 a)) e h).0
-
   pub never_memory : AnswersWords fns words told turns f0 f1 a → a.status ≡ Memory → ⊥
   never_memory h s = go (kinds h)
     where

@@ -11,7 +11,7 @@ use crate::means::Means;
 use crate::table_columns::columns_of;
 use chain_words::Settings;
 use columns::Columns;
-use node_graph::{Graph, GraphRefusal};
+use graph::{Graph, GraphRefusal};
 use rdf_values::{Memory, Script};
 use std::thread::Threads;
 use table_csv::MarkedPieces;

@@ -21,7 +21,7 @@ use chain_files::PartLoop;
 use chain_loop::{TableRun, table_loops};
 use chain_words::Settings;
 use columns::Columns;
-use node_graph::Graph;
+use graph::Graph;
 use rdf_outside::{Gate, Shelf};
 use rdf_values::{Column, ListOf, Memory, Script};
 use std::thread::Threads;

@@ -14,7 +14,7 @@ use chain_files::{Part, are_loops, script_digest};
 use command_words::FileName;
 use entry_fns::FnList;
 use graph_shapes::graph_shapes;
-use node_graph::{Graph, GraphRefusal};
+use graph::{Graph, GraphRefusal};
 use rdf_values::{Column, ListOf, Memory};
 use shard_files::same_columns;
 use shard_lines::PassShape;

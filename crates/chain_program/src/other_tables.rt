@@ -18,7 +18,7 @@ use crate::tables::read_table;
 use chain_files::{PartLoop, joined_loops};
 use chain_words::Settings;
 use command_words::FileName;
-use node_graph::Graph;
+use graph::Graph;
 use rdf_outside::{Gate, Shelf};
 use rdf_values::{ListOf, Memory};
 use shard_files::same_columns;

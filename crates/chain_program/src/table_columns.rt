@@ -6,8 +6,7 @@ ghost use Rattle.rdf_values.specs.declared.column.Column.{Column};
 ghost use Rattle.chain_program.specs.TableFiles.{columns_over};
 
 use chain_words::Settings;
-use clusters::cut;
-use columns::Columns;
+use columns::{Columns, cut};
 use rdf_values::{Column, ListOf, Memory, Name};
 use std::alloc::Global;
 use std::thread::Threads;

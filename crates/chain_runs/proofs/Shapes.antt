@@ -3,6 +3,7 @@ use Rattle.std.proofs.Common.{◌≡◌, ℕ, ◌<◌, true, ◌&&◌, List, [],
 use Rattle.std.specs.List.{AllByRecursion}
 use Rattle.std.proofs.lemmas.List.{length-map}
 use Rattle.std.proofs.lemmas.List.Elements.{recursion_from_All}
+use Rattle.lemmas.proofs.Orders.{lt_true}
 use Rattle.rdf_values.specs.Bookings.{ActionAt, Booking, Pass, ReportOn}
 use Rattle.rdf_values.specs.declared.script.Script.{Script}
 use Rattle.rdf_values.specs.declared.value.ColType.{ColType}
@@ -14,7 +15,7 @@ use Rattle.shard_spans.specs.Spans.{loops_of, pass_line}
 use Rattle.shard_runs.specs.Kinds.{booking_kind, pass_kind}
 use Rattle.shard_runs.specs.Laws.{IsChecked, script_shapes}
 use Rattle.shard_runs.proofs.Runs.{ArePasses, all_passes}
-use Rattle.shard_runs.proofs.Shapes.{lines_shaped, lower}
+use Rattle.shard_runs.proofs.Shapes.{lines_shaped}
 use Rattle.chain_files.specs.Joining.{are_loops, up_to_fault}
 use Rattle.chain_files.specs.declared.chain_fault.ChainFault.{ChainFault}
 use Rattle.chain_runs.specs.Chains.{Chain, all_rows, chain_fault, chain_loops, fault_or_lines, one_table, with_rows}
@@ -50,7 +51,7 @@ module _ (script : Script) (c : Chain) (tables : List (List (List Value))) (chec
           let shape_of : Pass → PassShape = λ p. booking_shape (kinds p) p.result.booking in
           let same_number : length (map shape_of ps) ≡ length ps = length-map ps shape_of in
           let pass = at.pass in
-          lower f.pass (length (map shape_of ps)) (omega arith)
+          lt_true f.pass (length (map shape_of ps)) (omega arith)
 
 pub chains_have_shapes : ChainsHaveShapes
 chains_have_shapes bytes script c first checked some = go c.tables (recursion_from_All (λ rows. IsChecked script (with_rows c rows)) c.tables checked) some

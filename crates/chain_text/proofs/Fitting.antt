@@ -4,6 +4,8 @@ use Rattle.std.specs.Prelude.{nat_lt, option_map, slice_get, unwrap_or}
 use Rattle.std.proofs.lemmas.Bool.Decides.{nat_tests}
 use Rattle.std.proofs.lemmas.List.{length-map}
 use Rattle.std.proofs.lemmas.Option.{same_Some, slice_get-map}
+use Rattle.lemmas.proofs.Booleans.{and_right}
+use Rattle.lemmas.proofs.Orders.{lt_says}
 use Rattle.rdf_values.specs.Bookings.{Booked, Pass}
 use Rattle.rdf_values.specs.Path.{history}
 use Rattle.rdf_values.specs.declared.value.ColType.{ColType}
@@ -24,19 +26,12 @@ use Rattle.chain_files.specs.declared.part_loop.PartLoop.{PartLoop}
 use Rattle.chain_files.specs.declared.part_loop.PartLoop.TheVariants.{Whole, Faulted}
 use Rattle.chain_text.specs.Laws.{ShapedLoopsFit}
 
-and_last : (a b : Bool) → (a && b) ≡ true → b ≡ true
-and_last true b h = h
-and_last false b h = cc h
-
-says_less : (a b : ℕ) → nat_lt a b ≡ true → a < b
-says_less a b h = grind (arith, nat_tests, h)
-
 module _ (column : Pass → ColType) (first end n : ℕ) where
   few_loops : (L : List (List Pass)) (loops : List PartLoop) → are_loops (map (pass_shapes column) L) loops ≡ true → FitLoops first end n loops → length loops ≤ length L
   few_loops [] [] h fit = omega arith
   few_loops [] (l ∷ loops) h fit = cc h
   few_loops (ps ∷ L) [] h fit = omega arith
-  few_loops (ps ∷ L) (Whole ls ∷ loops) h fit = let rest = few_loops L loops (and_last (have_shapes (pass_shapes column ps) ls) (are_loops (map (pass_shapes column) L) loops) h) fit.2 in omega arith
+  few_loops (ps ∷ L) (Whole ls ∷ loops) h fit = let rest = few_loops L loops (and_right (have_shapes (pass_shapes column ps) ls) (are_loops (map (pass_shapes column) L) loops) h) fit.2 in omega arith
   few_loops (ps ∷ L) (Faulted f ∷ []) h fit = omega arith
   few_loops (ps ∷ L) (Faulted f ∷ next ∷ loops) h fit = absurd fit
 
@@ -45,12 +40,12 @@ module _ (column : Pass → ColType) (first end n : ℕ) where
   fault_inside L [] l f h fit at = absurd (cc)
   fault_inside [] (one ∷ loops) l f h fit at = cc h
   fault_inside (ps ∷ L) (Whole ls ∷ loops) zero f h fit at = absurd (cc)
-  fault_inside (ps ∷ L) (Whole ls ∷ loops) (suc l) f h fit at = fault_inside L loops l f (and_last (have_shapes (pass_shapes column ps) ls) (are_loops (map (pass_shapes column) L) loops) h) fit.2 at
+  fault_inside (ps ∷ L) (Whole ls ∷ loops) (suc l) f h fit at = fault_inside L loops l f (and_right (have_shapes (pass_shapes column ps) ls) (are_loops (map (pass_shapes column) L) loops) h) fit.2 at
   fault_inside (ps ∷ L) (Faulted g ∷ []) zero f h fit at =
       let same : g ≡ f = cc in
       let shape_of : Pass → PassShape = λ p. booking_shape (column p) p.result.booking in
       let many : length (map shape_of ps) ≡ length ps = length-map ps shape_of in
-      let lt = says_less g.pass (length (map shape_of ps)) h in
+      let lt = lt_says g.pass (length (map shape_of ps)) h in
       let pass : g.pass ≡ f.pass = ap (λ (x : ChainFault). x.pass) same in
       (ps, refl, omega arith)
   fault_inside (ps ∷ L) (Faulted g ∷ []) (suc l) f h fit at = absurd (cc)

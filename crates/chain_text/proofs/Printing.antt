@@ -1,12 +1,13 @@
 -- The Prints in order, and what each gives.
-use Rattle.std.proofs.Common.{◌≡◌, ℕ, ◌+◌, ◌≤◌, List, [], ◌++◌, length, drop, Option, None, Some, sym, ap, ◌∙◌, append_assoc, append-nil}
+use Rattle.std.proofs.Common.{◌≡◌, ℕ, ◌+◌, ◌≤◌, List, [], ◌++◌, length, drop, Option, Some, sym, ap, ◌∙◌, append_assoc, append-nil}
 use Rattle.std.specs.Prelude.{option_map, slice_get}
-use Rattle.std.proofs.lemmas.Option.{same_Some, slice_get_past}
+use Rattle.std.proofs.lemmas.Option.{same_Some}
+use Rattle.lemmas.proofs.Parts.{none_left}
 use Rattle.rdf_model.specs.Loops.{Access, accesses, loop_of}
 use Rattle.rdf_model.specs.Transcript.{Printed, in_front_of}
 use Rattle.graph_numbers.specs.Graphs.{GraphView, booked_statements}
 use Rattle.result_text.specs.FilledLines.{passes_at}
-use Rattle.result_text.proofs.Lists.{drop_whole, one_left}
+use Rattle.result_text.proofs.Lists.{one_left}
 use Rattle.shard_lines.specs.declared.shard_line.ShardLine.{ShardLine}
 use Rattle.merged_text.specs.MergedPrints.{lines_of_result}
 use Rattle.chain_files.specs.declared.chain_fault.ChainFault.{ChainFault}
@@ -26,9 +27,6 @@ module _ (g : GraphView) (loops : List PartLoop) (print l : ℕ) (filling : opti
 
   by_loop : (o : Option PartLoop) (rest : Printed) → slice_get loops l ≡ o → access_printed g loops a rest ≡ loop_printed (passes_at g l) a.result o rest
   by_loop o rest is = ap (λ k. loop_printed (passes_at g k) a.result (slice_get loops k) rest) loop_is ∙ ap (λ x. loop_printed (passes_at g l) a.result x rest) is
-
-  pub gives_nothing : (text : List ℕ) (rest : Printed) → length loops ≤ l → in_front_of text (access_printed g loops a rest) ≡ in_front_of text rest
-  gives_nothing text rest le = ap (in_front_of text) (by_loop None rest (slice_get_past loops l le))
 
   pub gives_lines : (text now name : List ℕ) (ls : List ShardLine) (rest : Printed) → slice_get loops l ≡ Some (Whole ls) → name ≡ a.result → now ≡ text ++ lines_of_result name (passes_at g l) ls
       → in_front_of text (access_printed g loops a rest) ≡ in_front_of now rest
@@ -58,7 +56,7 @@ module _ (g : GraphView) (loops : List PartLoop) (whole : Printed) where
   ends_there text now print a at gives h = sym (gives (prints_text g loops (drop (print + 1) (accesses (booked_statements g))))) ∙ sym (ap (in_front_of text) (left print a at)) ∙ h
 
   pub all_written : (text : List ℕ) (print : ℕ) → length (accesses (booked_statements g)) ≤ print → IsWritten text print → record { bytes = text; status = 0 } ≡ whole
-  all_written text print le h = ap (λ t. record { bytes = t; status = 0 }) (sym (append-nil text)) ∙ sym (ap (λ l. in_front_of text (prints_text g loops l)) (drop_whole (accesses (booked_statements g)) print le)) ∙ h
+  all_written text print le h = ap (λ t. record { bytes = t; status = 0 }) (sym (append-nil text)) ∙ sym (ap (λ l. in_front_of text (prints_text g loops l)) (none_left (accesses (booked_statements g)) print le)) ∙ h
 
 -- nothing is written yet
 pub begin_written : (g : GraphView) (loops : List PartLoop) (text : List ℕ) → text ≡ [] → IsWritten g loops (prints_text g loops (accesses (booked_statements g))) text 0

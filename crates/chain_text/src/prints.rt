@@ -9,7 +9,7 @@ ghost use Rattle.chain_text.specs.ChainPrints.{FitGraph, access_printed, chain_f
 
 use chain_files::{ChainFault, PartLoop};
 use merged_text::{Merging, put_result};
-use node_graph::Graph;
+use graph::Graph;
 use rdf_values::{Fault, Memory, Text};
 use result_text::fault_line;
 use result_text::numbers::put_count;

@@ -9,8 +9,8 @@ use mathlib.Core.Option.{some}
 use lib.ListN.{get_elem?}
 use Rattle.cluster_claims.specs.declared.hand.Hand.{Hand}
 use Rattle.cluster_claims.specs.Seats.{draw, look, lower, last_of, lowers_to}
-use Rattle.draw_sums.specs.Totals.{total, Each}
-use Rattle.draw_sums.proofs.Hands.{each_one, each_weaker, total_one, total_same}
+use Rattle.cluster_claims.specs.Totals.{total, Each}
+use Rattle.cluster_claims.proofs.Hands.{each_one, each_weaker, total_one, total_same}
 use Rattle.cluster_claims.specs.Claiming.{IsOver, IsBarred}
 use Rattle.cluster_claims.proofs.Draws.{drawn_hand}
 

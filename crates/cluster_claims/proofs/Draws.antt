@@ -11,9 +11,9 @@ use Rattle.rdf_values.specs.Draws.{DrawnBy}
 use Rattle.rdf_values.specs.Times.{times, once_below}
 use Rattle.cluster_claims.specs.Seats.{draw, kept_count}
 use Rattle.rdf_values.proofs.DrawCounts.{drawn_by_counts, once_next, rises_push, sum_by-map, times_push}
-use Rattle.draw_sums.specs.Totals.{total, one, Each}
-use Rattle.draw_sums.proofs.Totals.{total_whole, total_le}
-use Rattle.draw_sums.proofs.Hands.{each_one, each_weaker, ones, total_one, total_same}
+use Rattle.cluster_claims.specs.Totals.{total, one, Each}
+use Rattle.cluster_claims.proofs.Totals.{total_whole, total_le}
+use Rattle.cluster_claims.proofs.Hands.{each_one, each_weaker, ones, total_one, total_same}
 use Rattle.cluster_claims.specs.Claiming.{IsHand, IsClaimed}
 
 later : (clusters w : ℕ) (h : Hand) → IsHand clusters w h → IsHand clusters (w + 1) h

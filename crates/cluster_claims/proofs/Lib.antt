@@ -1,4 +1,6 @@
 pub mod Bars
 pub mod Dealt
 pub mod Draws
+pub mod Hands
 pub mod Steps
+pub mod Totals

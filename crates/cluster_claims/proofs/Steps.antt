@@ -11,8 +11,8 @@ use Rattle.atomic_table.specs.Table.{Me, step, keeps, Final, Seen, Allows, Split
 use Rattle.cluster_claims.specs.declared.hand.Hand.{Hand}
 use Rattle.rdf_values.specs.Draws.{DrawnBy}
 use Rattle.cluster_claims.specs.Seats.{hand_of, draw, look, lower, kept_count, lowers_to}
-use Rattle.draw_sums.specs.Hands.{others, first_alone}
-use Rattle.draw_sums.proofs.Hands.{dealt_each, dealt_total, taken_each, taken_total}
+use Rattle.cluster_claims.specs.Hands.{others, first_alone}
+use Rattle.cluster_claims.proofs.Hands.{dealt_each, dealt_total, taken_each, taken_total}
 use Rattle.cluster_claims.specs.Claiming.{IsHand, IsClaimed, IsOver, IsBarred, Claimed, Drew, Looked, Lowered}
 use Rattle.cluster_claims.proofs.Draws.{drawn_hand, drawn_rises, same_claimed, drawn_keeps, word_fits, claimed_again, whole_total, shared_out, kept_below, word_counted}
 use Rattle.cluster_claims.proofs.Bars.{draw_barred, look_barred, lower_barred, barred_again, lowered_by}

@@ -5,7 +5,7 @@ use Rattle.std.specs.List.Sorted.{IsStrictlyIncreasing}
 use Rattle.atomic_table.specs.Table.{State, Me, Step}
 use Rattle.cluster_claims.specs.declared.hand.Hand.{Hand}
 use Rattle.rdf_values.specs.Times.{times, once_below}
-use Rattle.draw_sums.specs.Totals.{total, one, Each}
+use Rattle.cluster_claims.specs.Totals.{total, one, Each}
 use Rattle.cluster_claims.specs.Seats.{empty_hand, hand_of, draw, look, lower, last_of, kept_count, lowers_to}
 
 -- what the rule says of one hand, where the claim word is w

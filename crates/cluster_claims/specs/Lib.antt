@@ -1,2 +1,4 @@
 pub mod Claiming
+pub mod Hands
 pub mod Seats
+pub mod Totals

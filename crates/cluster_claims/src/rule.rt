@@ -44,7 +44,7 @@ impl Play<u8, Hands> for Lower {
 pub struct Deal;
 
 impl Split<Hands> for Deal {
-    ghost use Rattle.draw_sums.specs.Hands.{others, first_alone};
+    ghost use Rattle.cluster_claims.specs.Hands.{others, first_alone};
 
     ghost left = { others };
 

@@ -3,6 +3,7 @@ use Rattle.std.proofs.Common.{◌≡◌, ℕ, ◌+◌, ◌<◌, ◌≤◌, List,
 use Rattle.std.specs.Prelude.{Err, Ok, OnOk, Result, slice_get, slice_set}
 use Rattle.std.proofs.lemmas.List.{length-map, length-set}
 use Rattle.std.proofs.lemmas.Option.{same_Some, slice_get_within}
+use Rattle.lemmas.proofs.Places.{mapped_at, something_at}
 use Rattle.rdf_values.proofs.Below.{map-below}
 use Rattle.rdf_values.specs.Spread.{feed_fault}
 use Rattle.rdf_values.specs.declared.action.ActionKind.{ActionKind}
@@ -13,7 +14,7 @@ use Rattle.actions.specs.Batches.{EachPlace, SuitsAt, batch_items, places_of, va
 use Rattle.actions.specs.Feeding.{Fed, from_cluster}
 use Rattle.actions.specs.Holding.{IsTake}
 use Rattle.actions.specs.declared.batch.Batch.{Batch}
-use Rattle.filters_report.specs.Flows.{both}
+use Rattle.loop_pieces.specs.Flows.{both}
 use Rattle.loop_pieces.specs.LoopPieces.{counts_at, entries_over, fed_over}
 use Rattle.cluster_tally.specs.Blocks.{BlockStage, CanFeedBatch, CanTakeIn, HoldsIn, IsFedAloneIn, IsFedIn, TakesIn, TookIn, TookInIfThere, alone_in, block_begin, block_end, block_items, counts_in, fed_in, pass_done, taken_in}
 use Rattle.cluster_tally.specs.Laws as law
@@ -21,7 +22,7 @@ use Rattle.cluster_tally.specs.Stages.{counted, counts_to, fed_to, first_items, 
 use Rattle.cluster_tally.specs.Tallies.{CanWatch, TallyView, places_there}
 use Rattle.cluster_tally.proofs.BlockSteps.{alone_next, alone_same, entries_room, fed_next, fed_same, in_before, in_from, in_same}
 use Rattle.cluster_tally.proofs.Feeds.{kind_at}
-use Rattle.cluster_tally.proofs.ListPlaces.{at_set, map_set_same, mapped, of_mapped, places_kept, there}
+use Rattle.cluster_tally.proofs.ListPlaces.{at_set, map_set_same, of_mapped, places_kept}
 use Rattle.cluster_tally.proofs.Steps.{alone_to, taken_from}
 
 -- an action that is watched keeps no values
@@ -151,7 +152,7 @@ module _ (f : LoopFacts) (watched : List ℕ) (s : BlockStage) (t : TallyView) (
       (of.0, of.1, sym of.2)
 
   its_kind : (acc : Accumulator) → slice_get t.accs pass ≡ Some acc → acc.kind ≡ can.kind
-  its_kind acc at = same_Some acc.kind can.kind (sym (mapped kind_at t.accs pass acc at) ∙ ap (λ l. slice_get l pass) can.holds.kinds ∙ can.its_kind)
+  its_kind acc at = same_Some acc.kind can.kind (sym (mapped_at kind_at t.accs pass acc at) ∙ ap (λ l. slice_get l pass) can.holds.kinds ∙ can.its_kind)
 
   alone_kind : (acc : Accumulator) → slice_get t.watched pass ≡ Some (Some acc) → acc.kind ≡ can.kind
   alone_kind acc at = same_Some acc.kind can.kind (sym (can.holds.alone pass acc at).kind ∙ can.its_kind)
@@ -245,7 +246,7 @@ module _ (f : LoopFacts) (watched : List ℕ) (s : BlockStage) (t : TallyView) (
         }
 
     alone_after : AloneAfter
-    alone_after = let it = there t.watched pass within_watched in go it.0 it.1
+    alone_after = let it = something_at t.watched pass within_watched in go it.0 it.1
       where
         go : (o : Option Accumulator) → slice_get t.watched pass ≡ Some o → AloneAfter
         go None at = unwatched at

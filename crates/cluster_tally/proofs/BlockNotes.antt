@@ -11,8 +11,8 @@ use Rattle.rdf_model.specs.LoopFacts.{is_passed, is_reached}
 use Rattle.rdf_model.specs.declared.loop_facts.LoopFacts.{LoopFacts}
 use Rattle.rdf_model.specs.declared.loop_facts.Reach.{Reach}
 use Rattle.rdf_model.specs.declared.loop_facts.Reach.TheVariants.{Failed, Passed, Stopped}
-use Rattle.filters_report.specs.Flows.{AreCounts, both, nothing}
-use Rattle.filters_report.specs.declared.flow.Counts.{Counts}
+use Rattle.loop_pieces.specs.Flows.{AreCounts, both, nothing}
+use Rattle.loop_pieces.specs.declared.flow.Counts.{Counts}
 use Rattle.cluster_tally.specs.Blocks.{BlockStage, CanNoteCounts, HoldsIn, block_reaches, counts_in, filter_done}
 use Rattle.cluster_tally.specs.Stages.{counted}
 use Rattle.cluster_tally.specs.Tallies.{TallyView}

@@ -4,6 +4,7 @@ use Rattle.std.specs.Prelude.{flat_map, nat_lt, slice_get}
 use Rattle.std.proofs.lemmas.Bool.{cases_lt, cond-false, cond-true, le-ltb, lt-ltb}
 use Rattle.std.proofs.lemmas.List.{length-drop, length-take, map-append}
 use Rattle.std.proofs.lemmas.List.Concat.{flat_map-append}
+use Rattle.lemmas.proofs.Parts.{take_plus}
 use Rattle.rdf_values.proofs.DrawCounts.{rises_push}
 use Rattle.rdf_values.specs.declared.item.Item.{Item}
 use Rattle.rdf_model.specs.LoopFacts.{if_there, list_at}
@@ -11,8 +12,8 @@ use Rattle.rdf_model.specs.PartialResults.{span_rows}
 use Rattle.rdf_model.specs.declared.loop_facts.LoopFacts.{LoopFacts}
 use Rattle.rdf_model.specs.declared.loop_facts.Reach.{Reach}
 use Rattle.actions.specs.Feeding.{from_cluster}
-use Rattle.filters_report.specs.Flows.{both}
-use Rattle.filters_report.specs.declared.flow.Counts.{Counts}
+use Rattle.loop_pieces.specs.Flows.{both}
+use Rattle.loop_pieces.specs.declared.flow.Counts.{Counts}
 use Rattle.loop_pieces.specs.LoopPieces.{counts_at, entries_over, fed_over}
 use Rattle.loop_pieces.proofs.Rows.{counts_few, entries_few}
 use Rattle.cluster_tally.specs.Blocks.{BlockStage, HoldsIn, IsWithin, alone_in, block_items, block_reaches, counts_in, fed_in, filter_done, pass_done, taken_in}
@@ -36,15 +37,6 @@ in_same e m l p ne = ⊎_elim
     (λ (le : p ≤ l). let same : p ≡ l = omega arith in absurd (ne same))
     (cases_lt l p))
     (cases_lt p l)
-
-take_none : {A : Type 0} (k : ℕ) → take {A = A} k [] ≡ []
-take_none zero = refl
-take_none (suc k) = refl
-
-take_plus : {A : Type 0} (m n : ℕ) (xs : List A) → take (m + n) xs ≡ take m xs ++ take n (drop m xs)
-take_plus zero n xs = let e : 0 + n ≡ n = omega arith in ap (λ k. take k xs) e
-take_plus (suc m) n [] = take_none (suc m + n) ∙ sym (take_none n)
-take_plus (suc m) n (x ∷ xs) = let e : suc m + n ≡ suc (m + n) = omega arith in ap (λ k. take k (x ∷ xs)) e ∙ ap (λ l. x ∷ l) (take_plus m n xs)
 
 -- ---- items
 

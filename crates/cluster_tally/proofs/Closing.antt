@@ -2,7 +2,7 @@
 use Rattle.std.proofs.Common.{◌≡◌, ℕ, zero, suc, ◌+◌, ◌<◌, ◌≤◌, List, [], ◌∷◌, ◌++◌, length, map, take, drop, set, get_or, Option, None, Some, refl, sym, ap, ap₂, ◌∙◌, subst, arith, append_assoc, append-nil}
 use Rattle.std.specs.Prelude.{All, Err, Ok, OnOk, Result, flat_map, slice_get}
 use Rattle.std.specs.List.Sorted.{IsStrictlyIncreasing}
-use Rattle.std.proofs.lemmas.List.{drop-drop, drop-set-lt, drop_all, drop_more, length-map, length-set, map-append, map_more, take_all, take_more_set}
+use Rattle.std.proofs.lemmas.List.{drop-drop, drop-set-lt, drop_more, length-map, length-set, map-append, map_more, take_all, take_more_set}
 use Rattle.std.proofs.lemmas.List.Concat.{flat_map-append}
 use Rattle.std.proofs.lemmas.List.Elements.{All-push, All-weaker}
 use Rattle.std.proofs.lemmas.Option.{same_Some, slice_get-get_or}
@@ -19,7 +19,7 @@ use Rattle.rdf_model.specs.declared.loop_facts.LoopFacts.{LoopFacts}
 use Rattle.rdf_model.specs.declared.loop_facts.Reach.{Reach}
 use Rattle.actions.specs.Accumulators.{Accumulator, HasFed}
 use Rattle.actions.specs.Feeding.{from_cluster, in_file_order}
-use Rattle.filters_report.specs.Flows.{both}
+use Rattle.loop_pieces.specs.Flows.{both}
 use Rattle.merge_core.specs.declared.noted.Noted.{Noted}
 use Rattle.loop_pieces.specs.LoopPieces.{cluster_items, counts_at, fed_over}
 use Rattle.loop_pieces.specs.Trails.{IsTrail, watch_facts}
@@ -116,15 +116,6 @@ module _ (c : ℕ) (old : List (Option Accumulator)) (first : List (List (Noted 
       subst (λ k. AreClosedTo c old first (i + 1) k (set watched i v) ts) (sym n_is)
       (subst (λ o. AreClosedTo c old first (i + 1) (next + times_there (get_or watched i d)) (set watched i o) ts) (sym v_is)
       (subst (λ l. AreClosedTo c old first (i + 1) (next + times_there (get_or watched i d)) (set watched i (renewed (get_or watched i d))) l) (sym ts_is) closed_next))
-
-pub all_closed : (c : ℕ) (old : List (Option Accumulator)) (first : List (List (Noted WatchPiece))) (i next : ℕ) (watched : List (Option Accumulator)) (trails : List (List (Noted WatchPiece)))
-    → AreClosedTo c old first i next watched trails → length old ≤ i → (watched ≡ map renewed old) × (trails ≡ noted_all c old first)
-all_closed c old first i next watched trails b le =
-    let none : drop i old ≡ [] = drop_all i old le in
-    let end : length trails ≡ next = omega (arith, b.left, ap (λ l. length (places_there 0 l)) none) in (
-      sym (take_all i watched (omega (arith, b.same))) ∙ b.front ∙ ap (map renewed) (take_all i old le),
-      sym (b.noted ∙ ap₂ (λ l r. take next trails ++ noted_all c l r) none (drop_all next trails (omega arith)) ∙ append-nil (take next trails) ∙ take_all next trails (omega arith)),
-    )
 
 -- ---- what is noted
 

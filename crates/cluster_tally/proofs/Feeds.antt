@@ -4,6 +4,7 @@ use Rattle.std.specs.Prelude.{slice_get}
 use Rattle.std.proofs.lemmas.List.{length-set}
 use Rattle.std.proofs.lemmas.Option.{same_Some, slice_get_within}
 use Rattle.std.proofs.lemmas.Bool.{cases_eq}
+use Rattle.lemmas.proofs.Places.{mapped_at, something_at}
 use Rattle.rdf_values.specs.Spread.{feed_fault, spread}
 use Rattle.rdf_values.specs.declared.action.ActionKind.{ActionKind}
 use Rattle.rdf_values.specs.declared.item.Item.{Item}
@@ -19,7 +20,7 @@ use Rattle.cluster_tally.specs.Feedings.{AreFed, AreFedIfThere, CanFeed, CanTake
 use Rattle.cluster_tally.specs.Laws as law
 use Rattle.cluster_tally.specs.Stages.{IsNextEntry, Stage, fed_to, taken_at}
 use Rattle.cluster_tally.specs.Tallies.{CanWatch, Holds, IsFedAlone, IsFedTo, TallyView, places_there}
-use Rattle.cluster_tally.proofs.ListPlaces.{at_set, map_set_same, mapped, of_mapped, places_kept, there}
+use Rattle.cluster_tally.proofs.ListPlaces.{at_set, map_set_same, of_mapped, places_kept}
 use Rattle.cluster_tally.proofs.Steps.{alone_next, alone_same, alone_to, entries_room, fed_next, fed_same, taken_before, taken_from, taken_same}
 
 abbrev pub kind_at : Accumulator → ActionKind
@@ -118,7 +119,7 @@ module _ (f : LoopFacts) (watched : List ℕ) (s : Stage) (t : TallyView) (pass 
       (of.0, of.1, sym of.2)
 
   pub its_kind : (acc : Accumulator) → slice_get t.accs pass ≡ Some acc → acc.kind ≡ can.kind
-  its_kind acc at = same_Some acc.kind can.kind (sym (mapped kind_at t.accs pass acc at) ∙ ap (λ l. slice_get l pass) can.holds.kinds ∙ can.its_kind)
+  its_kind acc at = same_Some acc.kind can.kind (sym (mapped_at kind_at t.accs pass acc at) ∙ ap (λ l. slice_get l pass) can.holds.kinds ∙ can.its_kind)
 
   alone_kind : (acc : Accumulator) → slice_get t.watched pass ≡ Some (Some acc) → acc.kind ≡ can.kind
   alone_kind acc at = same_Some acc.kind can.kind (sym (can.holds.alone pass acc at).kind ∙ can.its_kind)
@@ -213,7 +214,7 @@ module _ (f : LoopFacts) (watched : List ℕ) (s : Stage) (t : TallyView) (pass 
         }
 
     alone_after : AloneAfter
-    alone_after = let it = there t.watched pass within_watched in go it.0 it.1
+    alone_after = let it = something_at t.watched pass within_watched in go it.0 it.1
       where
         go : (o : Option Accumulator) → slice_get t.watched pass ≡ Some o → AloneAfter
         go None at = unwatched at

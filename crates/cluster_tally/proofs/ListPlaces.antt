@@ -3,22 +3,10 @@ use Rattle.std.proofs.Common.{◌≡◌, ℕ, zero, suc, ◌+◌, ◌<◌, List,
 use Rattle.std.specs.Prelude.{◌-◌, slice_get, slice_range}
 use Rattle.std.proofs.lemmas.List.{length-drop, length-take, take_more}
 use Rattle.std.proofs.lemmas.Option.{get_or_from_slice_get, slice_get_within}
+use Rattle.lemmas.proofs.Places.{something_at}
 use Rattle.rdf_values.specs.declared.span.Span.{Span}
 use Rattle.actions.specs.Accumulators.{Accumulator}
 use Rattle.cluster_tally.specs.Tallies.{places_there}
-
-pub take_next : {A : Type 0} (xs : List A) (n : ℕ) (x : A) → slice_get xs n ≡ Some x → take (n + 1) xs ≡ take n xs ++ x ∷ []
-take_next xs n x at = take_more xs n x (slice_get_within xs n x at) ∙ ap (λ y. take n xs ++ y ∷ []) (get_or_from_slice_get xs n x x at)
-
-pub there : {A : Type 0} (xs : List A) (i : ℕ) → i < length xs → (x : A) × (slice_get xs i ≡ Some x)
-there [] i lt = absurd (omega arith)
-there (x ∷ xs) zero lt = (x, refl)
-there (x ∷ xs) (suc i) lt = there xs i (omega arith)
-
-pub mapped : {A B : Type 0} (g : A → B) (xs : List A) (i : ℕ) (x : A) → slice_get xs i ≡ Some x → slice_get (map g xs) i ≡ Some (g x)
-mapped g [] i x e = absurd (cc)
-mapped g (y ∷ ys) zero x e = let same : y ≡ x = cc in ap (λ z. Some (g z)) same
-mapped g (y ∷ ys) (suc i) x e = mapped g ys i x e
 
 pub of_mapped : {A B : Type 0} (g : A → B) (xs : List A) (i : ℕ) (y : B) → slice_get (map g xs) i ≡ Some y → (x : A) × (slice_get xs i ≡ Some x) × (y ≡ g x)
 of_mapped g [] i y e = absurd (cc)
@@ -41,7 +29,7 @@ map_set_same g [] i v x at e = refl
 map_set_same g (y ∷ ys) zero v x at e = let same : y ≡ x = cc in ap (λ z. z ∷ map g ys) (e ∙ sym (ap g same))
 map_set_same g (y ∷ ys) (suc i) v x at e = ap (λ l. g y ∷ l) (map_set_same g ys i v x at e)
 
--- the places at which there is one stay where one is written over another
+-- the places at which something_at is one stay where one is written over another
 pub places_kept : (xs : List (Option Accumulator)) (n i : ℕ) (v x : Accumulator) → slice_get xs i ≡ Some (Some x) → places_there n (set xs i (Some v)) ≡ places_there n xs
 places_kept [] n i v x at = refl
 places_kept (None ∷ xs) n zero v x at = absurd (cc)
@@ -67,10 +55,6 @@ pub kept_at : {A : Type 0} (xs : List A) (y : A) (i : ℕ) (x : A) → slice_get
 kept_at [] y i x e = absurd (cc)
 kept_at (z ∷ zs) y zero x e = e
 kept_at (z ∷ zs) y (suc i) x e = kept_at zs y i x e
-
-pub last_at : {A : Type 0} (xs : List A) (y : A) → slice_get (xs ++ y ∷ []) (length xs) ≡ Some y
-last_at [] y = refl
-last_at (z ∷ zs) y = last_at zs y
 
 pub places_more : (xs : List (Option Accumulator)) (n : ℕ) (o : Option Accumulator) → places_there n (xs ++ o ∷ []) ≡ places_there n xs ++ places_there (n + length xs) (o ∷ [])
 places_more [] n o = let e : n ≡ n + 0 = omega arith in ap (λ k. places_there k (o ∷ [])) e

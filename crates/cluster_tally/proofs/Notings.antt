@@ -11,8 +11,8 @@ use Rattle.rdf_model.specs.LoopFacts.{if_there}
 use Rattle.rdf_model.specs.declared.loop_facts.LoopFacts.{LoopFacts}
 use Rattle.rdf_model.specs.declared.loop_facts.Reach.{Reach}
 use Rattle.rdf_model.specs.declared.loop_facts.Reach.TheVariants.{Failed, Passed, Stopped}
-use Rattle.filters_report.specs.Flows.{HasRoom, both, noted, nothing}
-use Rattle.filters_report.specs.declared.flow.Counts.{Counts}
+use Rattle.loop_pieces.specs.Flows.{HasRoom, both, noted, nothing}
+use Rattle.loop_pieces.specs.declared.flow.Counts.{Counts}
 use Rattle.cluster_tally.specs.Feedings.{CanNote, after_filter}
 use Rattle.cluster_tally.specs.Laws as law
 use Rattle.cluster_tally.specs.Stages.{IsNextEntry, Stage, counted, counts_to}

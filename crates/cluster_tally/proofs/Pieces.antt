@@ -3,6 +3,7 @@ use Rattle.std.proofs.Common.{◌≡◌, ℕ, ◌+◌, List, [], ◌∷◌, ◌+
 use Rattle.std.specs.Prelude.{slice_get}
 use Rattle.std.proofs.lemmas.List.{length_push, map-append}
 use Rattle.std.proofs.lemmas.Option.{same_Some, slice_get-get_or}
+use Rattle.lemmas.proofs.Places.{last_at}
 use Rattle.rdf_values.proofs.Below.{map-below}
 use Rattle.rdf_values.specs.declared.action.ActionKind.{ActionKind}
 use Rattle.rdf_model.specs.declared.loop_facts.LoopFacts.{LoopFacts}
@@ -12,7 +13,7 @@ use Rattle.loop_pieces.specs.declared.loop_piece.LoopPiece.{LoopPiece}
 use Rattle.cluster_tally.specs.Feedings.{IsFresh, acc_if, fresh_acc, place_if, with_trail}
 use Rattle.cluster_tally.specs.Stages.{at_begin, counts_to}
 use Rattle.cluster_tally.specs.Tallies.{CanWatch, Holds, TallyView, places_there}
-use Rattle.cluster_tally.proofs.ListPlaces.{at_push, kept_at, last_at, places_more}
+use Rattle.cluster_tally.proofs.ListPlaces.{at_push, kept_at, places_more}
 use Rattle.cluster_tally.proofs.Stagings.{counts_at_begin, fed_at_begin}
 use Rattle.cluster_tally.proofs.Steps.{taken_from}
 

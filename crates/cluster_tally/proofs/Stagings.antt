@@ -11,7 +11,7 @@ use Rattle.rdf_values.specs.declared.action.ActionKind.{ActionKind}
 use Rattle.rdf_model.specs.declared.loop_facts.LoopFacts.{LoopFacts}
 use Rattle.actions.specs.Accumulators.{HasFed}
 use Rattle.actions.specs.Feeding.{from_cluster}
-use Rattle.filters_report.specs.Flows.{both, nothing}
+use Rattle.loop_pieces.specs.Flows.{both, nothing}
 use Rattle.loop_pieces.specs.LoopPieces.{counts_at, fed_over}
 use Rattle.loop_pieces.specs.Trails.{HaveTrails, IsTrail, watch_facts}
 use Rattle.loop_pieces.specs.Watching.{WatchStandsFor}

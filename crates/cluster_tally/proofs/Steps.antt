@@ -6,6 +6,7 @@ use Rattle.std.proofs.lemmas.List.{length-drop, length-take, map-append}
 use Rattle.std.proofs.lemmas.List.Concat.{flat_map-append}
 use Rattle.std.proofs.lemmas.List.Sums.{sum_by-append}
 use Rattle.std.proofs.lemmas.Option.{slice_get_within}
+use Rattle.lemmas.proofs.Parts.{take_next}
 use Rattle.rdf_values.proofs.DrawCounts.{rises_push}
 use Rattle.rdf_values.specs.declared.item.Item.{Item}
 use Rattle.rdf_values.specs.declared.span.Span.{Span}
@@ -14,14 +15,13 @@ use Rattle.rdf_model.specs.PartialResults.{rows_in, span_rows}
 use Rattle.rdf_model.specs.declared.loop_facts.LoopFacts.{LoopFacts}
 use Rattle.rdf_model.specs.declared.loop_facts.Reach.{Reach}
 use Rattle.actions.specs.Feeding.{Fed, from_cluster}
-use Rattle.filters_report.specs.Flows.{both}
-use Rattle.filters_report.specs.declared.flow.Counts.{Counts}
+use Rattle.loop_pieces.specs.Flows.{both}
+use Rattle.loop_pieces.specs.declared.flow.Counts.{Counts}
 use Rattle.loop_pieces.specs.LoopPieces.{counts_at, entries_over, fed_over}
 use Rattle.loop_pieces.proofs.Rows.{counts_few, entries_few}
 use Rattle.cluster_tally.specs.Feedings.{after_filter, after_pass}
 use Rattle.cluster_tally.specs.Stages.{IsNextEntry, Stage, counted, counts_to, fed_to, first_items, first_reaches, taken_at}
 use Rattle.cluster_tally.specs.Tallies.{Holds, TallyView}
-use Rattle.cluster_tally.proofs.ListPlaces.{take_next}
 
 -- ---- how many entries are taken in
 

@@ -13,8 +13,8 @@ use Rattle.actions.specs.Accumulators.{Accumulator, HasFed}
 use Rattle.actions.specs.Batches.{EachPlace, HasValues, SuitsAt, batch_items, places_of, values_at}
 use Rattle.actions.specs.Feeding.{Fed, from_cluster}
 use Rattle.actions.specs.declared.batch.Batch.{Batch}
-use Rattle.filters_report.specs.Flows.{both}
-use Rattle.filters_report.specs.declared.flow.Counts.{Counts}
+use Rattle.loop_pieces.specs.Flows.{both}
+use Rattle.loop_pieces.specs.declared.flow.Counts.{Counts}
 use Rattle.loop_pieces.specs.LoopPieces.{counts_at, entries_over, fed_over}
 use Rattle.loop_pieces.specs.Trails.{HaveTrails}
 use Rattle.cluster_tally.specs.Stages.{Stage, counted, first_items, first_reaches}

@@ -5,7 +5,7 @@ use Rattle.rdf_model.specs.LoopFacts.{IsLoopFacts}
 use Rattle.rdf_model.specs.declared.loop_facts.LoopFacts.{LoopFacts}
 use Rattle.rdf_model.specs.declared.loop_facts.Reach.{Reach}
 use Rattle.rdf_model.specs.declared.loop_facts.Reach.TheVariants.{Stopped}
-use Rattle.filters_report.specs.Flows.{nothing}
+use Rattle.loop_pieces.specs.Flows.{nothing}
 use Rattle.cluster_tally.specs.Blocks.{BlockStage, HoldsIn, block_begin, block_end}
 use Rattle.cluster_tally.specs.Feedings.{IsFresh, after_filter, after_pass}
 use Rattle.cluster_tally.specs.Stages.{IsNextEntry, Stage, after_entry, at_begin}

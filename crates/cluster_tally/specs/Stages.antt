@@ -6,8 +6,8 @@ use Rattle.rdf_model.specs.PartialResults.{span_rows}
 use Rattle.rdf_model.specs.declared.loop_facts.LoopFacts.{LoopFacts}
 use Rattle.rdf_model.specs.declared.loop_facts.Reach.{Reach}
 use Rattle.actions.specs.Feeding.{Fed, from_cluster}
-use Rattle.filters_report.specs.Flows.{both}
-use Rattle.filters_report.specs.declared.flow.Counts.{Counts}
+use Rattle.loop_pieces.specs.Flows.{both}
+use Rattle.loop_pieces.specs.declared.flow.Counts.{Counts}
 use Rattle.loop_pieces.specs.LoopPieces.{counts_at, fed_over}
 
 -- the clusters that were finished, the cluster that is worked on, how many of its entries are taken in, and of the next one the

@@ -8,7 +8,7 @@ use Rattle.rdf_model.specs.LoopFacts.{IsLoopFacts}
 use Rattle.rdf_model.specs.declared.loop_facts.LoopFacts.{LoopFacts}
 use Rattle.actions.specs.Accumulators.{Accumulator, HasFed}
 use Rattle.actions.specs.Feeding.{from_cluster}
-use Rattle.filters_report.specs.declared.flow.Counts.{Counts}
+use Rattle.loop_pieces.specs.declared.flow.Counts.{Counts}
 use Rattle.merge_core.specs.declared.noted.Noted.{Noted}
 use Rattle.loop_pieces.specs.LoopPieces.{entries_over}
 use Rattle.loop_pieces.specs.Trails.{HaveTrails}

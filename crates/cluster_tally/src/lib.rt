@@ -1,5 +1,5 @@
 //! What a slot of a loop makes of the entries that it is told: an accumulator for each action pass, counts of the named filters, and a
-//! trail for each watched result. It stands on `actions`, `filters_report` and `loop_pieces`, and on neither a graph nor a cache.
+//! trail for each watched result. It stands on `actions` and `loop_pieces`, and on neither a graph nor a cache.
 #![tactic(auto)]
 
 pub mod laws;

@@ -5,7 +5,7 @@ ghost use Rattle.rdf_model.specs.declared.loop_facts.LoopFacts.{LoopFacts};
 ghost use Rattle.actions.specs.Accumulators.{Accumulator, HasFed};
 ghost use Rattle.actions.specs.Feeding.{Fed};
 ghost use Rattle.actions.specs.Holding.{HasEdges, IsTake};
-ghost use Rattle.filters_report.specs.Flows.{nothing};
+ghost use Rattle.loop_pieces.specs.Flows.{nothing};
 ghost use Rattle.loop_pieces.specs.LoopPieces.{StandsFor};
 ghost use Rattle.loop_pieces.specs.Trails.{HaveTrails};
 ghost use Rattle.actions.specs.Batches.{EachPlace, HasValues};
@@ -17,8 +17,7 @@ ghost use Rattle.cluster_tally.specs.Tallies.{CanWatch, Holds, places_there};
 
 use crate::watcher::Watcher;
 use actions::{Acc, Batch, FeedStop, Items};
-use filters_report::{Counts, Flow};
-use loop_pieces::{LoopPiece, WatchPiece};
+use loop_pieces::{Counts, Flow, LoopPiece, WatchPiece};
 use merge_core::{Noted, Trail};
 use rdf_values::{ActionKind, ListOf, Memory};
 use std::alloc::Global;

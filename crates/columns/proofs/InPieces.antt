@@ -1,9 +1,11 @@
 -- Numbers in pieces.
-use Rattle.std.proofs.Common.{◌≡◌, ◌≤◌, ◌<◌, ◌+◌, ◌-◌, ℕ, zero, suc, ℤ, List, [], ◌∷◌, ◌++◌, length, get_or, drop, take, min, refl, sym, ap, ap₂, ◌∙◌, arith, append-nil, length-append}
-use Rattle.std.proofs.lemmas.List.{drop-append-le, length-drop, take-append-drop, take-append-le, take_more}
+use Rattle.std.proofs.Common.{◌≡◌, ◌≤◌, ◌<◌, ◌+◌, ◌-◌, ℕ, zero, suc, ℤ, List, [], ◌∷◌, ◌++◌, length, get_or, drop, take, max, min, refl, sym, ap, ap₂, ◌∙◌, arith, append-nil, length-append}
+use borrow.Rule.Slice.PartMut.{mid_len, mid_of, put_mid}
+use Rattle.std.proofs.lemmas.List.{drop-append-le, drop-drop, length-drop, length-take-le, take-append-drop, take-append-le, take_all, take_more}
+use Rattle.std.proofs.lemmas.Slice.{take-put_mid}
 use Rattle.std.proofs.lemmas.Grind.{flat_map-append}
-use Rattle.std.proofs.Math.Seq.{drop-append-add}
-use Rattle.table_pieces.specs.Wholes.{joined}
+use Rattle.std.proofs.Math.Seq.{drop-append-add, take-add}
+use Rattle.columns.specs.Wholes.{joined}
 
 -- ---- the first pieces
 
@@ -52,61 +54,58 @@ in_piece pieces i n piece lo hi e l s f h b =
 
 -- ---- a range of several pieces
 
-range_none : (k m : ℕ) → take {A = ℤ} k (drop m []) ≡ []
-range_none zero zero = refl
-range_none zero (suc m) = refl
-range_none (suc k) zero = refl
-range_none (suc k) (suc m) = refl
+-- the numbers of a range are read as far as the first pieces go
+pub record AreReadUpTo (pieces : List (List ℤ)) (lo n i before : ℕ) (numbers : List ℤ) : Type 0 where
+  pub here : before ≡ length (joined (take i pieces))
+  pub same : take (min (lo + n) before - lo) numbers ≡ take (min (lo + n) before - lo) (drop lo (joined pieces))
 
-range_joined : (xs ys : List ℤ) (lo hi : ℕ) → lo ≤ hi → take (hi - lo) (drop lo (xs ++ ys)) ≡ take (hi - lo) (drop lo xs) ++ take (hi - length xs - (lo - length xs)) (drop (lo - length xs) ys)
-range_joined [] ys lo hi h =
-    let at : lo ≡ lo - 0 = omega arith in
-    let size : hi - lo ≡ hi - 0 - (lo - 0) = omega arith in
-    ap₂ (λ (k m : ℕ). take k (drop m ys)) size at ∙ ap (λ ns. ns ++ take (hi - 0 - (lo - 0)) (drop (lo - 0) ys)) (sym (range_none (hi - lo) lo))
-range_joined (x ∷ xs) ys zero zero h = let none : 0 - suc (length xs) - (0 - suc (length xs)) ≡ 0 = omega arith in sym (ap (λ (k : ℕ). take k (drop (0 - suc (length xs)) ys)) none)
-range_joined (x ∷ xs) ys zero (suc hi) h =
-    let more = range_joined xs ys zero hi (omega arith) in
-    let one : suc hi - 0 ≡ suc (hi - 0) = omega arith in
-    let size : suc hi - suc (length xs) - (0 - suc (length xs)) ≡ hi - length xs - (0 - length xs) = omega arith in
-    let at : 0 - suc (length xs) ≡ 0 - length xs = omega arith in
-    rw (one, size, at) (ap (λ ns. x ∷ ns) more)
-range_joined (x ∷ xs) ys (suc lo) zero h = absurd (omega (arith, h))
-range_joined (x ∷ xs) ys (suc lo) (suc hi) h =
-    let more = range_joined xs ys lo hi (omega (arith, h)) in
-    let one : suc hi - suc lo ≡ hi - lo = omega arith in
-    let size : suc hi - suc (length xs) - (suc lo - suc (length xs)) ≡ hi - length xs - (lo - length xs) = omega arith in
-    let at : suc lo - suc (length xs) ≡ lo - length xs = omega arith in
-    rw (one, size, at) more
+-- a range and the one behind it
+ranges_joined : (xs : List ℤ) (lo from to : ℕ) → lo ≤ from → from ≤ to → take (from - lo) (drop lo xs) ++ take (to - from) (drop from xs) ≡ take (to - lo) (drop lo xs)
+ranges_joined xs lo from to h l =
+    let on : lo + (from - lo) ≡ from = omega (arith, h) in
+    let size : from - lo + (to - from) ≡ to - lo = omega (arith, h, l) in
+    sym (ap (λ (k : ℕ). take k (drop lo xs)) (sym size) ∙ take-add (from - lo) (to - from) (drop lo xs) ∙ ap (λ ys. take (from - lo) (drop lo xs) ++ take (to - from) ys) (drop-drop (from - lo) lo xs ∙ ap (λ (k : ℕ). drop k xs) on))
 
-take_few : (xs : List ℤ) (k : ℕ) → take k xs ≡ take (min k (length xs)) xs
-take_few [] zero = refl
-take_few [] (suc k) = let none : 0 ≡ min (suc k) 0 = omega arith in ap (λ (m : ℕ). take {A = ℤ} m []) none
-take_few (x ∷ xs) zero = let none : 0 ≡ min 0 (suc (length xs)) = omega arith in ap (λ (m : ℕ). take m (x ∷ xs)) none
-take_few (x ∷ xs) (suc k) = let one : suc (min k (length xs)) ≡ min (suc k) (suc (length xs)) = omega arith in ap (λ ns. x ∷ ns) (take_few xs k) ∙ ap (λ (m : ℕ). take m (x ∷ xs)) one
+pub none_read : (pieces : List (List ℤ)) (lo n : ℕ) (numbers : List ℤ) → AreReadUpTo pieces lo n 0 0 numbers
+none_read pieces lo n numbers = let none : min (lo + n) 0 - lo ≡ 0 = omega arith in record { here = refl; same = rw none refl }
 
--- ends that lie behind a list may be brought to its end
-clipped : (ys : List ℤ) (a b : ℕ) → take (b - a) (drop a ys) ≡ take (min b (length ys) - min a (length ys)) (drop (min a (length ys)) ys)
-clipped [] a b = range_none (b - a) a ∙ sym (range_none (min b 0 - min a 0) (min a 0))
-clipped (y ∷ ys) zero b =
-    let none : min 0 (suc (length ys)) ≡ 0 = omega arith in
-    let all : b - 0 ≡ b = omega arith in
-    let few : min b (suc (length ys)) - 0 ≡ min b (suc (length ys)) = omega arith in
-    rw (none, all, few) (take_few (y ∷ ys) b)
-clipped (y ∷ ys) (suc a) zero =
-    let none : 0 - suc a ≡ 0 = omega arith in
-    let few : min 0 (suc (length ys)) - min (suc a) (suc (length ys)) ≡ 0 = omega arith in
-    rw (none, few) refl
-clipped (y ∷ ys) (suc a) (suc b) =
-    let from : min (suc a) (suc (length ys)) ≡ suc (min a (length ys)) = omega arith in
-    let to : min (suc b) (suc (length ys)) ≡ suc (min b (length ys)) = omega arith in
-    let size : suc b - suc a ≡ b - a = omega arith in
-    let few : suc (min b (length ys)) - suc (min a (length ys)) ≡ min b (length ys) - min a (length ys) = omega arith in
-    rw (from, to, size, few) (clipped ys a b)
+-- no number of the range stands in the piece
+pub read_on : (pieces : List (List ℤ)) (lo n i before after : ℕ) (piece numbers now : List ℤ) → AreReadUpTo pieces lo n i before numbers → piece ≡ get_or pieces i piece → i < length pieces → after ≡ before + length piece → after ≤ lo → now ≡ numbers
+    → AreReadUpTo pieces lo n (i + 1) after now
+read_on pieces lo n i before after piece numbers now r e l a b same =
+    let none : min (lo + n) after - lo ≡ 0 = omega (arith, b) in
+    record { here = a ∙ size_more pieces i before piece e l r.here; same = rw none refl }
 
-pub gathered_more : (pieces : List (List ℤ)) (i n : ℕ) (piece : List ℤ) (lo hi from to : ℕ) (old : List ℤ) → piece ≡ get_or pieces i piece → i < length pieces → n ≡ length (joined (take i pieces)) → lo ≤ hi
-    → old ≡ take (hi - lo) (drop lo (joined (take i pieces))) → from ≡ min (lo - n) (length piece) → to ≡ min (hi - n) (length piece) → old ++ take (to - from) (drop from piece) ≡ take (hi - lo) (drop lo (joined (take (i + 1) pieces)))
-gathered_more pieces i n piece lo hi from to old e l s h o f t =
-    sym (
-    ap (λ ns. take (hi - lo) (drop lo ns)) (joined_more pieces i piece e l)
-    ∙ range_joined (joined (take i pieces)) piece lo hi h
-    ∙ rw (← s, ← o, f, t) (ap (λ ns. old ++ ns) (clipped piece (lo - n) (hi - n))))
+-- the numbers of the range that stand in the piece are read
+pub read_more : (pieces : List (List ℤ)) (lo n i before after from to : ℕ) (piece numbers part now : List ℤ) → AreReadUpTo pieces lo n i before numbers → piece ≡ get_or pieces i piece → i < length pieces → after ≡ before + length piece → length numbers ≡ n
+    → before < lo + n → lo < after → from ≡ max lo before → to ≡ min (lo + n) after → part ≡ take (length (mid_of (from - lo) (to - lo - (from - lo)) numbers)) (drop (from - before) piece)
+    → now ≡ put_mid (from - lo) (to - lo - (from - lo)) numbers part → AreReadUpTo pieces lo n (i + 1) after now
+read_more pieces lo n i before after from to piece numbers part now r e l a long h b f t p q =
+    let begins : before ≤ from = omega (arith, f) in
+    let inside : lo ≤ from = omega (arith, f) in
+    let some : from ≤ to = omega (arith, f, t, h, b, a) in
+    let ends : to ≤ before + length piece = omega (arith, t, a) in
+    let fits : to - lo ≤ length numbers = omega (arith, t, long) in
+    let size = mid_len (from - lo) (to - lo) numbers fits in
+    let sizes : to - lo - (from - lo) ≡ to - from = omega (arith, inside, some) in
+    let counts : to - before - (from - before) ≡ to - from = omega (arith, begins, some) in
+    let stands : part ≡ take (to - from) (drop from (joined pieces)) = p ∙ ap (λ (k : ℕ). take k (drop (from - before) piece)) (size ∙ sizes ∙ sym counts) ∙ in_piece pieces i before piece from to e l r.here begins some ends in
+    let whole : length part ≡ to - from = rw stands (length-take-le (to - from) (drop from (joined pieces)) (omega (arith, length-drop from (joined pieces), end_within pieces i before piece e l r.here, ends))) in
+    let so_far : min (lo + n) before - lo ≡ from - lo = omega (arith, f, h) in
+    let now_far : min (lo + n) after - lo ≡ to - lo = omega (arith, t) in
+    let front : take (to - lo) now ≡ take (from - lo) numbers ++ part = ap (take (to - lo)) q ∙ take-put_mid (from - lo) (to - lo - (from - lo)) numbers part (to - lo) (omega (arith, whole, inside, some)) (omega (arith, fits, some)) in
+    record {
+      here = a ∙ size_more pieces i before piece e l r.here;
+      same = rw now_far (front ∙ ap₂ (λ xs ys. xs ++ ys) (rw so_far at r.same) stands ∙ ranges_joined (joined pieces) lo from to inside some);
+    }
+
+-- all are read
+pub read_whole : (pieces : List (List ℤ)) (lo n i before : ℕ) (numbers : List ℤ) → AreReadUpTo pieces lo n i before numbers → length numbers ≡ n → lo + n ≤ before → numbers ≡ take n (drop lo (joined pieces))
+read_whole pieces lo n i before numbers r long h =
+    let all : min (lo + n) before - lo ≡ n = omega (arith, h) in
+    sym (take_all n numbers (omega (arith, long))) ∙ rw all at r.same
+
+pub read_to_the_end : (pieces : List (List ℤ)) (lo n i before : ℕ) (numbers : List ℤ) → AreReadUpTo pieces lo n i before numbers → length numbers ≡ n → length pieces ≤ i → lo + n ≤ length (joined pieces) → numbers ≡ take n (drop lo (joined pieces))
+read_to_the_end pieces lo n i before numbers r long e h =
+    let all : before ≡ length (joined pieces) = r.here ∙ ap (λ ps. length (joined ps)) (take_all i pieces e) in
+    read_whole pieces lo n i before numbers r long (omega (arith, h, all))

@@ -5,7 +5,7 @@ use Rattle.rdf_values.specs.Cuts.{Lead, cut}
 use Rattle.rdf_values.specs.declared.span.Span.{Span}
 use Rattle.rdf_values.proofs.Leading.{cuts_lead}
 use Rattle.columns.specs.Blocks.{cluster_values}
-use Rattle.table_pieces.specs.Wholes.{joined}
+use Rattle.columns.specs.Wholes.{joined}
 
 drop_none : (k : ℕ) → drop {A = ℤ} k [] ≡ []
 drop_none zero = refl

@@ -1,12 +1,12 @@
 -- What is kept gives the table's columns.
-use Rattle.std.proofs.Common.{◌≡◌, ◌≤◌, ◌<◌, ◌-◌, ◌+◌, ℕ, zero, suc, ℤ, List, [], ◌∷◌, ◌++◌, append_assoc, length, get_or, drop, take, map, Some, refl, sym, ap, ap₂, ◌∙◌, arith, slice_get}
+use Rattle.std.proofs.Common.{◌≡◌, ◌≤◌, ◌<◌, ◌-◌, ◌+◌, ℕ, zero, suc, ℤ, List, [], ◌∷◌, ◌++◌, length, get_or, drop, take, map, Some, refl, sym, ap, ap₂, ◌∙◌, arith, slice_get}
 use Rattle.std.specs.List.{AllByRecursion}
 use Rattle.std.proofs.lemmas.List.{length-drop, length-map, length-take, map-append, take-append-drop}
 use Rattle.std.proofs.lemmas.Option.{slice_get-get_or, slice_get-map, slice_get_within}
 use Rattle.rdf_values.specs.Kept.{AreKept, Keep, count, rows_kept}
 use Rattle.rdf_values.specs.Cuts.{cut}
 use Rattle.rdf_values.proofs.Leading.{cuts_lead}
-use Rattle.clusters.specs.Ranges.{Holds}
+use Rattle.columns.specs.Ranges.{Holds}
 use Rattle.rdf_values.specs.Tables.{IsIntColumn, TableView, kind_at}
 use Rattle.rdf_values.specs.declared.column.Column.{Column}
 use Rattle.rdf_values.specs.declared.span.Span.{Span}
@@ -14,8 +14,8 @@ use Rattle.rdf_values.specs.declared.value.ColType.{ColType}
 use Rattle.rdf_values.specs.declared.value.ColType.TheVariants as k
 use Rattle.rdf_values.specs.declared.value.Value.TheVariants as v
 use Rattle.rdf_values.proofs.KeptLemmas.{ints_column, kept_within, no_ints, no_vects, vects_column}
-use Rattle.table_pieces.specs.Wholes.{joined, whole}
-use Rattle.table_pieces.specs.declared.column_pieces.ColumnPieces.{ColumnPieces}
+use Rattle.columns.specs.Wholes.{joined, whole}
+use Rattle.columns.specs.declared.column_pieces.ColumnPieces.{ColumnPieces}
 use Rattle.columns.specs.Blocks.{cluster_values}
 use Rattle.columns.specs.KeptColumns.{IsByCluster, cells_of}
 use Rattle.columns.specs.declared.kept.Kept.{Kept}
@@ -127,9 +127,6 @@ keep_next n taken x rest all h e = go taken (rw e at h)
     go : (ys : List ColumnPieces) → Keep n (map whole (ys ++ x ∷ rest)) → count (whole x) ≡ n
     go [] k = k.0
     go (y ∷ ys) k = go ys k.1
-
-pub taken_next : (taken : List ColumnPieces) (x : ColumnPieces) (left rest all : List ColumnPieces) → all ≡ taken ++ left → left ≡ x ∷ rest → all ≡ (taken ++ x ∷ []) ++ rest
-taken_next taken x left rest all h e = h ∙ ap (λ l. taken ++ l) e ∙ sym (append_assoc taken (x ∷ []) rest)
 
 -- ---- columns in two halves
 

@@ -1,9 +1,15 @@
 pub mod BlockSteps
+pub mod Clusters
+pub mod Ends
 pub mod Examples
 pub mod InPieces
 pub mod Joining
+pub mod JoiningPieces
 pub mod Keeping
+pub mod Leading
 pub mod LowBytes
+pub mod MarkedCuts
 pub mod Reading
 pub mod Tight
 pub mod Unpacking
+pub mod Walking

@@ -1,6 +1,6 @@
 -- What a contract sees of columns: a table, and how its entries are cut.
 use Rattle.rdf_values.specs.Tables.{TableView}
-use Rattle.clusters.specs.CutsView.{CutsView}
+use Rattle.columns.specs.CutsView.{CutsView}
 
 pub record ColumnsView : Type 0 where
   pub table : TableView

@@ -7,11 +7,11 @@ use Rattle.rdf_values.specs.declared.cells.Cells.{Cells}
 use Rattle.rdf_values.specs.declared.cells.Cells.TheVariants as cells
 use Rattle.rdf_values.specs.declared.column.Column.{Column}
 use Rattle.rdf_values.specs.declared.span.Span.{Span}
-use Rattle.clusters.specs.CutsView.{CutsView}
+use Rattle.columns.specs.CutsView.{CutsView}
 use Rattle.columns.specs.Blocks.{cluster_values}
 use Rattle.columns.specs.declared.kept.Kept.{Kept}
 use Rattle.columns.specs.declared.kept.Kept.TheVariants as kept
-use Rattle.table_pieces.specs.Wholes.{joined}
+use Rattle.columns.specs.Wholes.{joined}
 
 -- the values for which a column stands
 abbrev pub cells_of : Kept → Cells

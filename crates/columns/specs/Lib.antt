@@ -1,6 +1,11 @@
 pub mod Blocks
 pub mod ColumnsView
+pub mod CutsView
+pub mod Joins
 pub mod KeptColumns
 pub mod Packings
+pub mod Ranges
 pub mod ReadInts
+pub mod Walk
+pub mod Wholes
 pub mod Widths

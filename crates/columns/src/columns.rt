@@ -7,17 +7,17 @@ ghost use Rattle.rdf_values.specs.declared.value.ColType.TheVariants as k;
 ghost use Rattle.rdf_values.specs.declared.value.Value.TheVariants as v;
 ghost use Rattle.columns.specs.Blocks.{cluster_values};
 ghost use Rattle.columns.specs.Packings.{packed_of, packing_of};
-ghost use Rattle.table_pieces.specs.Wholes.{joined};
+ghost use Rattle.columns.specs.Wholes.{joined};
 
+use crate::cuts::Cuts;
 use crate::kept::{Kept, keep_all, keep_in_slots};
 use crate::packed_ints::PackedInts;
 use crate::packing::Packing;
-use clusters::Cuts;
+use crate::table_pieces::TablePieces;
 use rdf_values::{Column, ListOf, Memory, Table, Vects};
 use std::alloc::Global;
 use std::marker::Model;
 use std::thread::Threads;
-use table_pieces::TablePieces;
 
 /// The columns of a table, and the cuts of its entries. The numbers of an int column are packed cluster by cluster.
 #[derive(Drop)]

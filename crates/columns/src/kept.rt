@@ -5,14 +5,15 @@ ghost use Rattle.std.specs.Thread.{IsSync};
 ghost use Rattle.rdf_values.specs.Cuts.{cut};
 ghost use Rattle.rdf_values.specs.Kept.{Keep, count};
 ghost use Rattle.columns.specs.KeptColumns.{IsByCluster, cells_of};
-ghost use Rattle.table_pieces.specs.Wholes.{joined, whole};
+ghost use Rattle.columns.specs.Wholes.{joined, whole};
 
+use crate::column_pieces::ColumnPieces;
+use crate::cuts::Cuts;
 use crate::packed_ints::{PackedInts, pack};
-use clusters::Cuts;
+use crate::slots::halves;
 use rdf_values::{Memory, Vects};
 use std::alloc::Global;
 use std::thread::{Threads, join};
-use table_pieces::{ColumnPieces, halves};
 
 /// The numbers of an int column, packed by cluster, or the vectors of a vec column.
 #[derive(Drop)]

@@ -3,15 +3,15 @@ ghost use Rattle.std.specs.Prelude.{◌≡◌, ◌≤◌, ◌<◌, ◌+◌, ◌+
 ghost use Rattle.rdf_values.specs.Cuts.{cut};
 ghost use Rattle.columns.specs.Blocks.{IsBlock, cluster_values};
 ghost use Rattle.columns.specs.Packings.{packed_of, packing_of};
-ghost use Rattle.table_pieces.specs.Wholes.{joined};
+ghost use Rattle.columns.specs.Wholes.{joined};
 
 use crate::block::Block;
 use crate::bytes::{number_at, push_packed, read_packed};
+use crate::cuts::Cuts;
 use crate::grown::Grown;
 use crate::packing::Packing;
-use crate::pieces::{gather, in_one_piece};
-use clusters::Cuts;
-use rdf_values::{IntList, Memory, Span};
+use crate::pieces::gather;
+use rdf_values::{Memory, Numbers, Span};
 use std::alloc::Global;
 use std::marker::Model;
 
@@ -51,10 +51,9 @@ fn pack_cluster(values: &[i64], bytes: Vec<u8>) -> Result<Grown, Memory>
     Ok(Grown { block, bytes })
 }
 
-// Appends the bytes of a range's numbers, and tells where they stand. `gathered` is where numbers of several pieces
-// are put together.
+// Appends the bytes of a range's numbers, and tells where they stand. The numbers are put into `gathered` first.
 fn pack_range(
-    pieces: &[IntList],
+    pieces: &[Numbers],
     range: Span,
     gathered: &mut Vec<i64>,
     bytes: Vec<u8>,
@@ -67,15 +66,12 @@ fn pack_range(
 {
     let lo = range.lo as usize;
     let hi = range.hi as usize;
-    if let Some(numbers) = in_one_piece(pieces, lo, hi) {
-        return pack_cluster(numbers, bytes);
-    }
     gather(pieces, lo, hi, gathered)?;
     pack_cluster(gathered.as_slice(), bytes)
 }
 
 /// The numbers of a column in pieces, packed by cluster.
-pub(crate) fn pack(alloc: Global, pieces: &[IntList], cuts: &Cuts) -> Result<PackedInts, Memory>
+pub(crate) fn pack(alloc: Global, pieces: &[Numbers], cuts: &Cuts) -> Result<PackedInts, Memory>
     requires size { length (joined pieces.now) ≡ cuts.now.entries }
     requires few { length (joined pieces.now) ≤ 1000000 }
     ensures { IfOk result (λ p. p ≡ cluster_values (cut cuts.now.entries cuts.now.size cuts.now.marks) (joined pieces.now)) }

@@ -1,45 +1,44 @@
 // The numbers of an int column in pieces.
-ghost use Rattle.std.specs.Prelude.{◌≡◌, ◌≤◌, IfSome, OnOk, length, slice_range};
-ghost use Rattle.table_pieces.specs.Wholes.{joined};
+ghost use Rattle.std.specs.Prelude.{◌≡◌, ◌≤◌, ◌+◌, OnOk, drop, length, slice_range, take};
+ghost use Rattle.columns.specs.Wholes.{joined};
 
-use rdf_values::{IntList, Memory};
+use rdf_values::{Memory, Numbers};
 
-/// The numbers of a range, where they stand in one piece.
-pub(crate) fn in_one_piece(pieces: &[IntList], lo: usize, hi: usize) -> Option<&[i64]>
-    requires range { lo ≤ hi }
+// Reads the numbers from a place on, as many as there is room for.
+fn read_from(pieces: &[Numbers], lo: usize, numbers: &mut [i64])
+    requires within { lo + length numbers.old ≤ length (joined pieces.now) }
     requires few { length (joined pieces.now) ≤ 1000000 }
-    ensures { IfSome result (λ numbers. numbers.now ≡ slice_range (joined pieces.now) lo hi) }
+    ensures { numbers.new ≡ take (length numbers.old) (drop lo (joined pieces.now)) }
 {
+    let hi = lo + numbers.len();
     let mut before = 0;
     for piece in pieces {
+        if hi <= before {
+            return;
+        }
         let end = before + piece.len();
-        if before <= lo && hi <= end {
-            return Some(&piece.as_slice()[lo - before..hi - before]);
+        if lo < end {
+            let from = lo.max(before);
+            let to = hi.min(end);
+            piece.read(from - before, &mut numbers[from - lo..to - lo]);
         }
         before = end;
     }
-    None
 }
 
-/// Puts the numbers of a range into `gathered`, in place of what it held.
+/// Puts the numbers of a range into `gathered`, in place of what it held. Where it held as many, no room is made or filled.
 pub(crate) fn gather(
-    pieces: &[IntList],
+    pieces: &[Numbers],
     lo: usize,
     hi: usize,
     gathered: &mut Vec<i64>,
 ) -> Result<(), Memory>
     requires range { lo ≤ hi }
+    requires within { hi ≤ length (joined pieces.now) }
     requires few { length (joined pieces.now) ≤ 1000000 }
     ensures { OnOk result (gathered.new.items ≡ slice_range (joined pieces.now) lo hi) }
 {
-    gathered.clear();
-    let mut before = 0;
-    for piece in pieces {
-        let size = piece.len();
-        let from = lo.saturating_sub(before).min(size);
-        let to = hi.saturating_sub(before).min(size);
-        gathered.extend_from_slice(&piece.as_slice()[from..to])?;
-        before += size;
-    }
+    gathered.resize(hi - lo, 0)?;
+    read_from(pieces, lo, gathered.as_mut_slice());
     Ok(())
 }

@@ -1,13 +1,14 @@
-ghost use Rattle.std.specs.Prelude.{◌≡◌, ⊤, length, IfOk, MatchOption, Some};
+ghost use Rattle.std.specs.Prelude.{◌≡◌, ⊤, [], ◌∷◌, length, pos, IfOk, MatchOption, Some};
 ghost use Rattle.rdf_values.specs.Tables.{kind_at};
+ghost use Rattle.columns.specs.Wholes.{joined};
 
-use crate::pieces::{gather, in_one_piece};
 use crate::{Columns, Packing};
-use clusters::cut;
-use rdf_values::{ColType, Column, IntList, ListOf, Marks, Memory, Name, Table, Value};
+use crate::cuts::cut;
+use crate::pieces::gather;
+use crate::table_pieces::TablePieces;
+use rdf_values::{ColType, Column, IntList, ListOf, Marks, Memory, Name, Numbers, Table, Value};
 use std::alloc::Global;
 use std::test::Fail;
-use table_pieces::TablePieces;
 
 // An int column of two entries.
 fn ints(alloc: Global) -> Result<Option<Table>, Memory>
@@ -112,18 +113,31 @@ fn two_slots_pack_a_column_each(rt: HostRuntime) -> Result<(), Fail> {
     Ok(())
 }
 
+// Two pieces of two numbers each: one of numbers that fit 2 bytes, one of numbers that don't.
+fn two_pieces(alloc: Global) -> Result<Vec<Numbers>, Memory>
+    ensures { IfOk result (λ pieces. joined pieces.items ≡ pos 1 ∷ pos 2 ∷ pos 70000 ∷ pos 5000000000 ∷ []) }
+{
+    let mut short = Numbers::new(alloc);
+    short.push(1)?;
+    short.push(2)?;
+    let mut long = Numbers::new(alloc);
+    long.push(70000)?;
+    long.push(5000000000)?;
+    let mut pieces = Vec::new(alloc);
+    pieces.push(short)?;
+    pieces.push(long)?;
+    Ok(pieces)
+}
+
 #[test]
 fn gathers_the_numbers_of_two_pieces(rt: HostRuntime) -> Result<(), Fail> {
-    let mut pieces = Vec::new(rt.alloc());
-    pieces.push(IntList::from_slice(rt.alloc(), &[1, 2])?)?;
-    pieces.push(IntList::from_slice(rt.alloc(), &[3, 4])?)?;
+    let pieces = two_pieces(rt.alloc())?;
     let mut gathered = Vec::new(rt.alloc());
-    assert!(rt; in_one_piece(pieces.as_slice(), 1, 3).is_none());
-    gather(pieces.as_slice(), 1, 3, &mut gathered)?;
-    assert_eq!(rt; gathered.as_slice(), [2, 3].as_slice());
-    assert_eq!(rt;
-        in_one_piece(pieces.as_slice(), 2, 4),
-        Some([3, 4].as_slice())
-    );
+    gather(pieces.as_slice(), 1, 4, &mut gathered)?;
+    assert_eq!(rt; gathered.as_slice(), [2, 70000, 5000000000].as_slice());
+    gather(pieces.as_slice(), 0, 1, &mut gathered)?;
+    assert_eq!(rt; gathered.as_slice(), [1].as_slice());
+    gather(pieces.as_slice(), 2, 4, &mut gathered)?;
+    assert_eq!(rt; gathered.as_slice(), [70000, 5000000000].as_slice());
     Ok(())
 }

@@ -212,11 +212,6 @@ module _ (c : ClaimsSeen) (b : Option BookSeen) (job : JobFacts) (bar : ℕ) whe
               (subst (DrawnBy (map finished_by (flat_map done_in fs))) whole (subst (λ (l : List (List ℕ)). DrawnBy l (min word c.clusters)) (done_lists fs (high_bar none) ran over passed) drawn));
         }
 
--- the least of no faults is none
-pub none_left : (fs : List Fault) (least : Option Fault) → least ≡ least_fault fs → ((f : Fault) → least ≡ Some f → ⊥) → fs ≡ []
-none_left [] least is none = refl
-none_left (f ∷ fs) least is none = absurd (none _ is)
-
 pub left_none : (fs : List Fault) → None ≡ least_fault fs → fs ≡ []
 left_none [] is = refl
 left_none (f ∷ fs) is = absurd (cc)

@@ -1,5 +1,5 @@
 -- Pieces that are made of slots, one after another.
-use Rattle.std.proofs.Common.{◌≡◌, ◌<◌, List, [], ◌∷◌, ◌++◌, length, get_or, refl, sym, ap, ◌∙◌, subst, arith, append_assoc, append-nil}
+use Rattle.std.proofs.Common.{◌≡◌, ◌<◌, List, [], ◌∷◌, ◌++◌, length, get_or, sym, ap, ◌∙◌, subst, arith, append_assoc, append-nil}
 use Rattle.std.specs.Prelude.{flat_map}
 use Rattle.std.specs.List.{remove}
 use Rattle.std.proofs.lemmas.List.Elements.{All-tail}
@@ -17,9 +17,6 @@ pub record AreMade (slots left : List Done) (pieces : List LoopPiece) (shares : 
   pub shares_of : shares ≡ flat_map shares_in made
   pub going : AllAreGoing left
 
-pub none_made : (slots : List Done) → AllAreGoing slots → AreMade slots slots [] []
-none_made slots going = record { made = []; all = refl; pieces_of = tt; shares_of = refl; going = going }
-
 one_more : (ds : List Done) (ps : List LoopPiece) (d : Done) (p : LoopPiece) → ArePieces ds ps → IsPieceOf d.state p → ArePieces (ds ++ d ∷ []) (ps ++ p ∷ [])
 one_more [] [] d p h k = (k, tt)
 one_more [] (q ∷ qs) d p h k = elim h [ ]
@@ -36,15 +33,3 @@ next_made slots (t ∷ ts) rest pieces now shares more d p m some is gone grown 
   shares_of = grown ∙ ap (λ (l : List ShareSeen). l ++ share_or_none d.share) m.shares_of ∙ ap (λ (l : List ShareSeen). flat_map shares_in m.made ++ l) (sym (append-nil (share_or_none d.share))) ∙ sym (flat_map-append shares_in m.made (d ∷ []));
   going = subst AllAreGoing (sym gone) (All-tail IsGoing t ts m.going);
 }
-
-pub first_going : (slots left : List Done) (pieces : List LoopPiece) (shares : List ShareSeen) (d : Done) → AreMade slots left pieces shares → 0 < length left → d ≡ get_or left 0 d → IsGoing d
-first_going slots left pieces shares d m some is = subst IsGoing (sym is) (m.going 0 d some)
-
-all_made : (slots left : List Done) (pieces : List LoopPiece) (shares : List ShareSeen) → AreMade slots left pieces shares → left ≡ [] → (m : List Done) × (slots ≡ m) × ArePieces m pieces × (shares ≡ flat_map shares_in m)
-all_made slots left pieces shares m none = (m.made, m.all ∙ ap (λ (l : List Done). m.made ++ l) none ∙ append-nil m.made, m.pieces_of, m.shares_of)
-
-pub made_pieces : (slots left : List Done) (pieces : List LoopPiece) (shares : List ShareSeen) → AreMade slots left pieces shares → left ≡ [] → ArePieces slots pieces
-made_pieces slots left pieces shares m none = let a = all_made slots left pieces shares m none in subst (λ (l : List Done). ArePieces l pieces) (sym a.1) a.2
-
-pub made_shares : (slots left : List Done) (pieces : List LoopPiece) (shares : List ShareSeen) → AreMade slots left pieces shares → left ≡ [] → shares ≡ flat_map shares_in slots
-made_shares slots left pieces shares m none = let a = all_made slots left pieces shares m none in a.3 ∙ ap (flat_map shares_in) (sym a.1)

@@ -16,8 +16,8 @@ use Rattle.loop_pieces.specs.declared.filled_result.PartialLine.{PartialLine}
 use Rattle.loop_pieces.specs.declared.loop_piece.LoopPiece.{LoopPiece}
 use Rattle.merge_core.specs.Pieces.{Stand}
 use Rattle.rdf_model.specs.declared.loop_facts.LoopFacts.{LoopFacts}
-use Rattle.partial_lines.specs.Chains.{AreNoted, HavePartialsOver, noted_sets}
-use Rattle.partial_lines.specs.Trails.{HasSameBody, HaveAllTrails, HaveSameBodies}
+use Rattle.partial_watch.specs.Chains.{AreNoted, HavePartialsOver, noted_sets}
+use Rattle.partial_watch.specs.Trails.{HasSameBody, HaveAllTrails, HaveSameBodies}
 use Rattle.partial_watch.specs.Shares.{BookSeen, ShareSeen, many_in}
 use Rattle.partial_watch.specs.Shares as book
 use Rattle.slot_state.specs.Jobs.{JobFacts}
@@ -25,11 +25,7 @@ use Rattle.event_loop.specs.declared.gather.Done.{Done}
 use Rattle.event_loop.specs.Ends.{AreNotedPartials}
 use Rattle.event_loop.specs.Workers.{HasNoted}
 use Rattle.event_loop.specs.Gathered.{IsDone, finished_by}
-use Rattle.event_loop.specs.Filling.{AllAreGoing, ArePieces, CanFill, IsBookOf, IsGoing, IsPieceOf, dones_of, orders_of, share_or_none, shares_in}
-
-pub all_going : (b : Option BookSeen) (job : JobFacts) (ds : List Done) → All (IsDone b job) ds → AllAreGoing ds
-all_going b job [] h = All-nil IsGoing
-all_going b job (d ∷ ds) h = All-cons IsGoing d ds (All-head (IsDone b job) d ds h).going (all_going b job ds (All-tail (IsDone b job) d ds h))
+use Rattle.event_loop.specs.Filling.{ArePieces, CanFill, IsBookOf, IsPieceOf, dones_of, orders_of, share_or_none, shares_in}
 
 abbrev numbers_in : ShareSeen → List ℕ
 numbers_in s = s.numbers

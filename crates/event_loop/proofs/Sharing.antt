@@ -8,7 +8,7 @@ use denote.Struct.Tuple.{TupleAt, type_at}
 use Rattle.std.proofs.Crossing.{crosses}
 use Rattle.std.specs.contracts.option.Option.{the_row as option_row}
 use Rattle.rdf_values.proofs.SharedScript.{columns_sync}
-use Rattle.clusters.specs.contracts.cuts.Cuts.{the_row as cuts_row}
+use Rattle.columns.specs.contracts.cuts.Cuts.{the_row as cuts_row}
 use Rattle.columns.specs.contracts.columns.Columns.{the_row as columns_row}
 use Rattle.partial_watch.specs.contracts.book.Book.{the_row as book_row}
 use Rattle.partial_watch.proofs.book.Book.TheSendSync as book

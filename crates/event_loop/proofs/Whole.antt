@@ -7,13 +7,13 @@ use Rattle.rdf_values.specs.Machine.{first_in}
 use Rattle.rdf_values.specs.declared.fault.Fault.{Fault}
 use Rattle.rdf_values.proofs.Below.{length-below}
 use Rattle.rdf_values.proofs.Leading.{cuts_lead}
-use Rattle.clusters.proofs.Leading.{few_ranges}
+use Rattle.columns.proofs.Leading.{few_ranges}
 use Rattle.cluster_claims.specs.Seats.{ClaimsSeen, SeatSeen, fresh_seats}
 use Rattle.partial_watch.specs.Shares.{BookSeen}
 use Rattle.loop_keys.specs.Jobs.{IsJob, JobView, passes_in}
 use Rattle.loop_pieces.specs.Whole.{cluster_fault}
 use Rattle.loop_pieces.proofs.ClusterFaults.{lower_clusters_fault_first}
-use Rattle.pass_laws.specs.Entries.{job_spans}
+use Rattle.loop_keys.specs.Entries.{job_spans}
 use Rattle.slot_state.specs.Jobs.{JobFacts, job_facts}
 use Rattle.event_loop.specs.declared.end.FilledLoop.{FilledLoop}
 use Rattle.event_loop.specs.declared.gather.Done.{Done}

@@ -1,5 +1,5 @@
 //! One event loop: slots claim clusters side by side, each into a piece of its own, and the pieces are joined.
-//! It stands on `slot_state`, `cluster_claims` and `partial_lines`.
+//! It stands on `slot_state`, `cluster_claims` and `partial_watch`.
 //! No clause says that so many slots run, nor that the gate is called once at each turn of a slot: in `rdf_program` the tests
 //! `two_slots_at_once` and `held_cluster_comes_late` show it.
 #![tactic(auto)]

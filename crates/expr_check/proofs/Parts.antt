@@ -3,6 +3,7 @@ use Rattle.std.proofs.Common.{◌≡◌, ◌↔◌, ℕ, Bool, true, false, List
 use Rattle.std.specs.Prelude.{nat_eq, ◌&&◌, All}
 use Rattle.std.specs.List.{AllByRecursion}
 use Rattle.std.proofs.lemmas.List.Elements.{recursion_from_All, All-from_recursion}
+use Rattle.lemmas.proofs.Booleans.{and_left, and_right}
 use Rattle.rdf_values.specs.Tree.{Trees, NumTree, Lit, Truth, Col, Neg, Not, Bin, Cond, Pick, Call, End, More}
 use Rattle.rdf_values.specs.Depends.{columns_in, columns_in_all}
 use Rattle.rdf_values.specs.Kinds.{FunctionNames, kinds_by, args_count}
@@ -10,7 +11,7 @@ use Rattle.rdf_values.specs.declared.value.ColType.{ColType}
 use Rattle.rdf_values.specs.declared.num_expr.Callee.{Callee}
 use Rattle.expr_check.specs.NumKinds.{number_kind, callee_shape, num_kind, gives_vector, takes_no_vector, HasNoVector, is_plain, all_are_plain, parts, parts_of_all}
 use Rattle.expr_check.proofs.Each.{each_left, each_right, each_append}
-use Rattle.expr_check.proofs.Plain.{plain_typed, columns_scalar, and_left, and_right}
+use Rattle.expr_check.proofs.Plain.{plain_typed, columns_scalar}
 use Rattle.expr_check.proofs.Typed.{bind_ok, call_ok}
 
 module _ (kinds : List (ℕ × ColType)) (names : FunctionNames) where

@@ -5,6 +5,7 @@ use Rattle.std.specs.List.{AllByRecursion, zip, list_any}
 use Rattle.std.proofs.lemmas.Bool.{false_from_ne_true}
 use Rattle.std.proofs.lemmas.Bool.Decides.{Decides-eqb}
 use Rattle.std.proofs.lemmas.Slice.Zip.{firsts-zip}
+use Rattle.lemmas.proofs.Booleans.{and_holds, and_left, and_right, left_false, not_true, right_false}
 use Rattle.rdf_values.specs.Tree.{Trees, NumTree, Lit, Truth, Col, Neg, Not, Bin, Cond, Pick, Call, End, More}
 use Rattle.rdf_values.specs.Depends.{columns_in, columns_in_all}
 use Rattle.rdf_values.specs.Kinds.{Shape, shape, ◌>>=◌, FunctionNames, kinds_by, args_count, same_kind, same_kinds, arithmetic_kind, logical_kind, equality_kind, operator_kind, negated_kind, inverted_kind, chosen_kind, picked_kind}
@@ -32,12 +33,12 @@ inverted_scalar kind.Int k h p = cc h
 inverted_scalar kind.Bool k h p = ap gives_vector (sym h)
 inverted_scalar kind.Vect k h p = cc p
 
-arithmetic_scalar : (both s t k : ColType) → is_vector both ≡ false → arithmetic_kind both s t ≡ Ok k → is_vector s ≡ false → is_vector t ≡ false → is_vector k ≡ false
-arithmetic_scalar both kind.Int kind.Int k b h p q = ap gives_vector (sym h) ∙ b
-arithmetic_scalar both kind.Int kind.Bool k b h p q = cc h
-arithmetic_scalar both kind.Bool t k b h p q = cc h
-arithmetic_scalar both kind.Vect t k b h p q = cc p
-arithmetic_scalar both s kind.Vect k b h p q = cc q
+arithmetic_scalar : (and_holds s t k : ColType) → is_vector and_holds ≡ false → arithmetic_kind and_holds s t ≡ Ok k → is_vector s ≡ false → is_vector t ≡ false → is_vector k ≡ false
+arithmetic_scalar and_holds kind.Int kind.Int k b h p q = ap gives_vector (sym h) ∙ b
+arithmetic_scalar and_holds kind.Int kind.Bool k b h p q = cc h
+arithmetic_scalar and_holds kind.Bool t k b h p q = cc h
+arithmetic_scalar and_holds kind.Vect t k b h p q = cc p
+arithmetic_scalar and_holds s kind.Vect k b h p q = cc q
 
 logical_scalar : (s t k : ColType) → logical_kind s t ≡ Ok k → is_vector s ≡ false → is_vector t ≡ false → is_vector k ≡ false
 logical_scalar kind.Bool kind.Bool k h p q = ap gives_vector (sym h)
@@ -113,21 +114,6 @@ called_scalar names fn.At s ts h each fit = absurd (vector_taken s ts (kind.Int 
 called_scalar names fn.Abs s ts h each fit = (refl, let same_shape : shape (kind.Int ∷ []) kind.Int ≡ s = cc h in ap (λ (t : Shape). is_vector t.gives) (sym same_shape))
 called_scalar names (fn.Given i) s ts h each fit = (refl, given_scalar (slice_get names i) s h)
 
-pub and_left : (a b : Bool) → (a && b) ≡ true → a ≡ true
-and_left true b h = refl
-and_left false b h = cc h
-
-pub and_right : (a b : Bool) → (a && b) ≡ true → b ≡ true
-and_right true b h = h
-and_right false b h = cc h
-
-both : (a b : Bool) → a ≡ true → b ≡ true → (a && b) ≡ true
-both a b p q = rw (p, q) refl
-
-not_true : (b : Bool) → not b ≡ true → b ≡ false
-not_true true h = cc h
-not_true false h = refl
-
 call_gives : (counted : Bool) (kinds : Result (List ColType) GraphCause) (takes : List ColType) (gives k : ColType)
     → (if counted then (kinds >>= λ ts. if same_kinds ts takes then Ok gives else Err WrongType) else Err WrongCount) ≡ Ok k → is_vector gives ≡ false → is_vector k ≡ false
 call_gives false kinds takes gives k h p = cc h
@@ -154,7 +140,7 @@ module _ (kinds : List (ℕ × ColType)) (names : FunctionNames) where
         let v = bind_ok (num_kind kinds names b) _ k w.2 in
         let p = plain_typed a w.0 w.1 (each_left (λ i. gives_vector (number_kind kinds i) ≡ false) (columns_in a) (columns_in b) each) in
         let q = plain_typed b v.0 v.1 (each_right (λ i. gives_vector (number_kind kinds i) ≡ false) (columns_in a) (columns_in b) each) in
-        (both (is_plain kinds a) (is_plain kinds b) p.0 q.0, operator_scalar o w.0 v.0 k v.2 p.1 q.1)
+        (and_holds (is_plain kinds a) (is_plain kinds b) p.0 q.0, operator_scalar o w.0 v.0 k v.2 p.1 q.1)
     plain_typed (Cond c a b) k h each =
         let u = bind_ok (num_kind kinds names c) _ k h in
         let w = bind_ok (num_kind kinds names a) _ k u.2 in
@@ -174,7 +160,7 @@ module _ (kinds : List (ℕ × ColType)) (names : FunctionNames) where
         let ts = call_ok (nat_eq (args_count args) (length s.0.takes)) (kinds_by (number_kind kinds) (callee_shape names) args) s.0.takes s.0.gives k s.2 in
         let p = all_plain_typed args ts.0 ts.1 each in
         let q = called_scalar names f s.0 ts.0 s.1 p.1 ts.3 in
-        (both (takes_no_vector f) (all_are_plain kinds args) q.0 p.0, call_gives (nat_eq (args_count args) (length s.0.takes)) (kinds_by (number_kind kinds) (callee_shape names) args) s.0.takes s.0.gives k s.2 q.1)
+        (and_holds (takes_no_vector f) (all_are_plain kinds args) q.0 p.0, call_gives (nat_eq (args_count args) (length s.0.takes)) (kinds_by (number_kind kinds) (callee_shape names) args) s.0.takes s.0.gives k s.2 q.1)
 
     all_plain_typed : (args : Trees ℕ Callee) (ks : List ColType) → kinds_by (number_kind kinds) (callee_shape names) args ≡ Ok ks → AllByRecursion (λ i. gives_vector (number_kind kinds i) ≡ false) (columns_in_all args)
         → (all_are_plain kinds args ≡ true) × AllByRecursion (λ t. is_vector t ≡ false) ks
@@ -185,7 +171,7 @@ module _ (kinds : List (ℕ × ColType)) (names : FunctionNames) where
         let p = plain_typed a w.0 w.1 (each_left (λ i. gives_vector (number_kind kinds i) ≡ false) (columns_in a) (columns_in_all rest) each) in
         let q = all_plain_typed rest v.0 v.1 (each_right (λ i. gives_vector (number_kind kinds i) ≡ false) (columns_in a) (columns_in_all rest) each) in
         let more : w.0 ∷ v.0 ≡ ks = cc v.2 in
-        (both (is_plain kinds a) (all_are_plain kinds rest) p.0 q.0, subst (AllByRecursion (λ t. is_vector t ≡ false)) more (p.1, q.1))
+        (and_holds (is_plain kinds a) (all_are_plain kinds rest) p.0 q.0, subst (AllByRecursion (λ t. is_vector t ≡ false)) more (p.1, q.1))
 
 -- each column of a plain expression is no vector
 module _ (kinds : List (ℕ × ColType)) where
@@ -211,14 +197,6 @@ module _ (kinds : List (ℕ × ColType)) where
     all_columns_scalar (More a rest) h =
         each_append (λ i. gives_vector (number_kind kinds i) ≡ false) (columns_in a) (columns_in_all rest) (columns_scalar a (and_left (is_plain kinds a) (all_are_plain kinds rest) h)) (all_columns_scalar rest (and_right (is_plain kinds a) (all_are_plain kinds rest) h))
 
-or_left : (a b : Bool) → (a || b) ≡ false → a ≡ false
-or_left true b h = cc h
-or_left false b h = refl
-
-or_right : (a b : Bool) → (a || b) ≡ false → b ≡ false
-or_right true b h = cc h
-or_right false b h = h
-
 scalar_by : (b : Bool) (k : ColType) (r : Result ColType GraphCause) → is_vector k ≡ false → gives_vector r ≡ false → gives_vector (cond b (Ok k) r) ≡ false
 scalar_by true k r p q = p
 scalar_by false k r p q = q
@@ -228,7 +206,7 @@ all_scalar : (numbers : List ℕ) (kinds : List ColType) (i : ℕ) → list_any 
 all_scalar [] kinds i h = refl
 all_scalar (n ∷ ns) [] i h = refl
 all_scalar (n ∷ ns) (k ∷ ks) i h =
-    scalar_by (nat_eq n i) k (number_kind (zip ns ks) i) (or_left (is_vector k) (list_any is_vector ks) h) (all_scalar ns ks i (or_right (is_vector k) (list_any is_vector ks) h))
+    scalar_by (nat_eq n i) k (number_kind (zip ns ks) i) (left_false (is_vector k) (list_any is_vector ks) h) (all_scalar ns ks i (right_false (is_vector k) (list_any is_vector ks) h))
 
 each_of_all : (P : ℕ → Type 0) → ((i : ℕ) → P i) → (xs : List ℕ) → AllByRecursion P xs
 each_of_all P f [] = tt

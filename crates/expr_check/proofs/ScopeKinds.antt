@@ -4,6 +4,7 @@ use Rattle.std.specs.Prelude.{nat_eq}
 use Rattle.std.specs.List.{AllByRecursion, zip}
 use Rattle.std.proofs.lemmas.Bool.Decides.{Decides-eqb}
 use Rattle.std.proofs.lemmas.List.Elements.{recursion_from_All}
+use Rattle.lemmas.proofs.Orders.{eq_itself}
 use Rattle.rdf_values.specs.Names.{same}
 use Rattle.rdf_values.specs.Kinds.{column_kind}
 use Rattle.rdf_values.specs.Numbered.{ScopeColumn, kinds_in, number_in}
@@ -11,9 +12,6 @@ use Rattle.rdf_values.specs.declared.value.ColType.{ColType}
 use Rattle.rdf_values.specs.declared.graph_cause.GraphCause.{GraphCause}
 use Rattle.expr_check.specs.NumKinds.{number_kind}
 use Rattle.expr_check.specs.Scopes.{NumberHasKind, NumbersHaveKinds, numbers_in}
-
-nat_eq-itself : (n : ℕ) → nat_eq n n ≡ true
-nat_eq-itself n = (Decides-eqb n n).1 refl
 
 -- the column that a name means, with all that holds of each column
 named : (cs : List ScopeColumn) (name : List ℕ) (k : ColType) (P : ScopeColumn → Type 0) → AllByRecursion P cs → column_kind (kinds_in cs) name ≡ Ok k
@@ -38,7 +36,7 @@ number_known (c ∷ cs) name k is = known_at (same c.name name) c.number c.kind 
 
     known_at : (b : Bool) (number : ℕ) (kind : ColType) (n : ℕ) (kind_at : ℕ → Result ColType GraphCause) (r : Result ColType GraphCause) (k : ColType) → cond b (Ok kind) r ≡ Ok k
         → (r ≡ Ok k → (l : ColType) × (kind_at n ≡ Ok l)) → (l : ColType) × (cond (nat_eq number (cond b number n)) (Ok kind) (kind_at (cond b number n)) ≡ Ok l)
-    known_at true number kind n kind_at r k is below = (kind, rw (nat_eq-itself number) refl)
+    known_at true number kind n kind_at r k is below = (kind, rw (eq_itself number) refl)
     known_at false number kind n kind_at r k is below = below_known (nat_eq number n) kind (kind_at n) (below is)
 
 -- a number has the kind that each column of that number has
@@ -81,7 +79,7 @@ each_by_zip (n ∷ ns) [] kind_at is = cc is
 each_by_zip (n ∷ ns) (k ∷ ks) kind_at is =
     let head : kind_at n ≡ Ok k = cc is in
     let tail : map (λ (k : ColType). Ok k) ks ≡ map kind_at ns = cc is in (
-      rw (nat_eq-itself n) head,
+      rw (eq_itself n) head,
       each_weaker (λ i. kind_at i ≡ number_kind (zip ns ks) i) (λ i. kind_at i ≡ number_kind (zip (n ∷ ns) (k ∷ ks)) i)
           (λ i below. in_front (nat_eq n i) k (number_kind (zip ns ks) i) (kind_at i) (λ e. ap kind_at (sym ((Decides-eqb n i).0 e)) ∙ head) below) ns (each_by_zip ns ks kind_at tail),
     )

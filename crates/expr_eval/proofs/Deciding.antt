@@ -1,25 +1,13 @@
 -- Operations whose left side may decide.
-use Rattle.std.proofs.Common.{◌≡◌, ℕ, Bool, true, false, Some, None, Result, refl}
+use Rattle.std.proofs.Common.{◌≡◌, ℕ, Bool, true, false, None, Result, refl}
 use Rattle.rdf_values.specs.declared.expr.BinOp.{BinOp}
 use Rattle.rdf_values.specs.declared.expr.BinOp.TheVariants as op
 use Rattle.rdf_values.specs.declared.value.Value.{Value}
 use Rattle.rdf_values.specs.declared.value.Value.TheVariants as val
 use Rattle.rdf_model.specs.Evaluation.{Outcome, Gives, ◌>>=◌, operation, value_operation}
-use Rattle.expr_eval.specs.EvalAnswers.{AnswersAs, StopsAs}
+use Rattle.expr_eval.specs.EvalAnswers.{AnswersAs}
 use Rattle.expr_eval.specs.Operands.{decision}
 use Rattle.expr_eval.specs.declared.stop.EvalStop.{EvalStop}
-use Rattle.expr_eval.proofs.InOrder.{stops_through}
-
-decides : (o : BinOp) (v : Value) (p : Outcome ℕ Value) (b : Bool) → decision o v ≡ Some b → operation o (Gives v) p ≡ Gives (val.Bool b)
-decides op.And (val.Bool false) p b e = cc
-decides op.And (val.Bool true) p b e = absurd (cc)
-decides op.And (val.Int z) p b e = absurd (cc)
-decides op.And (val.Vect zs) p b e = absurd (cc)
-decides op.Or (val.Bool true) p b e = cc
-decides op.Or (val.Bool false) p b e = absurd (cc)
-decides op.Or (val.Int z) p b e = absurd (cc)
-decides op.Or (val.Vect zs) p b e = absurd (cc)
-decides o v p b e = absurd (cc)
 
 leaves_open : (o : BinOp) (v : Value) (p : Outcome ℕ Value) → decision o v ≡ None → operation o (Gives v) p ≡ (p >>= value_operation o v)
 leaves_open op.And (val.Bool false) p e = absurd (cc)
@@ -33,11 +21,5 @@ leaves_open op.Or (val.Vect zs) p e = refl
 leaves_open o v p e = refl
 
 module _ (o : BinOp) (v : Value) (left right : Outcome ℕ Value) (given : left ≡ Gives v) where
-  pub decided_left : (b : Bool) → decision o v ≡ Some b → operation o left right ≡ Gives (val.Bool b)
-  decided_left b e = rw given (decides o v right b e)
-
-  pub stopped_right : (stop : EvalStop) → decision o v ≡ None → StopsAs right stop → StopsAs (operation o left right) stop
-  stopped_right stop e h = rw (given, leaves_open o v right e) (stops_through right (value_operation o v) stop h)
-
   pub both_sides : {B : Type 0} (view : B → Value) (w : Value) (r : Result B EvalStop) → decision o v ≡ None → right ≡ Gives w → AnswersAs view (value_operation o v w) r → AnswersAs view (operation o left right) r
   both_sides view w r e h a = rw (given, leaves_open o v right e, h) a

@@ -1,6 +1,5 @@
 pub mod CheckedCalls
 pub mod Deciding
-pub mod Gathering
 pub mod InOrder
 pub mod KnownColumns
 pub mod OfItsKind

@@ -3,6 +3,7 @@ use Rattle.std.proofs.Common.{◌≡◌, ◌+◌, ℕ, ℤ, Bool, true, false, n
 use Rattle.std.specs.Prelude.{nat_eq}
 use Rattle.std.specs.List.{filter}
 use Rattle.std.proofs.lemmas.Bool.Decides.{eqb_tells}
+use Rattle.lemmas.proofs.Booleans.{and_false, and_true}
 use Rattle.rdf_model.specs.Evaluation.{Outcome, Gives, ◌>>=◌, is_zero}
 use Rattle.expr_lanes.specs.declared.stopped.Stopped.{Stopped}
 use Rattle.expr_lanes.specs.Places.{is_in, at_place, is_given, with_stop, given_in, stops_in, times, Evaluated}
@@ -17,14 +18,6 @@ or_and true false true = refl
 or_and true true false = refl
 or_and true false false = refl
 or_and false b t = refl
-
-and_false : (a : Bool) → (a && false) ≡ false
-and_false true = refl
-and_false false = refl
-
-and_true : (a : Bool) → (a && true) ≡ a
-and_true true = refl
-and_true false = refl
 
 in_if_kept : (t : Bool) (p q : ℕ) (rest : List ℕ) → is_in p (cond t (q ∷ rest) rest) ≡ ((nat_eq p q && t) || is_in p rest)
 in_if_kept true p q rest = ap (λ b. b || is_in p rest) (sym (and_true (nat_eq p q)))

@@ -6,9 +6,8 @@ use Rattle.std.proofs.lemmas.Bool.Decides.{eqb_tells}
 use Rattle.std.proofs.lemmas.List.{take_more_set}
 use Rattle.std.proofs.lemmas.List.FromFn.{length-range_with_len, get_or-range_with_len}
 use Rattle.rdf_model.specs.Evaluation.{Outcome, Gives}
-use Rattle.expr_lanes.specs.declared.TheConstants.{MAX_PLACES}
 use Rattle.expr_lanes.specs.declared.stopped.Stopped.{Stopped}
-use Rattle.expr_lanes.specs.Places.{is_in, at_place, EachPlace, Evaluated, IsReady}
+use Rattle.expr_lanes.specs.Places.{is_in, at_place, EachPlace, Evaluated}
 use Rattle.expr_lanes.proofs.Selected.{is_in_at}
 use Rattle.expr_lanes.proofs.Sequence.{come_told, come_alike, told}
 
@@ -98,14 +97,3 @@ dense_long n bound sel dense inside =
       | inl low ↦ let none : bound < bound = dense_each n sel (λ p. p < bound) dense inside bound low in absurd (omega arith)
       | inr high ↦ high
     ]
-
--- a block whose places are all selected is ready
-pub ready_first : (size : ℕ) (sel : List ℕ) (lane : List ℤ) (stops : List Stopped) → size ≤ MAX_PLACES → sel ≡ range_with_len 0 size → size ≤ length lane → stops ≡ [] → IsReady size sel lane stops
-ready_first size sel lane stops small dense long none = record {
-  selected = record {
-    small = small;
-    inside = λ p h. below_range size p (subst (λ (l : List ℕ). is_in p l ≡ true) dense h);
-    room = omega (arith, small, ap (λ (l : List ℕ). length l) dense, length-range_with_len 0 size, ap (λ (l : List Stopped). length l) none);
-  };
-  long = long;
-}

@@ -36,10 +36,6 @@ rising_from (suc n) a = (λ q i. let above : a + 1 ≤ q = above_start n (a + 1)
 pub rising_range : (n : ℕ) (sel : List ℕ) → sel ≡ range_with_len 0 n → AreRising sel
 rising_range n sel first = subst (λ (l : List ℕ). AreRising l) (sym first) (rising_from n 0)
 
--- a selection that is seen as a filtered one
-pub rising_as : (f : ℕ → Bool) (sel seen left : List ℕ) → AreRising sel → sel ≡ seen → left ≡ filter f seen → AreRising left
-rising_as f sel seen left rising same is = subst (λ (l : List ℕ). AreRising l) (sym is) (rising_filter f seen (subst (λ (l : List ℕ). AreRising l) same rising))
-
 -- ---- a filter that drops nothing
 
 short : (f : ℕ → Bool) (sel : List ℕ) → length (filter f sel) ≤ length sel

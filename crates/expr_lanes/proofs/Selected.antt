@@ -4,12 +4,9 @@ use Rattle.std.specs.Prelude.{nat_eq}
 use Rattle.std.proofs.lemmas.Bool.{eq-eqb}
 use Rattle.std.proofs.lemmas.Bool.Decides.{eqb_tells}
 use Rattle.std.proofs.lemmas.List.Folds.{list_any-append, list_any_at}
+use Rattle.lemmas.proofs.Booleans.{or_false}
 use Rattle.rdf_model.specs.Evaluation.{Outcome, Gives}
 use Rattle.expr_lanes.specs.Places.{is_in, EachPlace, at_place}
-
-or_false : (a : Bool) → (a || false) ≡ a
-or_false true = refl
-or_false false = refl
 
 -- a place of the list is in it
 pub is_in_at : (xs : List ℕ) (i d : ℕ) → i < length xs → is_in (get_or xs i d) xs ≡ true

@@ -3,6 +3,7 @@ use Rattle.std.proofs.Common.{◌≡◌, ◌+◌, ℕ, ℤ, Bool, true, false, �
 use Rattle.std.specs.List.{filter}
 use Rattle.std.proofs.lemmas.Bool.{eq-eqb}
 use Rattle.std.specs.Prelude.{nat_eq}
+use Rattle.lemmas.proofs.Booleans.{or_right}
 use Rattle.rdf_model.specs.Evaluation.{Outcome, Gives, Faults, Needs, ◌>>=◌}
 use Rattle.expr_lanes.specs.declared.stopped.Stopped.{Stopped}
 use Rattle.expr_lanes.specs.Places.{is_in, EachPlace, at_place, is_given, with_stop, given_in, stops_in, times, IsJoined, Evaluated, HasCome}
@@ -11,10 +12,6 @@ use Rattle.expr_lanes.specs.Places.{is_in, EachPlace, at_place, is_given, with_s
 
 pub first_in : (p : ℕ) (ps : List ℕ) → is_in p (p ∷ ps) ≡ true
 first_in p ps = ap (λ b. b || is_in p ps) (eq-eqb p p refl)
-
-or_right : (a b : Bool) → b ≡ true → (a || b) ≡ true
-or_right true b h = refl
-or_right false b h = h
 
 pub rest_in : (q p : ℕ) (ps : List ℕ) → is_in q ps ≡ true → is_in q (p ∷ ps) ≡ true
 rest_in q p ps h = or_right (nat_eq q p) (is_in q ps) h

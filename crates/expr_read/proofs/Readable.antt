@@ -1,10 +1,10 @@
 -- What is read from valid tokens can be spelled again.
 use Rattle.std.proofs.Common.{◌≡◌, ℕ, true, List, [], ◌∷◌, ◌++◌, subst}
+use Rattle.lemmas.proofs.Booleans.{both_true}
 use Rattle.rdf_values.specs.Tree.{NamedTree}
 use Rattle.rdf_values.specs.Tokens.{Token}
 use Rattle.rdf_values.specs.Grammar.{NamedTrees, Reads, ReadsArgs, number, truth, name, parenthesized, call, pick, minus_sign, not_sign, binary, conditional, tighter, no_arguments, last_argument, more_arguments}
 use Rattle.expr_read.specs.Valid.{is_valid, are_valid}
-use Rattle.expr_read.proofs.Words.{both}
 use Rattle.expr_read.proofs.SpelledTree.{IsReadable, AreReadable}
 
 abbrev AreValid : List Token → Type 0
@@ -13,7 +13,7 @@ AreValid (t ∷ ts) = (is_valid t ≡ true) × AreValid ts
 
 each_valid : (ts : List Token) → are_valid ts ≡ true → AreValid ts
 each_valid [] h = tt
-each_valid (t ∷ ts) h = let p = both (is_valid t) (are_valid ts) h in (p.0, each_valid ts p.1)
+each_valid (t ∷ ts) h = let p = both_true (is_valid t) (are_valid ts) h in (p.0, each_valid ts p.1)
 
 split : (ts us : List Token) → AreValid (ts ++ us) → AreValid ts × AreValid us
 split [] us g = (tt, g)

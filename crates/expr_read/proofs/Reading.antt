@@ -37,10 +37,6 @@ module _ {T : Type 0} (reads : List Token → T → Type 0) (begin : ScanState) 
   pub reads_these : (text : List ℕ) (ts : List Placed) (x : T) → tokens text ≡ Ok ts → IsText reads text x → reads (bare ts) x
   reads_these text ts x same r = let these : r.found ≡ ts = cc (same, r.tokens_are) in subst (λ (us : List Placed). reads (bare us) x) these r.reads_as
 
-  pub none_refused : (text : List ℕ) (e : ExprRefusal) (x : T) → IsRefusalOf (tokens text) e → IsText reads text x → e ≡ no.Memory
-  none_refused text no.Memory x h r = refl
-  none_refused text (no.At why place) x h r = let never = sym h ∙ r.tokens_are in cc never
-
   pub none_unexpected : (text : List ℕ) (ts : List Placed) (e : ExprRefusal) (x : T) → tokens text ≡ Ok ts → RefusesTokensAs begin ts (length text) e → IsText reads text x → e ≡ no.Memory
   none_unexpected text ts no.Memory x same h r = refl
   none_unexpected text ts (no.At why place) x same (unexpected, inl refused) r = let never = sym refused ∙ whole ts x (reads_these text ts x same r) in cc never

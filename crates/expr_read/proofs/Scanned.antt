@@ -2,6 +2,7 @@
 use Rattle.std.proofs.Common.{◌≡◌, ◌<◌, ◌≤◌, ◌+◌, ℕ, false, List, [], ◌∷◌, Some, None, arith, refl, ap, nat_eq}
 use Rattle.std.specs.Prelude.{nat_le}
 use Rattle.std.proofs.lemmas.Bool.Decides.{nat_tests}
+use Rattle.lemmas.proofs.Orders.{le_false, le_not}
 use Rattle.rdf_values.specs.Tokens.{Token, Word, Truth, Number, Op, Punct, Placed}
 use Rattle.rdf_values.specs.Grammar.{level_of}
 use Rattle.rdf_values.specs.Scans.{OpenMark, InParens, InIndex, InChoice, InCall, Operand, FirstArgument, AfterName, Operator, ScanState, Refused, scan_step, scan, operand, operator, after_name, first_argument}
@@ -118,17 +119,11 @@ pub level_high : (o : BinOp) → 1 ≤ level_of o
 level_high op.Or = omega arith
 level_high o = omega arith
 
-pub above : (n m : ℕ) → m < n → nat_le n m ≡ false
-above n m h = grind (arith, nat_tests)
-
-pub below : (n m : ℕ) → nat_le n m ≡ false → m < n
-below n m h = grind (arith, nat_tests)
-
 pub positive : (n : ℕ) → 1 ≤ n → nat_eq n 0 ≡ false
 positive n h = grind (arith, nat_tests)
 
 postfix_step : (t : Token) → (t ≡ Punct mark.OpenBracket → ⊥) → continues 8 t ≡ false
-postfix_step (Op o) isnt = above 8 (level_of o) (omega (arith, level_low o))
+postfix_step (Op o) isnt = le_false 8 (level_of o) (omega (arith, level_low o))
 postfix_step (Punct mark.OpenBracket) isnt = absurd (isnt refl)
 postfix_step t isnt = refl
 
@@ -136,21 +131,12 @@ pub stops_postfix : (ts : List Placed) → BeginsNot (Punct mark.OpenBracket) ts
 stops_postfix [] isnt = tt
 stops_postfix (p ∷ ts) isnt = postfix_step p.token (first_is_not (Punct mark.OpenBracket) p ts isnt)
 
-unary_step : (t : Token) → continues 8 t ≡ false → continues 7 t ≡ false
-unary_step (Op o) h = above 7 (level_of o) (omega (arith, level_low o))
-unary_step (Punct mark.OpenBracket) h = cc h
-unary_step t h = refl
-
-pub stops_unary : (ts : List Placed) → Stops 8 ts → Stops 7 ts
-stops_unary [] h = tt
-stops_unary (p ∷ ts) h = unary_step p.token h
-
 sides_step : (n : ℕ) (t : Token) → 1 ≤ n → n ≤ 6 → continues (n + 1) t ≡ false → ((o : BinOp) → level_of o ≡ n → t ≡ Op o → ⊥) → continues n t ≡ false
 sides_step n (Op o) low high h isnt =
-    let under : level_of o < n + 1 = below (n + 1) (level_of o) h in
+    let under : level_of o < n + 1 = le_not (n + 1) (level_of o) h in
     let other : level_of o ≡ n → ⊥ = λ e. isnt o e refl in
-    above n (level_of o) (omega arith)
-sides_step n (Punct mark.OpenBracket) low high h isnt = absurd (let far : 8 < n + 1 = below (n + 1) 8 h in omega arith)
+    le_false n (level_of o) (omega arith)
+sides_step n (Punct mark.OpenBracket) low high h isnt = absurd (let far : 8 < n + 1 = le_not (n + 1) 8 h in omega arith)
 sides_step n (Punct mark.Question) low high h isnt = positive n low
 sides_step n t low high h isnt = refl
 
@@ -159,7 +145,7 @@ stops_binary n [] low high h isnt = tt
 stops_binary n (p ∷ ts) low high h isnt = sides_step n p.token low high h (λ o e. first_is_not (Op o) p ts (isnt o e))
 
 expr_step : (t : Token) → continues 1 t ≡ false → (t ≡ Punct mark.Question → ⊥) → continues 0 t ≡ false
-expr_step (Op o) h isnt = absurd (let far : level_of o < 1 = below 1 (level_of o) h in omega (arith, level_high o))
+expr_step (Op o) h isnt = absurd (let far : level_of o < 1 = le_not 1 (level_of o) h in omega (arith, level_high o))
 expr_step (Punct mark.OpenBracket) h isnt = cc h
 expr_step (Punct mark.Question) h isnt = absurd (isnt refl)
 expr_step t h isnt = refl

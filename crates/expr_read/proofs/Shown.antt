@@ -4,6 +4,7 @@ use Rattle.std.proofs.lemmas.List.{append-nil}
 use Rattle.rdf_values.specs.declared.expr.BinOp.{BinOp}
 use Rattle.std.specs.Prelude.{nat_le}
 use Rattle.std.proofs.lemmas.Bool.Decides.{nat_tests}
+use Rattle.lemmas.proofs.Orders.{le_not, le_says, le_true}
 use Rattle.rdf_values.specs.Tree.{NamedTree, Lit, Col, Neg, Not, Bin, Cond, Pick, Call, End, More}
 use Rattle.rdf_values.specs.Tree as e
 use Rattle.rdf_values.specs.Tokens.{Token, Punct}
@@ -20,22 +21,13 @@ looser_by (suc k) n ts a r = let e : suc k + n ≡ suc (k + n) = omega arith in 
 pub at_looser : (n m : ℕ) (ts : List Token) (a : NamedTree) → n ≤ m → Reads m ts a → Reads n ts a
 at_looser n m ts a h r = let e : m ≡ (m - n) + n = omega arith in looser_by (m - n) n ts a (subst (λ (k : ℕ). Reads k ts a) e r)
 
-at_most : (n m : ℕ) → nat_le n m ≡ true → n ≤ m
-at_most n m h = grind (arith, nat_tests)
-
-above : (n m : ℕ) → nat_le n m ≡ false → m < n
-above n m h = grind (arith, nat_tests)
-
-is_at_most : (n m : ℕ) → n ≤ m → nat_le n m ≡ true
-is_at_most n m h = grind (arith, nat_tests)
-
 op_low : (o : BinOp) → level_of o ≤ 6
 op_low op.Or = omega arith
 op_low o = omega arith
 
 -- in parentheses or not, it reads where the level is asked for
 enclosed_reads : (n : ℕ) (a : NamedTree) (ts : List Token) (b : Bool) → nat_le n (tree_level a) ≡ b → n ≤ 9 → Reads (tree_level a) ts a → Reads n (enclosed b ts) a
-enclosed_reads n a ts true h k r = at_looser n (tree_level a) ts a (at_most n (tree_level a) h) r
+enclosed_reads n a ts true h k r = at_looser n (tree_level a) ts a (le_says n (tree_level a) h) r
 enclosed_reads n a ts false h k r = at_looser n 9 _ a k (parenthesized (at_looser 0 (tree_level a) ts a (omega arith) r) refl)
 
 mutual
@@ -77,7 +69,7 @@ extra_low false = omega arith
 
 extra_looser : (n l : ℕ) (b d : Bool) → nat_le n l ≡ b → nat_le (suc n) l ≡ d → extra b ≤ extra d
 extra_looser n l true d h k = omega arith
-extra_looser n l false true h k = absurd (let low : l < n = above n l h in let high : suc n ≤ l = at_most (suc n) l k in omega arith)
+extra_looser n l false true h k = absurd (let low : l < n = le_not n l h in let high : suc n ≤ l = le_says (suc n) l k in omega arith)
 extra_looser n l false false h k = omega arith
 
 shown_looser : (n : ℕ) (a : NamedTree) → length (tokens_at_level n a) ≤ length (tokens_at_level (suc n) a)
@@ -88,7 +80,7 @@ shown_most n m a = omega (arith, enclosed_size (nat_le n (tree_level a)) (tokens
 
 -- without parentheses where its own level is asked for
 own_level : (n : ℕ) (a : NamedTree) → n ≤ tree_level a → length (tokens_at_level n a) ≡ length (tokens_of a)
-own_level n a h = rw (is_at_most n (tree_level a) h) refl
+own_level n a h = rw (le_true n (tree_level a) h) refl
 
 mutual
   fewest : {n : ℕ} {ts : List Token} {a : NamedTree} → Reads n ts a → length (tokens_at_level n a) ≤ length ts
@@ -115,4 +107,4 @@ pub no_fewer : (ts : List Token) (a : NamedTree) → Reads 0 ts a → length (to
 no_fewer ts a r = fewest r
 
 pub shown_whole : (a : NamedTree) → tokens_at_level 0 a ≡ tokens_of a
-shown_whole a = ap (λ (b : Bool). enclosed b (tokens_of a)) (is_at_most 0 (tree_level a) (omega arith))
+shown_whole a = ap (λ (b : Bool). enclosed b (tokens_of a)) (le_true 0 (tree_level a) (omega arith))

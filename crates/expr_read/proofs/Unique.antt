@@ -2,13 +2,14 @@
 use Rattle.std.proofs.Common.{◌≡◌, ◌<◌, ◌≤◌, ◌∙◌, ℕ, suc, true, List, [], ◌∷◌, ◌++◌, arith, refl, sym, ap, append_assoc, nat_eq}
 use Rattle.std.specs.Prelude.{nat_le, if◌then◌else◌}
 use Rattle.std.proofs.lemmas.Bool.Decides.{nat_tests}
+use Rattle.lemmas.proofs.Orders.{le_false, le_true}
 use Rattle.rdf_values.specs.Tree.{NamedTree, Lit, Col, Neg, Not, Bin, Cond, Pick, Call, End, More}
 use Rattle.rdf_values.specs.Tree as e
 use Rattle.rdf_values.specs.Tokens.{Token, Word, Truth, Number, Op, Punct}
 use Rattle.rdf_values.specs.Grammar.{NamedTrees, Reads, ReadsArgs, number, truth, name, parenthesized, call, pick, minus_sign, not_sign, binary, conditional, tighter, no_arguments, last_argument, more_arguments, level_of}
 use Rattle.rdf_values.specs.declared.expr.BinOp.{BinOp}
 use Rattle.rdf_values.specs.declared.expr.Mark.TheVariants as mark
-use Rattle.expr_read.proofs.Scanned.{above, positive, level_low, level_high}
+use Rattle.expr_read.proofs.Scanned.{positive, level_low, level_high}
 
 -- what waits for the tree that is being read
 data Frame : Type 0 where
@@ -124,7 +125,7 @@ looser n (f ∷ fs) h = tt
 -- such frames go on waiting
 waits : (n : ℕ) (fs : List Frame) (t : NamedTree) → 1 ≤ n → n ≤ 6 → Loose n fs → reduce n fs t ≡ (t, fs)
 waits n [] t low high h = refl
-waits n (Left a o ∷ fs) t low high h = rw (above n (level_of o) h) refl
+waits n (Left a o ∷ fs) t low high h = rw (le_false n (level_of o) h) refl
 waits n (Minus ∷ fs) t low high h = absurd (omega arith)
 waits n (Bang ∷ fs) t low high h = absurd (omega arith)
 waits n (Other c a ∷ fs) t low high h = rw (positive n low) refl
@@ -132,11 +133,8 @@ waits n (f ∷ fs) t low high h = refl
 
 waits_postfix : (fs : List Frame) (t : NamedTree) → reduce 8 fs t ≡ (t, fs)
 waits_postfix [] t = refl
-waits_postfix (Left a o ∷ fs) t = let far : level_of o < 8 = omega (arith, level_low o) in rw (above 8 (level_of o) far) refl
+waits_postfix (Left a o ∷ fs) t = let far : level_of o < 8 = omega (arith, level_low o) in rw (le_false 8 (level_of o) far) refl
 waits_postfix (f ∷ fs) t = refl
-
-at_most : (n m : ℕ) → n ≤ m → nat_le n m ≡ true
-at_most n m h = grind (arith, nat_tests)
 
 zero_is : (n : ℕ) → n ≤ 0 → nat_eq n 0 ≡ true
 zero_is n h = grind (arith, nat_tests)
@@ -193,10 +191,10 @@ mutual
       }
   built (minus_sign {a = a} r) fs h =
       let x = built r (Minus ∷ fs) (omega arith) in
-      record { top = x.top; frames = x.frames; state = x.state; folds = λ m k. x.folds m k ∙ rw (at_most m 7 k) refl }
+      record { top = x.top; frames = x.frames; state = x.state; folds = λ m k. x.folds m k ∙ rw (le_true m 7 k) refl }
   built (not_sign {a = a} r) fs h =
       let x = built r (Bang ∷ fs) (omega arith) in
-      record { top = x.top; frames = x.frames; state = x.state; folds = λ m k. x.folds m k ∙ rw (at_most m 7 k) refl }
+      record { top = x.top; frames = x.frames; state = x.state; folds = λ m k. x.folds m k ∙ rw (le_true m 7 k) refl }
   built (binary {o} {n} {ts} {us} {a = a} {b = b} r q l e) fs h =
       let x = built r fs h in
       let y = built q (Left a o ∷ fs) (omega arith) in
@@ -205,7 +203,7 @@ mutual
         top = y.top;
         frames = y.frames;
         state = rw e (through (Want fs) _ ts _ x.state ∙ fed_side o x.top a x.frames fs us here ∙ y.state);
-        folds = λ m k. y.folds m (omega arith) ∙ (let tight : m ≤ level_of o = omega arith in rw (at_most m (level_of o) tight) refl);
+        folds = λ m k. y.folds m (omega arith) ∙ (let tight : m ≤ level_of o = omega arith in rw (le_true m (level_of o) tight) refl);
       }
   built (conditional {ts} {us} {ws} {c = c} {a = a} {b = b} r q w e) fs h =
       let x = built r fs (looser 0 fs h) in

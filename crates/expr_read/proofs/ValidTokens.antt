@@ -3,6 +3,7 @@ use Rattle.std.proofs.Common.{◌≡◌, ◌≤◌, ◌+◌, ℕ, zero, suc, Boo
 use Rattle.std.specs.Prelude.{Result, take_while, nat_le, codes, ◌&&◌, if◌then◌else◌}
 use Rattle.std.specs.List.{prefix_len, list_all}
 use Rattle.std.proofs.lemmas.Bool.Decides.{nat_tests}
+use Rattle.lemmas.proofs.Booleans.{and_holds}
 use Rattle.rdf_values.specs.Integers.{magnitude_of}
 use Rattle.rdf_values.specs.Names.{same, is_word, is_name, is_word_start, is_word_byte, is_digit}
 use Rattle.rdf_values.specs.Tokens.{Token, Placed, First, Refusal, word_token, word_first, number_found, number_first, short_first, long_first, mark_first, mark_in, short_marks, long_marks, short_mark, long_mark, first_token, and_then, before, tokens_at, tokens, behind, blanks}
@@ -11,16 +12,13 @@ use Rattle.rdf_values.proofs.OneText.{magnitude_bound}
 use Rattle.expr_read.specs.Valid.{is_valid, are_valid}
 use Rattle.expr_read.proofs.Sizes.{first_word, first_number, first_mark}
 
-pub and_both : (a b : Bool) → a ≡ true → b ≡ true → (a && b) ≡ true
-and_both a b e h = rw (e, h) refl
-
 -- ---- words
 
 pub taken_first : (p : ℕ → Bool) (x : ℕ) (xs : List ℕ) → p x ≡ true → take_while p (x ∷ xs) ≡ x ∷ take_while p xs
 taken_first p x xs e = let more : 1 + prefix_len p xs ≡ suc (prefix_len p xs) = omega arith in rw (e, more) refl
 
 all_taken_by : (p : ℕ → Bool) (x : ℕ) (xs : List ℕ) (b : Bool) → p x ≡ b → list_all p (take_while p xs) ≡ true → list_all p (take_while p (x ∷ xs)) ≡ true
-all_taken_by p x xs true e h = subst (λ (ys : List ℕ). list_all p ys ≡ true) (sym (taken_first p x xs e)) (and_both (p x) (list_all p (take_while p xs)) e h)
+all_taken_by p x xs true e h = subst (λ (ys : List ℕ). list_all p ys ≡ true) (sym (taken_first p x xs e)) (and_holds (p x) (list_all p (take_while p xs)) e h)
 all_taken_by p x xs false e h = rw e refl
 
 all_taken : (p : ℕ → Bool) (xs : List ℕ) → list_all p (take_while p xs) ≡ true
@@ -30,7 +28,7 @@ all_taken p (x ∷ xs) = all_taken_by p x xs (p x) refl (all_taken p xs)
 whole_word : (c : ℕ) (cs : List ℕ) → is_word_start c ≡ true → is_word (take_while is_word_byte (c ∷ cs)) ≡ true
 whole_word c cs e =
     let goes : is_word_byte c ≡ true = rw e refl in
-    subst (λ (w : List ℕ). is_word w ≡ true) (sym (taken_first is_word_byte c cs goes)) (and_both (is_word_start c) (list_all is_word_byte (take_while is_word_byte cs)) e (all_taken is_word_byte cs))
+    subst (λ (w : List ℕ). is_word w ≡ true) (sym (taken_first is_word_byte c cs goes)) (and_holds (is_word_start c) (list_all is_word_byte (take_while is_word_byte cs)) e (all_taken is_word_byte cs))
 
 named : (w : List ℕ) → is_word w ≡ true → nat_le (length w) 64 ≡ true → same w (codes "true") ≡ false → same w (codes "false") ≡ false → is_name w ≡ true
 unfolding is_name
@@ -117,7 +115,7 @@ with_first most t (Err e) ts h others k = cc k
 with_first most t (Ok us) ts h others k =
     let q = others us refl in
     let these : t ∷ us ≡ ts = cc k in
-    subst (AreFine (suc most)) these (and_both (is_valid t.token) (are_valid (bare us)) h q.0, omega (arith, q.1))
+    subst (AreFine (suc most)) these (and_holds (is_valid t.token) (are_valid (bare us)) h q.0, omega (arith, q.1))
 
 then_fine : (most place : ℕ) (f : First) (others : ℕ → Result (List Placed) Refusal) (ts : List Placed) → IsValidFirst f
     → ((size : ℕ) (us : List Placed) → others size ≡ Ok us → AreFine most us) → and_then place f others ≡ Ok ts → AreFine (suc most) ts

@@ -18,7 +18,7 @@ use Rattle.rdf_values.specs.declared.value.Value.TheVariants as v
 use Rattle.rdf_values.proofs.Below.{slice_get-below}
 use Rattle.rdf_values.proofs.KeptLemmas.{map_below}
 use Rattle.friend_join.specs.JoinRefused.{elements, elements_of, row_elements}
-use Rattle.table_pieces.specs.Wholes.{joined}
+use Rattle.columns.specs.Wholes.{joined}
 use Rattle.friend_join.specs.Matches.{AreBelow, AreEntries, AreSmall, IsSmall, column_elements, length_for, matched_cells, matched_elements, vector_for}
 use Rattle.friend_join.proofs.Removing.{remove_nil, there}
 
@@ -164,11 +164,6 @@ piece_small pieces i piece e l small j d h =
     let few = piece_few pieces i (length (joined pieces)) piece e l (omega arith) in
     subst (λ (v : List ℤ). length v ≤ 4096) at (small (length front + j) d (omega (arith, few, h)))
 
--- the vectors of one more piece
-pub pieces_next : (pieces : List (List (List ℤ))) (i : ℕ) (piece : List (List ℤ)) → piece ≡ get_or pieces i piece → i < length pieces
-    → sum_by length (joined (take (i + 1) pieces)) ≡ sum_by length (joined (take i pieces)) + sum_by length piece
-pieces_next pieces i piece e l = ap (sum_by length) (joined_more pieces i piece e l) ∙ sum_by-append length (joined (take i pieces)) piece
-
 -- ---- matches
 
 pub match_below : (n : ℕ) (ms : List (Option ℕ)) (i : ℕ) (d : Option ℕ) → AreBelow n ms → i < length ms → MatchOption (get_or ms i d) ⊤ (λ e. e < n)
@@ -177,9 +172,6 @@ match_below n (None ∷ ms) zero d h l = tt
 match_below n (Some m ∷ ms) zero d h l = h.0
 match_below n (None ∷ ms) (suc i) d h l = match_below n ms i d h (omega arith)
 match_below n (Some m ∷ ms) (suc i) d h l = match_below n ms i d h.1 (omega arith)
-
-pub below_at : (n : ℕ) (ms : List (Option ℕ)) (i e : ℕ) (d : Option ℕ) → AreBelow n ms → i < length ms → get_or ms i d ≡ Some e → e < n
-below_at n ms i e d h l q = subst (λ (o : Option ℕ). MatchOption o ⊤ (λ e. e < n)) q (match_below n ms i d h l)
 
 -- ---- vectors are short
 

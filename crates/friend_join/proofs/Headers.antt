@@ -6,6 +6,8 @@ use Rattle.std.proofs.lemmas.Iterator.Adapters.{position_from-zero}
 use Rattle.std.proofs.lemmas.List.Edits.{length-remove}
 use Rattle.std.proofs.lemmas.Bool.{false_from_ne_true}
 use Rattle.std.proofs.lemmas.Slice.Eq.{bytes_eq-Decides}
+use Rattle.lemmas.proofs.Booleans.{and_left, and_right, left_false, or_fails, right_false}
+use Rattle.lemmas.proofs.Places.{within}
 use Rattle.rdf_values.specs.Names.{same}
 use Rattle.rdf_values.specs.Tables.{AreColumns, IsHeader, has_name, kind_at}
 use Rattle.rdf_values.specs.declared.column.Column.{Column}
@@ -16,40 +18,21 @@ use Rattle.friend_join.proofs.Removing.{remove_nil}
 
 -- ---- tests
 
-or_left : (a b : Bool) → (a || b) ≡ false → a ≡ false
-or_left true b h = h
-or_left false b h = refl
-
-or_right : (a b : Bool) → (a || b) ≡ false → b ≡ false
-or_right true b h = absurd (let no : true ≡ false = h in cc no)
-or_right false b h = h
-
-neither : (a b : Bool) → a ≡ false → b ≡ false → (a || b) ≡ false
-neither a b h l = rw h l
-
-and_left : (a b : Bool) → (a && b) ≡ true → a ≡ true
-and_left true b h = refl
-and_left false b h = h
-
-and_right : (a b : Bool) → (a && b) ≡ true → b ≡ true
-and_right true b h = h
-and_right false b h = absurd (let no : false ≡ true = h in cc no)
-
 pub named_any : (columns : List Column) (name : List ℕ) → has_column columns name ≡ has_name columns name
 named_any [] name = refl
 named_any (c ∷ cs) name = ap (λ b. same c.name name || b) (named_any cs name)
 
 has_append : (os bs : List Column) (name : List ℕ) → has_name os name ≡ false → has_name bs name ≡ false → has_name (os ++ bs) name ≡ false
 has_append [] bs name h l = l
-has_append (a ∷ os) bs name h l = neither (same a.name name) (has_name (os ++ bs) name) (or_left (same a.name name) (has_name os name) h) (has_append os bs name (or_right (same a.name name) (has_name os name) h) l)
+has_append (a ∷ os) bs name h l = or_fails (same a.name name) (has_name (os ++ bs) name) (left_false (same a.name name) (has_name os name) h) (has_append os bs name (right_false (same a.name name) (has_name os name) h) l)
 
 has_left : (os bs : List Column) (name : List ℕ) → has_name (os ++ bs) name ≡ false → has_name os name ≡ false
 has_left [] bs name h = refl
-has_left (a ∷ os) bs name h = neither (same a.name name) (has_name os name) (or_left (same a.name name) (has_name (os ++ bs) name) h) (has_left os bs name (or_right (same a.name name) (has_name (os ++ bs) name) h))
+has_left (a ∷ os) bs name h = or_fails (same a.name name) (has_name os name) (left_false (same a.name name) (has_name (os ++ bs) name) h) (has_left os bs name (right_false (same a.name name) (has_name (os ++ bs) name) h))
 
 has_last : (os : List Column) (b : Column) (name : List ℕ) → has_name (os ++ b ∷ []) name ≡ false → same b.name name ≡ false
-has_last [] b name h = or_left (same b.name name) false h
-has_last (a ∷ os) b name h = has_last os b name (or_right (same a.name name) (has_name (os ++ b ∷ []) name) h)
+has_last [] b name h = left_false (same b.name name) false h
+has_last (a ∷ os) b name h = has_last os b name (right_false (same a.name name) (has_name (os ++ b ∷ []) name) h)
 
 -- ---- where the key stands
 
@@ -141,7 +124,7 @@ behind s t [] h f = tt
 behind s t (c ∷ cs) h f = (
   f c.name h.0,
   h.1,
-  behind (s ++ c ∷ []) (t ++ c ∷ []) cs h.2 (λ name g. has_append t (c ∷ []) name (f name (has_left s (c ∷ []) name g)) (neither (same c.name name) false (has_last s c name g) refl)),
+  behind (s ++ c ∷ []) (t ++ c ∷ []) cs h.2 (λ name g. has_append t (c ∷ []) name (f name (has_left s (c ∷ []) name g)) (or_fails (same c.name name) false (has_last s c name g) refl)),
 )
 
 new_behind : (os s t cs : List Column) → AreColumns s cs → AllNew os cs → ((name : List ℕ) → has_name s name ≡ false → has_name os name ≡ false → has_name t name ≡ false) → AreColumns t cs
@@ -149,7 +132,7 @@ new_behind os s t [] h n f = tt
 new_behind os s t (c ∷ cs) h n f = (
   f c.name h.0 n.0,
   h.1,
-  new_behind os (s ++ c ∷ []) (t ++ c ∷ []) cs h.2 n.1 (λ name g o. has_append t (c ∷ []) name (f name (has_left s (c ∷ []) name g) o) (neither (same c.name name) false (has_last s c name g) refl)),
+  new_behind os (s ++ c ∷ []) (t ++ c ∷ []) cs h.2 n.1 (λ name g o. has_append t (c ∷ []) name (f name (has_left s (c ∷ []) name g) o) (or_fails (same c.name name) false (has_last s c name g) refl)),
 )
 
 remove_columns : (s bs : List Column) (p : ℕ) → AreColumns s bs → AreColumns s (remove bs p)
@@ -160,11 +143,6 @@ remove_columns s (b ∷ bs) (suc p) h = (h.0, h.1, remove_columns (s ++ b ∷ []
 join_columns : (s os bs : List Column) → AreColumns s os → AreColumns (s ++ os) bs → AreColumns s (os ++ bs)
 join_columns s [] bs h l = subst (λ (x : List Column). AreColumns x bs) (append-nil s) l
 join_columns s (a ∷ os) bs h l = (h.0, h.1, join_columns (s ++ a ∷ []) os bs h.2 (subst (λ (x : List Column). AreColumns x bs) (sym (append_assoc s (a ∷ []) os)) l))
-
-within : {A : Type 0} (xs : List A) (p : ℕ) (x : A) → slice_get xs p ≡ Some x → p < length xs
-within [] p x h = cc h
-within (y ∷ ys) zero x h = omega arith
-within (y ∷ ys) (suc p) x h = let rest = within ys p x h in omega arith
 
 pub joined_header : (os bs : List Column) (key : List ℕ) (p : ℕ) → IsHeader os → IsHeader bs → key_place key bs ≡ Some p → first_taken os key bs ≡ None → length os + length bs - 1 ≤ 64 → IsHeader (os ++ remove bs p)
 joined_header os bs key p h l at free few =
@@ -179,10 +157,3 @@ joined_header os bs key p h l at free few =
       few = omega arith;
       distinct = join_columns [] os (remove bs p) h.distinct (new_behind os [] os (remove bs p) (remove_columns [] bs p l.distinct) new (λ name g o. o));
     }
-
--- a place among so few columns
-pub small_place : (test : Column → Bool) (cs : List Column) (p : ℕ) → position test cs ≡ Some p → length cs ≤ 64 → p < 64
-small_place test cs p e h = let at = found test cs p e in let low = within cs p at.0 at.1 in omega arith
-
-pub place_within : (test : Column → Bool) (cs : List Column) (p : ℕ) → position test cs ≡ Some p → p < length cs
-place_within test cs p e = let at = found test cs p e in within cs p at.0 at.1

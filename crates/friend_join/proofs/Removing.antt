@@ -1,10 +1,10 @@
 -- Lists without the element at a place, and elements that are there.
-use Rattle.std.proofs.Common.{◌≡◌, ◌<◌, ◌+◌, ℕ, zero, suc, List, [], ◌∷◌, ◌++◌, length, map, get_or, take, refl, ap, ◌∙◌, sym, arith, Some}
+use Rattle.std.proofs.Common.{◌≡◌, ◌<◌, ℕ, zero, suc, List, [], ◌∷◌, length, map, get_or, refl, ap, ◌∙◌, sym, arith, Some}
 use Rattle.std.specs.Prelude.{slice_get}
 use Rattle.std.specs.List.{remove}
-use Rattle.std.proofs.lemmas.List.{get_or-map, map-append, take_more}
-use Rattle.table_pieces.specs.Wholes.{whole}
-use Rattle.table_pieces.specs.declared.column_pieces.ColumnPieces.{ColumnPieces}
+use Rattle.std.proofs.lemmas.List.{get_or-map}
+use Rattle.columns.specs.Wholes.{whole}
+use Rattle.columns.specs.declared.column_pieces.ColumnPieces.{ColumnPieces}
 
 pub remove_nil : {A : Type 0} (p : ℕ) → remove {X = A} [] p ≡ []
 remove_nil zero = refl
@@ -30,10 +30,6 @@ pub mapped : {A B : Type 0} (f : A → B) (xs : List A) (i : ℕ) (x : A) (d : B
 mapped f [] i x d h = cc h
 mapped f (y ∷ ys) zero x d h = let same : y ≡ x = cc h in ap f same
 mapped f (y ∷ ys) (suc i) x d h = mapped f ys i x d h
-
--- one more element of a map
-pub map_next : {A B : Type 0} (f : A → B) (xs : List A) (i : ℕ) (d : A) → i < length xs → map f (take (i + 1) xs) ≡ map f (take i xs) ++ f (get_or xs i d) ∷ []
-map_next f xs i d l = ap (map f) (take_more xs i d l) ∙ map-append f (take i xs) (get_or xs i d ∷ [])
 
 -- a column in pieces at a place
 pub whole_at : (pieces : List ColumnPieces) (i : ℕ) (p : ColumnPieces) → i < length pieces → p ≡ get_or pieces i p → whole p ≡ get_or (map whole pieces) i (whole p)

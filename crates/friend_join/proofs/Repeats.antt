@@ -1,9 +1,10 @@
 -- Numbers that stood before.
-use Rattle.std.proofs.Common.{◌≡◌, ◌<◌, ◌+◌, ℕ, ℤ, zero, suc, true, false, Bool, cond, List, [], ◌∷◌, ◌++◌, length, get_or, take, drop, Option, Some, arith, refl, ap, ◌∙◌, sym, add-one, drop-cons, if◌then◌else◌}
+use Rattle.std.proofs.Common.{◌≡◌, ◌<◌, ◌+◌, ℕ, ℤ, suc, true, false, Bool, cond, List, [], ◌∷◌, ◌++◌, length, get_or, take, drop, Option, Some, refl, ap, ◌∙◌, sym, add-one, drop-cons, if◌then◌else◌}
 use Rattle.std.specs.List.{list_any}
 use Rattle.std.specs.Prelude.{not}
 use Rattle.std.specs.Ordering.{int_eq}
 use Rattle.std.proofs.lemmas.List.{take_more}
+use Rattle.lemmas.proofs.Booleans.{not_false, not_true}
 use Rattle.friend_join.specs.JoinRefused.{repeat_from}
 
 -- a new number goes on
@@ -20,19 +21,6 @@ pub repeat_here : (ns : List ℤ) (e : ℕ) (n : ℤ) (r : Option ℕ) → e < l
 repeat_here ns e n r l q old h =
     let next : drop e ns ≡ n ∷ drop (e + 1) ns = rw (add-one e) (drop-cons ns e n l ∙ ap (λ x. x ∷ drop (suc e) ns) (sym q)) in
     sym h ∙ ap (λ t. repeat_from e (take e ns) t) next ∙ ap (λ b. cond b (Some e) (repeat_from (e + 1) (take e ns ++ n ∷ []) (drop (e + 1) ns))) old
-
-pub same_get : {A : Type 0} (xs : List A) (i : ℕ) (d : A) → i < length xs → get_or xs i d ≡ get_or xs i (get_or xs i d)
-same_get [] i d l = absurd (omega arith)
-same_get (x ∷ xs) zero d l = refl
-same_get (x ∷ xs) (suc i) d l = same_get xs i d (omega arith)
-
-not_false : (b : Bool) → not b ≡ false → b ≡ true
-not_false true h = refl
-not_false false h = cc h
-
-not_true : (b : Bool) → not b ≡ true → b ≡ false
-not_true true h = cc h
-not_true false h = refl
 
 -- an insertion that added nothing
 pub old_key : (n : ℤ) (keys seen : List ℤ) (added : Bool) → keys ≡ seen → added ≡ not (list_any (int_eq n) keys) → added ≡ false → list_any (int_eq n) seen ≡ true

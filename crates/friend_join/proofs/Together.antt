@@ -13,8 +13,8 @@ use Rattle.rdf_values.specs.declared.value.ColType.TheVariants as k
 use Rattle.rdf_values.specs.declared.value.Value.{Value}
 use Rattle.rdf_values.proofs.KeptLemmas.{found_cells, kept_at, kept_within}
 use Rattle.rdf_values.proofs.RowPushed.{kept_length}
-use Rattle.table_pieces.specs.Wholes.{whole}
-use Rattle.table_pieces.specs.declared.column_pieces.ColumnPieces.{ColumnPieces}
+use Rattle.columns.specs.Wholes.{whole}
+use Rattle.columns.specs.declared.column_pieces.ColumnPieces.{ColumnPieces}
 use Rattle.std.specs.Prelude.{slice_get}
 use Rattle.friend_join.specs.Joined.{KeyedTable, joined_row, joined_table, keys_of}
 use Rattle.friend_join.specs.JoinRefused.{elements, first_repeat}

@@ -6,8 +6,8 @@ use Rattle.rdf_values.specs.Kept.{count, rows_kept}
 use Rattle.rdf_values.specs.Tables.{TableView}
 use Rattle.rdf_values.specs.declared.cells.Cells.{Cells}
 use Rattle.rdf_values.specs.declared.cells.Cells.TheVariants as kept
-use Rattle.table_pieces.specs.Wholes.{whole}
-use Rattle.table_pieces.specs.declared.pieces_parts.PiecesParts.{PiecesParts}
+use Rattle.columns.specs.Wholes.{whole}
+use Rattle.columns.specs.declared.pieces_parts.PiecesParts.{PiecesParts}
 use Rattle.friend_join.specs.Joined.{KeyedTable}
 
 -- the table of columns in pieces

@@ -2,13 +2,13 @@
 ghost use Rattle.std.specs.Prelude.{◌≡◌, ◌≤◌, ◌*◌, All, List, ℤ, length, map};
 ghost use Rattle.std.specs.List.{sum_by};
 ghost use Rattle.rdf_values.specs.Kept.{count};
-ghost use Rattle.table_pieces.specs.Wholes.{joined, whole};
+ghost use Rattle.columns.specs.Wholes.{joined, whole};
 ghost use Rattle.friend_join.specs.Matches.{AreBelow, AreEntries, AreSmall, IsSmall, column_elements, length_for, matched_elements};
 
 use crate::friend_entry::FriendEntry;
 use crate::gathered::vector_for;
+use columns::ColumnPieces;
 use rdf_values::{Cells, Vects};
-use table_pieces::ColumnPieces;
 
 // Those of one piece.
 fn piece_elements(vectors: &Vects) -> u64

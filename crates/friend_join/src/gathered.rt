@@ -1,31 +1,38 @@
 // Columns at the entries that match.
 ghost use Rattle.std.specs.Prelude.{◌≡◌, ◌<◌, ◌++◌, ⊤, IfOk, MatchOption, length, map};
 ghost use Rattle.rdf_values.specs.Kept.{count};
-ghost use Rattle.table_pieces.specs.Wholes.{whole};
+ghost use Rattle.columns.specs.Wholes.{whole};
 ghost use Rattle.friend_join.specs.Matches.{AreBelow, AreEntries, matched_cells, number_for, vector_for};
 
 use crate::friend_entry::FriendEntry;
-use rdf_values::{Cells, IntList, Memory, Vects};
+use columns::ColumnPieces;
+use rdf_values::{Cells, Memory, Numbers, Vects};
 use std::alloc::Global;
-use table_pieces::ColumnPieces;
+
+// The number at an entry that matches, and this one where none does.
+fn number_for(numbers: &Numbers, entry: &FriendEntry, missing: i64) -> i64
+    requires { MatchOption entry.now ⊤ (λ e. e < length numbers.now) }
+    ensures { result ≡ number_for missing numbers.now entry.now }
+{
+    match entry.get() {
+        Some(entry) => numbers.at(entry as usize),
+        None => missing,
+    }
+}
 
 // The numbers of an int column, and this one where no entry matches.
 fn ints_at(
     alloc: Global,
-    numbers: &[i64],
+    numbers: &Numbers,
     matches: &[FriendEntry],
     missing: i64,
-) -> Result<IntList, Memory>
+) -> Result<Numbers, Memory>
     requires { AreBelow (length numbers.now) matches.now }
     ensures { IfOk result (λ list. list ≡ map (number_for missing numbers.now) matches.now) }
 {
-    let mut gathered = IntList::new(alloc);
+    let mut gathered = Numbers::new(alloc);
     for entry in matches {
-        let number = match entry.get() {
-            Some(entry) => numbers[entry as usize],
-            None => missing,
-        };
-        gathered.push(number)?;
+        gathered.push(number_for(numbers, entry, missing))?;
     }
     Ok(gathered)
 }
@@ -64,7 +71,7 @@ fn column_at(
 {
     match cells {
         Cells::Ints(numbers) => {
-            let gathered = ints_at(alloc, numbers.as_slice(), matches, missing)?;
+            let gathered = ints_at(alloc, numbers, matches, missing)?;
             Ok(Cells::Ints(gathered))
         }
         Cells::Vects(vectors) => {

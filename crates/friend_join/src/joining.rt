@@ -5,7 +5,7 @@ ghost use Rattle.rdf_values.specs.Answers.{Answers};
 ghost use Rattle.rdf_values.specs.Kept.{HoldsTable, rows_kept};
 ghost use Rattle.rdf_values.specs.Tables.{IsHeader, kind_at};
 ghost use Rattle.rdf_values.specs.declared.value.ColType.TheVariants as k;
-ghost use Rattle.table_pieces.specs.Wholes.{whole};
+ghost use Rattle.columns.specs.Wholes.{whole};
 ghost use Rattle.friend_join.specs.JoinRefused.{join_entries, join_of};
 ghost use Rattle.friend_join.specs.Matches.{AreEntries, keyed_in, matched_cells};
 
@@ -17,9 +17,9 @@ use crate::gathered::put_behind;
 use crate::matches::matches_of;
 use crate::one_piece::in_one_piece;
 use crate::refusal::JoinRefusal;
+use columns::{PiecesParts, TablePieces};
 use rdf_values::{Cells, Column, ListOf, Memory, Name};
 use std::alloc::Global;
-use table_pieces::{PiecesParts, TablePieces};
 
 const MOST_COLUMNS: usize = 64;
 

@@ -1,4 +1,4 @@
-//! A table with a friend's columns beside its own. Stands on `rdf_values` and `table_pieces`.
+//! A table with a friend's columns beside its own. Stands on `rdf_values` and `columns`.
 //!
 //! Two tables have an int column of one name, the key. Each entry of the main table gains the cells of the friend's
 //! entry with the same key, and where there is none a given number for each int column and the empty vector for each

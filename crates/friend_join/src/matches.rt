@@ -1,20 +1,20 @@
 // The friend's entries that match.
 ghost use Rattle.std.specs.Prelude.{◌≡◌, ◌≤◌, ◌<◌, ◌^◌, ◌⊎◌, ◌++◌, ⊤, ℕ, None, Some, length, map, IfOk, OnOk, MatchOption, MatchResult};
 ghost use Rattle.rdf_values.specs.Kept.{count};
-ghost use Rattle.table_pieces.specs.Wholes.{joined, whole};
+ghost use Rattle.columns.specs.Wholes.{joined, whole};
 ghost use Rattle.friend_join.specs.JoinRefused.{first_repeat};
 ghost use Rattle.friend_join.specs.Matches.{AreInts, entry_of, ints_in};
 
 use crate::cause::JoinCause;
 use crate::friend_entry::FriendEntry;
 use crate::refusal::JoinRefusal;
+use columns::ColumnPieces;
 use indexmap::IndexSet;
-use rdf_values::{Cells, IntList, Memory};
+use rdf_values::{Cells, Memory, Numbers};
 use std::alloc::Global;
-use table_pieces::ColumnPieces;
 
 // The keys in a set, in which each has its entry as its place; or the first one that stood before.
-fn numbered_keys(alloc: Global, keys: &[i64]) -> Result<IndexSet<i64>, JoinRefusal>
+fn numbered_keys(alloc: Global, keys: &Numbers) -> Result<IndexSet<i64>, JoinRefusal>
     requires { length keys.now ≤ 1000000 }
     ensures { MatchResult result (λ set. (set.keys ≡ keys.now) × (first_repeat keys.now ≡ None))
         (λ e. (e ≡ JoinRefusal.Memory) ⊎ ((n : ℕ) × (e ≡ JoinRefusal.At (JoinCause.Duplicate n)) × (first_repeat keys.now ≡ Some n))) }
@@ -22,8 +22,8 @@ fn numbered_keys(alloc: Global, keys: &[i64]) -> Result<IndexSet<i64>, JoinRefus
     let Ok(mut numbered) = IndexSet::with_capacity(alloc, keys.len()) else {
         return Err(JoinRefusal::Memory);
     };
-    for (entry, key) in keys.iter().enumerate() {
-        match numbered.insert(*key) {
+    for entry in 0..keys.len() {
+        match numbered.insert(keys.at(entry)) {
             Err(_) => return Err(JoinRefusal::Memory),
             Ok(true) => {}
             Ok(false) => {
@@ -38,14 +38,15 @@ fn numbered_keys(alloc: Global, keys: &[i64]) -> Result<IndexSet<i64>, JoinRefus
 // Puts the entries at which these numbers stand among the keys behind those before.
 fn match_numbers(
     keys: &IndexSet<i64>,
-    numbers: &[i64],
+    numbers: &Numbers,
     matches: &mut Vec<FriendEntry>,
 ) -> Result<(), Memory>
     requires { length keys.now.keys ≤ 1000000 }
     ensures { OnOk result (matches.new.items ≡ matches.old.items ++ map (entry_of keys.now.keys) numbers.now) }
 {
-    for number in numbers {
-        matches.push(FriendEntry::new(keys.get_index_of(number)))?;
+    for place in 0..numbers.len() {
+        let number = numbers.at(place);
+        matches.push(FriendEntry::new(keys.get_index_of(&number)))?;
     }
     Ok(())
 }
@@ -54,14 +55,14 @@ fn match_numbers(
 fn matches_in(
     alloc: Global,
     keys: &IndexSet<i64>,
-    pieces: &[IntList],
+    pieces: &[Numbers],
 ) -> Result<Vec<FriendEntry>, Memory>
     requires { length keys.now.keys ≤ 1000000 }
     ensures { IfOk result (λ matches. matches.items ≡ map (entry_of keys.now.keys) (joined pieces.now)) }
 {
     let mut matches = Vec::new(alloc);
     for piece in pieces {
-        match_numbers(keys, piece.as_slice(), &mut matches)?;
+        match_numbers(keys, piece, &mut matches)?;
     }
     Ok(matches)
 }
@@ -81,7 +82,7 @@ pub(crate) fn matches_of(
 {
     match (column, keys) {
         (ColumnPieces::Ints(pieces), Cells::Ints(keys)) => {
-            let keys = match numbered_keys(alloc, keys.as_slice()) {
+            let keys = match numbered_keys(alloc, &keys) {
                 Ok(keys) => keys,
                 Err(refusal) => return Err(refusal),
             };

@@ -1,21 +1,21 @@
 // Columns in one piece each.
 ghost use Rattle.std.specs.Prelude.{◌≡◌, IfOk, map};
-ghost use Rattle.table_pieces.specs.Wholes.{joined, whole};
+ghost use Rattle.columns.specs.Wholes.{joined, whole};
 
-use rdf_values::{Cells, IntList, Memory, Vects};
+use columns::ColumnPieces;
+use rdf_values::{Cells, Memory, Numbers, Vects};
 use std::alloc::Global;
-use table_pieces::ColumnPieces;
 
 // The numbers of all pieces; the first piece grows.
-fn join_ints(alloc: Global, pieces: Vec<IntList>) -> Result<IntList, Memory>
+fn join_ints(alloc: Global, pieces: Vec<Numbers>) -> Result<Numbers, Memory>
     ensures { IfOk result (λ numbers. numbers ≡ joined pieces.items) }
 {
     let mut pieces = pieces.into_iter();
     let Some(mut numbers) = pieces.next() else {
-        return Ok(IntList::new(alloc));
+        return Ok(Numbers::new(alloc));
     };
     for more in pieces {
-        numbers.extend_from_slice(more.as_slice())?;
+        numbers.extend_from(&more)?;
     }
     Ok(numbers)
 }

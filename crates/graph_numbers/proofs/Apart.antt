@@ -3,6 +3,7 @@ use Rattle.std.proofs.Common.{◌≡◌, ◌≢◌, ◌⊎◌, inl, inr, ℕ, ze
 use Rattle.std.specs.List.{list_any}
 use Rattle.std.proofs.lemmas.Bool.Decides.{Decides-eqb}
 use Rattle.std.proofs.lemmas.Option.{slice_get_within}
+use Rattle.lemmas.proofs.Booleans.{and_left_false, and_right_false, neither}
 use Rattle.rdf_values.specs.Names.{same, among, place}
 use Rattle.rdf_values.specs.Path.{Variation, makes, path, same_variation, own_variations, variations}
 use Rattle.rdf_values.specs.Kinds.{FunctionNames, scope_of}
@@ -17,7 +18,6 @@ use Rattle.rdf_values.specs.declared.statement.Statement.{Statement}
 use Rattle.rdf_values.specs.declared.statement.Statement.TheVariants.{Define, Redefine, Filter, Vary}
 use Rattle.rdf_model.specs.Demanded.{Site, site_at, same_site}
 use Rattle.rdf_model.proofs.Accepted.{both_none, if_fails, names_equal, itself}
-use Rattle.rdf_model.proofs.Evaluations.{neither}
 use Rattle.graph_numbers.specs.Sites.{SiteAt, site_in, list_sites, lists_sites, sites, own_sites}
 use Rattle.graph_numbers.proofs.Listed.{of_joined}
 
@@ -219,14 +219,6 @@ tags_apart (x ∷ xs) zero n a b h lt p q = absurd (omega (arith, lt))
 tags_apart (x ∷ xs) (suc m) zero a b h lt p q =
     let e : x ≡ b = cc q in other_way b a (ap (λ v. same v a) (sym e) ∙ any_false (same x) xs m a (neither (among x xs) (repeats xs) h).0 p)
 tags_apart (x ∷ xs) (suc m) (suc n) a b h lt p q = tags_apart xs m n a b (neither (among x xs) (repeats xs) h).1 (omega (arith, lt)) p q
-
-and_left_false : (a b : Bool) → a ≡ false → (a && b) ≡ false
-and_left_false true b h = cc h
-and_left_false false b h = refl
-
-and_right_false : (a b : Bool) → b ≡ false → (a && b) ≡ false
-and_right_false true b h = h
-and_right_false false b h = refl
 
 pub of_tags : (tags : List (List ℕ)) (name : List ℕ) (k : ℕ) (x : Variation) → slice_get (map (λ t. record { name = name; tag = t }) tags) k ≡ Some x → (x.name ≡ name) × (slice_get tags k ≡ Some x.tag)
 of_tags [] name k x h = cc h

@@ -2,6 +2,7 @@
 use Rattle.std.proofs.Common.{◌≡◌, ◌⊎◌, inl, inr, ℕ, zero, suc, ◌+◌, Bool, true, false, List, [], ◌∷◌, ◌++◌, length, map, Some, None, refl, sym, ◌∙◌, ap, subst, arith, slice_get, if◌then◌else◌}
 use Rattle.std.specs.Prelude.{⊤}
 use Rattle.std.proofs.lemmas.List.{append-nil, length-map}
+use Rattle.lemmas.proofs.Places.{kept_at}
 use Rattle.rdf_values.specs.Path.{Path, Under, makes, parent_of, path}
 use Rattle.rdf_values.specs.Bookings.{named_before, named_on, covered}
 use Rattle.rdf_values.specs.Functions.{Function, fn_names}
@@ -16,7 +17,7 @@ use Rattle.graph_numbers.specs.Sites.{site_count, filter_sites}
 use Rattle.graph_numbers.specs.Sources.{numbers_from}
 use Rattle.graph_numbers.specs.Results.{FilterAt, own_filter, filters_on, all_or, covered_at, own_filters, filters}
 use Rattle.graph_numbers.specs.Outcomes.{through_sites, through_filter, report_numbers}
-use Rattle.graph_numbers.proofs.Listed.{kept_at, next_at, of_joined}
+use Rattle.graph_numbers.proofs.Listed.{next_at, of_joined}
 use Rattle.graph_numbers.proofs.Extending.{Extends, itself, further}
 use Rattle.graph_numbers.proofs.Equations.{number_value}
 use Rattle.graph_numbers.proofs.Passing.{shorter, through_statement, through_is}

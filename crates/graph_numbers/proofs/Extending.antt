@@ -1,5 +1,6 @@
 -- A script that goes on keeps the numbers of what it booked before.
 use Rattle.std.proofs.Common.{◌≡◌, ℕ, suc, ◌+◌, List, [], ◌∷◌, length, Some, refl, ◌∙◌, ap, slice_get, length-append}
+use Rattle.lemmas.proofs.Places.{kept_at}
 use Rattle.rdf_values.specs.Path.{Under}
 use Rattle.rdf_values.specs.Kinds.{FunctionNames}
 use Rattle.rdf_values.specs.declared.column.Column.{Column}
@@ -10,7 +11,6 @@ use Rattle.graph_numbers.specs.Versions.{own_columns, version_count}
 use Rattle.graph_numbers.specs.Sites.{SiteAt, sites, own_sites}
 use Rattle.graph_numbers.specs.Sources.{sources, own_sources, varied_sources, cell_sources, versions, own_versions, varied_versions, cell_versions}
 use Rattle.graph_numbers.specs.declared.source.Source.{Source}
-use Rattle.graph_numbers.proofs.Listed.{kept_at}
 
 -- the latter statements are the former with others after them
 pub data Extends : List Statement → List Statement → Type 0 where

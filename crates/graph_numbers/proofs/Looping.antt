@@ -11,9 +11,10 @@ use Rattle.rdf_model.specs.Loops.{Access, filled_by, accesses, loop_passes, loop
 use Rattle.graph_numbers.specs.Results.{places_from, numbered_pass, pass_at, result_passes, passes_from, own_loop, loops, own_run, runs}
 use Rattle.graph_numbers.specs.declared.pass.Pass.{Pass as NumberedPass}
 use Rattle.graph_numbers.proofs.Extending.{Extends, itself, further}
-use Rattle.graph_numbers.proofs.Listed.{kept_at, next_at}
+use Rattle.graph_numbers.proofs.Listed.{next_at}
 use Rattle.graph_numbers.proofs.Passing.{shorter}
 use Rattle.std.specs.List.{cons_option}
+use Rattle.lemmas.proofs.Places.{kept_at}
 
 booked_kept : (before after : List Statement) → Extends before after → (k : ℕ) (b : Booked) → slice_get (bookings before) k ≡ Some b → slice_get (bookings after) k ≡ Some b
 booked_kept before after itself k b h = h

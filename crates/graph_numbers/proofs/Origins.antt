@@ -2,6 +2,7 @@
 use Rattle.std.proofs.Common.{◌≡◌, ℕ, zero, suc, ◌+◌, ◌<◌, Bool, true, false, List, [], ◌∷◌, length, map, Option, Some, None, Ok, option_map, refl, sym, ◌∙◌, ap, subst, arith, nat_eq, slice_get, if◌then◌else◌}
 use Rattle.std.proofs.lemmas.Option.{get_or_from_slice_get}
 use Rattle.std.proofs.lemmas.Bool.Decides.{Decides-eqb}
+use Rattle.lemmas.proofs.Places.{kept_at}
 use Rattle.rdf_values.specs.Names.{same, place}
 use Rattle.rdf_values.specs.Path.{Path, Under, makes, parent_of, path, target_of}
 use Rattle.rdf_values.specs.Kinds.{FunctionNames, scope_of, column_kind}
@@ -24,7 +25,7 @@ use Rattle.graph_numbers.specs.Sites.{SiteAt, list_start, site_in, list_sites, l
 use Rattle.graph_numbers.specs.Sources.{own_source, source_in, sources, own_sources, varied_sources, cell_sources, cell_value}
 use Rattle.graph_numbers.specs.declared.source.Source.{Source}
 use Rattle.graph_numbers.specs.declared.source.Source.TheVariants as from
-use Rattle.graph_numbers.proofs.Listed.{kept_at, next_at}
+use Rattle.graph_numbers.proofs.Listed.{next_at}
 use Rattle.graph_numbers.proofs.Extending.{Extends, itself, further, site_kept, source_kept, source_count}
 
 -- ---- the table's columns

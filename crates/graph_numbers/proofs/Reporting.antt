@@ -1,7 +1,7 @@
 -- What each result demands, by its numbers.
 use Rattle.std.proofs.Common.{◌≡◌, ◌⊎◌, inl, inr, ℕ, zero, suc, ◌+◌, List, [], ◌∷◌, ◌++◌, length, map, Some, None, subst, slice_get}
-use Rattle.std.specs.Prelude.{⊤, flat_map}
-use Rattle.rdf_values.specs.Path.{Path, Under, path}
+use Rattle.std.specs.Prelude.{⊤}
+use Rattle.rdf_values.specs.Path.{Under, path}
 use Rattle.rdf_values.specs.Bookings.{Booking, ActionAt, ReportOn, columns_of, covered}
 use Rattle.rdf_values.specs.Functions.{Function, fn_names}
 use Rattle.rdf_values.specs.Kinds.{scope_of}
@@ -18,13 +18,11 @@ use Rattle.graph_numbers.specs.Results.{FilterAt, ResultAt, covered_at, own_filt
 use Rattle.graph_numbers.specs.Outcomes.{through_sites}
 use Rattle.graph_numbers.specs.Sources.{source_in, sources}
 use Rattle.graph_numbers.specs.Versions.{version_at}
-use Rattle.graph_numbers.proofs.Closing.{IsDemanded, action_demanded, demanded_wider, filter_statement, filters_demanded, wider_filters}
-use Rattle.graph_numbers.proofs.Covering.{AreNumbersOf, numbers_later, covered_numbers}
-use Rattle.graph_numbers.proofs.Demands.{AreExplained, action_explained, append_explained, filter_statement as filter_explained, filters_explained}
+use Rattle.graph_numbers.proofs.Closing.{IsDemanded, action_demanded, filter_statement, filters_demanded}
+use Rattle.graph_numbers.proofs.Demands.{AreExplained, action_explained, filter_statement as filter_explained, filters_explained}
 use Rattle.graph_numbers.proofs.Equations.{number_value, version_value}
-use Rattle.graph_numbers.proofs.Extending.{Extends, itself}
+use Rattle.graph_numbers.proofs.Extending.{Extends}
 use Rattle.graph_numbers.proofs.Listed.{of_joined}
-use Rattle.graph_numbers.proofs.Meeting.{In, in_left, in_right}
 use Rattle.graph_numbers.proofs.Passing.{shorter}
 
 module _ (fns : List Function) (columns : List Column) (row : List Value) (before : List Statement) (good : AreAccepted (fn_names fns) (scope_of columns) before) where
@@ -59,50 +57,6 @@ module _ (fns : List Function) (columns : List Column) (row : List Value) (befor
           → (slice_get (filters columns (fn_names fns) earlier) n ≡ Some f) ⊎ ((k : ℕ) × (n ≡ length (filters columns (fn_names fns) earlier) + k) × (slice_get (own_filters columns (fn_names fns) earlier s) k ≡ Some f)) → IsFilterDemanded f
       go next (inl q) = next q
       go next (inr q) = own_demanded earlier s e q.0 f q.2
-
-  -- the filter of that number has its sites among the demands
-  abbrev pub HasFilterOf : List Demand → ℕ → Type 0
-  HasFilterOf ds n = (f : FilterAt) × (slice_get (filters columns (fn_names fns) before) n ≡ Some f) × HasFilters (Demanded ds) site f.sites
-
-  abbrev pub HaveFiltersOf : List Demand → List ℕ → Type 0
-  HaveFiltersOf ds [] = ⊤
-  HaveFiltersOf ds (n ∷ ns) = HasFilterOf ds n × HaveFiltersOf ds ns
-
-  have_wider : (ds es : List Demand) → ((d : Demand) → In d ds → In d es) → (ns : List ℕ) → HaveFiltersOf ds ns → HaveFiltersOf es ns
-  have_wider ds es f [] h = tt
-  have_wider ds es f (n ∷ ns) h = (
-    (h.0.0, h.0.1, wider_filters fns columns row None before good (Demanded ds) (Demanded es) (demanded_wider fns columns row None before good ds es f) site h.0.0.sites h.0.2),
-    have_wider ds es f ns h.1,
-  )
-
-  -- all that the filters do
-  abbrev all_demands : List Path → List Demand
-  all_demands ps = flat_map (λ p. filter_demands fns columns row p None) ps
-
-  all_demanded : (ns : List ℕ) (ps : List Path) → AreNumbersOf fns columns before ns ps → AreExplained fns columns row None before (all_demands ps) × HaveFiltersOf (all_demands ps) ns
-  all_demanded [] [] h = ((λ d k. elim k [ ]), tt)
-  all_demanded (n ∷ ns) (p ∷ ps) h =
-      let f = h.0.0 in
-      let own = filter_demanded before itself n f h.0.1 in
-      let rest = all_demanded ns ps h.1 in
-      let ds : List Demand = filter_demands fns columns row p None in
-      let es : List Demand = all_demands ps in
-      let has : HasFilters (Demanded ds) site f.sites = subst (λ (q : Path). HasFilters (Demanded (filter_demands fns columns row q None)) site f.sites) h.0.2 own.1 in (
-        append_explained fns columns row None before ds es (subst (λ (q : Path). AreExplained fns columns row None before (filter_demands fns columns row q None)) h.0.2 own.0) rest.0,
-        (
-          (f, h.0.1, wider_filters fns columns row None before good (Demanded ds) (Demanded (ds ++ es)) (demanded_wider fns columns row None before good ds (ds ++ es) (λ d k. in_left ds es k)) site f.sites has),
-          have_wider es (ds ++ es) (λ d k. in_right ds es k) ns rest.1,
-        ),
-      )
-  all_demanded [] (p ∷ ps) h = elim h [ ]
-  all_demanded (n ∷ ns) [] h = elim h [ ]
-
-  -- what a report demands is explained, and has the sites that it tries
-  pub report_demanded : (earlier : List Statement) → Extends earlier before → (parent : List ℕ) (u : Under)
-      → AreExplained fns columns row None before (booking_demands fns columns row (ReportOn (covered earlier (path earlier parent))) u)
-      × HaveFiltersOf (booking_demands fns columns row (ReportOn (covered earlier (path earlier parent))) u) (covered_at earlier parent)
-  report_demanded earlier e parent u =
-      all_demanded (covered_at earlier parent) (covered earlier (path earlier parent)) (numbers_later fns columns earlier before e _ _ (covered_numbers fns columns earlier parent))
 
 -- ---- actions
 

@@ -1,6 +1,7 @@
 -- The version of a visible column has the column's kind, and comes to a value of it.
 use Rattle.std.proofs.Common.{◌≡◌, ℕ, zero, suc, ◌+◌, Bool, true, false, List, [], ◌∷◌, map, length, Option, Some, None, Ok, option_map, refl, sym, ◌∙◌, ap, subst, arith, slice_get, if◌then◌else◌}
 use Rattle.std.proofs.lemmas.List.{length-append, length-map}
+use Rattle.lemmas.proofs.Places.{kept_at}
 use Rattle.rdf_values.specs.Names.{same, place}
 use Rattle.rdf_values.specs.Path.{Under, makes, parent_of, path, target_of}
 use Rattle.rdf_values.specs.EachColumn.{EachColumn}
@@ -28,7 +29,7 @@ use Rattle.graph_numbers.proofs.ColumnSources.{column_source}
 use Rattle.graph_numbers.proofs.Equations.{version_value, source_is, source_later}
 use Rattle.graph_numbers.proofs.Extending.{Extends, itself, further}
 use Rattle.rdf_model.proofs.KnownColumns.{IsKnownColumn, known_columns, each_weaker, each_renamed}
-use Rattle.graph_numbers.proofs.Listed.{kept_at, next_at}
+use Rattle.graph_numbers.proofs.Listed.{next_at}
 use Rattle.rdf_model.proofs.Missing.{named_alike, alike_is}
 use Rattle.graph_numbers.proofs.Placing.{placed}
 

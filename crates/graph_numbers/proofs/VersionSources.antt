@@ -1,6 +1,7 @@
 -- A version's source is what the version says.
 use Rattle.std.proofs.Common.{◌≡◌, ◌⊎◌, inl, inr, ℕ, zero, suc, ◌+◌, ◌<◌, Bool, true, false, List, [], ◌∷◌, length, map, Option, Some, None, option_map, refl, sym, ◌∙◌, ap, subst, arith, slice_get, if◌then◌else◌}
 use Rattle.std.proofs.lemmas.Option.{get_or_from_slice_get, slice_get_within}
+use Rattle.lemmas.proofs.Places.{kept_at, something_at}
 use Rattle.rdf_values.specs.Names.{same, place}
 use Rattle.rdf_values.specs.Path.{Under, Variation, own_variations, path, target_of, variations}
 use Rattle.rdf_values.specs.Kinds.{FunctionNames, scope_of}
@@ -12,7 +13,7 @@ use Rattle.rdf_values.specs.declared.vary_values.VaryValues.TheVariants.{Lists, 
 use Rattle.rdf_values.specs.declared.statement.Statement.{Statement}
 use Rattle.rdf_values.specs.declared.statement.Statement.TheVariants.{Define, Redefine, Vary}
 use Rattle.rdf_model.specs.ColumnValues.{own_place}
-use Rattle.rdf_model.proofs.Accepted.{both_none, checked_of, if_fails, itself as same_as_itself, names_equal, no_target, there, unless_holds, visible_known}
+use Rattle.rdf_model.proofs.Accepted.{both_none, checked_of, if_fails, itself as same_as_itself, names_equal, no_target, unless_holds, visible_known}
 use Rattle.graph_numbers.specs.Kinds.{version_kinds}
 use Rattle.graph_numbers.specs.Results.{under_at}
 use Rattle.graph_numbers.specs.Sites.{list_start, site_count}
@@ -24,7 +25,7 @@ use Rattle.graph_numbers.specs.declared.version.Version.{Version}
 use Rattle.graph_numbers.specs.declared.version.Version.TheVariants as as_version
 use Rattle.graph_numbers.proofs.Apart.{variation_number}
 use Rattle.graph_numbers.proofs.Extending.{Extends, itself, further, source_count, source_kept, versions_count}
-use Rattle.graph_numbers.proofs.Listed.{kept_at, next_at, of_joined}
+use Rattle.graph_numbers.proofs.Listed.{next_at, of_joined}
 use Rattle.graph_numbers.proofs.Passing.{shorter}
 use Rattle.graph_numbers.proofs.VersionKinds.{kind_count, visible_kind}
 
@@ -127,7 +128,7 @@ module _ (header : List Column) (names : FunctionNames) (script : List Statement
 
       none : own_place under vary tags ≡ None → (k : ℕ) → k < length tags → v ≡ Some (length (variations before) + k) → ⊥
       none q k lt is =
-          let t = there tags k lt in
+          let t = something_at tags k lt in
           let at = tag_number before node parent cs values tags vary e k t.0 t.1 in
           let u : under ≡ Some (record { name = vary; tag = t.0 }) = ap (under_at script) is ∙ at in
           other (same vary vary) (same_as_itself vary) t.0 (place_found t.0 tags k t.1) (sym (ap (λ (x : Under). own_place x vary tags) u) ∙ q)
@@ -193,7 +194,7 @@ module _ (header : List Column) (names : FunctionNames) (script : List Statement
     λ none. absurd (none k own.0 own.1),
   )
 
-  -- the version of a column that a Vary changes is there
+  -- the version of a column that a Vary changes is something_at
   below_there : (before : List Statement) → AreAccepted names (scope_of header) before → (parent name : List ℕ)
       → check_target (scope_at names (scope_of header) before parent) (path before parent) name ≡ None
       → (b : Source) × (slice_get (list_of before) (named_version header before parent name) ≡ Some b)
@@ -207,7 +208,7 @@ module _ (header : List Column) (names : FunctionNames) (script : List Statement
       let lt = slice_get_within (version_kinds header names before) (named_version header before parent name) t.0 at in
       let many = kind_count header names before in
       let few = source_count header names under before in
-      there (list_of before) (named_version header before parent name) (omega (arith, lt, many, few))
+      something_at (list_of before) (named_version header before parent name) (omega (arith, lt, many, few))
 
   said_by_columns : (before : List Statement) → AreAccepted names (scope_of header) before
       → (parent : List ℕ) (values : VaryValues) (tags : List (List ℕ)) (vary : List ℕ) → IsPlaceOf (length (variations before)) (length tags) (own_place under vary tags)

@@ -6,6 +6,8 @@ use Rattle.std.proofs.lemmas.Iterator.Adapters.{position_from-zero}
 use Rattle.std.proofs.lemmas.Bool.Decides.{nat_tests}
 use Rattle.std.proofs.lemmas.List.{length-map}
 use Rattle.std.proofs.lemmas.Option.{slice_get-map}
+use Rattle.lemmas.proofs.Booleans.{and_right}
+use Rattle.lemmas.proofs.Orders.{lt_says}
 use Rattle.rdf_values.specs.Bookings.{Booked}
 use Rattle.rdf_values.specs.declared.fault.Fault.{Fault}
 use Rattle.rdf_model.specs.Loops.{loop_passes, loop_results}
@@ -79,17 +81,10 @@ abbrev HaveLoops : List (List PassShape) → List (List ShardLoop) → Type 0
 HaveLoops shapes [] = ⊤
 HaveLoops shapes (f ∷ fs) = (are_loops shapes f ≡ true) × HaveLoops shapes fs
 
-and_right : (a b : Bool) → (a && b) ≡ true → b ≡ true
-and_right true b h = h
-and_right false b h = cc h
-
-below : (a b : ℕ) → nat_lt a b ≡ true → a < b
-below a b h = grind (arith, nat_tests, h)
-
 first_fits : (ss : List PassShape) (shapes : List (List PassShape)) (f : List ShardLoop) → are_loops (ss ∷ shapes) f ≡ true → FitsFault (length ss) (first_loop f)
 first_fits ss shapes [] h = tt
 first_fits ss shapes (Whole ps ∷ ls) h = tt
-first_fits ss shapes (Faulted f ∷ ls) h = below f.pass (length ss) h
+first_fits ss shapes (Faulted f ∷ ls) h = lt_says f.pass (length ss) h
 
 all_first : (ss : List PassShape) (shapes : List (List PassShape)) (files : List (List ShardLoop)) → HaveLoops (ss ∷ shapes) files → AllFit (length ss) (map first_loop files)
 all_first ss shapes [] h = tt

@@ -3,6 +3,8 @@ use Rattle.std.proofs.Common.{◌≡◌, ◌≤◌, ◌<◌, ◌+◌, ℕ, zero,
 use Rattle.std.specs.Prelude.{option_map, slice_get, unwrap_or}
 use Rattle.std.proofs.lemmas.List.{length-map, map-append, take_all}
 use Rattle.std.proofs.lemmas.Option.{slice_get-map}
+use Rattle.lemmas.proofs.Parts.{take_next}
+use Rattle.lemmas.proofs.Places.{something_at}
 use Rattle.rdf_values.specs.Bookings.{Booked, Pass}
 use Rattle.rdf_values.specs.declared.value.ColType.{ColType}
 use Rattle.rdf_model.specs.Loops.{loop_passes, loop_results}
@@ -11,20 +13,11 @@ use Rattle.graph_numbers.specs.Results.{pass_at}
 use Rattle.graph_numbers.proofs.Extending.{itself}
 use Rattle.graph_numbers.proofs.Looping.{loops_are}
 use Rattle.result_text.specs.FilledLines.{passes_at}
-use Rattle.result_text.proofs.ActionLines.{something_at}
 use Rattle.shard_lines.specs.Shapes.{booking_shape}
 use Rattle.shard_lines.specs.declared.pass_shape.PassShape.{PassShape}
 use Rattle.shard_spans.specs.Laws.{pass_shapes}
 use Rattle.shard_spans.specs.Spans.{loops_of}
 use Rattle.graph_shapes.specs.GraphShapes.{graph_shapes, pass_kind}
-
-pub take_next : {A : Type 0} (xs : List A) (i : ℕ) (x : A) → slice_get xs i ≡ Some x → take (i + 1) xs ≡ take i xs ++ x ∷ []
-take_next [] i x at = absurd (cc at)
-take_next {A} (y ∷ ys) zero x at = ap (λ z. z ∷ []) (same_some at)
-  where
-    same_some : {a b : A} → ◌≡◌ {A = Option A} (Some a) (Some b) → a ≡ b
-    same_some q = cc
-take_next (y ∷ ys) (suc i) x at = (let e : suc i + 1 ≡ suc (i + 1) = omega arith in ap (λ k. take k (y ∷ ys)) e) ∙ ap (λ l. y ∷ l) (take_next ys i x at)
 
 -- ---- passes
 

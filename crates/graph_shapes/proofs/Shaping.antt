@@ -3,6 +3,7 @@ use Rattle.std.proofs.Common.{◌≡◌, ℕ, ◌≤◌, List, [], length, map, 
 use Rattle.std.specs.Prelude.{option_map, slice_get, unwrap_or}
 use Rattle.std.proofs.lemmas.List.{length-map, length-reverse}
 use Rattle.std.proofs.lemmas.Option.{slice_get-map}
+use Rattle.lemmas.proofs.Answers.{same_some}
 use Rattle.rdf_values.specs.Bookings.{ActionAt, Booked, Booking, Pass, ReportOn, bookings, named_before}
 use Rattle.rdf_values.specs.Kinds.{scope_of}
 use Rattle.rdf_values.specs.Path.{Path, history}
@@ -28,9 +29,6 @@ use Rattle.shard_lines.specs.declared.pass_shape.PassShape.TheVariants as shape
 use Rattle.merged_text.proofs.LoopPasses.{report_on}
 use Rattle.graph_shapes.specs.GraphShapes.{booking_kind, input_kind, pass_kind, version_kind}
 use Rattle.graph_shapes.proofs.Booked.{ReadsKind, cells_are_few, filter_count, filters_are_few, result_reads}
-
-same_some : {A : Type 0} {a b : A} → ◌≡◌ {A = Option A} (Some a) (Some b) → a ≡ b
-same_some q = cc
 
 module _ (g : GraphView) (graph : IsGraph g) where
   accepted : AreAccepted g.names (scope_of g.header) (booked_statements g)

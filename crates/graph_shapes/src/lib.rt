@@ -1,5 +1,5 @@
 //! The shapes of the passes of a booked graph's loops, by which files of lines are compared with a script. It stands on
-//! `node_graph` for the graph and on `shard_lines` for shapes; that lines joined by these shapes are printed for the graph is a
+//! `graph` for the graph and on `shard_lines` for shapes; that lines joined by these shapes are printed for the graph is a
 //! lemma of `proofs/Fitting.antt`.
 #![tactic(auto)]
 

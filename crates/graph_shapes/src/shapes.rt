@@ -10,7 +10,7 @@ ghost use Rattle.shard_spans.specs.Laws.{pass_shapes};
 ghost use Rattle.graph_shapes.specs.GraphShapes.{graph_shapes, input_kind, pass_kind};
 
 use graph_numbers::{Pass, ResultKind};
-use node_graph::Graph;
+use graph::Graph;
 use rdf_values::{ActionKind, ColType, ListOf, Memory};
 use shard_lines::PassShape;
 use std::alloc::Global;

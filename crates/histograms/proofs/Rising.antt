@@ -6,6 +6,7 @@ use Rattle.std.proofs.lemmas.List.Sums.{sum_by-cons}
 use Rattle.std.specs.Prelude.{int_lt, int_le, count_by, nat_le}
 use Rattle.std.specs.List.{IsAllAdjacentAnswer}
 use Rattle.std.specs.List.Sorted.{IsPartitionPoint, IsPartitionedBy}
+use Rattle.lemmas.proofs.Booleans.{both_true}
 use Rattle.rdf_values.specs.Edges.{are_edges, rises}
 
 rises_all : (xs : List ℤ) → ((k : ℕ) (d : ℤ) → suc k < length xs → true ≡ int_lt (get_or xs k d) (get_or xs (suc k) d)) → rises xs ≡ true
@@ -28,30 +29,25 @@ pub rises-adjacent : (xs : List ℤ) (r : Bool) → IsAllAdjacentAnswer (λ x y 
 rises-adjacent xs true h = sym (rises_all xs (λ k d l. rw add-one at (h k d (omega arith))))
 rises-adjacent xs false h = sym (rises_not xs h.0 (let l = h.1 in omega arith) (λ d. rw add-one at (h.2 d)))
 
-both : (a b : Bool) → (a && b) ≡ true → (a ≡ true) × (b ≡ true)
-both true b h = (refl, h)
-both false true h = (h, refl)
-both false false h = (h, h)
-
 rises_head : (x : ℤ) (xs : List ℤ) → rises (x ∷ xs) ≡ true → (k : ℕ) (d : ℤ) → k < length xs → x <ℤ get_or xs k d
 rises_head x [] h k d l = absurd (omega arith)
-rises_head x (y ∷ zs) h zero d l = let first = (both (int_lt x y) (rises (y ∷ zs)) h).0 in grind (arith, ints)
+rises_head x (y ∷ zs) h zero d l = let first = (both_true (int_lt x y) (rises (y ∷ zs)) h).0 in grind (arith, ints)
 rises_head x (y ∷ zs) h (suc k) d l =
-    let first = (both (int_lt x y) (rises (y ∷ zs)) h).0 in
-    let more : y <ℤ get_or zs k d = rises_head y zs (both (int_lt x y) (rises (y ∷ zs)) h).1 k d (omega arith) in
+    let first = (both_true (int_lt x y) (rises (y ∷ zs)) h).0 in
+    let more : y <ℤ get_or zs k d = rises_head y zs (both_true (int_lt x y) (rises (y ∷ zs)) h).1 k d (omega arith) in
     grind (arith, ints)
 
 rises_tail : (x : ℤ) (xs : List ℤ) → rises (x ∷ xs) ≡ true → rises xs ≡ true
 rises_tail x [] h = refl
-rises_tail x (y ∷ zs) h = (both (int_lt x y) (rises (y ∷ zs)) h).1
+rises_tail x (y ∷ zs) h = (both_true (int_lt x y) (rises (y ∷ zs)) h).1
 
 -- an axis has two edges
 pub two_of_axis : (xs : List ℤ) → are_edges xs ≡ true → 2 ≤ length xs
-two_of_axis xs h = leb-true 2 (length xs) (both (nat_le 2 (length xs)) (rises xs) h).0
+two_of_axis xs h = leb-true 2 (length xs) (both_true (nat_le 2 (length xs)) (rises xs) h).0
 
 -- the edges of an axis rise
 pub rises_of_axis : (xs : List ℤ) → are_edges xs ≡ true → rises xs ≡ true
-rises_of_axis xs h = (both (nat_le 2 (length xs)) (rises xs) h).1
+rises_of_axis xs h = (both_true (nat_le 2 (length xs)) (rises xs) h).1
 
 pub partitioned_by_rise : (xs : List ℤ) (v : ℤ) → rises xs ≡ true → IsPartitionedBy (λ e. int_le e v) xs
 partitioned_by_rise [] v h i j d le l p = absurd (omega arith)

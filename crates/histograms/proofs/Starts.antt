@@ -18,13 +18,6 @@ bucket_of-mono first shift a b l m =
     let further : unsigned_abs (a -ℤ first) ≤ unsigned_abs (b -ℤ first) = grind (arith, ints) in
     shr_mono shift further
 
-pub starts-none : (bucket : ℕ → ℕ) (edges : ℕ) → AreStarts bucket edges [] 0
-starts-none bucket edges = record {
-  cells = λ b l. absurd (omega arith);
-  below = λ b k l. absurd (omega arith);
-  reached = λ k l. absurd (omega arith);
-}
-
 -- one more edge is in place, by which more buckets may begin
 pub starts-more : (bucket : ℕ → ℕ) (edges : ℕ) (starts more : List ℕ) (i : ℕ) → i < edges → AreStarts bucket edges starts i
     → ((b : ℕ) → b < length starts → get_or more b 0 ≡ get_or starts b 0) → ((b : ℕ) → length starts ≤ b → b < length more → get_or more b 0 ≡ i)

@@ -1,9 +1,10 @@
 -- What a session is after an access.
-use Rattle.std.proofs.Common.{◌≡◌, ◌⊎◌, inl, inr, ℕ, zero, suc, ◌+◌, ◌<◌, ◌≤◌, Bool, true, List, [], ◌∷◌, ◌++◌, take, length, Option, Some, None, refl, sym, ◌∙◌, ap, subst, arith, length-append, add-one, if◌then◌else◌}
+use Rattle.std.proofs.Common.{◌≡◌, ◌⊎◌, inl, inr, ℕ, zero, suc, ◌+◌, ◌<◌, ◌≤◌, Bool, true, List, [], ◌∷◌, ◌++◌, take, length, Option, Some, None, refl, sym, ◌∙◌, ap, subst, arith, length-append, add-one}
 use Rattle.std.specs.Prelude.{IfSome, filter_map, option_map, slice_get, unwrap_or}
 use Rattle.std.specs.List.{cons_option}
-use Rattle.std.proofs.lemmas.List.{length-map}
 use Rattle.std.proofs.lemmas.Option.{IfSome_then, slice_get_within}
+use Rattle.lemmas.proofs.Parts.{take_next}
+use Rattle.lemmas.proofs.Places.{kept_at}
 use Rattle.rdf_values.specs.Bookings.{Booked}
 use Rattle.rdf_values.specs.Cuts.{Lead, cut}
 use Rattle.rdf_values.specs.Machine.{first_in}
@@ -17,8 +18,7 @@ use Rattle.rdf_model.specs.Loops.{Access, accesses, filled_by, loop_of, loop_pas
 use Rattle.rdf_model.specs.Results.{Dataset, first_fault, first_fault_from}
 use Rattle.rdf_model.proofs.Turns.{loops_come_in_turn}
 use Rattle.graph_numbers.specs.Graphs.{graph_prints}
-use Rattle.graph_numbers.specs.Results.{result_number}
-use Rattle.graph_numbers.proofs.Listed.{kept_at, of_joined}
+use Rattle.graph_numbers.proofs.Listed.{of_joined}
 use Rattle.loop_keys.specs.Jobs.{passes_in}
 use Rattle.loop_pieces.proofs.ClusterFaults.{first_cluster_has_first_fault}
 use Rattle.slot_state.specs.Jobs.{job_facts}
@@ -44,17 +44,12 @@ job_fault s is l =
 
 -- ---- one access more
 
-next_taken : {A : Type 0} (xs : List A) (p : ℕ) (x : A) → slice_get xs p ≡ Some x → take (p + 1) xs ≡ take p xs ++ x ∷ []
-next_taken [] p x at = absurd (cc)
-next_taken (y ∷ ys) zero x at = let is : y ≡ x = cc in ap (λ z. z ∷ []) is
-next_taken (y ∷ ys) (suc p) x at = rw add-one (ap (λ l. y ∷ l) (rw add-one at (next_taken ys p x at)))
-
 run_append : (xs ys : List Access) → filter_map (λ (a : Access). a.fills) (xs ++ ys) ≡ filter_map (λ (a : Access). a.fills) xs ++ filter_map (λ (a : Access). a.fills) ys
 run_append xs ys = filter_map-append (λ (a : Access). a.fills) xs ys
 
 pub none_more : (script : List Statement) (p : ℕ) (a : Access) → slice_get (accesses script) p ≡ Some a → a.fills ≡ None → loops_before script (p + 1) ≡ loops_before script p
 none_more script p a at none =
-    let front = ap (λ (l : List Access). length (filter_map (λ (x : Access). x.fills) l)) (next_taken (accesses script) p a at) in
+    let front = ap (λ (l : List Access). length (filter_map (λ (x : Access). x.fills) l)) (take_next (accesses script) p a at) in
     let both = ap (λ (l : List (List Booked)). length l) (run_append (take p (accesses script)) (a ∷ [])) in
     let sum = length-append (filter_map (λ (x : Access). x.fills) (take p (accesses script))) (filter_map (λ (x : Access). x.fills) (a ∷ [])) in
     let own : length (filter_map (λ (x : Access). x.fills) (a ∷ [])) ≡ 0 = ap (λ (o : Option (List Booked)). length (cons_option o [])) none in
@@ -62,7 +57,7 @@ none_more script p a at none =
 
 pub one_loop_more : (script : List Statement) (p : ℕ) (a : Access) (results : List Booked) → slice_get (accesses script) p ≡ Some a → a.fills ≡ Some results → loops_before script (p + 1) ≡ loops_before script p + 1
 one_loop_more script p a results at some =
-    let front = ap (λ (l : List Access). length (filter_map (λ (x : Access). x.fills) l)) (next_taken (accesses script) p a at) in
+    let front = ap (λ (l : List Access). length (filter_map (λ (x : Access). x.fills) l)) (take_next (accesses script) p a at) in
     let both = ap (λ (l : List (List Booked)). length l) (run_append (take p (accesses script)) (a ∷ [])) in
     let sum = length-append (filter_map (λ (x : Access). x.fills) (take p (accesses script))) (filter_map (λ (x : Access). x.fills) (a ∷ [])) in
     let own : length (filter_map (λ (x : Access). x.fills) (a ∷ [])) ≡ 1 = ap (λ (o : Option (List Booked)). length (cons_option o [])) some in
@@ -297,9 +292,6 @@ print_few s is print lt =
     let statements = statements_few s.graph is.booked in
     omega (arith, lt, few, statements)
 
-pub print_within : (s : SessionView) (print : ℕ) → print < length (accesses (history s.graph.script)) → print < length (graph_prints s.graph)
-print_within s print lt = let many = length-map (accesses (history s.graph.script)) (λ (a : Access). result_number (history s.graph.script) a.result) in omega (arith, lt, many)
-
 module _ (s : SessionView) (is : IsSession s) (print : ℕ) (next : print ≡ s.next) (l : ℕ) (filling : option_map (λ (a : Access). loop_of (history s.graph.script) a.result) (slice_get (accesses (history s.graph.script)) print) ≡ Some l) where
   its : (a : Access) × (slice_get (accesses (history s.graph.script)) print ≡ Some a) × (loop_of (history s.graph.script) a.result ≡ l)
   its = access_of (history s.graph.script) print l filling
@@ -309,13 +301,6 @@ module _ (s : SessionView) (is : IsSession s) (print : ℕ) (next : print ≡ s.
 
   pub accessed_old : (q r : ℕ) → q ≡ r → slice_get (graph_prints s.graph) print ≡ Some (Some q) → l < length s.loops → IsAccessed s (record s { next = print + 1 }) print r
   accessed_old q r same_result result lt = old_accessed s is print next its.0 its.1 l its.2 r (result ∙ ap (λ (n : ℕ). Some (Some n)) same_result) lt
-
-  pub after_kept : (k : Kept) → s.fault ≡ Some k → IsSession (record s { next = print + 1 })
-  after_kept k e = advanced s (print + 1) is (λ sound. absurd (cc))
-
-  pub faulted_kept : length s.loops ≤ l → (k : Kept) → s.fault ≡ Some k → (m : ℕ) (f : Fault) → k.loop_index ≡ m → k.fault ≡ f → IsFaulted s (record s { next = print + 1 }) print m f
-  faulted_kept ge k e m f same_loop same_fault =
-      subst (λ (n : ℕ). IsFaulted s (record s { next = print + 1 }) print n f) same_loop (subst (λ (x : Fault). IsFaulted s (record s { next = print + 1 }) print k.loop_index x) same_fault (kept_access s is print next its.0 its.1 l its.2 ge k e))
 
   module _ (ge : length s.loops ≤ l) (sound : s.fault ≡ None) where
     next_loop : IsNext s is print next its.0 its.1 l its.2

@@ -1,32 +1,24 @@
 -- The passes of a loop by numbers and by names.
-use Rattle.std.proofs.Common.{◌≡◌, ℕ, zero, suc, ◌+◌, ◌<◌, Bool, true, false, ◌&&◌, List, [], ◌∷◌, ◌++◌, map, take, length, Option, None, Some, refl, sym, ap, ◌∙◌, arith, length-append, append_assoc, add-one, if◌then◌else◌}
+use Rattle.std.proofs.Common.{◌≡◌, ℕ, zero, suc, ◌+◌, ◌<◌, Bool, true, false, ◌&&◌, List, [], ◌∷◌, ◌++◌, map, take, length, Option, None, Some, refl, sym, ap, ◌∙◌, arith, length-append, append_assoc, add-one}
 use Rattle.std.specs.Prelude.{is_none, option_map, slice_get}
 use Rattle.std.proofs.lemmas.List.{length-map}
 use Rattle.std.proofs.lemmas.List.Concat.{flat_map-append}
 use Rattle.std.proofs.lemmas.Option.{slice_get-map}
-use Rattle.rdf_values.specs.Bookings.{Booked, Booking, ActionAt, ReportOn, Pass, bookings, is_watched}
+use Rattle.lemmas.proofs.Answers.{same_some}
+use Rattle.lemmas.proofs.Places.{something_at}
+use Rattle.rdf_values.specs.Bookings.{Booked, Pass, bookings, is_watched}
 use Rattle.rdf_values.specs.Path.{Under}
 use Rattle.rdf_values.specs.declared.statement.Statement.{Statement}
 use Rattle.rdf_model.specs.LoopFacts.{kind_in, kinds_in}
 use Rattle.rdf_model.specs.Loops.{loop_passes, loop_results}
 use Rattle.graph_numbers.specs.Graphs.{GraphView, booked_statements, graph_loops, graph_results, graph_variations}
-use Rattle.graph_numbers.specs.Results.{ResultAt, kind_of_booking, pass_at, under_at}
+use Rattle.graph_numbers.specs.Results.{ResultAt, pass_at, under_at}
 use Rattle.graph_numbers.specs.declared.pass.Pass.{Pass as NumberedPass}
-use Rattle.graph_numbers.specs.declared.result_kind.ResultKind.{ResultKind}
-use Rattle.graph_numbers.specs.declared.result_kind.ResultKind.TheVariants as what
 use Rattle.graph_numbers.proofs.Extending.{itself}
 use Rattle.graph_numbers.proofs.Looping.{loops_are}
 use Rattle.graph_numbers.proofs.Resulting.{booked_are}
 use Rattle.loop_pieces.specs.Trails.{place_if_watched, watched_from, watched_places}
 use Rattle.lazy_loop.specs.Places.{IsPassOf}
-
-same_some : {A : Type 0} {a b : A} → ◌≡◌ {A = Option A} (Some a) (Some b) → a ≡ b
-same_some q = cc
-
-something_at : {A : Type 0} (xs : List A) (k : ℕ) → k < length xs → (x : A) × (slice_get xs k ≡ Some x)
-something_at [] k lt = absurd (omega arith)
-something_at (x ∷ xs) zero lt = (x, refl)
-something_at (x ∷ xs) (suc k) lt = something_at xs k (omega arith)
 
 -- the passes of some numbers have these names
 abbrev pub AreDecoded : List Statement → List NumberedPass → List Pass → Type 0
@@ -47,19 +39,6 @@ row_is g r b at = sym (slice_get-map (λ (x : ResultAt). x.booked) (graph_result
 
 pub booked_row : (g : GraphView) (r : ℕ) (x : ResultAt) → slice_get (graph_results g) r ≡ Some x → slice_get (bookings (booked_statements g)) r ≡ Some x.booked
 booked_row g r x at = ap (λ (bs : List Booked). slice_get bs r) (sym (booked_are g.header g.names (booked_statements g))) ∙ slice_get-map (λ (y : ResultAt). y.booked) (graph_results g) r ∙ ap (option_map (λ (y : ResultAt). y.booked)) at
-
--- how many accumulators a result of a kind has
-abbrev pub count_of : ResultKind → ℕ
-count_of (what.Action k) = 1
-count_of what.Report = 0
-
-pub accumulators_are : (o : Option ResultAt) (kind : ResultKind) → option_map (λ (x : ResultAt). kind_of_booking x.booked.booking) o ≡ Some kind → option_map (λ (x : ResultAt). length (kind_in x.booked.booking)) o ≡ Some (count_of kind)
-accumulators_are None kind h = absurd (cc)
-accumulators_are (Some x) kind h = go x.booked.booking (same_some h)
-  where
-    go : (b : Booking) → kind_of_booking b ≡ kind → Some (length (kind_in b)) ≡ Some (count_of kind)
-    go (ActionAt k at) e = ap (λ (x : ResultKind). Some (count_of x)) e
-    go (ReportOn filters) e = ap (λ (x : ResultKind). Some (count_of x)) e
 
 -- what is known of the row is known of what was booked
 pub of_row : {A : Type 0} (f : Booked → A) (o : Option ResultAt) (b : Booked) (a : A) → option_map (λ (x : ResultAt). x.booked) o ≡ Some b → option_map (λ (x : ResultAt). f x.booked) o ≡ Some a → a ≡ f b

@@ -1,9 +1,11 @@
 -- Which results a loop fills, by their numbers.
-use Rattle.std.proofs.Common.{◌≡◌, ◌⊎◌, inl, inr, ℕ, zero, suc, ◌+◌, ◌<◌, ◌≤◌, Bool, true, false, not, ◌||◌, List, [], ◌∷◌, ◌++◌, map, take, length, Option, Some, None, refl, sym, ◌∙◌, ap, subst, arith, slice_get, if◌then◌else◌, filter, filter_map}
+use Rattle.std.proofs.Common.{◌≡◌, ◌⊎◌, inl, inr, ℕ, zero, suc, ◌+◌, ◌<◌, ◌≤◌, Bool, true, false, not, ◌||◌, List, [], ◌∷◌, ◌++◌, map, take, length, Option, Some, None, refl, sym, ◌∙◌, ap, subst, arith, slice_get, filter, filter_map}
 use Rattle.std.specs.List.{cons_option}
 use Rattle.std.proofs.lemmas.Bool.{cases_lt}
 use Rattle.std.proofs.lemmas.List.{append-nil, length-map}
 use Rattle.std.proofs.lemmas.Option.{slice_get_within}
+use Rattle.lemmas.proofs.Answers.{same_some}
+use Rattle.lemmas.proofs.Places.{kept_at}
 use Rattle.rdf_values.specs.Bookings.{Booked, Pass, bookings, booked_by, filled, names_of, passes_of, waiting}
 use Rattle.rdf_values.specs.Names.{among, same}
 use Rattle.rdf_values.specs.declared.statement.Statement.{Statement}
@@ -13,23 +15,15 @@ use Rattle.rdf_model.proofs.Accepted.{itself, names_equal}
 use Rattle.graph_numbers.specs.Results.{loops, pass_at, passes_from, result_passes}
 use Rattle.graph_numbers.specs.declared.pass.Pass.{Pass as NumberedPass}
 use Rattle.graph_numbers.proofs.Extending.{Extends, itself as all_of_it, further}
-use Rattle.graph_numbers.proofs.Listed.{kept_at, of_joined}
+use Rattle.graph_numbers.proofs.Listed.{of_joined}
 use Rattle.graph_numbers.proofs.Looping.{loops_are}
 use Rattle.graph_numbers.proofs.Passing.{shorter}
-use Rattle.node_graph.specs.LoopRows.{AreNamedInTurn}
-use Rattle.node_graph.proofs.Filled.{later_named}
+use Rattle.graph.specs.LoopRows.{AreNamedInTurn}
+use Rattle.graph.proofs.Filled.{later_named}
 use Rattle.lazy_loop.specs.Places.{fills}
 use Rattle.lazy_loop.proofs.Splits.{NoneOf, refused_none, split_at}
 
-same_some : {A : Type 0} {a b : A} → ◌≡◌ {A = Option A} (Some a) (Some b) → a ≡ b
-same_some q = cc
-
 -- ---- lists
-
-something_at : {A : Type 0} (xs : List A) (k : ℕ) → k < length xs → (x : A) × (slice_get xs k ≡ Some x)
-something_at [] k lt = absurd (omega arith)
-something_at (x ∷ xs) zero lt = (x, refl)
-something_at (x ∷ xs) (suc k) lt = something_at xs k (omega arith)
 
 pub filter_map-append : {A B : Type 0} (f : A → Option B) (xs ys : List A) → filter_map f (xs ++ ys) ≡ filter_map f xs ++ filter_map f ys
 filter_map-append f [] ys = refl

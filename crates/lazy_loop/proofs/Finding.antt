@@ -1,21 +1,20 @@
 -- The completed loop that fills a result.
-use Rattle.std.proofs.Common.{◌≡◌, ◌⊎◌, inl, inr, ℕ, zero, suc, ◌+◌, ◌<◌, ◌≤◌, Bool, true, false, List, [], ◌∷◌, ◌++◌, length, map, Option, Some, None, refl, sym, ◌∙◌, ap, subst, arith, if◌then◌else◌}
-use Rattle.std.specs.Prelude.{option_map, slice_get, unwrap_or}
+use Rattle.std.proofs.Common.{◌≡◌, ◌⊎◌, inl, inr, ℕ, zero, suc, ◌+◌, ◌<◌, ◌≤◌, Bool, true, false, List, [], ◌∷◌, ◌++◌, length, Option, Some, None, refl, sym, ◌∙◌, ap, subst, arith}
+use Rattle.std.specs.Prelude.{slice_get, unwrap_or}
 use Rattle.std.proofs.lemmas.Bool.{cases_lt}
 use Rattle.std.proofs.lemmas.Option.{slice_get_within}
-use Rattle.rdf_values.specs.Bookings.{Booked, Booking, ActionAt, ReportOn, Pass, is_watched, passes_of}
+use Rattle.lemmas.proofs.Places.{something_at}
+use Rattle.rdf_values.specs.Bookings.{Booked, Pass, passes_of}
 use Rattle.rdf_values.specs.Path.{history}
-use Rattle.rdf_values.specs.declared.statement.Statement.{Statement}
 use Rattle.rdf_model.specs.LoopFacts.{kind_in, kinds_in}
 use Rattle.rdf_model.specs.Loops.{loop_passes, loop_results}
 use Rattle.graph_numbers.specs.Graphs.{graph_loops, graph_results}
-use Rattle.graph_numbers.specs.Results.{ResultAt, kind_of_booking}
-use Rattle.graph_numbers.specs.declared.result_kind.ResultKind.TheVariants as what
+use Rattle.graph_numbers.specs.Results.{ResultAt}
 use Rattle.graph_numbers.proofs.Extending.{itself}
 use Rattle.graph_numbers.proofs.Listed.{next_at}
 use Rattle.loop_keys.specs.Jobs.{passes_in}
 use Rattle.loop_pieces.specs.Trails.{place_if_watched, watched_from, watched_places}
-use Rattle.node_graph.proofs.Looped.{loops_few}
+use Rattle.graph.proofs.Looped.{loops_few}
 use Rattle.event_loop.specs.declared.end.FilledLoop.{FilledLoop}
 use Rattle.lazy_loop.specs.Places.{IsFilledPlace, IsPlaced, fills}
 use Rattle.lazy_loop.specs.Sessions.{ArePartials, IsFilledAt, IsFoundAt, IsSession, IsUnfilled, SessionView, session_job}
@@ -24,14 +23,6 @@ use Rattle.lazy_loop.proofs.Decoding.{watched-append}
 use Rattle.lazy_loop.proofs.Filling.{many}
 use Rattle.lazy_loop.proofs.Found.{statements_few}
 use Rattle.lazy_loop.proofs.Printed.{place_at, place_first}
-
-same_some : {A : Type 0} {a b : A} → ◌≡◌ {A = Option A} (Some a) (Some b) → a ≡ b
-same_some q = cc
-
-something_at : {A : Type 0} (xs : List A) (k : ℕ) → k < length xs → (x : A) × (slice_get xs k ≡ Some x)
-something_at [] k lt = absurd (omega arith)
-something_at (x ∷ xs) zero lt = (x, refl)
-something_at (x ∷ xs) (suc k) lt = something_at xs k (omega arith)
 
 -- ---- loops by their numbers
 
@@ -127,31 +118,6 @@ module _ (s : SessionView) (is : IsSession s) where
         watched = noted;
         its_lines = own f.0 f.1;
       }
-
--- ---- whether a result is noted
-
-module _ (script : List Statement) (o : Option ResultAt) (x : ResultAt) (at : o ≡ Some x) where
-  kind_is : (k : _) → option_map (λ (y : ResultAt). kind_of_booking y.booked.booking) o ≡ Some k → kind_of_booking x.booked.booking ≡ k
-  kind_is k h = same_some (sym (ap (option_map (λ (y : ResultAt). kind_of_booking y.booked.booking)) at) ∙ h)
-
-  pub noted_report : option_map (λ (y : ResultAt). kind_of_booking y.booked.booking) o ≡ Some what.Report → (n : ℕ) → place_if_watched script n (record { result = x.booked; under = None }) ≡ []
-  noted_report h n = go x.booked.booking (kind_is what.Report h) (is_watched script x.booked.name)
-    where
-      go : (b : Booking) → kind_of_booking b ≡ what.Report → (t : Bool) → (if t then map (λ k. n) (kind_in b) else []) ≡ []
-      go (ActionAt k at) e t = absurd (cc)
-      go (ReportOn filters) e true = refl
-      go (ReportOn filters) e false = refl
-
-  pub noted_action : (k : _) → option_map (λ (y : ResultAt). kind_of_booking y.booked.booking) o ≡ Some (what.Action k) → (t : Bool) → option_map (λ (y : ResultAt). is_watched script y.booked.name) o ≡ Some t
-      → (n : ℕ) → place_if_watched script n (record { result = x.booked; under = None }) ≡ (if t then n ∷ [] else [])
-  noted_action k h t w n =
-      ap (λ (b : Bool). if b then map (λ j. n) (kind_in x.booked.booking) else []) (same_some (sym (ap (option_map (λ (y : ResultAt). is_watched script y.booked.name)) at) ∙ w))
-      ∙ go x.booked.booking (kind_is (what.Action k) h) t
-    where
-      go : (b : Booking) → kind_of_booking b ≡ what.Action k → (u : Bool) → (if u then map (λ j. n) (kind_in b) else []) ≡ (if u then n ∷ [] else [])
-      go (ActionAt j at) e true = refl
-      go (ActionAt j at) e false = refl
-      go (ReportOn filters) e u = absurd (cc)
 
 -- ---- by the result's number
 

@@ -1,11 +1,13 @@
 -- The place of a result in a loop, as it is found among the loop's passes.
-use Rattle.std.proofs.Common.{◌≡◌, ◌⊎◌, inl, inr, ℕ, zero, suc, ◌+◌, ◌*◌, ◌<◌, ◌≤◌, Bool, true, false, cond, List, [], ◌∷◌, ◌++◌, map, take, length, Option, Some, None, refl, sym, ◌∙◌, ap, ap₂, arith, length-append, if◌then◌else◌}
+use Rattle.std.proofs.Common.{◌≡◌, ◌⊎◌, inl, inr, ℕ, zero, suc, ◌+◌, ◌*◌, ◌<◌, ◌≤◌, Bool, true, false, cond, List, [], ◌∷◌, ◌++◌, map, take, length, Option, Some, None, refl, sym, ◌∙◌, ap, ap₂, arith, length-append}
 use Rattle.std.specs.Prelude.{⊤, count_by, filter, nat_lt, option_map, slice_get}
 use Rattle.std.specs.List.{position, position_or_len}
 use Rattle.std.proofs.lemmas.Bool.Decides.{nat_tests}
 use Rattle.std.proofs.lemmas.List.{length-map, length-reverse}
 use Rattle.std.proofs.lemmas.List.Concat.{flat_map-append}
-use Rattle.std.proofs.lemmas.Option.{cond_some, slice_get_within}
+use Rattle.std.proofs.lemmas.Option.{slice_get_within}
+use Rattle.lemmas.proofs.Parts.{take_front}
+use Rattle.lemmas.proofs.Places.{something_at}
 use native.Mathlib.Nat.{mul-le-mul_right}
 use Rattle.rdf_values.specs.Bookings.{Booked, Booking, ActionAt, ReportOn, Pass, has_variations, passes_of, result_depends, varied_passes}
 use Rattle.rdf_values.specs.Kinds.{scope_of}
@@ -20,8 +22,8 @@ use Rattle.graph_numbers.specs.Results.{ResultAt, pass_at, result_passes}
 use Rattle.graph_numbers.specs.declared.pass.Pass.{Pass as NumberedPass}
 use Rattle.graph_numbers.proofs.Extending.{itself}
 use Rattle.loop_pieces.specs.Trails.{watched_places}
-use Rattle.node_graph.specs.LoopRows.{AreNamedInTurn}
-use Rattle.node_graph.proofs.Filled.{all_in_turn, take_whole}
+use Rattle.graph.specs.LoopRows.{AreNamedInTurn}
+use Rattle.graph.proofs.Filled.{all_in_turn}
 use Rattle.result_text.proofs.Passes.{is_pass_at, result_within}
 use Rattle.result_text.proofs.Within.{is_in_for, variation_within}
 use Rattle.lazy_loop.specs.Places.{IsFilledPlace, IsPassOf, fills}
@@ -30,21 +32,11 @@ use Rattle.lazy_loop.proofs.Filling.{IsFound, IsMissed, found_or_missed, many}
 use Rattle.lazy_loop.proofs.Sizes.{passes_few}
 use Rattle.lazy_loop.proofs.Splits.{AllOf, NoneOf, count_own, is_of, own_all, passes_many, position_first, position_none}
 
-something_at : {A : Type 0} (xs : List A) (k : ℕ) → k < length xs → (x : A) × (slice_get xs k ≡ Some x)
-something_at [] k lt = absurd (omega arith)
-something_at (x ∷ xs) zero lt = (x, refl)
-something_at (x ∷ xs) (suc k) lt = something_at xs k (omega arith)
-
 pub taken_at : {A : Type 0} (n : ℕ) (xs : List A) (i : ℕ) (x : A) → slice_get (take n xs) i ≡ Some x → slice_get xs i ≡ Some x
 taken_at zero xs i x at = absurd (cc)
 taken_at (suc n) [] i x at = absurd (cc)
 taken_at (suc n) (y ∷ ys) zero x at = at
 taken_at (suc n) (y ∷ ys) (suc i) x at = taken_at n ys i x at
-
-pub taken_few : {A : Type 0} (n : ℕ) (xs : List A) → length (take n xs) ≤ length xs
-taken_few zero xs = omega arith
-taken_few (suc n) [] = omega arith
-taken_few (suc n) (x ∷ xs) = let rest = taken_few n xs in omega (arith, rest)
 
 -- ---- positions
 
@@ -60,12 +52,6 @@ found_at r xs p ps h met =
     let many = length-append xs (p ∷ ps) in
     let yes : nat_lt (position_or_len (is_of r) (xs ++ p ∷ ps)) (length (xs ++ p ∷ ps)) ≡ true = grind (arith, nat_tests, e, many) in
     ap (λ (b : Bool). cond b (Some (position_or_len (is_of r) (xs ++ p ∷ ps))) None) yes ∙ ap (λ (n : ℕ). Some n) e
-
-pub position_within : (r n : ℕ) (ps : List NumberedPass) → position (is_of r) ps ≡ Some n → n < length ps
-position_within r n ps at =
-    let both = cond_some (nat_lt (position_or_len (is_of r) ps) (length ps)) (position_or_len (is_of r) ps) n at in
-    let is = both.0 in let same_number = both.1 in
-    grind (arith, nat_tests, is, same_number)
 
 -- ---- the passes of a result
 
@@ -173,7 +159,7 @@ module _ (g : GraphView) (is : IsGraph g) (l : ℕ) (ps : List NumberedPass) (lo
             some_is q = cc
 
         front_is : take n ps ≡ its_place.start
-        front_is = ap₂ (λ (k : ℕ) (l : List NumberedPass). take k l) start_is its_place.numbered ∙ take_whole its_place.start (result_passes (booked_statements g) r x.booked ++ its_place.rest)
+        front_is = ap₂ (λ (k : ℕ) (l : List NumberedPass). take k l) start_is its_place.numbered ∙ take_front its_place.start (result_passes (booked_statements g) r x.booked ++ its_place.rest)
 
         pub front_decoded : AreDecoded (booked_statements g) (take n ps) its_place.before
         front_decoded = ap (map (pass_at (booked_statements g))) front_is ∙ decoded_front (booked_statements g) its_place.start (result_passes (booked_statements g) r x.booked ++ its_place.rest) its_place.before (passes_of (booked_statements g) x.booked ++ its_place.after) whole its_place.same

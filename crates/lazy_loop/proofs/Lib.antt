@@ -1,8 +1,15 @@
 pub mod Accesses
+pub mod ActionLines
+pub mod Courses
 pub mod Decoding
 pub mod Filling
 pub mod Finding
 pub mod Found
 pub mod Printed
+pub mod ReportLines
+pub mod SessionLines
 pub mod Sizes
+pub mod SomeChain
 pub mod Splits
+pub mod Turning
+pub mod WatchLines

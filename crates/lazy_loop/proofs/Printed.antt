@@ -9,8 +9,8 @@ use Rattle.rdf_values.specs.declared.statement.Statement.TheVariants.{Print}
 use Rattle.rdf_model.specs.Loops.{Access, accesses, filled_by, loop_results}
 use Rattle.rdf_model.proofs.Accepted.{names_equal}
 use Rattle.graph_numbers.proofs.Listed.{of_joined}
-use Rattle.node_graph.specs.LoopRows.{AreNamedInTurn, filled_count}
-use Rattle.node_graph.proofs.Filled.{filled_first}
+use Rattle.graph.specs.LoopRows.{AreNamedInTurn, filled_count}
+use Rattle.graph.proofs.Filled.{filled_first}
 use Rattle.lazy_loop.specs.Places.{fills, loop_filling}
 use Rattle.lazy_loop.proofs.Filling.{filter_map-append}
 

@@ -10,7 +10,7 @@ use Rattle.rdf_model.specs.Loops.{loop_results}
 use Rattle.graph_numbers.specs.Results.{loops, passes_from, result_passes}
 use Rattle.graph_numbers.specs.declared.pass.Pass.{Pass as NumberedPass}
 use Rattle.graph_numbers.proofs.Extending.{Extends, itself, further}
-use Rattle.node_graph.proofs.Looped.{bookings_few}
+use Rattle.graph.proofs.Looped.{bookings_few}
 use Rattle.lazy_loop.proofs.Filling.{loop_at, waits}
 use Rattle.lazy_loop.proofs.Splits.{passes_many}
 

@@ -1,2 +1,4 @@
 pub mod Places
 pub mod Sessions
+pub mod Transcripts
+pub mod Turns

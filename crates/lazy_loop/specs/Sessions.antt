@@ -10,7 +10,7 @@ use Rattle.rdf_values.specs.declared.statement.Statement.{Statement}
 use Rattle.rdf_model.specs.Laws.{loops_before}
 use Rattle.rdf_model.specs.Loops.{Access, accesses, loop_passes, loop_results}
 use Rattle.rdf_model.specs.Results.{Dataset, first_fault}
-use Rattle.clusters.specs.CutsView.{CutsView}
+use Rattle.columns.specs.CutsView.{CutsView}
 use Rattle.columns.specs.ColumnsView.{ColumnsView}
 use Rattle.entry_fns.specs.Lists.{functions_in}
 use Rattle.graph_numbers.specs.Graphs.{GraphView, IsGraph, graph_prints}

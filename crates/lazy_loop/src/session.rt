@@ -21,7 +21,7 @@ use entry_fns::FnList;
 use event_loop::{FilledLoop, LoopEnd, run_loop};
 use loop_keys::Job;
 use loop_pieces::{FilledResult, PartialLines};
-use node_graph::Graph;
+use graph::Graph;
 use rdf_outside::Gate;
 use rdf_values::Memory;
 use std::alloc::Global;

@@ -9,9 +9,9 @@ use Rattle.rdf_values.specs.declared.column.Column.{Column}
 use Rattle.rdf_values.specs.declared.graph_cause.GraphCause.{GraphCause}
 use Rattle.rdf_values.specs.declared.script.Script.{Script}
 use Rattle.graph_numbers.specs.Graphs.{GraphView, booked, booked_unless}
-use Rattle.node_graph.specs.Refusals.{refused_at}
-use Rattle.node_graph.specs.declared.refusal.GraphRefusal.{GraphRefusal}
-use Rattle.node_graph.specs.declared.refusal.GraphRefusal.TheVariants as graph
+use Rattle.graph.specs.Refusals.{refused_at}
+use Rattle.graph.specs.declared.refusal.GraphRefusal.{GraphRefusal}
+use Rattle.graph.specs.declared.refusal.GraphRefusal.TheVariants as graph
 
 abbrev HasWords : GraphView → Type 0
 HasWords g = StatementsHaveWords (history g.script)

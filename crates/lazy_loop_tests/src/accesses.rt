@@ -5,11 +5,10 @@ ghost use Rattle.rdf_values.specs.Path.{history};
 ghost use Rattle.rdf_values.specs.Words.{StatementsHaveWords};
 ghost use Rattle.lazy_loop.specs.Sessions.{IsSession, session_of};
 
-use clusters::cut;
-use columns::Columns;
+use columns::{Columns, cut};
 use entry_fns::FnList;
 use lazy_loop::{LoopRefusal, Session};
-use node_graph::Graph;
+use graph::Graph;
 use rdf_model::laws::{scripts_are_bookable, scripts_have_words};
 use rdf_outside::OpenGate;
 use rdf_values::{EntryFault, Fault, Memory, Script};

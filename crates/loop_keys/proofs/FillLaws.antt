@@ -3,6 +3,7 @@ use Rattle.std.proofs.Common.{◌≡◌, ℕ, zero, suc, ◌+◌, ◌<◌, ◌�
 use Rattle.std.specs.Prelude.{slice_set}
 use Rattle.std.proofs.lemmas.Bool.{cases_eq}
 use Rattle.std.proofs.lemmas.List.Sums.{sum_by-set}
+use Rattle.lemmas.proofs.Places.{something_at}
 use Rattle.rdf_values.specs.declared.value.Value.{Value}
 use Rattle.rdf_model.specs.Evaluation.{Outcome}
 use Rattle.expr_check.specs.NumKinds.{CheckedExpr}
@@ -17,11 +18,6 @@ use Rattle.loop_keys.specs.Store.{held_in, is_held, held_count, IsRight, row_of,
 use Rattle.loop_keys.specs.declared.held.Held.{Held}
 use Rattle.loop_keys.specs.declared.held.Held.TheVariants.{Nothing}
 use Rattle.loop_keys.proofs.KeyLaws.{key_below, key_site, same_slot, under_in}
-
-pub there : {A : Type 0} (xs : List A) (i : ℕ) → i < length xs → (x : A) × (slice_get xs i ≡ Some x)
-there [] i lt = absurd (omega (arith, lt))
-there (x ∷ xs) zero lt = (x, refl)
-there (x ∷ xs) (suc i) lt = there xs i (omega (arith, lt))
 
 -- ---- an expression of a site
 
@@ -59,8 +55,8 @@ module _ (j : JobView) (entry : ℕ) (u : Option ℕ) (cells : List Held) (can :
 
   right_at : (w : Option ℕ) (t : ℕ) → t < length (graph_sites (job_graph j)) → key (job_graph j) t w ≡ key (job_graph j) s u → IsRight (site_in j entry w t) h
   right_at w t lt e =
-      let x = there (graph_sites (job_graph j)) s inside in
-      let y = there (graph_sites (job_graph j)) t lt in
+      let x = something_at (graph_sites (job_graph j)) s inside in
+      let y = something_at (graph_sites (job_graph j)) t lt in
       let n : t ≡ s = key_site (graph_variations (job_graph j)) (graph_sites (job_graph j)) t s y.0 x.0 w u y.1 x.1 (sym (key_is t y.0 w y.1) ∙ e ∙ key_is s x.0 u x.1) in
       subst (λ (m : ℕ). key (job_graph j) m w ≡ key (job_graph j) s u → IsRight (site_in j entry w m) h) (sym n) (λ k. here x.0 x.1 k) e
     where
@@ -106,7 +102,7 @@ module _ (j : JobView) (entry : ℕ) (u : Option ℕ) (cells : List Held) (can :
   -- a key of a later site is another one
   later : (t : ℕ) (w : Option ℕ) → s < t → t < length (graph_sites (job_graph j)) → key (job_graph j) t w ≡ key (job_graph j) s u → ⊥
   later t w l lt e =
-      let x = there (graph_sites (job_graph j)) s inside in
+      let x = something_at (graph_sites (job_graph j)) s inside in
       let a = key_below (graph_variations (job_graph j)) (graph_sites (job_graph j)) s t x.0 u x.1 l in
       let b = key_is s x.0 u x.1 in
       absurd (omega (arith, a, b, e))

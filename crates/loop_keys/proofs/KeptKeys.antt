@@ -2,14 +2,14 @@
 use Rattle.std.proofs.Common.{◌≡◌, ◌⊎◌, inl, inr, ℕ, zero, suc, ◌+◌, ◌<◌, ◌≤◌, Bool, true, false, cond, List, [], ◌∷◌, ◌++◌, length, take, Option, Some, None, refl, sym, ◌∙◌, ap, subst, arith, get_or, slice_get, if◌then◌else◌}
 use Rattle.std.specs.Prelude.{count_by}
 use Rattle.std.proofs.lemmas.Option.{slice_get-get_or}
-use Rattle.variation_sets.specs.Sets.{has, members_below}
-use Rattle.variation_sets.specs.declared.var_set.VarSet.{VarSet}
+use Rattle.lemmas.proofs.Places.{something_at}
+use Rattle.graph.specs.Sets.{has, members_below}
+use Rattle.graph.specs.declared.var_set.VarSet.{VarSet}
 use Rattle.graph_numbers.specs.Graphs.{GraphView, graph_sites, graph_variations, holds_at, site_depends_at}
 use Rattle.graph_numbers.specs.Sites.{SiteAt, depends_on}
 use Rattle.graph_numbers.proofs.Listed.{of_joined}
 use Rattle.loop_keys.specs.Keys.{AreKeysAt, AreSiteKeys, key, key_count, keys_before, own_keys, slot, slot_at, slot_in}
 use Rattle.loop_keys.specs.declared.keys.SiteKeys.{SiteKeys}
-use Rattle.loop_keys.proofs.FillLaws.{there}
 use Rattle.loop_keys.proofs.KeyLaws.{counted, key_below, keys_next}
 
 -- ---- members and places
@@ -72,14 +72,14 @@ module _ (g : GraphView) (ks : List SiteKeys) (kept : AreSiteKeys g ks) (s : ℕ
   -- the key that is read
   pub kept_key : (get_or ks s d).first + n ≡ key g s u
   kept_key =
-      let x = there (graph_sites g) s inside in
+      let x = something_at (graph_sites g) s inside in
       let a = at.first in
       let b : n ≡ slot_at (graph_variations g) (slice_get (graph_sites g) s) u = is ∙ slot_is g s (get_or ks s d) at x.0 x.1 u ∙ ap (λ o. slot_at (graph_variations g) o u) (sym x.1) in
       omega (arith, a, b)
 
   pub kept_small : (get_or ks s d).first + n < key_count g
   kept_small =
-      let x = there (graph_sites g) s inside in
+      let x = something_at (graph_sites g) s inside in
       let a = kept_key in
       let b = key_below (graph_variations g) (graph_sites g) s (length (graph_sites g)) x.0 u x.1 inside in
       let c : key g s u ≡ keys_before (graph_variations g) (graph_sites g) s + slot (graph_variations g) x.0 u = ap (λ o. keys_before (graph_variations g) (graph_sites g) s + slot_at (graph_variations g) o u) x.1 in
@@ -94,7 +94,7 @@ module _ (g : GraphView) (ks : List SiteKeys) (site : ℕ) (k : SiteKeys) (first
 
   pub next_first : (count : ℕ) → count ≡ members_below k.depends 128 → ((v : ℕ) → 128 ≤ v → has k.depends v ≡ false) → first + (1 + count) ≡ keys_before (graph_variations g) (graph_sites g) (site + 1)
   next_first count e none =
-      let x = there (graph_sites g) site inside in
+      let x = something_at (graph_sites g) site inside in
       let a = own_is g site k here_kept x.0 x.1 none in
       let b = keys_next (graph_variations g) (graph_sites g) site x.0 x.1 in
       let f : suc site ≡ site + 1 = omega arith in

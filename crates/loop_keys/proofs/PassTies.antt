@@ -1,5 +1,6 @@
 -- A pass by the numbers of its result and variation: what it comes to and demands.
 use Rattle.std.proofs.Common.{◌≡◌, ℕ, zero, suc, List, [], ◌∷◌, map, Option, Some, None, option_map, refl, sym, ◌∙◌, ap, unwrap_or, slice_get}
+use Rattle.lemmas.proofs.Places.{mapped_at}
 use Rattle.rdf_values.specs.Bookings.{Booked, Pass, bookings}
 use Rattle.rdf_values.specs.Path.{history}
 use Rattle.rdf_values.specs.Functions.{fn_names}
@@ -17,11 +18,6 @@ use Rattle.loop_keys.specs.Caches.{numbered_in}
 use Rattle.loop_keys.specs.Jobs.{JobView, IsJob, job_graph, passes_in, outcome_of, pass_outcome}
 use Rattle.loop_keys.specs.Store.{row_of, site_in, version_in}
 use Rattle.loop_keys.proofs.EvaluateLaws.{accepted_of}
-
-pub get_mapped : {A B : Type 0} (f : A → B) (xs : List A) (n : ℕ) (x : A) → slice_get xs n ≡ Some x → slice_get (map f xs) n ≡ Some (f x)
-get_mapped f [] n x h = cc h
-get_mapped f (y ∷ xs) zero x h = let e : y ≡ x = cc h in ap (λ z. Some (f z)) e
-get_mapped f (y ∷ xs) (suc n) x h = get_mapped f xs n x h
 
 pub of_mapped : {A B : Type 0} (f : A → B) (xs : List A) (n : ℕ) (y : B) → slice_get (map f xs) n ≡ Some y → (x : A) × (slice_get xs n ≡ Some x) × (f x ≡ y)
 of_mapped f [] n y h = cc h
@@ -42,9 +38,9 @@ module _ (j : JobView) (n : ℕ) (m : NumberedPass) (its : numbered_in j n ≡ S
   pass_is =
       let a = of_chosen (slice_get (graph_loops (job_graph j)) j.number) n m its in
       let all = loops_are (history j.script) (history j.script) itself in
-      let b = sym (ap (λ xs. slice_get xs j.number) all) ∙ get_mapped (map (pass_at (history j.script))) (graph_loops (job_graph j)) j.number a.0 a.1 in
+      let b = sym (ap (λ xs. slice_get xs j.number) all) ∙ mapped_at (map (pass_at (history j.script))) (graph_loops (job_graph j)) j.number a.0 a.1 in
       let c = of_mapped (λ results. map (λ (p : Pass). Some p) (loop_passes (history j.script) results)) (loop_results (history j.script)) j.number (map (pass_at (history j.script)) a.0) b in
-      let d = ap (λ xs. slice_get xs n) c.2 ∙ get_mapped (pass_at (history j.script)) a.0 n m a.2 in
+      let d = ap (λ xs. slice_get xs n) c.2 ∙ mapped_at (pass_at (history j.script)) a.0 n m a.2 in
       let e = of_mapped (λ (p : Pass). Some p) (loop_passes (history j.script) c.0) n (pass_at (history j.script) m) d in
       (e.0, ap (λ o. slice_get (loop_passes (history j.script) (unwrap_or o [])) n) c.1 ∙ e.1, sym e.2)
 
@@ -54,7 +50,7 @@ module _ (j : JobView) (n : ℕ) (m : NumberedPass) (its : numbered_in j n ≡ S
       let p = pass_is in
       let b = of_option (λ (b : Booked). record { result = b; under = graph_under (job_graph j) m.variation }) (slice_get (bookings (history j.script)) m.result) p.0 p.2 in
       let c : slice_get (bookings (history j.script)) m.result ≡ Some r.booked =
-      ap (λ bs. slice_get bs m.result) (sym (booked_are j.dataset.columns (fn_names j.dataset.fns) (history j.script))) ∙ get_mapped (λ (x : ResultAt). x.booked) (graph_results (job_graph j)) m.result r its_result in
+      ap (λ bs. slice_get bs m.result) (sym (booked_are j.dataset.columns (fn_names j.dataset.fns) (history j.script))) ∙ mapped_at (λ (x : ResultAt). x.booked) (graph_results (job_graph j)) m.result r its_result in
       let e : ◌≡◌ {A = Option Booked} (Some b.0) (Some r.booked) = sym b.1 ∙ c in
       let f : b.0 ≡ r.booked = cc e in
       p.1 ∙ ap Some (sym b.2) ∙ ap (λ (x : Booked). Some (record { result = x; under = graph_under (job_graph j) m.variation })) f

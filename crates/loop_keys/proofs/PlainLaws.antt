@@ -3,6 +3,7 @@ use Rattle.std.proofs.Common.{◌≡◌, ℕ, Bool, true, false, ◌&&◌, not, 
 use Rattle.std.specs.List.{AllByRecursion}
 use Rattle.std.proofs.lemmas.Bool.Decides.{Decides-eqb}
 use Rattle.std.proofs.lemmas.List.Elements.{recursion_from_All}
+use Rattle.lemmas.proofs.Booleans.{both_true}
 use Rattle.rdf_values.specs.EachColumn.{EachColumn, EachArgument}
 use Rattle.rdf_values.specs.Tree.{Trees, NumTree, Lit, Truth, Col, Neg, Not, Bin, Cond, Pick, Call, End, More}
 use Rattle.rdf_values.specs.declared.num_expr.Callee.{Callee}
@@ -20,10 +21,6 @@ use Rattle.loop_keys.specs.Jobs.{JobView, IsJob, job_graph}
 use Rattle.loop_keys.specs.Plain.{ArePlain, IsPlainVersion, is_vector_at}
 use Rattle.loop_keys.specs.Store.{IsClosed, IsSound, IsSourceIn, site_in, source_at, version_in}
 use Rattle.loop_keys.proofs.EvaluateLaws.{whole}
-
-both : (a b : Bool) → (a && b) ≡ true → (a ≡ true) × (b ≡ true)
-both true b h = (refl, h)
-both false b h = cc h
 
 -- the kinds of versions, as an expression lists them
 not_vector : (all : List ColType) (ks : List (ℕ × ColType)) (c : ℕ) → AllByRecursion (λ (k : ℕ × ColType). slice_get all k.0 ≡ Some k.1) ks → is_vector_at all c ≡ false → gives_vector (number_kind ks c) ≡ false
@@ -47,16 +44,16 @@ module _ (ks : List (ℕ × ColType)) where
     plain_by (Col c) h p = ap not h
     plain_by (Neg a) h p = plain_by a h p
     plain_by (Not a) h p = plain_by a h p
-    plain_by (Bin o a b) h p = let q = both (is_plain [] a) (is_plain [] b) p in λ i. plain_by a h.0 q.0 i && plain_by b h.1 q.1 i
+    plain_by (Bin o a b) h p = let q = both_true (is_plain [] a) (is_plain [] b) p in λ i. plain_by a h.0 q.0 i && plain_by b h.1 q.1 i
     plain_by (Cond c a b) h p =
-        let q = both (is_plain [] c && is_plain [] a) (is_plain [] b) p in let r = both (is_plain [] c) (is_plain [] a) q.0 in
+        let q = both_true (is_plain [] c && is_plain [] a) (is_plain [] b) p in let r = both_true (is_plain [] c) (is_plain [] a) q.0 in
         λ i. plain_by c h.0 r.0 i && plain_by a h.1 r.1 i && plain_by b h.2 q.1 i
     plain_by (Pick v i) h p = cc p
-    plain_by (Call f args) h p = let q = both (takes_no_vector f) (all_are_plain [] args) p in λ i. q.0 i && all_plain_by args h q.1 i
+    plain_by (Call f args) h p = let q = both_true (takes_no_vector f) (all_are_plain [] args) p in λ i. q.0 i && all_plain_by args h q.1 i
 
     all_plain_by : (es : Trees ℕ Callee) → EachArgument NoVector es → all_are_plain [] es ≡ true → all_are_plain ks es ≡ true
     all_plain_by End h p = refl
-    all_plain_by (More a rest) h p = let q = both (is_plain [] a) (all_are_plain [] rest) p in λ i. plain_by a h.0 q.0 i && all_plain_by rest h.1 q.1 i
+    all_plain_by (More a rest) h p = let q = both_true (is_plain [] a) (all_are_plain [] rest) p in λ i. plain_by a h.0 q.0 i && all_plain_by rest h.1 q.1 i
 
 -- a plain site's expression is plain
 pub plain_expr : (j : JobView) (used : ℕ → Bool) (s : ℕ) (e : CheckedExpr) → ArePlain j used → used s ≡ true → IsSiteExpr (job_graph j) s e → is_plain e.kinds e.tree ≡ true

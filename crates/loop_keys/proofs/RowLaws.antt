@@ -1,8 +1,9 @@
--- Where what is read of an entry stands, and how it is found there.
+-- Where what is read of an entry stands, and how it is found something_at.
 use Rattle.std.proofs.Common.{◌≡◌, ◌⊎◌, inl, inr, ℕ, zero, suc, ◌+◌, ◌<◌, ◌≤◌, List, [], ◌∷◌, ◌++◌, length, Option, Some, None, refl, sym, ◌∙◌, ap, subst, arith, get_or, slice_get, if◌then◌else◌}
 use Rattle.std.specs.Prelude.{count_by, take}
 use Rattle.std.proofs.lemmas.List.{get_or_past, length_push}
 use Rattle.std.proofs.lemmas.Option.{get_or_from_slice_get, slice_get-get_or}
+use Rattle.lemmas.proofs.Places.{something_at}
 use Rattle.rdf_values.specs.Path.{Variation}
 use Rattle.graph_numbers.specs.Graphs.{GraphView, booked_statements, graph_sites, graph_sources, graph_variations, holds_at}
 use Rattle.graph_numbers.specs.Sites.{SiteAt, depends_on}
@@ -15,7 +16,6 @@ use Rattle.loop_keys.specs.declared.keys.SiteKeys.{SiteKeys}
 use Rattle.loop_keys.specs.declared.rows.Place.{Place}
 use Rattle.loop_keys.specs.declared.rows.Place.TheVariants as stands
 use Rattle.loop_keys.specs.declared.rows.Row.{Row}
-use Rattle.loop_keys.proofs.FillLaws.{there}
 use Rattle.loop_keys.proofs.KeptKeys.{kept_key}
 use Rattle.loop_keys.proofs.KeyLaws.{key_below}
 
@@ -46,7 +46,7 @@ module _ {A : Type 0} (P : ℕ → A → Type 0) where
 
 pub key_small : (g : GraphView) (s : ℕ) (u : Option ℕ) → s < length (graph_sites g) → key g s u < key_count g
 key_small g s u inside =
-    let x = there (graph_sites g) s inside in
+    let x = something_at (graph_sites g) s inside in
     let b = key_below (graph_variations g) (graph_sites g) s (length (graph_sites g)) x.0 u x.1 inside in
     let c : key g s u ≡ keys_before (graph_variations g) (graph_sites g) s + slot (graph_variations g) x.0 u = ap (λ o. keys_before (graph_variations g) (graph_sites g) s + slot_at (graph_variations g) o u) x.1 in
     omega (arith, b, c)
@@ -56,7 +56,7 @@ key_read g u r row s inside d =
     let e : get_or r.keys s d ≡ key g s u = read_each (λ s k. k ≡ key g s u) (length (graph_sites g)) r.keys row.keys s d inside in
     let b = key_small g s u inside in omega (arith, e, b)
 
--- where there is no such site
+-- where something_at is no such site
 key_past : (g : GraphView) (s : ℕ) (u : Option ℕ) → length (graph_sites g) ≤ s → key g s u ≡ key_count g
 key_past g s u past = go (graph_sites g) s past
   where
@@ -109,7 +109,7 @@ more_rows g v rs each r h qs q =
     subst (λ (m : ℕ). AreEach (λ i x. IsRow g (row_under i) x) m qs) n
     (subst (λ (xs : List Row). AreEach (λ i x. IsRow g (row_under i) x) (suc v + 1) xs) (sym q) (more_each (λ i x. IsRow g (row_under i) x) (suc v) rs each r h))
 
--- ---- a variation that isn't there
+-- ---- a variation that isn't something_at
 
 module _ (g : GraphView) (v : ℕ) (past : length (graph_variations g) ≤ v) where
   none_at : {A : Type 0} (xs : List A) (i : ℕ) → length xs ≤ i → slice_get xs i ≡ None
@@ -161,4 +161,4 @@ module _ (g : GraphView) (rows : List Row) (all : AreKeys g rows) (u : Option �
         subst (λ (w : Option ℕ). IsRow g w r) (sym e)
         (subst (λ (x : Row). IsRow g (Some v) x) (sym at) (read_each (λ i x. IsRow g (row_under i) x) (suc (length (graph_variations g))) rows all (suc v) r (let m = all.many in omega (arith, inside, m))))
 
--- ---- what is read there
+-- ---- what is read something_at

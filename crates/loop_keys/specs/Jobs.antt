@@ -10,7 +10,7 @@ use Rattle.rdf_model.specs.Evaluation.{Outcome, Gives}
 use Rattle.rdf_model.specs.EntryOutcomes.{Entry, Skip, entry_outcome}
 use Rattle.rdf_model.specs.Loops.{loop_results, loop_passes}
 use Rattle.rdf_model.specs.Results.{Dataset}
-use Rattle.clusters.specs.CutsView.{CutsView}
+use Rattle.columns.specs.CutsView.{CutsView}
 use Rattle.entry_fns.specs.Lists.{functions_in}
 use Rattle.graph_numbers.specs.Graphs.{GraphView, IsGraph, graph_loops}
 use Rattle.loop_keys.specs.declared.job.Job.{Job}

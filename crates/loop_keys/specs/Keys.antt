@@ -3,8 +3,8 @@ use Rattle.std.specs.Prelude.{◌≡◌, ◌<◌, ◌^◌, ℕ, zero, suc, ◌+�
 use Rattle.rdf_values.specs.Names.{place}
 use Rattle.rdf_values.specs.Path.{Variation, Under, same_variation}
 use Rattle.rdf_model.specs.Demanded.{Demand, same_site}
-use Rattle.variation_sets.specs.Sets.{has, members_below}
-use Rattle.variation_sets.specs.declared.var_set.VarSet.{VarSet}
+use Rattle.graph.specs.Sets.{has, members_below}
+use Rattle.graph.specs.declared.var_set.VarSet.{VarSet}
 use Rattle.graph_numbers.specs.Graphs.{GraphView, graph_sites, graph_sources, graph_variations, graph_versions, holds_at, site_depends_at}
 use Rattle.graph_numbers.specs.Sites.{SiteAt, depends_on}
 use Rattle.graph_numbers.specs.Sources.{source_in}

@@ -1,7 +1,10 @@
 pub mod Caches
+pub mod Entries
 pub mod Jobs
 pub mod Keys
 pub mod Known
 pub mod Passes
 pub mod Plain
+pub mod Plans
 pub mod Store
+pub mod Turns

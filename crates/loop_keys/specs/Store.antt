@@ -1,5 +1,5 @@
 -- What is held of the sites of an entry, and what an evaluation is told of it.
-use Rattle.std.specs.Prelude.{◌≡◌, ⊤, ◌≤◌, ◌<◌, ◌⊎◌, ℕ, zero, suc, ◌+◌, Bool, true, false, List, [], length, Option, Some, None, if◌then◌else◌, slice_get, slice_index_or, count_by, unwrap_or, MatchOption, All}
+use Rattle.std.specs.Prelude.{◌≡◌, ⊤, ◌≤◌, ◌<◌, ◌⊎◌, ℕ, zero, suc, ◌+◌, Bool, true, false, List, [], length, Option, Some, None, slice_get, slice_index_or, count_by, unwrap_or, MatchOption, All}
 use Rattle.rdf_values.specs.declared.value.Value.{Value}
 use Rattle.rdf_values.specs.declared.value.Value.TheVariants as val
 use Rattle.rdf_model.specs.Evaluation.{Outcome, Gives, Faults, Needs, ◌>>=◌}
@@ -175,20 +175,9 @@ pub record CanEvaluate (j : JobView) (entry : ℕ) (u : Option ℕ) (cells : Lis
 
 -- ---- several sites
 
--- what is newly held is of sites of the set
-abbrev pub OnlyOf : JobView → Option ℕ → (ℕ → Bool) → List Held → List Held → Type 0
-OnlyOf j u D before after = (k : ℕ) → is_held (held_in after k) ≡ true → (is_held (held_in before k) ≡ true) ⊎ ((t : ℕ) × (D t ≡ true) × (k ≡ key (job_graph j) t u))
-
 -- the set of keys has those of the sites of a set
 abbrev pub HasAllKeys : JobView → Option ℕ → (ℕ → Bool) → (ℕ → Bool) → Type 0
 HasAllKeys j u D T = (t : ℕ) → D t ≡ true → T (key (job_graph j) t u) ≡ true
-
--- the store went from one state to another, for sets of sites that meet the condition
-pub record IsServed (j : JobView) (entry : ℕ) (u : Option ℕ) (Has : (ℕ → Bool) → Type 0) (before after : List Held) (first last : ℕ) : Type 0 where
-  pub sized : length after ≡ length before
-  pub sound : IsSound j entry after
-  pub grows : Grows before after
-  pub only : (D : ℕ → Bool) → IsClosed j entry u D → Has D → OnlyOf j u D before after
 
 -- the set has the filters that are tried
 abbrev pub HasTried : JobView → ℕ → Option ℕ → List ℕ → (ℕ → Bool) → Type 0

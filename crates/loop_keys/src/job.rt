@@ -1,7 +1,7 @@
 // What an event loop works on.
 use columns::Columns;
 use entry_fns::FnList;
-use node_graph::Graph;
+use graph::Graph;
 
 /// A loop of a graph, over the columns of a table, with the caller's functions.
 pub struct Job<'a> {

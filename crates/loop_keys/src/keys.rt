@@ -2,10 +2,9 @@
 ghost use Rattle.std.specs.Prelude.{◌≡◌, ◌≤◌, List, IfOk};
 ghost use Rattle.loop_keys.specs.Keys.{AreSiteKeys, key_count, slot_in};
 
-use node_graph::Graph;
+use graph::{Graph, VarSet};
 use rdf_values::{ListOf, Memory};
 use std::alloc::Global;
-use variation_sets::VarSet;
 
 /// Where the keys of a site begin, and the variations on which it depends: its first key is that of nominal, and each of these
 /// variations has one of the next.

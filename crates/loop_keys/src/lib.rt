@@ -1,5 +1,5 @@
 //! What an event loop works on, and by which keys: a site under nominal or a variation on which it depends has a key, and a row says
-//! where what an expression reads stands. It stands on `node_graph`, whose numbers it reads, and on `columns`.
+//! where what an expression reads stands. It stands on `graph`, whose numbers it reads, and on `columns`.
 #![tactic(auto)]
 
 pub mod held;

@@ -5,7 +5,7 @@ ghost use Rattle.loop_keys.specs.Keys.{AreKeys, ArePlaces, AreSiteKeys, AreUnder
 
 use crate::keys::{SiteKeys, keys_of, slot};
 use graph_numbers::Source;
-use node_graph::Graph;
+use graph::Graph;
 use rdf_values::{ListOf, Memory};
 use std::alloc::Global;
 

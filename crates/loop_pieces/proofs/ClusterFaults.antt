@@ -2,6 +2,7 @@
 use Rattle.std.proofs.Common.{◌≡◌, ◌⊎◌, ℕ, suc, ◌+◌, ◌-◌, ◌<◌, ◌≤◌, List, [], ◌∷◌, ◌++◌, length, map, drop, Option, None, Some, refl, sym, ap, ap₂, ◌∙◌, inl, inr, arith}
 use Rattle.std.specs.Prelude.{slice_get, slice_range, option_map}
 use Rattle.std.proofs.lemmas.Option.{slice_get-map}
+use Rattle.lemmas.proofs.Parts.{range_length, take_at_most}
 use Rattle.rdf_values.specs.Cuts.{Lead}
 use Rattle.rdf_values.specs.Bookings.{Pass}
 use Rattle.rdf_values.specs.Machine.{first_in}
@@ -13,7 +14,7 @@ use Rattle.rdf_values.proofs.Leading.{led_are_in_order}
 use Rattle.rdf_model.specs.Results.{Dataset, fault_at, fault_or, first_of, first_fault_in, first_fault_from}
 use Rattle.rdf_model.specs.PartialResults.{span_rows}
 use Rattle.loop_pieces.specs.Whole.{FirstClusterHasFirstFault, LowerClustersFaultFirst, begin_of, cluster_faults}
-use Rattle.loop_pieces.proofs.Places.{by_places, lead_up, ranges_join, range_length, range_none, range_whole, take_short}
+use Rattle.loop_pieces.proofs.Places.{by_places, lead_up, ranges_join, range_none, range_whole}
 
 first_of-assoc : (a b c : Option Fault) → first_of (first_of a b) c ≡ first_of a (first_of b c)
 first_of-assoc None b c = refl
@@ -91,7 +92,7 @@ its_span d spans ps c f at = go (slice_get spans c) refl (sym (slice_get-map (λ
         let w = fault_within d ps (slice_range d.rows s.lo s.hi) s.lo f (two_some h) in
         let low = w.0 in
         let high = w.1 in
-        let short = take_short (s.hi - s.lo) (drop s.lo d.rows) in
+        let short = take_at_most (s.hi - s.lo) (drop s.lo d.rows) in
         (s, is, low, omega arith)
 
 pub lower_clusters_fault_first : LowerClustersFaultFirst

@@ -6,8 +6,8 @@ use Rattle.rdf_values.specs.Cuts.{below}
 use Rattle.rdf_values.specs.declared.action.ActionKind.{ActionKind}
 use Rattle.rdf_model.specs.declared.loop_facts.LoopFacts.{LoopFacts}
 use Rattle.actions.specs.Accumulators.{Accumulator}
-use Rattle.filters_report.specs.declared.flow.Counts.{Counts}
-use Rattle.filters_report.specs.Flows.{HaveRoom, added, both}
+use Rattle.loop_pieces.specs.declared.flow.Counts.{Counts}
+use Rattle.loop_pieces.specs.Flows.{HaveRoom, added, both}
 use Rattle.rdf_values.specs.Draws.{IsUnion}
 use Rattle.loop_pieces.specs.declared.loop_piece.LoopPiece.{LoopPiece}
 use Rattle.loop_pieces.specs.Accs.{AreMerged, CanMerge}
@@ -45,9 +45,6 @@ module _ (f : LoopFacts) (mine theirs all : List ℕ) (p q : LoopPiece) (s : Sta
   room (n ∷ ns) zero lt = let c = counts_union f mine theirs all n u in omega (arith, c.0, counts_few f all n s.facts u.rising)
   room (n ∷ ns) (suc i) lt = room ns i (omega arith)
 
-  pub same_filters : length q.flow ≡ length p.flow
-  same_filters = ap length t.flow ∙ length-map (below f.filters) (counts_at f theirs) ∙ sym (ap length s.flow ∙ length-map (below f.filters) (counts_at f mine))
-
   pub have_room : HaveRoom p.flow q.flow
   have_room = subst (λ (a : List Counts). HaveRoom a q.flow) (sym s.flow) (subst (λ (b : List Counts). HaveRoom (map (counts_at f mine) (below f.filters)) b) (sym t.flow) (room (below f.filters)))
 
@@ -74,7 +71,3 @@ module _ (f : LoopFacts) (mine theirs all : List ℕ) (p q : LoopPiece) (s : Sta
         });
     flow = flow ∙ ap₂ added s.flow t.flow ∙ flows (below f.filters);
   }
-
-pub on_ok : {A E : Type 0} (r : Result A E) (P Q : Type 0) → (P → Q) → OnOk r P → OnOk r Q
-on_ok (Ok x) P Q h p = h p
-on_ok (Err e) P Q h p = tt

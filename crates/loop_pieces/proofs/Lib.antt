@@ -1,7 +1,7 @@
+pub mod Added
 pub mod Agreeing
 pub mod ByCluster
 pub mod ClusterFaults
-pub mod Empty
 pub mod FedOver
 pub mod Joined
 pub mod Joins

@@ -3,6 +3,7 @@ use Rattle.std.proofs.Common.{◌≡◌, ℕ, zero, suc, ◌+◌, ◌-◌, ◌�
 use Rattle.std.specs.Prelude.{flat_map, slice_get, slice_range}
 use Rattle.std.proofs.lemmas.List.{map-append}
 use Rattle.std.proofs.lemmas.List.Folds.{flat_map-map}
+use Rattle.lemmas.proofs.Parts.{drop_plus}
 use Rattle.rdf_values.specs.Cuts.{Lead, below}
 use Rattle.rdf_values.specs.declared.span.Span.{Span}
 
@@ -33,11 +34,6 @@ pub lead_up : (spans : List Span) (lo hi : ℕ) → Lead lo hi spans → lo ≤ 
 lead_up [] lo hi h = omega arith
 lead_up (s ∷ ss) lo hi h = let a = h.0 in let b = h.1 in let r = lead_up ss s.hi hi h.2 in omega arith
 
-take_full : {A : Type 0} (n : ℕ) (xs : List A) → n ≤ length xs → length (take n xs) ≡ n
-take_full zero xs le = refl
-take_full (suc n) [] le = absurd (omega arith)
-take_full (suc n) (x ∷ xs) le = let r = take_full n xs (omega arith) in omega arith
-
 take_all : {A : Type 0} (n : ℕ) (xs : List A) → length xs ≤ n → take n xs ≡ xs
 take_all zero [] le = refl
 take_all zero (x ∷ xs) le = absurd (omega arith)
@@ -49,15 +45,6 @@ take_plus zero m xs le = let e : m ≡ 0 + m = omega arith in ap (λ k. take k x
 take_plus (suc n) m [] le = absurd (omega arith)
 take_plus (suc n) m (x ∷ xs) le = ap (λ l. x ∷ l) (take_plus n m xs (omega arith)) ∙ (let e : suc (n + m) ≡ suc n + m = omega arith in ap (λ k. take k (x ∷ xs)) e)
 
-drop_none : {A : Type 0} (n : ℕ) → ◌≡◌ {A = List A} (drop n []) []
-drop_none zero = refl
-drop_none (suc n) = refl
-
-drop_plus : {A : Type 0} (n m : ℕ) (xs : List A) → drop m (drop n xs) ≡ drop (n + m) xs
-drop_plus n m [] = ap (drop m) (drop_none n) ∙ drop_none m ∙ sym (drop_none (n + m))
-drop_plus zero m (x ∷ xs) = let e : m ≡ 0 + m = omega arith in ap (λ k. drop k (x ∷ xs)) e
-drop_plus (suc n) m (x ∷ xs) = drop_plus n m xs ∙ (let e : suc (n + m) ≡ suc n + m = omega arith in ap (λ k. drop k (x ∷ xs)) e)
-
 -- the rows from lo to below hi, and from there to below top
 pub ranges_join : {A : Type 0} (rows : List A) (lo hi top : ℕ) → lo ≤ hi → hi ≤ top → top ≤ length rows → slice_range rows lo hi ++ slice_range rows hi top ≡ slice_range rows lo top
 ranges_join rows lo hi top a b c =
@@ -67,16 +54,8 @@ ranges_join rows lo hi top a b c =
     ∙ take_plus (hi - lo) (top - hi) (drop lo rows) (omega (arith, length-drop lo rows))
     ∙ ap (λ k. take k (drop lo rows)) all
 
-pub range_length : {A : Type 0} (rows : List A) (lo hi : ℕ) → lo ≤ hi → hi ≤ length rows → length (slice_range rows lo hi) ≡ hi - lo
-range_length rows lo hi a b = take_full (hi - lo) (drop lo rows) (omega (arith, length-drop lo rows))
-
 pub range_whole : {A : Type 0} (rows : List A) → slice_range rows 0 (length rows) ≡ rows
 range_whole rows = take_all (length rows - 0) rows (omega arith)
 
 pub range_none : {A : Type 0} (rows : List A) (lo : ℕ) → slice_range rows lo lo ≡ []
 range_none rows lo = let e : lo - lo ≡ 0 = omega arith in ap (λ k. take k (drop lo rows)) e
-
-pub take_short : {A : Type 0} (n : ℕ) (xs : List A) → length (take n xs) ≤ n
-take_short zero xs = omega arith
-take_short (suc n) [] = omega arith
-take_short (suc n) (x ∷ xs) = let r = take_short n xs in omega arith

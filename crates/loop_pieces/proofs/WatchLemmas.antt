@@ -5,6 +5,7 @@ use Rattle.std.specs.List.{AllByRecursion}
 use Rattle.std.specs.Int.{int_max, int_min}
 use Rattle.std.specs.List.Sorted.{IsStrictlyIncreasing}
 use Rattle.std.proofs.lemmas.List.Elements.{recursion_from_All}
+use Rattle.lemmas.proofs.Orders.{abs_add}
 use Rattle.rdf_values.specs.Draws.{IsUnion}
 use Rattle.rdf_values.specs.Fold as filled
 use Rattle.rdf_values.specs.Fold.{Filled, fold_items, numbers_of}
@@ -20,7 +21,6 @@ use Rattle.rdf_model.specs.declared.loop_facts.LoopFacts.{LoopFacts}
 use Rattle.actions.specs.Extremes.{better_of_two}
 use Rattle.actions.specs.Feeding.{Fed, in_file_order}
 use Rattle.actions.proofs.Merges.{merge_count, merge_max, merge_min, merge_sum}
-use Rattle.actions.proofs.Sums.{abs_add}
 use Rattle.loop_pieces.specs.LoopPieces.{cluster_items, entries_over, fed_over}
 use Rattle.loop_pieces.specs.PieceLaws.{WatchPiecesOfOneSetAgree}
 use Rattle.loop_pieces.specs.Watching.{CanAdd, IsOfKind, WatchStandsFor, added, watch_filled}

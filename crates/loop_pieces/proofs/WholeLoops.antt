@@ -3,6 +3,7 @@ use Rattle.std.proofs.Common.{◌≡◌, ℕ, zero, suc, ◌<◌, ◌≤◌, Boo
 use Rattle.std.specs.Prelude.{flat_map, slice_get, slice_range, option_map, All, ◌||◌}
 use Rattle.std.specs.List.{list_any}
 use Rattle.std.proofs.lemmas.Option.{slice_get-map, slice_get_within, get_or_from_slice_get}
+use Rattle.lemmas.proofs.Places.{any_at}
 use Rattle.rdf_values.specs.Path.{Path, Under}
 use Rattle.rdf_values.specs.Cuts.{Lead, below}
 use Rattle.rdf_values.specs.Bookings.{Booking, ActionAt, ReportOn, Pass}
@@ -102,22 +103,6 @@ row_there : (rows : List (List Value)) (k : ℕ) (x : List Value) → k < length
 row_there [] k x lt = absurd (omega arith)
 row_there (r ∷ rs) zero x lt = refl
 row_there (r ∷ rs) (suc k) x lt = row_there rs k x (omega arith)
-
-or_right : (a b : Bool) → b ≡ true → (a || b) ≡ true
-or_right true b h = refl
-or_right false b h = h
-
-or_left : (a b : Bool) → a ≡ true → (a || b) ≡ true
-or_left true b h = refl
-or_left false b h = absurd (cc)
-
-any_at : {A : Type 0} (p : A → Bool) (xs : List A) (i : ℕ) (x : A) → slice_get xs i ≡ Some x → p x ≡ true → list_any p xs ≡ true
-any_at p [] i x at h = absurd (cc)
-any_at {A} p (y ∷ ys) zero x at h = or_left (p y) (list_any p ys) (ap p (same_at at) ∙ h)
-  where
-    same_at : {a b : A} → ◌≡◌ {A = Option A} (Some a) (Some b) → a ≡ b
-    same_at q = cc
-any_at p (y ∷ ys) (suc i) x at h = or_right (p y) (list_any p ys) (any_at p ys i x at h)
 
 pub piece_holds_counts : PieceHoldsCounts
 piece_holds_counts d before after s up spans set ps n i p filters piece its_pass booked its_filter good stands =

@@ -1,4 +1,5 @@
 pub mod Accs
+pub mod Flows
 pub mod LoopPieces
 pub mod PartialLines
 pub mod PieceLaws

@@ -12,7 +12,7 @@ use Rattle.rdf_model.specs.Results.{Dataset, FilterCounts, first_fault, first_fa
 use Rattle.rdf_model.specs.PartialResults.{over_clusters, partial_result, span_rows}
 use Rattle.rdf_model.specs.LoopFacts.{loop_facts, kinds_in}
 use Rattle.rdf_model.specs.Laws.{action_pass}
-use Rattle.filters_report.specs.declared.flow.Counts.{Counts}
+use Rattle.loop_pieces.specs.declared.flow.Counts.{Counts}
 use Rattle.actions.specs.Accumulators.{Accumulator}
 use Rattle.loop_pieces.specs.LoopPieces.{StandsFor}
 use Rattle.loop_pieces.specs.Trails.{watch_facts}

@@ -1,9 +1,10 @@
 //! What some clusters of a loop come to: accumulators, counts, and the values of watched results; and their joining.
-//! It stands on `actions`, `filters_report` and `merge_core`.
+//! The counts of a cutflow too. It stands on `actions` and `merge_core`.
 #![tactic(auto)]
 
 pub mod accs;
 pub mod filled_result;
+pub mod flow;
 pub mod joining;
 pub mod laws;
 pub mod loop_piece;
@@ -11,5 +12,6 @@ pub mod watch_joining;
 pub mod watch_piece;
 
 pub use crate::filled_result::{FilledResult, PartialLine, PartialLines};
+pub use crate::flow::{Counts, Flow};
 pub use crate::loop_piece::LoopPiece;
 pub use crate::watch_piece::{WatchFacts, WatchPiece};

@@ -1,9 +1,9 @@
 // Pieces of a loop.
 ghost use Rattle.std.specs.Prelude.{◌≡◌, ◌<◌, Some, [], slice_get, slice_set, vec_len};
 
+use crate::flow::Flow;
 use crate::watch_piece::WatchPiece;
 use actions::Acc;
-use filters_report::Flow;
 use merge_core::Trail;
 use rdf_values::ListOf;
 use std::alloc::Global;

@@ -2,6 +2,7 @@
 use Rattle.std.proofs.Common.{◌≡◌, ℕ, ◌+◌, ◌<◌, ◌≤◌, List, [], ◌∷◌, ◌++◌, Bool, true, false, min, Option, None, Some, refl, sym, ap, subst, append-nil, append_assoc}
 use Rattle.std.specs.Prelude.{◌&&◌, nat_eq, nat_lt, if◌then◌else◌, Result, Ok, Err, slice_get, slice_set}
 use Rattle.std.proofs.lemmas.Bool.{eqb-true, ltb-true, ltb-false}
+use Rattle.lemmas.proofs.Booleans.{both_true}
 use Rattle.rdf_values.specs.Machine.{Phase, Running, Ended, Faulted, Slot, Left, Machine, slot_of, claim_next, give_up, pass_over, end_slot, running_step, if_running, with_slot, step_of, claim_step, replay_from}
 use Rattle.rdf_values.specs.declared.event.Event.{Event}
 use Rattle.rdf_values.specs.declared.event.Event.TheVariants.{Claim, Finish, Fault, Skip, End}
@@ -41,11 +42,6 @@ if_ok false x y e h = absurd (cc)
 if_err : {A E : Type 0} (b : Bool) (x y : A) (e : E) → (if b then Err e else Ok x) ≡ Ok y → (b ≡ false) × (x ≡ y)
 if_err true x y e h = absurd (cc)
 if_err false x y e h = (refl, cc)
-
-both_true : (a b : Bool) → (a && b) ≡ true → (a ≡ true) × (b ≡ true)
-both_true true true h = (refl, refl)
-both_true true false h = absurd (cc)
-both_true false b h = absurd (cc)
 
 claimed : (clusters next bar c : ℕ) (s : Slot) (held : Option ℕ) (l : Left) → claim_next clusters next bar c s held ≡ Ok l → (held ≡ None) × (next < clusters) × (left (next + 1) bar (slot_with (s.drawn ++ next ∷ []) (Some next) Running) ≡ l)
 claimed clusters next bar c s (Some k) l h = absurd (cc)

@@ -3,6 +3,7 @@ use Rattle.std.proofs.Common.{◌≡◌, ◌⊎◌, inl, inr, ℕ, ◌+◌, ◌<
 use Rattle.std.specs.Prelude.{codes, flat_map, option_map, slice_get, unwrap_or}
 use Rattle.std.proofs.lemmas.List.{map-append}
 use Rattle.std.proofs.lemmas.Option.{same_Some, slice_get-map}
+use Rattle.lemmas.proofs.Parts.{none_left}
 use Rattle.rdf_values.specs.Bookings.{named_before}
 use Rattle.rdf_values.specs.Kinds.{FunctionNames}
 use Rattle.rdf_values.specs.Path.{Path, path}
@@ -11,10 +12,10 @@ use Rattle.rdf_values.specs.declared.statement.Statement.{Statement}
 use Rattle.rdf_values.specs.declared.statement.Statement.TheVariants.{Filter}
 use Rattle.rdf_model.specs.ResultLines.{filter_label, flow_line, flow_lines}
 use Rattle.rdf_model.specs.Results.{FilterCounts}
-use Rattle.filters_report.specs.declared.flow.Counts.{Counts}
+use Rattle.loop_pieces.specs.declared.flow.Counts.{Counts}
 use Rattle.graph_numbers.specs.Results.{FilterAt, filters, own_filters}
 use Rattle.result_text.specs.FilledLines.{counts_seen}
-use Rattle.result_text.proofs.Lists.{drop_whole, one_left, put_last, put_next}
+use Rattle.result_text.proofs.Lists.{one_left, put_last, put_next}
 use Rattle.merged_text.specs.Numbered.{filter_counts, label_of}
 use Rattle.merged_text.specs.MergedPrints.{with_labels}
 
@@ -61,8 +62,8 @@ module _ (fs : List FilterAt) where
   flow_end text all name reached i ns cs past h = put_last all text (flows name reached (filter_counts fs (drop i ns) (drop i cs))) h (ap (flows name reached) (go past))
     where
       go : (length ns ≤ i) ⊎ (length cs ≤ i) → ◌≡◌ {A = List (List ℕ × FilterCounts)} (filter_counts fs (drop i ns) (drop i cs)) []
-      go (inl le) = ap (λ l. filter_counts fs l (drop i cs)) (drop_whole ns i le)
-      go (inr le) = ap (filter_counts fs (drop i ns)) (drop_whole cs i le) ∙ none_counted (drop i ns)
+      go (inl le) = ap (λ l. filter_counts fs l (drop i cs)) (none_left ns i le)
+      go (inr le) = ap (filter_counts fs (drop i ns)) (none_left cs i le) ∙ none_counted (drop i ns)
 
 -- ---- labels
 

@@ -1,8 +1,10 @@
 -- The Prints in order, and the lines of each.
-use Rattle.std.proofs.Common.{◌≡◌, ◌⊎◌, inl, inr, ℕ, zero, suc, ◌+◌, ◌<◌, ◌≤◌, Bool, true, false, List, [], ◌∷◌, ◌++◌, length, drop, Option, None, Some, refl, sym, ap, ap₂, ◌∙◌, arith, append_assoc, append-nil, if◌then◌else◌}
+use Rattle.std.proofs.Common.{◌≡◌, ◌⊎◌, inl, inr, ℕ, zero, suc, ◌+◌, ◌<◌, ◌≤◌, Bool, true, false, List, [], ◌∷◌, ◌++◌, length, drop, Option, None, Some, refl, sym, ap, ap₂, ◌∙◌, arith, append_assoc, append-nil}
 use Rattle.std.specs.Prelude.{option_map, slice_get}
 use Rattle.std.proofs.lemmas.List.{length-map}
-use Rattle.std.proofs.lemmas.Option.{same_Some, slice_get-map, slice_get_past, slice_get_within}
+use Rattle.std.proofs.lemmas.Option.{same_Some, slice_get-map, slice_get_within}
+use Rattle.lemmas.proofs.Parts.{none_left}
+use Rattle.lemmas.proofs.Places.{something_at}
 use Rattle.rdf_values.specs.Bookings.{Booked, Pass, bookings}
 use Rattle.rdf_values.specs.Names.{place, same}
 use Rattle.rdf_values.specs.declared.fault.Fault.{Fault}
@@ -14,7 +16,7 @@ use Rattle.graph_numbers.specs.Graphs.{GraphView, booked_statements, graph_print
 use Rattle.graph_numbers.specs.Results.{ResultAt, result_number}
 use Rattle.graph_numbers.proofs.Resulting.{booked_are}
 use Rattle.result_text.specs.FilledLines.{passes_at}
-use Rattle.result_text.proofs.Lists.{drop_whole, one_left, put_last, put_next}
+use Rattle.result_text.proofs.Lists.{one_left, put_last, put_next}
 use Rattle.result_text.proofs.Passes.{name_is}
 use Rattle.shard_lines.specs.declared.shard_line.ShardLine.{ShardLine}
 use Rattle.shard_files.specs.declared.shard_loop.ShardLoop.{ShardLoop}
@@ -43,8 +45,8 @@ pub line_end : (text all name : List ℕ) (i : ℕ) (ps : List Pass) (ls : List 
 line_end text all name i ps ls past h = put_last all text (lines_of_result name (drop i ps) (drop i ls)) h (go past)
   where
     go : (length ps ≤ i) ⊎ (length ls ≤ i) → lines_of_result name (drop i ps) (drop i ls) ≡ []
-    go (inl le) = ap (λ l. lines_of_result name l (drop i ls)) (drop_whole ps i le)
-    go (inr le) = ap (lines_of_result name (drop i ps)) (drop_whole ls i le) ∙ no_lines name (drop i ps)
+    go (inl le) = ap (λ l. lines_of_result name l (drop i ls)) (none_left ps i le)
+    go (inr le) = ap (lines_of_result name (drop i ps)) (none_left ls i le) ∙ no_lines name (drop i ps)
 
 -- ---- the result of a Print
 
@@ -78,11 +80,6 @@ module _ (g : GraphView) (print r : ℕ) (its : slice_get (graph_prints g) print
       let many = ap length (booked_are g.header g.names (booked_statements g)) in
       omega (arith, length-map (graph_results g) (λ (x : ResultAt). x.booked))
 
-something_at : {A : Type 0} (xs : List A) (k : ℕ) → k < length xs → (x : A) × (slice_get xs k ≡ Some x)
-something_at [] k lt = absurd (omega arith)
-something_at (x ∷ xs) zero lt = (x, refl)
-something_at (x ∷ xs) (suc k) lt = something_at xs k (omega arith)
-
 -- the Print of that number
 pub print_at : (g : GraphView) (print : ℕ) → print < length (graph_prints g) → (a : Access) × (slice_get (accesses (booked_statements g)) print ≡ Some a)
 print_at g print lt = something_at (accesses (booked_statements g)) print (omega (arith, length-map (accesses (booked_statements g)) (λ (a : Access). result_number (booked_statements g) a.result)))
@@ -99,9 +96,6 @@ module _ (g : GraphView) (loops : List ShardLoop) (print l : ℕ) (filling : opt
 
   by_loop : (o : Option ShardLoop) (rest : Printed) → slice_get loops l ≡ o → access_printed g loops a rest ≡ loop_printed (passes_at g l) a.result o rest
   by_loop o rest is = ap (λ k. loop_printed (passes_at g k) a.result (slice_get loops k) rest) loop_is ∙ ap (λ x. loop_printed (passes_at g l) a.result x rest) is
-
-  pub gives_nothing : (text : List ℕ) (rest : Printed) → length loops ≤ l → in_front_of text (access_printed g loops a rest) ≡ in_front_of text rest
-  gives_nothing text rest le = ap (in_front_of text) (by_loop None rest (slice_get_past loops l le))
 
   pub gives_lines : (text now name : List ℕ) (ls : List ShardLine) (rest : Printed) → slice_get loops l ≡ Some (Whole ls) → name ≡ a.result → now ≡ text ++ lines_of_result name (passes_at g l) ls
       → in_front_of text (access_printed g loops a rest) ≡ in_front_of now rest
@@ -131,7 +125,7 @@ module _ (g : GraphView) (loops : List ShardLoop) (whole : Printed) where
   ends_there text now print a at gives h = sym (gives (prints_text g loops (drop (print + 1) (accesses (booked_statements g))))) ∙ sym (ap (in_front_of text) (left print a at)) ∙ h
 
   pub all_written : (text : List ℕ) (print : ℕ) → length (accesses (booked_statements g)) ≤ print → IsWritten text print → record { bytes = text; status = 0 } ≡ whole
-  all_written text print le h = ap (λ t. record { bytes = t; status = 0 }) (sym (append-nil text)) ∙ sym (ap (λ l. in_front_of text (prints_text g loops l)) (drop_whole (accesses (booked_statements g)) print le)) ∙ h
+  all_written text print le h = ap (λ t. record { bytes = t; status = 0 }) (sym (append-nil text)) ∙ sym (ap (λ l. in_front_of text (prints_text g loops l)) (none_left (accesses (booked_statements g)) print le)) ∙ h
 
 -- nothing is written yet
 pub begin_written : (g : GraphView) (loops : List ShardLoop) (text : List ℕ) → text ≡ [] → IsWritten g loops (prints_text g loops (accesses (booked_statements g))) text 0

@@ -12,7 +12,7 @@ use Rattle.rdf_model.specs.Loops.{Access, accesses, loop_of}
 use Rattle.rdf_model.specs.ResultLines.{fault_line, filled_lines, filter_label, flow_lines, label}
 use Rattle.rdf_model.specs.Results.{FilterCounts}
 use Rattle.rdf_model.specs.Transcript.{Printed, in_front_of}
-use Rattle.filters_report.specs.declared.flow.Counts.{Counts}
+use Rattle.loop_pieces.specs.declared.flow.Counts.{Counts}
 use Rattle.graph_numbers.specs.Graphs.{GraphView, booked_statements, graph_loops}
 use Rattle.histograms.specs.Cells.{cell_seen}
 use Rattle.result_text.specs.FilledLines.{counts_seen, passes_at}

@@ -1,7 +1,7 @@
 -- The passes of a loop and the filters of a report by their numbers.
 use Rattle.std.specs.Prelude.{◌≡◌, ℕ, Some, List, [], ◌∷◌, option_map, slice_get, unwrap_or}
 use Rattle.rdf_model.specs.Results.{FilterCounts}
-use Rattle.filters_report.specs.declared.flow.Counts.{Counts}
+use Rattle.loop_pieces.specs.declared.flow.Counts.{Counts}
 use Rattle.graph_numbers.specs.Graphs.{GraphView, graph_loops}
 use Rattle.graph_numbers.specs.Results.{FilterAt}
 use Rattle.graph_numbers.specs.declared.pass.Pass.{Pass as NumberedPass}

@@ -6,7 +6,7 @@ ghost use Rattle.rdf_model.specs.Transcript.{Printed, in_front_of};
 ghost use Rattle.merged_text.specs.MergedPrints.{FitGraph, access_printed, merged_text};
 
 use crate::told::put_result;
-use node_graph::Graph;
+use graph::Graph;
 use rdf_values::{Memory, Text};
 use result_text::fault_line;
 use shard_files::ShardLoop;

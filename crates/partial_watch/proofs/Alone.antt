@@ -35,9 +35,6 @@ rising xs up once k lt = ⊎_elim
     (cases_lt (get_or xs k 0) (get_or xs (k + 1) 0))
 
 module _ {P : Type 0} where
-  pub alone : Noted P → List ℕ
-  alone n = n.cluster ∷ []
-
   pub stand_alone : (stands : List ℕ → P → Type 0) (ns : List (Noted P)) → AreAlone stands ns → Stand stands (map (λ (n : Noted P). n.cluster ∷ []) ns) (map piece_in ns)
   stand_alone stands [] h = tt
   stand_alone stands (n ∷ ns) h = (h.0, stand_alone stands ns h.1)

@@ -1,6 +1,12 @@
 pub mod Alone
+pub mod Chaining
 pub mod Dealt
+pub mod Joining
 pub mod Noted
 pub mod Notes
+pub mod Noting
+pub mod Places
 pub mod Stretches
+pub mod Taking
 pub mod Turns
+pub mod Watched

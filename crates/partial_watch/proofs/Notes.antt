@@ -11,14 +11,14 @@ use mathlib.Core.Option.{some, none}
 use lib.ListN.{get_elem?}
 use Rattle.atomic_table.specs.Table.{Me, step, keeps, opening, Final, Seen, Allows, Splits, Joins}
 use Rattle.partial_watch.specs.declared.hand.Hand.{Hand}
-use Rattle.draw_sums.specs.Totals.{total, one, Each}
+use Rattle.cluster_claims.specs.Totals.{total, one, Each}
 use Rattle.rdf_values.specs.Times.{times, once_below}
 use Rattle.rdf_values.proofs.DrawCounts.{times_push, once_next, drawn_by_counts, rises_push, sum_by-map}
 use Rattle.partial_watch.specs.Shares.{hand_with}
 use Rattle.partial_watch.specs.Noting.{IsHand, IsNoted, Noted, Drew, opening_hands}
-use Rattle.draw_sums.specs.Hands.{others, first_alone}
-use Rattle.draw_sums.proofs.Totals.{total_whole, total_cons, total_most}
-use Rattle.draw_sums.proofs.Hands.{dealt_each, dealt_total, each_alone, each_one, ones, taken_each, taken_total, total_one}
+use Rattle.cluster_claims.specs.Hands.{others, first_alone}
+use Rattle.cluster_claims.proofs.Totals.{total_whole, total_cons, total_most}
+use Rattle.cluster_claims.proofs.Hands.{dealt_each, dealt_total, each_alone, each_one, ones, taken_each, taken_total, total_one}
 
 module _ (clusters slots n id : ℕ) (views : List (List Hand)) (h : Hand) (c : IsNoted clusters slots n views) (at : get_elem? views id ≡ some (h ∷ [])) where
   mine : IsHand clusters n h

@@ -8,11 +8,11 @@ use Rattle.std.proofs.lemmas.List.Elements.{All-head, All-tail}
 use Rattle.std.proofs.lemmas.List.Sorted.{IsNonDecreasingBy-from_default}
 use Rattle.std.proofs.lemmas.List.Sums.{sum_by-append, sum_by-cons}
 use Rattle.std.proofs.lemmas.Option.{get_or_from_slice_get}
+use Rattle.lemmas.proofs.Parts.{none_left}
 use Rattle.rdf_values.specs.Times.{times}
 use Rattle.rdf_values.proofs.DrawCounts.{times_append}
 use Rattle.merge_core.specs.declared.noted.Noted.{Noted}
 use Rattle.partial_watch.specs.Chosen.{cluster_in, if_kept, chosen_in, chosen, added_in, added, HaveNumbers, IsStretch}
-use Rattle.partial_watch.proofs.Turns.{no_more}
 
 -- ---- one trail
 
@@ -120,7 +120,7 @@ module _ {P : Type 0} where
       }
 
   pub all_added : {B : Type 0} (f : Noted P → B) (os : List (List ℕ)) (ts : List (List (Noted P))) (low high i : ℕ) (old all : List B) → length os ≤ i → old ++ map f (added (drop i os) low high (drop i ts)) ≡ all → old ≡ all
-  all_added f os ts low high i old all le is = sym (append-nil old) ∙ ap (λ l. old ++ map f (added l low high (drop i ts))) (sym (no_more os i le)) ∙ is
+  all_added f os ts low high i old all le is = sym (append-nil old) ∙ ap (λ l. old ++ map f (added l low high (drop i ts))) (sym (none_left os i le)) ∙ is
 
   -- ---- sums
 

@@ -1,4 +1,7 @@
+pub mod Chains
 pub mod Chosen
-pub mod NotingLaws
 pub mod Noting
+pub mod NotingLaws
+pub mod Runs
 pub mod Shares
+pub mod Trails

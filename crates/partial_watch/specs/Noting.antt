@@ -4,7 +4,7 @@ use Rattle.std.specs.List.{All}
 use Rattle.std.specs.List.Sorted.{IsStrictlyIncreasing}
 use Rattle.atomic_table.specs.Table.{State, Me, Step}
 use Rattle.partial_watch.specs.declared.hand.Hand.{Hand}
-use Rattle.draw_sums.specs.Totals.{total, one, Each}
+use Rattle.cluster_claims.specs.Totals.{total, one, Each}
 use Rattle.rdf_values.specs.Times.{times, once_below}
 use Rattle.partial_watch.specs.Shares.{hand_with}
 

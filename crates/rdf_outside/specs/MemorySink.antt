@@ -8,10 +8,6 @@ use Rattle.rdf_outside.specs.declared.memory_sink.MemorySink.{MemorySink}
 abbrev pub sink_bytes : MemorySink → List ℕ
 sink_bytes s = s.bytes.items
 
--- how many bytes it has room for, over all
-abbrev pub sink_room : MemorySink → ℕ
-sink_room s = s.room
-
 -- how many bytes a write takes at most
 abbrev pub sink_at_most : MemorySink → ℕ
 sink_at_most s = s.at_most

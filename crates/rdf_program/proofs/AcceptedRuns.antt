@@ -5,7 +5,6 @@ use Rattle.std.specs.List.{list_any}
 use Rattle.std.proofs.lemmas.Bool.{le-ltb}
 use Rattle.rdf_values.specs.Bookings.{Booked}
 use Rattle.rdf_values.specs.Functions.{Function, fn_names}
-use Rattle.rdf_values.specs.Generator.{generated_script, generated_table}
 use Rattle.rdf_values.specs.Path.{history}
 use Rattle.rdf_values.specs.Scripts.{IsScript}
 use Rattle.rdf_values.specs.TableText.{MarkedTable, table_of}
@@ -23,10 +22,12 @@ use Rattle.expr_read.proofs.ReadOnce.{read_once}
 use Rattle.table_csv.specs.Csv.{csv_records}
 use Rattle.command_words.specs.declared.command.Friend.{Friend}
 use Rattle.command_words.specs.declared.command.Input.{Input}
-use Rattle.command_words.specs.declared.command.Input.TheVariants.{Files, Generated}
+use Rattle.command_words.specs.declared.command.Input.TheVariants as input
 use Rattle.rdf_program.specs.Accepted.{AcceptedRunsEnd, AreTexts, IsWithFriend, friend_of, has_fault, status_of_run}
-use Rattle.rdf_program.specs.Due.{Due, IsDueOver, IsDueToInput, IsDueToScript, IsDueToTable, IsDueToTables, IsPrinted, ReadsScript, WithFriend, WithScript, dataset_of, max_script, max_table}
-use Rattle.rdf_program.specs.Statuses.{printed_status}
+use Rattle.input_files.specs.Answers.{Files}
+use Rattle.input_files.specs.Due.{Due, ReadsScript, WithScript, WithTable, max_script, max_table}
+use Rattle.rdf_program.specs.Due.{IsDueOver, IsDueToInput, IsDueToScript, IsPrinted, WithFriend, dataset_of}
+use Rattle.rdf_program.specs.Statuses.{printed_status, statuses}
 use Rattle.rdf_program.specs.declared.status.Status.{Status}
 use Rattle.rdf_program.specs.declared.status.Status.TheVariants.{Done, LoopFault}
 
@@ -71,19 +72,14 @@ module _ (script : List Statement) (d : Dataset) (course : Course) where
 
 -- ---- what is due
 
-module _ (fns : List Function) (size watch : ℕ) (script : Script) (table : MarkedTable) (accepted : verdict (fn_names fns) table.table.columns script ≡ None) (d : Due) where
+module _ (fns : List Function) (size watch : ℕ) (script : Script) (table : MarkedTable) (accepted : verdict (fn_names fns) table.table.columns script ≡ None) (d : Due Status) where
   over_table : IsPrinted fns size watch script table d → d.status ≡ status_of_run fns script table
   over_table h = h.status ∙ status_by_loops (history script) (dataset_of fns size watch table.table) h.course (accesses (history script))
 
   over_accepted : IsDueOver fns size watch script table d → d.status ≡ status_of_run fns script table
   over_accepted h = over_table (rw accepted at h)
 
-  to_table : (bytes : List ℕ) → length bytes ≤ max_table → table_of (csv_records bytes) ≡ Ok table → IsDueToTable fns size watch script bytes d → d.status ≡ status_of_run fns script table
-  to_table bytes short is h =
-      let fits : nat_lt max_table (length bytes) ≡ false = le-ltb max_table (length bytes) short in
-      over_accepted (rw (fits, is) at h)
-
-  to_friend : (friend : Option Friend) (files : List ℕ → Option (List ℕ)) (own : MarkedTable) → IsWithFriend friend files own table
+  to_friend : (friend : Option Friend) (files : Files) (own : MarkedTable) → IsWithFriend friend files own table
       → WithFriend friend files own (λ t e. IsDueOver fns size watch script t e) d → d.status ≡ status_of_run fns script table
   to_friend None files own w h = over_accepted (subst (λ (t : MarkedTable). IsDueOver fns size watch script t d) (sym w) h)
   to_friend (Some friend) files own w h =
@@ -92,34 +88,30 @@ module _ (fns : List Function) (size watch : ℕ) (script : Script) (table : Mar
       let same : record { table = table.table; marks = own.marks } ≡ table = ap (λ (ms : List ℕ). let t : MarkedTable = record { table = table.table; marks = ms } in t) (sym w.marks) in
       over_accepted (subst (λ (t : MarkedTable). IsDueOver fns size watch script t d) same (rw (fits, w.is_other, w.joins) at read))
 
-  to_tables : (bytes : List ℕ) (friend : Option Friend) (files : List ℕ → Option (List ℕ)) (own : MarkedTable) → length bytes ≤ max_table → table_of (csv_records bytes) ≡ Ok own → IsWithFriend friend files own table
-      → IsDueToTables fns size watch script bytes friend files d → d.status ≡ status_of_run fns script table
-  to_tables bytes friend files own short is w h =
+  tabled : (bytes : List ℕ) (own : MarkedTable) (Next : MarkedTable → Due Status → Type 0) → length bytes ≤ max_table → table_of (csv_records bytes) ≡ Ok own → WithTable statuses bytes Next d → Next own d
+  tabled bytes own Next short is h =
       let fits : nat_lt max_table (length bytes) ≡ false = le-ltb max_table (length bytes) short in
-      to_friend friend files own w (rw (fits, is) at h)
+      rw (fits, is) at h
 
-  reading : (bytes : List ℕ) (Next : Script → Due → Type 0) → length bytes ≤ max_script → IsScript bytes script → WithScript bytes Next d → Next script d
+  reading : (bytes : List ℕ) (Next : Script → Due Status → Type 0) → length bytes ≤ max_script → IsScript bytes script → WithScript statuses bytes Next d → Next script d
   reading bytes Next short is h =
       let fits : nat_lt max_script (length bytes) ≡ false = le-ltb max_script (length bytes) short in
       one (rw fits at h)
     where
-      one : ReadsScript bytes Next d → Next script d
+      one : ReadsScript statuses bytes Next d → Next script d
       one (inl r) = absurd (script_or_refusal read_once bytes script r.0 is r.1)
       one (inr r) = subst (λ (s : Script). Next s d) (one_script read_once bytes r.0 script r.1 is) r.2
 
-  to_input : (files : List ℕ → Option (List ℕ)) (input : Input) (script_bytes table_bytes : List ℕ) (own : MarkedTable) → AreTexts files input script_bytes table_bytes
-      → length script_bytes ≤ max_script → length table_bytes ≤ max_table → IsScript script_bytes script → table_of (csv_records table_bytes) ≡ Ok own → IsWithFriend (friend_of input) files own table
-      → IsDueToInput fns size watch files input d → d.status ≡ status_of_run fns script table
-  to_input files (Files s t friend) sb tb own texts short_script short_table is_script is_table w h =
+  to_input : (files : Files) (named : Input) (script_bytes table_bytes : List ℕ) (own : MarkedTable) → AreTexts files named script_bytes table_bytes
+      → length script_bytes ≤ max_script → length table_bytes ≤ max_table → IsScript script_bytes script → table_of (csv_records table_bytes) ≡ Ok own → IsWithFriend (friend_of named) files own table
+      → IsDueToInput fns size watch files named d → d.status ≡ status_of_run fns script table
+  to_input files (input.Files s t friend) sb tb own texts short_script short_table is_script is_table w h =
       let bytes = rw texts.0 at h in
       let next : IsDueToScript fns size watch script t friend files d = reading sb (λ x e. IsDueToScript fns size watch x t friend files e) short_script is_script bytes in
-      to_tables tb friend files own short_table is_table w (rw texts.1 at next)
-  to_input files (Generated entries seed) sb tb own texts short_script short_table is_script is_table w h =
-      let script_short : length generated_script ≤ max_script = rw texts.0 at short_script in
-      let script_is : IsScript generated_script script = rw texts.0 at is_script in
-      let table_short : length (generated_table entries seed) ≤ max_table = rw texts.1 at short_table in
-      let table_is : table_of (csv_records (generated_table entries seed)) ≡ Ok own = rw texts.1 at is_table in
-      to_table (generated_table entries seed) table_short (table_is ∙ ap Ok (sym w)) (reading generated_script (λ x e. IsDueToTable fns size watch x (generated_table entries seed) e) script_short script_is h)
+      to_friend friend files own w (tabled tb own (λ o e. WithFriend friend files o (λ x u. IsDueOver fns size watch script x u) e) short_table is_table (rw texts.1 at next))
+  to_input files (input.Generated entries seed) sb tb own texts short_script short_table is_script is_table w h =
+      let due : WithScript statuses sb (λ x e. WithTable statuses tb (λ t u. IsDueOver fns size watch x t u) e) d = rw (texts.0, texts.1) h in
+      to_friend None files own w (tabled tb own (λ t u. IsDueOver fns size watch script t u) short_table is_table (reading sb (λ x e. WithTable statuses tb (λ t u. IsDueOver fns size watch x t u) e) short_script is_script due))
 
 pub accepted_runs_end : AcceptedRunsEnd
 accepted_runs_end fns words files script table d is h =

@@ -1,4 +1,6 @@
 mod AcceptedRuns
 mod Answering
+mod Booking
+mod Inputs
 mod OneDue
 mod SomeDue

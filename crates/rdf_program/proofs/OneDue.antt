@@ -5,12 +5,10 @@ use Rattle.rdf_values.specs.Functions.{Function, fn_names}
 use Rattle.rdf_values.specs.Path.{history}
 use Rattle.rdf_values.specs.RefusalLines.{graph_cause_line, long_script_line, long_table_line, script_cause_line, table_cause_line}
 use Rattle.rdf_values.specs.TableText.{MarkedTable, table_of}
-use Rattle.rdf_values.specs.Tables.{TableView}
 use Rattle.rdf_values.specs.Verdict.{verdict}
 use Rattle.rdf_values.specs.declared.fault.Fault.{Fault}
 use Rattle.rdf_values.specs.declared.graph_cause.GraphCause.{GraphCause}
 use Rattle.rdf_values.specs.declared.statement.Statement.{Statement}
-use Rattle.rdf_values.specs.declared.table_cause.TableCause.{TableCause}
 use Rattle.rdf_values.specs.declared.script.Script.{Script}
 use Rattle.rdf_values.proofs.OneScript.{one_cause, one_script, script_or_refusal}
 use Rattle.rdf_model.specs.Loops.{Access, accesses}
@@ -23,14 +21,16 @@ use Rattle.command_words.specs.Asked.{asked_of}
 use Rattle.command_words.specs.declared.command.Command.{Command}
 use Rattle.command_words.specs.declared.command.Friend.{Friend}
 use Rattle.command_words.specs.declared.command.Input.{Input}
-use Rattle.command_words.specs.declared.command.Input.TheVariants.{Files, Generated}
+use Rattle.command_words.specs.declared.command.Input.TheVariants as input
 use Rattle.rdf_values.specs.Generator.{generated_script}
 use Rattle.rdf_values.specs.Generator.{generated_table}
 use Rattle.friend_join.specs.JoinRefused.{join_of}
-use Rattle.friend_join.specs.declared.cause.JoinCause.{JoinCause}
 use Rattle.result_text.specs.FriendLines.{friend_cause_line, join_cause_line, long_friend_line}
-use Rattle.rdf_program.specs.Due.{Due, IsDue, IsDueOver, IsDueToBytes, IsDueToInput, IsDueToScript, IsDueToTable, IsDueToTables, IsPrinted, JoinsFriend, ReadsFriend, ReadsScript, WithFile, WithFriend, WithScript, dataset_of, due_of, max_script, max_table}
-use Rattle.rdf_program.specs.Statuses.{printed_status}
+use Rattle.input_files.specs.Answers.{Files}
+use Rattle.input_files.specs.Due.{Due, ReadsScript, WithFile, WithScript, WithTable, due_of, max_script, max_table}
+use Rattle.rdf_program.specs.Due.{IsDue, IsDueOver, IsDueToInput, IsDueToScript, IsPrinted, JoinsFriend, ReadsFriend, WithFriend, dataset_of}
+use Rattle.rdf_program.specs.Statuses.{printed_status, statuses}
+use Rattle.rdf_program.specs.declared.status.Status.{Status}
 use Rattle.rdf_program.specs.declared.status.Status.TheVariants.{FriendRefused, ScriptRefused, TableRefused}
 
 -- ---- a transcript's status doesn't tell the course
@@ -48,24 +48,28 @@ module _ (script : List Statement) (d : Dataset) (one other : Course) where
 -- ---- each stage gives one status where the next does
 
 -- two answers of one status
-abbrev Agree : Due → Due → Type 0
+abbrev Agree : Due Status → Due Status → Type 0
 Agree d e = d.status ≡ e.status
 
-same_due : (d e line : Due) → d ≡ line → e ≡ line → Agree d e
-same_due d e line h g = ap (λ (x : Due). x.status) (h ∙ sym g)
+same_due : (d e line : Due Status) → d ≡ line → e ≡ line → Agree d e
+same_due d e line h g = ap (λ (x : Due Status). x.status) (h ∙ sym g)
 
-module _ (d e : Due) where
-  one_file : (name : List ℕ) (file : Option (List ℕ)) (Next : List ℕ → Due → Type 0) → ((bytes : List ℕ) → Next bytes d → Next bytes e → Agree d e)
-      → WithFile name file Next d → WithFile name file Next e → Agree d e
+module _ (d e : Due Status) where
+  one_file : (name : List ℕ) (file : Option (List ℕ)) (Next : List ℕ → Due Status → Type 0) → ((bytes : List ℕ) → Next bytes d → Next bytes e → Agree d e)
+      → WithFile statuses name file Next d → WithFile statuses name file Next e → Agree d e
   one_file name None Next one h g = same_due d e _ h g
   one_file name (Some bytes) Next one h g = one bytes h g
 
-  one_of_two : (test : Bool) (line : Due) (P Q : Type 0) → (P → Q → Agree d e) → MatchBool test (d ≡ line) P → MatchBool test (e ≡ line) Q → Agree d e
+  one_of_two : (test : Bool) (line : Due Status) (P Q : Type 0) → (P → Q → Agree d e) → MatchBool test (d ≡ line) P → MatchBool test (e ≡ line) Q → Agree d e
   one_of_two true line P Q one h g = same_due d e line h g
   one_of_two false line P Q one h g = one h g
 
-  one_reading : (bytes : List ℕ) (Next : Script → Due → Type 0) → ((s : Script) → Next s d → Next s e → Agree d e) → ReadsScript bytes Next d → ReadsScript bytes Next e → Agree d e
-  one_reading bytes Next one (inl h) (inl g) = ap (λ (x : Due). x.status) (h.2 ∙ ap (λ c. due_of ScriptRefused (script_cause_line c)) (one_cause read_once bytes h.0 g.0 h.1 g.1) ∙ sym g.2)
+  one_of_result : {A B : Type 0} (r : Result A B) (line : B → Due Status) (P Q : A → Type 0) → ((x : A) → P x → Q x → Agree d e) → MatchResult r P (λ cause. d ≡ line cause) → MatchResult r Q (λ cause. e ≡ line cause) → Agree d e
+  one_of_result (Ok x) line P Q one h g = one x h g
+  one_of_result (Err cause) line P Q one h g = same_due d e (line cause) h g
+
+  one_reading : (bytes : List ℕ) (Next : Script → Due Status → Type 0) → ((s : Script) → Next s d → Next s e → Agree d e) → ReadsScript statuses bytes Next d → ReadsScript statuses bytes Next e → Agree d e
+  one_reading bytes Next one (inl h) (inl g) = ap (λ (x : Due Status). x.status) (h.2 ∙ ap (λ c. due_of ScriptRefused (script_cause_line c)) (one_cause read_once bytes h.0 g.0 h.1 g.1) ∙ sym g.2)
   one_reading bytes Next one (inl h) (inr g) = absurd (script_or_refusal read_once bytes g.0 h.0 g.1 h.1)
   one_reading bytes Next one (inr h) (inl g) = absurd (script_or_refusal read_once bytes h.0 g.0 h.1 g.1)
   one_reading bytes Next one (inr h) (inr g) =
@@ -73,30 +77,29 @@ module _ (d e : Due) where
       let P : Script → Type 0 = λ s. Next s d in
       one g.0 (subst P same h.2) g.2
 
-  one_table : (r : Result MarkedTable TableCause) (Next : MarkedTable → Due → Type 0) → ((t : MarkedTable) → Next t d → Next t e → Agree d e)
-      → MatchResult r (λ m. Next m d) (λ cause. d ≡ due_of TableRefused (table_cause_line cause)) → MatchResult r (λ m. Next m e) (λ cause. e ≡ due_of TableRefused (table_cause_line cause)) → Agree d e
-  one_table (Ok m) Next one h g = one m h g
-  one_table (Err cause) Next one h g = same_due d e _ h g
+  one_text : (bytes : List ℕ) (Next : Script → Due Status → Type 0) → ((s : Script) → Next s d → Next s e → Agree d e) → WithScript statuses bytes Next d → WithScript statuses bytes Next e → Agree d e
+  one_text bytes Next one h g = one_of_two (nat_lt max_script (length bytes)) (due_of ScriptRefused long_script_line) _ _ (λ x y. one_reading bytes Next one x y) h g
 
-  one_joining : (r : Result TableView JoinCause) (marks : List ℕ) (Next : MarkedTable → Due → Type 0) → ((t : MarkedTable) → Next t d → Next t e → Agree d e)
-      → MatchResult r (λ joined. Next (record { table = joined; marks = marks }) d) (λ cause. d ≡ due_of FriendRefused (join_cause_line cause))
-      → MatchResult r (λ joined. Next (record { table = joined; marks = marks }) e) (λ cause. e ≡ due_of FriendRefused (join_cause_line cause)) → Agree d e
-  one_joining (Ok joined) marks Next one h g = one (record { table = joined; marks = marks }) h g
-  one_joining (Err cause) marks Next one h g = same_due d e _ h g
+  one_table : (bytes : List ℕ) (Next : MarkedTable → Due Status → Type 0) → ((t : MarkedTable) → Next t d → Next t e → Agree d e) → WithTable statuses bytes Next d → WithTable statuses bytes Next e → Agree d e
+  one_table bytes Next one h g =
+      one_of_two (nat_lt max_table (length bytes)) (due_of TableRefused long_table_line) _ _
+      (λ x y. one_of_result (table_of (csv_records bytes)) (λ cause. due_of TableRefused (table_cause_line cause)) (λ t. Next t d) (λ t. Next t e) one x y) h g
 
-  one_other : (r : Result MarkedTable TableCause) (Next : MarkedTable → Due → Type 0) → ((t : MarkedTable) → Next t d → Next t e → Agree d e)
-      → MatchResult r (λ m. Next m d) (λ cause. d ≡ due_of FriendRefused (friend_cause_line cause)) → MatchResult r (λ m. Next m e) (λ cause. e ≡ due_of FriendRefused (friend_cause_line cause)) → Agree d e
-  one_other (Ok m) Next one h g = one m h g
-  one_other (Err cause) Next one h g = same_due d e _ h g
+  one_other : (bytes : List ℕ) (Next : MarkedTable → Due Status → Type 0) → ((t : MarkedTable) → Next t d → Next t e → Agree d e) → ReadsFriend bytes Next d → ReadsFriend bytes Next e → Agree d e
+  one_other bytes Next one h g =
+      one_of_two (nat_lt max_table (length bytes)) (due_of FriendRefused long_friend_line) _ _
+      (λ x y. one_of_result (table_of (csv_records bytes)) (λ cause. due_of FriendRefused (friend_cause_line cause)) (λ t. Next t d) (λ t. Next t e) one x y) h g
 
-  one_friend : (friend : Option Friend) (files : List ℕ → Option (List ℕ)) (table : MarkedTable) (Next : MarkedTable → Due → Type 0) → ((t : MarkedTable) → Next t d → Next t e → Agree d e)
-      → WithFriend friend files table Next d → WithFriend friend files table Next e → Agree d e
-  one_friend None files table Next one h g = one table h g
-  one_friend (Some friend) files table Next one h g =
-      one_file friend.file (files friend.file) (λ bytes u. ReadsFriend friend table bytes Next u)
-      (λ bytes p q. one_of_two (nat_lt max_table (length bytes)) (due_of FriendRefused long_friend_line) _ _
-      (λ x y. one_other (table_of (csv_records bytes)) (λ other u. JoinsFriend friend table other Next u)
-      (λ other v w. one_joining (join_of table.table other.table friend.key friend.missing) table.marks Next one v w) x y) p q) h g
+  one_joining : (friend : Friend) (own other : MarkedTable) (Next : MarkedTable → Due Status → Type 0) → ((t : MarkedTable) → Next t d → Next t e → Agree d e) → JoinsFriend friend own other Next d → JoinsFriend friend own other Next e → Agree d e
+  one_joining friend own other Next one h g =
+      one_of_result (join_of own.table other.table friend.key friend.missing) (λ cause. due_of FriendRefused (join_cause_line cause)) (λ joined. Next (record { table = joined; marks = own.marks }) d) (λ joined. Next (record { table = joined; marks = own.marks }) e)
+      (λ joined x y. one (record { table = joined; marks = own.marks }) x y) h g
+
+  one_friend : (friend : Option Friend) (files : Files) (own : MarkedTable) (Next : MarkedTable → Due Status → Type 0) → ((t : MarkedTable) → Next t d → Next t e → Agree d e) → WithFriend friend files own Next d → WithFriend friend files own Next e → Agree d e
+  one_friend None files own Next one h g = one own h g
+  one_friend (Some friend) files own Next one h g =
+      one_file friend.file (files friend.file) (λ bytes u. ReadsFriend bytes (λ other v. JoinsFriend friend own other Next v) u)
+      (λ bytes p q. one_other bytes (λ other v. JoinsFriend friend own other Next v) (λ other v w. one_joining friend own other Next one v w) p q) h g
 
   one_verdict : (v : Option (ℕ × GraphCause)) (P Q : Type 0) → (P → Q → Agree d e)
       → MatchOption v P (λ refused. d ≡ due_of ScriptRefused (graph_cause_line refused.0 refused.1)) → MatchOption v Q (λ refused. e ≡ due_of ScriptRefused (graph_cause_line refused.0 refused.1)) → Agree d e
@@ -111,34 +114,25 @@ module _ (d e : Due) where
     over : (script : Script) (table : MarkedTable) → IsDueOver fns size watch script table d → IsDueOver fns size watch script table e → Agree d e
     over script table h g = one_verdict (verdict (fn_names fns) table.table.columns script) _ _ (one_print script table) h g
 
-    to_table : (script : Script) (bytes : List ℕ) → IsDueToTable fns size watch script bytes d → IsDueToTable fns size watch script bytes e → Agree d e
-    to_table script bytes h g =
-        one_of_two (nat_lt max_table (length bytes)) (due_of TableRefused long_table_line) _ _ (λ x y. one_table (table_of (csv_records bytes)) (λ t u. IsDueOver fns size watch script t u) (λ t p q. over script t p q) x y) h g
+    to_script : (script : Script) (table : List ℕ) (friend : Option Friend) (files : Files) → IsDueToScript fns size watch script table friend files d → IsDueToScript fns size watch script table friend files e → Agree d e
+    to_script script table friend files h g =
+        one_file table (files table) (λ bytes u. WithTable statuses bytes (λ own v. WithFriend friend files own (λ t w. IsDueOver fns size watch script t w) v) u)
+        (λ bytes p q. one_table bytes (λ own v. WithFriend friend files own (λ t w. IsDueOver fns size watch script t w) v)
+        (λ own v w. one_friend friend files own (λ t x. IsDueOver fns size watch script t x) (λ t x y. over script t x y) v w) p q) h g
 
-    reading : (bytes : List ℕ) (Next : Script → Due → Type 0) → ((s : Script) → Next s d → Next s e → Agree d e) → WithScript bytes Next d → WithScript bytes Next e → Agree d e
-    reading bytes Next one h g = one_of_two (nat_lt max_script (length bytes)) (due_of ScriptRefused long_script_line) _ _ (λ x y. one_reading bytes Next one x y) h g
+    to_input : (files : Files) (named : Input) → IsDueToInput fns size watch files named d → IsDueToInput fns size watch files named e → Agree d e
+    to_input files (input.Files script table friend) h g =
+        one_file script (files script) (λ bytes u. WithScript statuses bytes (λ s v. IsDueToScript fns size watch s table friend files v) u)
+        (λ bytes p q. one_text bytes (λ s v. IsDueToScript fns size watch s table friend files v) (λ s v w. to_script s table friend files v w) p q) h g
+    to_input files (input.Generated entries seed) h g =
+        one_text generated_script (λ s u. WithTable statuses (generated_table entries seed) (λ t v. IsDueOver fns size watch s t v) u)
+        (λ s p q. one_table (generated_table entries seed) (λ t v. IsDueOver fns size watch s t v) (λ t v w. over s t v w) p q) h g
 
-    to_tables : (script : Script) (bytes : List ℕ) (friend : Option Friend) (files : List ℕ → Option (List ℕ)) → IsDueToTables fns size watch script bytes friend files d → IsDueToTables fns size watch script bytes friend files e → Agree d e
-    to_tables script bytes friend files h g =
-        one_of_two (nat_lt max_table (length bytes)) (due_of TableRefused long_table_line) _ _
-        (λ x y. one_table (table_of (csv_records bytes)) (λ t u. WithFriend friend files t (λ joined v. IsDueOver fns size watch script joined v) u)
-        (λ t p q. one_friend friend files t (λ joined v. IsDueOver fns size watch script joined v) (λ joined v w. over script joined v w) p q) x y) h g
-
-    to_script : (script : Script) (table : List ℕ) (friend : Option Friend) (files : List ℕ → Option (List ℕ)) → IsDueToScript fns size watch script table friend files d → IsDueToScript fns size watch script table friend files e → Agree d e
-    to_script script table friend files h g = one_file table (files table) (λ bytes u. IsDueToTables fns size watch script bytes friend files u) (λ bytes p q. to_tables script bytes friend files p q) h g
-
-    to_bytes : (bytes table : List ℕ) (friend : Option Friend) (files : List ℕ → Option (List ℕ)) → IsDueToBytes fns size watch bytes table friend files d → IsDueToBytes fns size watch bytes table friend files e → Agree d e
-    to_bytes bytes table friend files h g = reading bytes (λ s u. IsDueToScript fns size watch s table friend files u) (λ s p q. to_script s table friend files p q) h g
-
-    to_input : (files : List ℕ → Option (List ℕ)) (input : Input) → IsDueToInput fns size watch files input d → IsDueToInput fns size watch files input e → Agree d e
-    to_input files (Files script table friend) h g = one_file script (files script) (λ bytes u. IsDueToBytes fns size watch bytes table friend files u) (λ bytes p q. to_bytes bytes table friend files p q) h g
-    to_input files (Generated entries seed) h g = reading generated_script (λ s u. IsDueToTable fns size watch s (generated_table entries seed) u) (λ s p q. to_table s (generated_table entries seed) p q) h g
-
-  to_asked : (fns : List Function) (asked : Option Command) (files : List ℕ → Option (List ℕ)) (line : Due)
+  to_asked : (fns : List Function) (asked : Option Command) (files : Files) (line : Due Status)
       → MatchOption asked (d ≡ line) (λ command. IsDueToInput fns command.cluster command.watch files command.input d)
       → MatchOption asked (e ≡ line) (λ command. IsDueToInput fns command.cluster command.watch files command.input e) → Agree d e
   to_asked fns None files line h g = same_due d e line h g
   to_asked fns (Some c) files line h g = to_input fns c.cluster c.watch files c.input h g
 
-pub one_due : (fns : List Function) (words : List (List ℕ)) (files : List ℕ → Option (List ℕ)) (d e : Due) → IsDue fns words files d → IsDue fns words files e → Agree d e
+pub one_due : (fns : List Function) (words : List (List ℕ)) (files : Files) (d e : Due Status) → IsDue fns words files d → IsDue fns words files e → Agree d e
 one_due fns words files d e h g = to_asked d e fns (asked_of words) files _ h g

@@ -5,75 +5,71 @@ use Rattle.rdf_values.specs.Cuts.{cut, stride}
 use Rattle.rdf_values.specs.Functions.{Function, fn_names}
 use Rattle.rdf_values.specs.RefusalLines.{graph_cause_line, long_script_line, long_table_line, no_file_line, script_cause_line, table_cause_line}
 use Rattle.rdf_values.specs.TableText.{MarkedTable, table_of}
-use Rattle.rdf_values.specs.Tables.{TableView}
 use Rattle.rdf_values.specs.Verdict.{verdict}
 use Rattle.rdf_values.specs.declared.graph_cause.GraphCause.{GraphCause}
-use Rattle.rdf_values.specs.declared.table_cause.TableCause.{TableCause}
 use Rattle.rdf_values.specs.declared.script.Script.{Script}
 use Rattle.rdf_model.specs.PartialResults.{Course}
 use Rattle.rdf_model.specs.Transcript.{transcript}
 use Rattle.script_read.proofs.Answered.{answered}
 use Rattle.table_csv.specs.Csv.{csv_records}
-use Rattle.transcripts.proofs.SomeChain.{first_sets, first_sets_are_a_chain}
+use Rattle.lazy_loop.proofs.SomeChain.{first_sets, first_sets_are_a_chain}
 use Rattle.command_words.specs.Asked.{asked_of}
 use Rattle.command_words.specs.declared.command.Command.{Command}
 use Rattle.command_words.specs.declared.command.Friend.{Friend}
 use Rattle.command_words.specs.declared.command.Input.{Input}
-use Rattle.command_words.specs.declared.command.Input.TheVariants.{Files, Generated}
-use Rattle.rdf_values.specs.Generator.{generated_script}
-use Rattle.rdf_values.specs.Generator.{generated_table}
+use Rattle.command_words.specs.declared.command.Input.TheVariants as input
+use Rattle.rdf_values.specs.Generator.{generated_script, generated_table}
 use Rattle.friend_join.specs.JoinRefused.{join_of}
-use Rattle.friend_join.specs.declared.cause.JoinCause.{JoinCause}
 use Rattle.result_text.specs.FriendLines.{friend_cause_line, join_cause_line, long_friend_line}
 use Rattle.result_text.specs.RefusalText.{usage_line}
-use Rattle.rdf_program.specs.Due.{Due, IsDue, IsDueOver, IsDueToBytes, IsDueToInput, IsDueToScript, IsDueToTable, IsDueToTables, IsPrinted, JoinsFriend, ReadsFriend, ReadsScript, WithFile, WithFriend, WithScript, dataset_of, due_of, max_script, max_table}
-use Rattle.rdf_program.specs.Statuses.{printed_status}
+use Rattle.input_files.specs.Answers.{Files}
+use Rattle.input_files.specs.Due.{Due, ReadsScript, WithFile, WithScript, WithTable, due_of, max_script, max_table}
+use Rattle.rdf_program.specs.Due.{IsDue, IsDueOver, IsDueToInput, IsDueToScript, IsPrinted, JoinsFriend, ReadsFriend, WithFriend, dataset_of}
+use Rattle.rdf_program.specs.Statuses.{printed_status, statuses}
+use Rattle.rdf_program.specs.declared.status.Status.{Status}
 use Rattle.rdf_program.specs.declared.status.Status.TheVariants.{FriendRefused, NoFile, ScriptRefused, TableRefused, Words}
 
 -- an answer of which that holds
-abbrev SomeDue : (Due → Type 0) → Type 0
-SomeDue P = (d : Due) × P d
+abbrev SomeDue : (Due Status → Type 0) → Type 0
+SomeDue P = (d : Due Status) × P d
 
-some_file : (name : List ℕ) (file : Option (List ℕ)) (Next : List ℕ → Due → Type 0) → ((bytes : List ℕ) → SomeDue (Next bytes)) → SomeDue (WithFile name file Next)
+some_file : (name : List ℕ) (file : Option (List ℕ)) (Next : List ℕ → Due Status → Type 0) → ((bytes : List ℕ) → SomeDue (Next bytes)) → SomeDue (WithFile statuses name file Next)
 some_file name None Next some = (due_of NoFile (no_file_line name), refl)
 some_file name (Some bytes) Next some = some bytes
 
-some_of_two : (test : Bool) (line : Due) (P : Due → Type 0) → SomeDue P → SomeDue (λ d. MatchBool test (d ≡ line) (P d))
+some_of_two : (test : Bool) (line : Due Status) (P : Due Status → Type 0) → SomeDue P → SomeDue (λ d. MatchBool test (d ≡ line) (P d))
 some_of_two true line P some = (line, refl)
 some_of_two false line P some = some
 
-some_reading : (bytes : List ℕ) (Next : Script → Due → Type 0) → ((s : Script) → SomeDue (Next s)) → SomeDue (ReadsScript bytes Next)
+some_of_result : {A B : Type 0} (r : Result A B) (line : B → Due Status) (P : A → Due Status → Type 0) → ((x : A) → SomeDue (P x)) → SomeDue (λ d. MatchResult r (λ x. P x d) (λ cause. d ≡ line cause))
+some_of_result (Ok x) line P some = some x
+some_of_result (Err cause) line P some = (line cause, refl)
+
+some_reading : (bytes : List ℕ) (Next : Script → Due Status → Type 0) → ((s : Script) → SomeDue (Next s)) → SomeDue (ReadsScript statuses bytes Next)
 some_reading bytes Next some =
     elim (answered bytes) [
       | inl s ↦ let d = some s.0 in (d.0, inr (s.0, s.1, d.1))
       | inr c ↦ (due_of ScriptRefused (script_cause_line c.0), inl (c.0, c.1, refl))
     ]
 
-some_script : (bytes : List ℕ) (Next : Script → Due → Type 0) → ((s : Script) → SomeDue (Next s)) → SomeDue (WithScript bytes Next)
-some_script bytes Next some = some_of_two (nat_lt max_script (length bytes)) (due_of ScriptRefused long_script_line) (ReadsScript bytes Next) (some_reading bytes Next some)
+some_text : (bytes : List ℕ) (Next : Script → Due Status → Type 0) → ((s : Script) → SomeDue (Next s)) → SomeDue (WithScript statuses bytes Next)
+some_text bytes Next some = some_of_two (nat_lt max_script (length bytes)) (due_of ScriptRefused long_script_line) (ReadsScript statuses bytes Next) (some_reading bytes Next some)
 
-some_table : (r : Result MarkedTable TableCause) (Next : MarkedTable → Due → Type 0) → ((t : MarkedTable) → SomeDue (Next t)) → SomeDue (λ d. MatchResult r (λ m. Next m d) (λ cause. d ≡ due_of TableRefused (table_cause_line cause)))
-some_table (Ok m) Next some = some m
-some_table (Err cause) Next some = (due_of TableRefused (table_cause_line cause), refl)
+some_table : (bytes : List ℕ) (Next : MarkedTable → Due Status → Type 0) → ((t : MarkedTable) → SomeDue (Next t)) → SomeDue (WithTable statuses bytes Next)
+some_table bytes Next some = some_of_two (nat_lt max_table (length bytes)) (due_of TableRefused long_table_line) _ (some_of_result (table_of (csv_records bytes)) (λ cause. due_of TableRefused (table_cause_line cause)) Next some)
 
-some_joining : (r : Result TableView JoinCause) (marks : List ℕ) (Next : MarkedTable → Due → Type 0) → ((t : MarkedTable) → SomeDue (Next t))
-    → SomeDue (λ d. MatchResult r (λ joined. Next (record { table = joined; marks = marks }) d) (λ cause. d ≡ due_of FriendRefused (join_cause_line cause)))
-some_joining (Ok joined) marks Next some = some (record { table = joined; marks = marks })
-some_joining (Err cause) marks Next some = (due_of FriendRefused (join_cause_line cause), refl)
+some_joining : (friend : Friend) (own other : MarkedTable) (Next : MarkedTable → Due Status → Type 0) → ((t : MarkedTable) → SomeDue (Next t)) → SomeDue (JoinsFriend friend own other Next)
+some_joining friend own other Next some =
+    some_of_result (join_of own.table other.table friend.key friend.missing) (λ cause. due_of FriendRefused (join_cause_line cause)) (λ joined d. Next (record { table = joined; marks = own.marks }) d) (λ joined. some (record { table = joined; marks = own.marks }))
 
-some_other : (r : Result MarkedTable TableCause) (Next : MarkedTable → Due → Type 0) → ((t : MarkedTable) → SomeDue (Next t)) → SomeDue (λ d. MatchResult r (λ m. Next m d) (λ cause. d ≡ due_of FriendRefused (friend_cause_line cause)))
-some_other (Ok m) Next some = some m
-some_other (Err cause) Next some = (due_of FriendRefused (friend_cause_line cause), refl)
-
-some_friend : (friend : Option Friend) (files : List ℕ → Option (List ℕ)) (table : MarkedTable) (Next : MarkedTable → Due → Type 0) → ((t : MarkedTable) → SomeDue (Next t)) → SomeDue (WithFriend friend files table Next)
-some_friend None files table Next some = some table
-some_friend (Some friend) files table Next some =
-    some_file friend.file (files friend.file) (λ bytes d. ReadsFriend friend table bytes Next d)
+some_friend : (friend : Option Friend) (files : Files) (own : MarkedTable) (Next : MarkedTable → Due Status → Type 0) → ((t : MarkedTable) → SomeDue (Next t)) → SomeDue (WithFriend friend files own Next)
+some_friend None files own Next some = some own
+some_friend (Some friend) files own Next some =
+    some_file friend.file (files friend.file) (λ bytes d. ReadsFriend bytes (λ other e. JoinsFriend friend own other Next e) d)
     (λ bytes. some_of_two (nat_lt max_table (length bytes)) (due_of FriendRefused long_friend_line) _
-    (some_other (table_of (csv_records bytes)) (λ other d. JoinsFriend friend table other Next d)
-    (λ other. some_joining (join_of table.table other.table friend.key friend.missing) table.marks Next some)))
+    (some_of_result (table_of (csv_records bytes)) (λ cause. due_of FriendRefused (friend_cause_line cause)) (λ other d. JoinsFriend friend own other Next d) (λ other. some_joining friend own other Next some)))
 
-some_verdict : (v : Option (ℕ × GraphCause)) (P : Due → Type 0) → SomeDue P → SomeDue (λ d. MatchOption v (P d) (λ refused. d ≡ due_of ScriptRefused (graph_cause_line refused.0 refused.1)))
+some_verdict : (v : Option (ℕ × GraphCause)) (P : Due Status → Type 0) → SomeDue P → SomeDue (λ d. MatchOption v (P d) (λ refused. d ≡ due_of ScriptRefused (graph_cause_line refused.0 refused.1)))
 some_verdict None P some = some
 some_verdict (Some refused) P some = (due_of ScriptRefused (graph_cause_line refused.0 refused.1), refl)
 
@@ -99,29 +95,24 @@ module _ (fns : List Function) (size watch : ℕ) where
   over : (script : Script) (table : MarkedTable) → SomeDue (IsDueOver fns size watch script table)
   over script table = some_verdict (verdict (fn_names fns) table.table.columns script) (IsPrinted fns size watch script table) (some_print script table)
 
-  to_table : (script : Script) (bytes : List ℕ) → SomeDue (IsDueToTable fns size watch script bytes)
-  to_table script bytes =
-      some_of_two (nat_lt max_table (length bytes)) (due_of TableRefused long_table_line) _ (some_table (table_of (csv_records bytes)) (λ t u. IsDueOver fns size watch script t u) (λ t. over script t))
+  to_script : (script : Script) (table : List ℕ) (friend : Option Friend) (files : Files) → SomeDue (IsDueToScript fns size watch script table friend files)
+  to_script script table friend files =
+      some_file table (files table) (λ bytes d. WithTable statuses bytes (λ own e. WithFriend friend files own (λ t u. IsDueOver fns size watch script t u) e) d)
+      (λ bytes. some_table bytes (λ own e. WithFriend friend files own (λ t u. IsDueOver fns size watch script t u) e)
+      (λ own. some_friend friend files own (λ t u. IsDueOver fns size watch script t u) (λ t. over script t)))
 
-  to_tables : (script : Script) (bytes : List ℕ) (friend : Option Friend) (files : List ℕ → Option (List ℕ)) → SomeDue (IsDueToTables fns size watch script bytes friend files)
-  to_tables script bytes friend files =
-      some_of_two (nat_lt max_table (length bytes)) (due_of TableRefused long_table_line) _
-      (some_table (table_of (csv_records bytes)) (λ t u. WithFriend friend files t (λ joined v. IsDueOver fns size watch script joined v) u)
-      (λ t. some_friend friend files t (λ joined v. IsDueOver fns size watch script joined v) (λ joined. over script joined)))
+  to_input : (files : Files) (named : Input) → SomeDue (IsDueToInput fns size watch files named)
+  to_input files (input.Files script table friend) =
+      some_file script (files script) (λ bytes d. WithScript statuses bytes (λ s e. IsDueToScript fns size watch s table friend files e) d)
+      (λ bytes. some_text bytes (λ s e. IsDueToScript fns size watch s table friend files e) (λ s. to_script s table friend files))
+  to_input files (input.Generated entries seed) =
+      some_text generated_script (λ s d. WithTable statuses (generated_table entries seed) (λ t e. IsDueOver fns size watch s t e) d)
+      (λ s. some_table (generated_table entries seed) (λ t e. IsDueOver fns size watch s t e) (λ t. over s t))
 
-  to_bytes : (bytes table : List ℕ) (friend : Option Friend) (files : List ℕ → Option (List ℕ)) → SomeDue (IsDueToBytes fns size watch bytes table friend files)
-  to_bytes bytes table friend files =
-      some_script bytes (λ s u. IsDueToScript fns size watch s table friend files u)
-      (λ s. some_file table (files table) (λ cells u. IsDueToTables fns size watch s cells friend files u) (λ cells. to_tables s cells friend files))
-
-  to_input : (files : List ℕ → Option (List ℕ)) (input : Input) → SomeDue (IsDueToInput fns size watch files input)
-  to_input files (Files script table friend) = some_file script (files script) (λ bytes u. IsDueToBytes fns size watch bytes table friend files u) (λ bytes. to_bytes bytes table friend files)
-  to_input files (Generated entries seed) = some_script generated_script (λ s u. IsDueToTable fns size watch s (generated_table entries seed) u) (λ s. to_table s (generated_table entries seed))
-
-to_asked : (fns : List Function) (asked : Option Command) (files : List ℕ → Option (List ℕ)) (line : Due)
+to_asked : (fns : List Function) (asked : Option Command) (files : Files) (line : Due Status)
     → SomeDue (λ d. MatchOption asked (d ≡ line) (λ command. IsDueToInput fns command.cluster command.watch files command.input d))
 to_asked fns None files line = (line, refl)
 to_asked fns (Some c) files line = to_input fns c.cluster c.watch files c.input
 
-pub some_due : (fns : List Function) (words : List (List ℕ)) (files : List ℕ → Option (List ℕ)) → SomeDue (IsDue fns words files)
+pub some_due : (fns : List Function) (words : List (List ℕ)) (files : Files) → SomeDue (IsDue fns words files)
 some_due fns words files = to_asked fns (asked_of words) files (due_of Words usage_line)

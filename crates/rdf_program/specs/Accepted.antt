@@ -18,7 +18,8 @@ use Rattle.command_words.specs.declared.command.Friend.{Friend}
 use Rattle.command_words.specs.declared.command.Input.{Input}
 use Rattle.command_words.specs.declared.command.Input.TheVariants.{Files, Generated}
 use Rattle.friend_join.specs.JoinRefused.{join_of}
-use Rattle.rdf_program.specs.Due.{Due, IsDue, max_script, max_table}
+use Rattle.input_files.specs.Due.{Due, max_script, max_table}
+use Rattle.rdf_program.specs.Due.{IsDue}
 use Rattle.rdf_program.specs.declared.status.Status.{Status}
 use Rattle.rdf_program.specs.declared.status.Status.TheVariants.{Done, LoopFault}
 
@@ -76,5 +77,5 @@ status_of_run fns script table =
 -- what is due to an accepted run has the status that the run ends in
 abbrev pub AcceptedRunsEnd : Type 0
 AcceptedRunsEnd =
-    (fns : List Function) (words : List (List ℕ)) (files : List ℕ → Option (List ℕ)) (script : Script) (table : MarkedTable) (d : Due)
+    (fns : List Function) (words : List (List ℕ)) (files : List ℕ → Option (List ℕ)) (script : Script) (table : MarkedTable) (d : Due Status)
     → IsAccepted fns words files script table → IsDue fns words files d → d.status ≡ status_of_run fns script table

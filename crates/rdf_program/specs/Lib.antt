@@ -1,7 +1,7 @@
 pub mod Accepted
 pub mod Answers
 pub mod Due
-pub mod Fetching
+pub mod Reading
 pub mod Running
 pub mod Statuses
 pub mod Top

@@ -1,6 +1,6 @@
 -- How a script is run over a table.
-use Rattle.std.specs.Prelude.{◌<◌, ◌≤◌, ℕ, List, length}
-use Rattle.rdf_values.specs.Tables.{TableView}
+use Rattle.std.specs.Prelude.{◌<◌, ◌≤◌, ℕ, length}
+use Rattle.rdf_values.specs.TableText.{MarkedTable}
 use Rattle.columns.specs.ColumnsView.{ColumnsView}
 use Rattle.rdf_program.specs.declared.settings.Settings.{Settings}
 
@@ -11,6 +11,6 @@ pub record AreSettings (s : Settings) : Type 0 where
   pub cluster : 1 ≤ s.cluster
   pub watch : 0 < s.watch
 
--- the columns of a table, cut at the marks into clusters of at most that size
-abbrev pub columns_over : TableView → List ℕ → ℕ → ColumnsView
-columns_over table marks size = record { table = table; cuts = record { entries = length table.rows; size = size; marks = marks } }
+-- the columns of a table, cut at its marks into clusters of at most that size
+abbrev pub columns_over : MarkedTable → ℕ → ColumnsView
+columns_over t size = record { table = t.table; cuts = record { entries = length t.table.rows; size = size; marks = t.marks } }

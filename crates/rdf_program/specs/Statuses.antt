@@ -1,5 +1,6 @@
 -- Statuses as numbers.
 use Rattle.std.specs.Prelude.{ℕ, zero, suc}
+use Rattle.input_files.specs.Due.{FileStatuses}
 use Rattle.rdf_program.specs.declared.status.Status.{Status}
 use Rattle.rdf_program.specs.declared.status.Status.TheVariants.{Done, Memory, Words, ReadFault, WriteFault, NoFile, ScriptRefused, TableRefused, LoopFault, FriendRefused}
 
@@ -15,6 +16,10 @@ exit_status ScriptRefused = 6
 exit_status TableRefused = 7
 exit_status LoopFault = 8
 exit_status FriendRefused = 9
+
+-- the statuses where a file gives nothing
+abbrev pub statuses : FileStatuses Status
+statuses = record { read_failed = ReadFault; no_file = NoFile; script_refused = ScriptRefused; table_refused = TableRefused }
 
 -- a transcript ends with 0, or with 8 after a fault
 abbrev pub printed_status : ℕ → Status

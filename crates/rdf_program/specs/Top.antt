@@ -5,44 +5,37 @@ use Rattle.rdf_values.specs.Functions.{Function}
 use Rattle.rdf_values.specs.RefusalLines.{read_failed_line}
 use Rattle.command_words.specs.Asked.{asked_of}
 use Rattle.command_words.specs.declared.command.Input.{Input}
-use Rattle.command_words.specs.declared.command.Input.TheVariants.{Files, Generated}
-use Rattle.rdf_program.specs.Due.{Due, IsDue}
+use Rattle.command_words.specs.declared.command.Input.TheVariants as input
+use Rattle.input_files.specs.Answers.{Files, WritesDuePart}
+use Rattle.rdf_program.specs.Due.{IsDue}
 use Rattle.rdf_program.specs.Answers.{AreTurns, MayRead}
 
 -- the words ask for a run over two files
 abbrev pub NamesFiles : Input → Type 0
-NamesFiles (Files script table friend) = Unit {0}
-NamesFiles (Generated entries seed) = ⊥
+NamesFiles (input.Files script table friend) = Unit {0}
+NamesFiles (input.Generated entries seed) = ⊥
 
 abbrev pub NameFiles : List (List ℕ) → Type 0
 NameFiles words = MatchOption (asked_of words) ⊥ (λ command. NamesFiles command.input)
 
 -- what holds of the files of a shelf that tells them, and of all files where the words name none
-abbrev pub OfFiles : List (List ℕ) → Option (List ℕ → Option (List ℕ)) → ((List ℕ → Option (List ℕ)) → Type 0) → Type 0
-OfFiles words files P = IfSome files P × ((NameFiles words → ⊥) → (f : List ℕ → Option (List ℕ)) → P f)
-
--- what is due is written, with its status
-abbrev pub WritesDue : List Function → List (List ℕ) → (Due → Type 0) → Option (List ℕ) → Option (List ℕ) → (List ℕ → Option (List ℕ)) → Type 0
-WritesDue fns words IsIts before after f = (d : Due) × IsDue fns words f d × IsIts d × Appends before after d.bytes
-
--- a first part of what is due is written
-abbrev pub WritesDuePart : List Function → List (List ℕ) → Option (List ℕ) → Option (List ℕ) → (List ℕ → Option (List ℕ)) → Type 0
-WritesDuePart fns words before after f = (d : Due) × IsDue fns words f d × AppendsPart before after d.bytes
+abbrev pub OfFiles : List (List ℕ) → Option Files → (Files → Type 0) → Type 0
+OfFiles words told P = IfSome told P × ((NameFiles words → ⊥) → (files : Files) → P files)
 
 -- the line of a failed read, with the name of the file that the shelf was turned to
-abbrev pub WritesReadFailed : List (List ℕ) → Option (List ℕ → Option (List ℕ)) → List (List ℕ) → Option (List ℕ) → Option (List ℕ) → Type 0
-WritesReadFailed words files turns before after = (name : List ℕ) × MayRead words files turns name × Appends before after (read_failed_line name)
+abbrev pub WritesReadFailed : List (List ℕ) → Option Files → List (List ℕ) → Option (List ℕ) → Option (List ℕ) → Type 0
+WritesReadFailed words told turns before after = (name : List ℕ) × MayRead words told turns name × Appends before after (read_failed_line name)
 
 -- a first part of that line
-abbrev pub WritesPartOfReadFailed : List (List ℕ) → Option (List ℕ → Option (List ℕ)) → List (List ℕ) → Option (List ℕ) → Option (List ℕ) → Type 0
-WritesPartOfReadFailed words files turns before after = (name : List ℕ) × MayRead words files turns name × AppendsPart before after (read_failed_line name)
+abbrev pub WritesPartOfReadFailed : List (List ℕ) → Option Files → List (List ℕ) → Option (List ℕ) → Option (List ℕ) → Type 0
+WritesPartOfReadFailed words told turns before after = (name : List ℕ) × MayRead words told turns name × AppendsPart before after (read_failed_line name)
 
 -- a first part of what is due, or of the line of a failed read where the shelf failed
-abbrev pub WritesPart : List Function → List (List ℕ) → Option (List ℕ → Option (List ℕ)) → List (List ℕ) → ℕ → ℕ → Option (List ℕ) → Option (List ℕ) → Type 0
-WritesPart fns words files turns faults faults' before after =
-    OfFiles words files (WritesDuePart fns words before after)
-    ⊎ (Rose faults faults' × WritesPartOfReadFailed words files turns before after)
+abbrev pub WritesPart : List Function → List (List ℕ) → Option Files → List (List ℕ) → ℕ → ℕ → Option (List ℕ) → Option (List ℕ) → Type 0
+WritesPart fns words told turns faults faults' before after =
+    OfFiles words told (WritesDuePart (IsDue fns words) before after)
+    ⊎ (Rose faults faults' × WritesPartOfReadFailed words told turns before after)
 
 -- the shelf was turned to these files besides
-abbrev pub TurnsBesides : List (List ℕ) → Option (List ℕ → Option (List ℕ)) → List (List ℕ) → List (List ℕ) → Type 0
-TurnsBesides words files before after = (turns : List (List ℕ)) × (after ≡ before ++ turns) × AreTurns words files turns
+abbrev pub TurnsBesides : List (List ℕ) → Option Files → List (List ℕ) → List (List ℕ) → Type 0
+TurnsBesides words told before after = (turns : List (List ℕ)) × (after ≡ before ++ turns) × AreTurns words told turns

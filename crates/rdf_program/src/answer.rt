@@ -1,8 +1,11 @@
 // What the program answers.
 ghost use Rattle.std.specs.Prelude.{◌≡◌, IfOk};
+ghost use Rattle.input_files.specs.Reading.{status_for};
 ghost use Rattle.result_text.specs.RefusalText.{refusal_text};
+ghost use Rattle.rdf_program.specs.Statuses.{statuses};
 
 use crate::status::Status;
+use input_files::{FileCause, FileRefusal};
 use rdf_values::{Memory, Text};
 use result_text::{Refusal, refusal_line};
 use std::alloc::Global;
@@ -12,6 +15,25 @@ use std::alloc::Global;
 pub(crate) struct Answer {
     pub(crate) status: Status,
     pub(crate) text: Text,
+}
+
+/// What a stage found, or the answer that is due without what follows.
+#[derive(Drop)]
+pub(crate) enum Read<T> {
+    Whole(T),
+    Refused(Answer),
+}
+
+// The status where a file gives nothing.
+fn status_for(cause: FileCause) -> Status
+    ensures { result ≡ status_for statuses cause }
+{
+    match cause {
+        FileCause::ReadFailed => Status::ReadFault,
+        FileCause::NoFile => Status::NoFile,
+        FileCause::ScriptRefused => Status::ScriptRefused,
+        FileCause::TableRefused => Status::TableRefused,
+    }
 }
 
 impl Answer {
@@ -26,13 +48,15 @@ impl Answer {
         let text = refusal_line(alloc, refusal)?;
         Ok(Answer { status, text })
     }
-}
 
-/// The name of a file as a text.
-pub(crate) fn text_of(alloc: Global, name: &str) -> Result<Text, Memory>
-    ensures { IfOk result (λ text. text ≡ name.now) }
-{
-    let mut text = Text::new(alloc);
-    text.extend(name.as_bytes())?;
-    Ok(text)
+    /// The status of a file that gives nothing, with its line.
+    pub(crate) fn of_file(refusal: FileRefusal) -> Answer
+        ensures status { result.status ≡ status_for statuses refusal.cause }
+        ensures text { result.text ≡ refusal.line }
+    {
+        Answer {
+            status: status_for(refusal.cause),
+            text: refusal.line,
+        }
+    }
 }

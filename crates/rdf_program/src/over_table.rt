@@ -1,77 +1,72 @@
-// What is due to a script over the bytes of a table.
+// What is due to a script over a table.
 ghost use Rattle.std.specs.Prelude.{◌≡◌, ◌≤◌, ◌<◌, All, IfOk, length};
 ghost use Rattle.entry_fns.specs.Lists.{functions_in};
+ghost use Rattle.input_files.specs.Reading.{marked_table};
 ghost use Rattle.rdf_values.specs.Bookable.{IsBookable};
 ghost use Rattle.rdf_values.specs.Path.{history};
 ghost use Rattle.rdf_values.specs.Words.{StatementsHaveWords};
 ghost use Rattle.rdf_values.specs.Functions.{fn_names};
 ghost use Rattle.rdf_program.specs.Answers.{Answers};
-ghost use Rattle.rdf_program.specs.Due.{IsDueOver, IsDueToTable, IsPrinted};
+ghost use Rattle.rdf_program.specs.Due.{IsDueOver, IsPrinted};
 ghost use Rattle.rdf_program.specs.Running.{AreSettings, columns_over};
 
 use crate::answer::Answer;
-use crate::settings::Settings;
+use crate::means::Means;
 use crate::status::Status;
-use clusters::cut;
-use columns::Columns;
-use entry_fns::FnList;
-use node_graph::{Graph, GraphRefusal};
+use columns::{Columns, cut};
+use lazy_loop::run_prints;
+use graph::{Graph, GraphRefusal};
 use rdf_outside::Gate;
 use rdf_values::{Memory, Script};
 use result_text::Refusal;
-use std::alloc::Global;
 use std::thread::Threads;
-use table_csv::{MarkedPieces, TableRefusal, read_table_in_slots};
-use transcripts::run_prints;
-
-/// The most bytes of a table.
-pub(crate) const MAX_TABLE: usize = 67_108_864;
+use table_csv::MarkedPieces;
 
 // The columns of a table over its clusters.
-fn columns_of<R: Threads + Sync>(
-    rt: &R,
-    alloc: Global,
+fn columns_of<R: Threads + Sync, G>(
+    means: &Means<'_, R, G>,
     marked: MarkedPieces,
-    settings: Settings,
 ) -> Result<Columns, Memory>
     requires within { All (λ e. e < length marked.table.rows) marked.marks }
-    requires size { 1 ≤ settings.cluster }
-    ensures { IfOk result (λ columns. columns ≡ columns_over marked.table marked.marks settings.cluster) }
+    requires size { 1 ≤ means.now.settings.cluster }
+    ensures { IfOk result (λ columns. columns ≡ columns_over (marked_table marked) means.now.settings.cluster) }
 {
     let cuts = cut(
-        alloc,
+        means.alloc,
         marked.table.entries(),
-        settings.cluster,
+        means.settings.cluster,
         &marked.marks,
     )?;
-    Columns::build_in_slots(rt, alloc, marked.table, cuts, settings.slots)
+    Columns::build_in_slots(
+        means.rt,
+        means.alloc,
+        marked.table,
+        cuts,
+        means.settings.slots,
+    )
 }
 
 // The answer of a graph's Prints.
 fn answer_prints<R: Threads + Sync, G: Gate>(
-    rt: &R,
-    alloc: Global,
+    means: &Means<'_, R, G>,
     graph: Graph,
     columns: Columns,
-    functions: &FnList,
-    settings: Settings,
-    gate: &G,
 ) -> Result<Answer, Memory>
-    requires graph { (graph.header ≡ columns.table.columns) × (graph.names ≡ fn_names (functions_in functions.now)) }
+    requires graph { (graph.header ≡ columns.table.columns) × (graph.names ≡ fn_names (functions_in means.now.functions.now)) }
     requires words { StatementsHaveWords (history graph.script) }
-    requires settings { AreSettings settings }
-    requires size { columns.cuts.size ≡ settings.cluster }
-    ensures { IfOk result (Answers (IsPrinted (functions_in functions.now) settings.cluster settings.watch graph.script (record { table = columns.table; marks = columns.cuts.marks }))) }
+    requires settings { AreSettings means.now.settings }
+    requires size { columns.cuts.size ≡ means.now.settings.cluster }
+    ensures { IfOk result (Answers (IsPrinted (functions_in means.now.functions.now) means.now.settings.cluster means.now.settings.watch graph.script (record { table = columns.table; marks = columns.cuts.marks }))) }
 {
     let transcript = run_prints(
-        rt,
-        alloc,
+        means.rt,
+        means.alloc,
         graph,
         columns,
-        functions,
-        settings.slots,
-        settings.watch,
-        gate,
+        means.functions,
+        means.settings.slots,
+        means.settings.watch,
+        means.gate,
     )?;
     let status = if transcript.faulted {
         Status::LoopFault
@@ -84,55 +79,25 @@ fn answer_prints<R: Threads + Sync, G: Gate>(
 
 /// The answer to a script over a table.
 pub(crate) fn answer_script<R: Threads + Sync, G: Gate>(
-    rt: &R,
-    alloc: Global,
+    means: &Means<'_, R, G>,
     script: Script,
     marked: MarkedPieces,
-    functions: &FnList,
-    settings: Settings,
-    gate: &G,
 ) -> Result<Answer, Memory>
     requires bookable { IsBookable script }
     requires words { StatementsHaveWords (history script) }
     requires within { All (λ e. e < length marked.table.rows) marked.marks }
-    requires settings { AreSettings settings }
-    ensures { IfOk result (Answers (IsDueOver (functions_in functions.now) settings.cluster settings.watch script (record { table = marked.table; marks = marked.marks }))) }
+    requires settings { AreSettings means.now.settings }
+    ensures { IfOk result (Answers (IsDueOver (functions_in means.now.functions.now) means.now.settings.cluster means.now.settings.watch script (marked_table marked))) }
 {
-    let columns = columns_of(rt, alloc, marked, settings)?;
-    match Graph::book(alloc, script, columns.columns(), functions.names()) {
-        Ok(graph) => answer_prints(rt, alloc, graph, columns, functions, settings, gate),
+    let columns = columns_of(means, marked)?;
+    let names = means.functions.names();
+    match Graph::book(means.alloc, script, columns.columns(), names) {
+        Ok(graph) => answer_prints(means, graph, columns),
         Err(GraphRefusal::Memory) => Err(Memory),
         Err(GraphRefusal::At { line, cause }) => Answer::refused(
-            alloc,
+            means.alloc,
             Status::ScriptRefused,
             &Refusal::Graph { line, cause },
         ),
-    }
-}
-
-/// The answer to a script over the bytes of a table.
-pub(crate) fn answer_over<R: Threads + Sync, G: Gate>(
-    rt: &R,
-    alloc: Global,
-    script: Script,
-    bytes: &[u8],
-    functions: &FnList,
-    settings: Settings,
-    gate: &G,
-) -> Result<Answer, Memory>
-    requires bookable { IsBookable script }
-    requires words { StatementsHaveWords (history script) }
-    requires settings { AreSettings settings }
-    ensures { IfOk result (Answers (IsDueToTable (functions_in functions.now) settings.cluster settings.watch script bytes.now)) }
-{
-    if bytes.len() > MAX_TABLE {
-        return Answer::refused(alloc, Status::TableRefused, &Refusal::TableLong);
-    }
-    match read_table_in_slots(rt, alloc, bytes, settings.slots) {
-        Ok(marked) => answer_script(rt, alloc, script, marked, functions, settings, gate),
-        Err(TableRefusal::Memory) => Err(Memory),
-        Err(TableRefusal::At(cause)) => {
-            Answer::refused(alloc, Status::TableRefused, &Refusal::Table(cause))
-        }
     }
 }

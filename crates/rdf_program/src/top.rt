@@ -3,9 +3,11 @@ ghost use Rattle.std.specs.Prelude.{◌≡◌, ◌⊎◌, [], List, ℕ};
 ghost use Rattle.entry_fns.specs.Lists.{functions_in};
 ghost use Rattle.result_text.specs.RefusalText.{usage_line};
 ghost use Rattle.rdf_outside.specs.Outside.{Rose, Appends};
+ghost use Rattle.input_files.specs.Answers.{WritesDue};
 ghost use Rattle.rdf_program.specs.Answers.{AreTaken};
+ghost use Rattle.rdf_program.specs.Due.{IsDue};
 ghost use Rattle.rdf_program.specs.Statuses.{IsFinal};
-ghost use Rattle.rdf_program.specs.Top.{OfFiles, TurnsBesides, WritesDue, WritesPart, WritesReadFailed};
+ghost use Rattle.rdf_program.specs.Top.{OfFiles, TurnsBesides, WritesPart, WritesReadFailed};
 
 use crate::status::Status;
 use crate::words::answer_words;
@@ -26,7 +28,7 @@ pub fn rdf_top<R: Threads + Sync, S: Shelf, K: Sink, G: Gate>(
     gate: &G,
 ) -> Status
     // What is due to the words, the files and the functions is answered and written, and nothing else.
-    ensures due { IsFinal result → OfFiles words.now (S.files shelf.old) (WritesDue (functions_in functions.now) words.now (λ d. result ≡ d.status) (K.written sink.old) (K.written sink.new)) }
+    ensures due { IsFinal result → OfFiles words.now (S.files shelf.old) (WritesDue (IsDue (functions_in functions.now) words.now) result (K.written sink.old) (K.written sink.new)) }
 
     // The usage line comes exactly where the words aren't taken.
     ensures words { result ≡ Status.Words → (AreTaken words.now → ⊥) × Appends (K.written sink.old) (K.written sink.new) usage_line }

@@ -1,14 +1,12 @@
 // What the program answers to its words, before anything is written.
-ghost use Rattle.std.specs.Prelude.{◌≡◌, ◌≤◌, IfOk, OnOk, List, ℕ, Option};
+ghost use Rattle.std.specs.Prelude.{IfOk, OnOk};
 ghost use Rattle.entry_fns.specs.Lists.{functions_in};
-ghost use Rattle.result_text.specs.RefusalText.{usage_line};
-ghost use Rattle.rdf_program.specs.Answers.{AreTaken, IsAnswer, MayRead};
-ghost use Rattle.rdf_program.specs.Due.{due_of, IsDue};
-ghost use Rattle.rdf_program.specs.Statuses.{IsFinal};
-ghost use Rattle.rdf_program.specs.Top.{NameFiles, TurnsBesides};
+ghost use Rattle.rdf_program.specs.Answers.{AnswersWords};
+ghost use Rattle.rdf_program.specs.Top.{TurnsBesides};
 
 use crate::answer::Answer;
 use crate::input::{answer_files, answer_made};
+use crate::means::Means;
 use crate::settings::Settings;
 use crate::status::Status;
 use command_words::{Input, read_command};
@@ -28,10 +26,8 @@ pub(crate) fn answer_words<R: Threads + Sync, S: Shelf, G: Gate>(
     functions: &FnList,
     gate: &G,
 ) -> Result<Answer, Memory>
-    ensures taken { IfOk result (λ a. AreTaken words.now → IsAnswer (IsDue (functions_in functions.now) words.now) (MayRead words.now (S.files shelf.old) (S.turns shelf.new)) (S.files shelf.old) (S.faults shelf.old) (S.faults shelf.new) a) }
-    ensures made { IfOk result (λ a. (NameFiles words.now → ⊥) → IsFinal a.status × ((f : List ℕ → Option (List ℕ)) → IsDue (functions_in functions.now) words.now f (due_of a.status a.text))) }
-    ensures not_taken { IfOk result (λ a. (AreTaken words.now → ⊥) → due_of a.status a.text ≡ due_of Status.Words usage_line) }
     ensures turns { OnOk result (TurnsBesides words.now (S.files shelf.old) (S.turns shelf.old) (S.turns shelf.new)) }
+    ensures answer { IfOk result (AnswersWords (functions_in functions.now) words.now (S.files shelf.old) (S.turns shelf.new) (S.faults shelf.old) (S.faults shelf.new)) }
 {
     let Some(command) = read_command(alloc, words)? else {
         return Answer::refused(alloc, Status::Words, &Refusal::Words);
@@ -41,24 +37,19 @@ pub(crate) fn answer_words<R: Threads + Sync, S: Shelf, G: Gate>(
         cluster: command.cluster,
         watch: command.watch,
     };
+    let means = Means {
+        rt,
+        alloc,
+        functions,
+        settings,
+        gate,
+    };
     match command.input {
         Input::Files {
             script,
             table,
             friend,
-        } => answer_files(
-            rt,
-            alloc,
-            shelf,
-            script.as_str(),
-            table.as_str(),
-            &friend,
-            functions,
-            settings,
-            gate,
-        ),
-        Input::Generated { entries, seed } => {
-            answer_made(rt, alloc, entries, seed, functions, settings, gate)
-        }
+        } => answer_files(&means, shelf, script.as_str(), table.as_str(), &friend),
+        Input::Generated { entries, seed } => answer_made(&means, entries, seed),
     }
 }

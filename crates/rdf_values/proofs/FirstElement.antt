@@ -1,7 +1,6 @@
 -- The first element of a vector's text.
 use Rattle.std.proofs.Common.{◌≡◌, ◌<◌, ◌+◌, ◌∙◌, ℕ, ℤ, List, [], ◌∷◌, ◌++◌, length, take, drop, get_or, Bool, true, false, None, Some, Option, ap, arith, refl, sym}
-use Rattle.std.specs.Borrow.{Bor}
-use Rattle.std.specs.Prelude.{leb, MatchOption, ◌==◌, ◌&&◌, if◌then◌else◌}
+use Rattle.std.specs.Prelude.{leb, ◌==◌, ◌&&◌}
 use Rattle.std.specs.Char.{is_ascii_digit}
 use Rattle.std.specs.List.{All, slice_split}
 use Rattle.std.specs.Str.{all_ascii_digits}
@@ -10,7 +9,7 @@ use Rattle.std.proofs.lemmas.Bool.Decides.{nat_tests}
 use Rattle.std.proofs.lemmas.List.{drop_more, length-drop, take-append-drop, take_all}
 use Rattle.std.proofs.lemmas.List.Elements.{All-cons, All-nil}
 use Rattle.std.proofs.lemmas.List.Splits.{slice_split_at, slice_split_none}
-use Rattle.rdf_values.specs.Elements.{HasNoElement, IsElement}
+use Rattle.rdf_values.specs.Elements.{IsElement}
 use Rattle.rdf_values.specs.Integers.{IsLeading, begins_badly, integer_of, magnitude_of, negative, positive}
 use Rattle.rdf_values.specs.TableText.{is_semicolon}
 
@@ -72,15 +71,3 @@ element_before text n end rest h l s r =
       h.spelt,
       rw r (omega (arith, length-drop (end + 1) text)),
     )
-
--- ---- by the first `;`
-
-pub element_found : (text part : List ℕ) (after : Option (Bor (List ℕ))) (n : ℤ)
-    → MatchOption after (slice_split is_semicolon text ≡ part ∷ []) (λ rest. (slice_split is_semicolon text ≡ part ∷ slice_split is_semicolon rest.now) × (length rest.now < length text)) → integer_of part ≡ Some n → IsElement text n after
-element_found text part None n h e = (part, h, e)
-element_found text part (Some rest) n h e = (part, h.0, e, h.1)
-
-pub element_bad : (text part : List ℕ) (after : Option (Bor (List ℕ)))
-    → MatchOption after (slice_split is_semicolon text ≡ part ∷ []) (λ rest. (slice_split is_semicolon text ≡ part ∷ slice_split is_semicolon rest.now) × (length rest.now < length text)) → integer_of part ≡ None → HasNoElement text
-element_bad text part None h e = (part, [], h, e)
-element_bad text part (Some rest) h e = (part, slice_split is_semicolon rest.now, h.0, e)

@@ -1,10 +1,9 @@
 -- The elements of a vector's text, part by part.
-use Rattle.std.proofs.Common.{◌≡◌, ◌<◌, ◌≤◌, ◌+◌, ◌-◌, ◌∙◌, ℕ, ℤ, List, [], ◌∷◌, ◌++◌, length, take, Bool, true, false, None, Some, Option, Result, Ok, Err, ap, append_assoc, arith, refl, suc, sym, length-append}
+use Rattle.std.proofs.Common.{◌≡◌, ◌<◌, ◌≤◌, ◌+◌, ◌-◌, ◌∙◌, ℕ, ℤ, List, [], ◌∷◌, ◌++◌, length, Bool, true, false, None, Some, Option, Result, Ok, Err, ap, append_assoc, arith, refl, suc, sym, length-append}
 use Rattle.std.specs.Borrow.{Bor}
-use Rattle.std.specs.Prelude.{IfOk, nat_le, if◌then◌else◌}
+use Rattle.std.specs.Prelude.{IfOk, nat_le}
 use Rattle.std.specs.List.{slice_split}
 use Rattle.std.proofs.lemmas.List.{append-nil}
-use Rattle.std.proofs.Math.Seq.{take-append_seam}
 use Rattle.std.proofs.lemmas.Bool.Decides.{nat_tests}
 use Rattle.rdf_values.specs.Integers.{integer_of}
 use Rattle.rdf_values.specs.Elements.{AreRead, HasNoElement, IsElement}
@@ -120,9 +119,6 @@ reading_more spelt text old now n after r e h =
 
 pub reading_end : (spelt : Option (List ℤ)) (old now : List ℤ) → Reading spelt [] old now → AreRead spelt true old now
 reading_end spelt old now r = (r.read, r.left ∙ vector_end r.read r.few, r.added)
-
-pub reading_before : (spelt : Option (List ℤ)) (parts : List (List ℕ)) (old now : List ℤ) → Reading spelt parts old now → take (length old) now ≡ old
-reading_before spelt parts old now r = ap (take (length old)) r.added ∙ take-append_seam old r.read
 
 -- what is said of an answer that a vector was read
 pub read_good : (answer : Result Bool Memory) (spelt : Option (List ℤ)) (old new : List ℤ) → answer ≡ Ok true → IfOk answer (λ is_vector. AreRead spelt is_vector old new) → AreRead spelt true old new

@@ -13,10 +13,6 @@ use Rattle.rdf_values.specs.declared.table_cause.TableCause.TheVariants as table
 abbrev pub line : List ℕ → List ℕ
 line text = text ++ 10 ∷ []
 
--- how the command is called
-abbrev pub usage_line : List ℕ
-usage_line = line (codes "usage: rdf SCRIPT TABLE [--slots N] [--cluster N] [--watch K] [--make]")
-
 -- ---- files
 
 abbrev pub read_failed_line : List ℕ → List ℕ

@@ -3,6 +3,7 @@ use Rattle.std.proofs.Common.{◌≡◌, ℕ, zero, suc, ◌+◌, ◌<◌, ◌�
 use Rattle.std.specs.Prelude.{option_map, slice_get}
 use Rattle.std.proofs.lemmas.List.{length-map}
 use Rattle.std.proofs.lemmas.Option.{slice_get_within}
+use Rattle.lemmas.proofs.Answers.{same_some}
 use Rattle.rdf_values.specs.Path.{Variation}
 use Rattle.rdf_values.specs.Bookings.{ActionAt, passes_of}
 use Rattle.rdf_values.specs.declared.action.ActionKind.{ActionKind}
@@ -15,14 +16,6 @@ use Rattle.loop_pieces.specs.declared.filled_result.FilledResult.{FilledResult}
 use Rattle.result_text.specs.FilledLines.{FitsBooking, FitsResult, acc_lines, booking_text, filled_text, members_from, under_in, under_lines}
 use Rattle.result_text.proofs.Lists.{one_left, put_next}
 use Rattle.result_text.proofs.PassLines.{action_booking, depends_are, nominal_alone, passes_are}
-
-same_some : {A : Type 0} {a b : A} → ◌≡◌ {A = Option A} (Some a) (Some b) → a ≡ b
-same_some q = cc
-
-pub something_at : {A : Type 0} (xs : List A) (k : ℕ) → k < length xs → (x : A) × (slice_get xs k ≡ Some x)
-something_at [] k lt = absurd (omega arith)
-something_at (x ∷ xs) zero lt = (x, refl)
-something_at (x ∷ xs) (suc k) lt = something_at xs k (omega arith)
 
 -- ---- members
 

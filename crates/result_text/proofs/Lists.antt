@@ -24,12 +24,6 @@ none_left xs i h = drop_after xs i h
 pub one_left : {A : Type 0} (xs : List A) (i : ℕ) (x : A) → slice_get xs i ≡ Some x → drop i xs ≡ x ∷ drop (i + 1) xs
 one_left xs i x h = drop_front xs i x h ∙ (let e : suc i ≡ i + 1 = omega arith in ap (λ k. x ∷ drop k xs) e)
 
-pub drop_whole : {A : Type 0} (xs : List A) (n : ℕ) → length xs ≤ n → drop n xs ≡ []
-drop_whole [] zero le = refl
-drop_whole [] (suc n) le = refl
-drop_whole (x ∷ xs) zero le = absurd (omega arith)
-drop_whole (x ∷ xs) (suc n) le = drop_whole xs n (omega arith)
-
 pub map_same : {A : Type 0} (xs : List A) → map (λ x. x) xs ≡ xs
 map_same [] = refl
 map_same (x ∷ xs) = ap (λ l. x ∷ l) (map_same xs)

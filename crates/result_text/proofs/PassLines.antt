@@ -1,5 +1,5 @@
 -- The lines of passes.
-use Rattle.std.proofs.Common.{◌≡◌, ℕ, suc, ◌+◌, ◌<◌, Bool, true, false, List, [], ◌∷◌, ◌++◌, length, map, Option, None, Some, refl, sym, ap, ◌∙◌, arith, append_assoc, if◌then◌else◌, append-nil}
+use Rattle.std.proofs.Common.{◌≡◌, ℕ, suc, ◌+◌, ◌<◌, Bool, true, false, List, [], ◌∷◌, ◌++◌, length, map, Option, None, Some, refl, sym, ap, ◌∙◌, arith, append_assoc, append-nil}
 use Rattle.std.specs.Prelude.{codes, flat_map, filter, slice_get, unwrap_or}
 use Rattle.std.proofs.lemmas.List.{length-map}
 use Rattle.std.proofs.lemmas.List.Folds.{flat_map-map}
@@ -12,7 +12,7 @@ use Rattle.rdf_values.specs.declared.statement.Statement.{Statement}
 use Rattle.rdf_model.specs.ResultLines.{filled_lines, flow_line, flow_lines, label}
 use Rattle.rdf_model.specs.Results.{FilterCounts}
 use Rattle.actions.specs.Accumulators.{Accumulator}
-use Rattle.filters_report.specs.declared.flow.Counts.{Counts}
+use Rattle.loop_pieces.specs.declared.flow.Counts.{Counts}
 use Rattle.graph_numbers.specs.Graphs.{GraphView, booked_statements, graph_results, graph_variations, holds_at, result_depends_at}
 use Rattle.graph_numbers.specs.Results.{ResultAt, kind_of_booking}
 use Rattle.graph_numbers.specs.declared.result_kind.ResultKind.{ResultKind}
@@ -65,10 +65,6 @@ action_booking (ActionAt j at) k e = (at, ap (λ (x : ActionKind). ActionAt x at
     same : {a c : ActionKind} → ◌≡◌ {A = ResultKind} (what.Action a) (what.Action c) → a ≡ c
     same q = cc
 action_booking (ReportOn filters) k e = absurd (cc)
-
-pub report_booking : (b : Booking) → kind_of_booking b ≡ what.Report → (filters : List Path) × (b ≡ ReportOn filters)
-report_booking (ActionAt j at) e = absurd (cc)
-report_booking (ReportOn filters) e = (filters, refl)
 
 abbrev the_pass : Booked → Variation → Pass
 the_pass b v = record { result = b; under = Some v }

@@ -3,6 +3,7 @@ use Rattle.std.proofs.Common.{◌≡◌, ℕ, zero, suc, ◌<◌, List, [], ◌�
 use Rattle.std.specs.Prelude.{option_map, slice_get, unwrap_or}
 use Rattle.std.proofs.lemmas.List.{length-map}
 use Rattle.std.proofs.lemmas.Option.{slice_get-map, slice_get_within}
+use Rattle.lemmas.proofs.Answers.{same_some}
 use Rattle.rdf_values.specs.Bookings.{Booked, Pass, bookings}
 use Rattle.rdf_model.specs.Loops.{loop_passes, loop_results}
 use Rattle.rdf_model.specs.ResultLines.{label, pass_label}
@@ -13,9 +14,6 @@ use Rattle.graph_numbers.proofs.Extending.{itself}
 use Rattle.graph_numbers.proofs.Looping.{loops_are}
 use Rattle.graph_numbers.proofs.Resulting.{booked_are}
 use Rattle.result_text.specs.FilledLines.{passes_at, under_in}
-
-same_some : {A : Type 0} {a b : A} → ◌≡◌ {A = Option A} (Some a) (Some b) → a ≡ b
-same_some q = cc
 
 module _ (g : GraphView) where
   -- the result and the variation of a numbered pass, which is the pass of that place in the script's loop

@@ -1,6 +1,6 @@
 -- Texts with something between each two.
 use Rattle.std.proofs.Common.{◌≡◌, ℕ, ◌+◌, List, [], ◌∷◌, ◌++◌, map, drop, Option, Some, refl, sym, ap, ◌∙◌, append-nil, append_assoc}
-use Rattle.std.specs.Prelude.{Result, Ok, Err, OnOk, IfOk, codes, decimal, flat_map, slice_get}
+use Rattle.std.specs.Prelude.{Result, Ok, Err, OnOk, codes, decimal, flat_map, slice_get}
 use Rattle.std.specs.List.{join_with_byte}
 use Rattle.rdf_values.specs.declared.span.Span.{Span}
 use Rattle.rdf_model.specs.PartialResults.{run_text}
@@ -46,14 +46,6 @@ flow_put text name l first n t1 t2 t3 t4 t5 bytes e1 e2 e e3 e4 e5 =
     front : (a b d e f g h i j k m colon : List ℕ)
         → a ++ b ++ colon ++ d ++ e ++ f ++ g ++ h ++ i ++ j ++ k ++ m ++ 10 ∷ [] ≡ a ++ (b ++ colon ++ d ++ e ++ f ++ g ++ h ++ i ++ j ++ k ++ m ++ 10 ∷ [])
     front a b d e f g h i j k m colon = simp append_assoc
-
-pub on_ok : {A E : Type 0} (r : Result A E) (P Q : Type 0) → (P → Q) → OnOk r P → OnOk r Q
-on_ok (Ok x) P Q h p = h p
-on_ok (Err e) P Q h p = tt
-
-pub if_ok : {A E : Type 0} (r : Result A E) (P Q : A → Type 0) → ((a : A) → P a → Q a) → IfOk r P → IfOk r Q
-if_ok (Ok x) P Q h p = h x p
-if_ok (Err e) P Q h p = tt
 
 -- the line of a fault, put piece by piece
 pub fault_put : (text l shown kind bytes : List ℕ) (entry : ℕ) (t1 t2 t3 t4 t5 t6 t7 : List ℕ) → t1 ≡ text ++ codes "fault at entry " → t2 ≡ t1 ++ decimal entry → t3 ≡ t2 ++ codes " in " → t4 ≡ t3 ++ l → l ≡ shown

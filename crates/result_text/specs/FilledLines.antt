@@ -11,7 +11,7 @@ use Rattle.rdf_model.specs.Loops.{loop_passes, loop_results}
 use Rattle.rdf_model.specs.ResultLines.{cell_line, cell_lines, cell_names, filled_lines, flow_lines, label, option_text, plane_lines, scalar_text, taken_text, x_edges_of, y_edges_of}
 use Rattle.rdf_model.specs.Results.{FilterCounts}
 use Rattle.actions.specs.Accumulators.{Accumulator}
-use Rattle.filters_report.specs.declared.flow.Counts.{Counts}
+use Rattle.loop_pieces.specs.declared.flow.Counts.{Counts}
 use Rattle.graph_numbers.specs.Graphs.{GraphView, booked_statements, graph_filters}
 use Rattle.graph_numbers.specs.Results.{FilterAt, ResultAt}
 use Rattle.loop_pieces.specs.declared.filled_result.FilledResult.{FilledResult}

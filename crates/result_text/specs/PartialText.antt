@@ -3,7 +3,7 @@ use Rattle.std.specs.Prelude.{◌≡◌, ◌<◌, ◌-◌, ◌∷◌, ◌++◌, 
 use Rattle.std.specs.List.{join_with_byte}
 use Rattle.rdf_values.specs.RefusalLines.{line}
 use Rattle.rdf_values.specs.declared.span.Span.{Span}
-use Rattle.rdf_model.specs.PartialResults.{Run, maximal_runs, run_text, value_text}
+use Rattle.rdf_model.specs.PartialResults.{Run, run_text, value_text}
 use Rattle.loop_pieces.specs.Watching.{watch_filled}
 use Rattle.loop_pieces.specs.declared.filled_result.PartialLine.{PartialLine}
 
@@ -30,7 +30,3 @@ watch_line name l = line (codes "partial " ++ name ++ codes " over " ++ runs_tex
 -- the lines of several
 abbrev pub watch_lines : List ℕ → List PartialLine → List ℕ
 watch_lines name lines = flat_map (watch_line name) lines
-
--- the spans are the maximal runs of the set
-abbrev pub AreRunsOf : List Span → List ℕ → Type 0
-AreRunsOf runs set = map run_of runs ≡ maximal_runs set

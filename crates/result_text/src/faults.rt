@@ -7,7 +7,7 @@ ghost use Rattle.result_text.specs.FilledLines.{passes_at};
 
 use crate::labels::put_label;
 use crate::numbers::put_count;
-use node_graph::Graph;
+use graph::Graph;
 use rdf_values::{EntryFault, Fault, Memory, Text};
 use std::alloc::Global;
 

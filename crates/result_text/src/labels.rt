@@ -4,8 +4,8 @@ ghost use Rattle.std.specs.Option.{ForSome};
 ghost use Rattle.rdf_model.specs.ResultLines.{label};
 ghost use Rattle.result_text.specs.FilledLines.{under_in};
 
+use graph::Variations;
 use rdf_values::{Memory, Name, Text};
-use variation_sets::Variations;
 
 /// Appends the name of a result, and behind it the variation in brackets, by its number.
 pub fn put_label(

@@ -1,4 +1,4 @@
-//! The lines that a run prints: of results, partial results, faults and refusals. It stands on `node_graph` for the names,
+//! The lines that a run prints: of results, partial results, faults and refusals. It stands on `graph` for the names,
 //! and on `loop_pieces` for the values.
 #![tactic(auto)]
 

@@ -9,7 +9,7 @@ ghost use Rattle.result_text.specs.PartialText.{AreRuns, more_runs, run_of, runs
 
 use crate::numbers::{put_count, put_option, put_sum};
 use loop_pieces::{PartialLine, PartialLines, WatchPiece};
-use node_graph::Graph;
+use graph::Graph;
 use rdf_values::{Memory, Span, Text};
 use std::alloc::Global;
 

@@ -2,17 +2,16 @@
 ghost use Rattle.std.specs.Prelude.{◌≡◌, ◌<◌, ◌≤◌, ◌+◌, ◌^◌, ◌++◌, ℕ, IfOk, OnOk, None, Some, length, slice_get, vec_len};
 ghost use Rattle.graph_numbers.specs.Graphs.{booked_statements, graph_results, graph_variations};
 ghost use Rattle.graph_numbers.specs.Results.{ResultAt, kind_of_booking};
-ghost use Rattle.variation_sets.specs.Sets.{has};
+ghost use Rattle.graph.specs.Sets.{has};
 ghost use Rattle.result_text.specs.FilledLines.{FitsResult, filled_text, members_from, under_lines};
 
 use crate::reports::put_report;
 use crate::values::put_pass;
 use graph_numbers::ResultKind;
 use loop_pieces::FilledResult;
-use node_graph::Graph;
+use graph::{Graph, VarSet, Variations};
 use rdf_values::{ActionKind, Memory, Name, Text};
 use std::alloc::Global;
-use variation_sets::{VarSet, Variations};
 
 // Appends the lines of the passes of an action under the variations on which it depends.
 fn put_varied(

@@ -4,7 +4,7 @@ ghost use Rattle.rdf_model.specs.ResultLines.{flow_line, hundredths, percent};
 ghost use Rattle.result_text.specs.FilledLines.{counts_seen};
 
 use crate::numbers::{put_count, put_wide};
-use filters_report::Counts;
+use loop_pieces::Counts;
 use rdf_values::{Label, Memory, Text};
 use std::alloc::Global;
 

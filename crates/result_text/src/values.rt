@@ -10,9 +10,9 @@ use crate::labels::put_label;
 use crate::numbers::{put_count, put_number, put_option, put_sum, put_wide};
 use crate::taken::put_taken;
 use actions::{Acc, Filled};
+use graph::Variations;
 use rdf_values::{ActionKind, Memory, Name, Text};
 use std::alloc::Global;
-use variation_sets::Variations;
 
 fn x_edges(kind: &ActionKind) -> &[i64]
     ensures { result.now ≡ x_edges_of kind.now }

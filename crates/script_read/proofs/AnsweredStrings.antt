@@ -51,9 +51,6 @@ label_or_bad q = by_test (is_label q.content) refl
     by_test true e = inl (q.content, (refl, e))
     by_test false e = inr (st.Syntax q.place, st.no_label e)
 
-good_label : (q : QuotedText) (x : List ℕ) → IsLabel q x → IsGood (q, ALabel)
-good_label q x h r (st.no_label e) = let there = h.0 in let is = h.1 in cc (there, is, e)
-
 expression_or_bad : (q : QuotedText) → OrBad ((a : NamedTree) × ReadsText q.content a) (q, AnExpression)
 expression_or_bad q = elim (answered (Reads 0) begin_expr whole reads_expr q.content) [ inl a ↦ inl a | inr r ↦ inr (_, st.no_expression r.1) ]
 

@@ -69,7 +69,3 @@ pub refused_before : (vs ws : List (QuotedText × Wanted)) (e : LineStop) → Re
 refused_before vs ws (stop.Syntax place) h = bad_before vs ws _ h
 refused_before vs ws (stop.Expression place cause) h = bad_before vs ws _ h
 refused_before vs ws stop.Memory h = tt
-
--- want of memory refuses nothing
-pub memory_alone : (P : LineRefusal → Type 0) (e : LineStop) → e ≡ stop.Memory → RefusedFor P e
-memory_alone P e h = rw h tt

@@ -6,6 +6,7 @@ use Rattle.std.specs.Io.BufRead.{strip_last}
 use Rattle.std.proofs.lemmas.List.{take_all, take-append-drop, length-drop}
 use Rattle.std.proofs.lemmas.List.Quantifiers.{position-Some}
 use Rattle.std.proofs.lemmas.Bool.Decides.{nat_tests}
+use Rattle.lemmas.proofs.Booleans.{and_holds}
 use native.Mathlib.Numerals.{unary_clauses}
 use Rattle.rdf_values.specs.ScriptLines.{lines_of}
 use Rattle.rdf_values.proofs.ScriptSteps.{is_in_line, without_cr, lines_of_line, lines_of_last}
@@ -32,9 +33,6 @@ stripped (c ∷ d ∷ cs) = ap (λ l. c ∷ l) (stripped (d ∷ cs)) ∙ strip_m
 
 -- ---- an LF
 
-both : (a b : Bool) → a ≡ true → b ≡ true → (a && b) ≡ true
-both a b e f = cc
-
 -- no LF stands before the first
 no_lf_before : (xs : List ℕ) → list_all is_in_line (take (position_or_len is_lf xs) xs) ≡ true
 no_lf_before [] = refl
@@ -44,7 +42,7 @@ no_lf_before (x ∷ xs) = at (x == 10) refl (no_lf_before xs)
     at true e h = refl
     at false e h =
         let one : suc (position_or_len is_lf xs) ≡ 1 + position_or_len is_lf xs = omega arith in
-        subst (λ n. list_all is_in_line (take n (x ∷ xs)) ≡ true) one (both (not (x == 10)) (list_all is_in_line (take (position_or_len is_lf xs) xs)) (ap not e) h)
+        subst (λ n. list_all is_in_line (take n (x ∷ xs)) ≡ true) one (and_holds (not (x == 10)) (list_all is_in_line (take (position_or_len is_lf xs) xs)) (ap not e) h)
 
 -- the first line ends at that place, or at the text's end
 abbrev pub EndsAt : List ℕ → Option ℕ → Type 0

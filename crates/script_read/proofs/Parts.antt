@@ -33,13 +33,6 @@ map_last : (xs : List Quoted) (x : Quoted) → map quoted_of (xs ++ x ∷ []) �
 map_last [] x = refl
 map_last (y ∷ ys) x = ap (λ (l : List QuotedText). quoted_of y ∷ l) (map_last ys x)
 
-pub strings_begun : {old mid new : List PlacedToken} (first : Quoted) → Took (AMark mark.OpenBracket ∷ []) (t.OpenBracket ∷ []) old mid → Took (AString ∷ []) (t.Quoted (quoted_of first) ∷ []) mid new
-    → TookStrings (quoted_of first) [] old new
-strings_begun first b k = record {
-  split = λ us ts e. b.split ∙ ap (λ (l : List LineToken). t.OpenBracket ∷ l) (k.split ∙ ap (λ (l : List LineToken). t.Quoted (quoted_of first) ∷ l) e);
-  walks = λ ws. b.walks (AString ∷ MoreStrings ∷ ws) ∙ k.walks (MoreStrings ∷ ws);
-}
-
 pub strings_more : {old m1 m2 new : List PlacedToken} (first x : Quoted) (rest more : List Quoted)
     → TookStrings (quoted_of first) (map quoted_of rest) old m1 → Begins t.Comma m1 m2 → Took (AString ∷ []) (t.Quoted (quoted_of x) ∷ []) m2 new → more ≡ rest ++ x ∷ [] → TookStrings (quoted_of first) (map quoted_of more) old new
 strings_more {old} {m1} {m2} {new} first x rest more l b k e =
@@ -67,12 +60,6 @@ pub strings_close : {first : QuotedText} {rest : List QuotedText} {old m1 : List
 strings_close {m1 = m1} m2 k l e isnt = l.walks k ∙ strings_end m1 k isnt ∙ ap (λ (ts : List PlacedToken). walk_placed ts (AMark mark.CloseBracket ∷ k)) (sym e)
 
 -- ---- lists of edges
-
-pub edges_begun : {first : ℤ} {old mid new : List PlacedToken} → Took (AMark mark.OpenBracket ∷ []) (t.OpenBracket ∷ []) old mid → Took (ANumber ∷ []) (t.Number first ∷ []) mid new → TookEdges first [] old new
-edges_begun {first} b k = record {
-  split = λ us ts e. b.split ∙ ap (λ (l : List LineToken). t.OpenBracket ∷ l) (k.split ∙ ap (λ (l : List LineToken). t.Number first ∷ l) e);
-  walks = λ ws. b.walks (ANumber ∷ MoreEdges ∷ ws) ∙ k.walks (MoreEdges ∷ ws);
-}
 
 pub edges_more : {first x : ℤ} {rest more : List ℤ} {old m1 m2 new : List PlacedToken} → TookEdges first rest old m1 → Begins t.Comma m1 m2 → Took (ANumber ∷ []) (t.Number x ∷ []) m2 new → more ≡ rest ++ x ∷ [] → TookEdges first more old new
 edges_more {first} {x} {rest} {more} {old} {m1} {m2} {new} l b k e =

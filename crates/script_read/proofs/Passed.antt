@@ -6,6 +6,7 @@ use Rattle.rdf_values.specs.LineTokens as t
 use Rattle.rdf_values.specs.LineForms.{Form, Method, method_word, arguments, call, more_strings, strings_tokens, more_edges, edges_tokens, maybe_string, form_tokens, has_free_names, is_free}
 use Rattle.rdf_values.specs.LineForms as form
 use Rattle.std.specs.Prelude.{codes, ◌&&◌}
+use Rattle.lemmas.proofs.Booleans.{both_true}
 use Rattle.script_read.specs.Walk.{Want, ALine, AWord, AMethod, AString, MoreStrings, MoreEdges, MaybeString, AMark, WalkEnd, Done, next, walk, arguments_wants, method_wants, booking_wants, asking_wants, variation_wants, edges_wants, one_string_wants}
 use Rattle.script_read.specs.declared.method.MethodName.{MethodName}
 use Rattle.script_read.specs.declared.method.MethodName.TheVariants as name
@@ -98,13 +99,9 @@ passes_arguments (form.Histo2D xs ys x y w) =
 
 -- ---- lines
 
-both : (a b : Bool) → (a && b) ≡ true → (a ≡ true) × (b ≡ true)
-both true b h = (refl, h)
-both false b h = cc h
-
 pub line_passes : (f : Form) → has_free_names f ≡ true → walked (form_tokens f) (ALine ∷ []) ≡ Done
 line_passes (form.Books n p m) free =
-    let names = both (is_free n) (is_free p) free in
+    let names = both_true (is_free n) (is_free p) free in
     let body = call (method_word m) (arguments m) in
     passes_on ALine booking_wants [] (t.Word n) (t.Equals ∷ t.Word p ∷ t.Dot ∷ body) (line_next n true names.0)
     ∙ passes_on AWord [] (AMark mark.Dot ∷ AMethod ∷ []) (t.Word p) (t.Dot ∷ body) (is_name_next p names.1)

@@ -25,15 +25,6 @@ pub record Reads (text left : List ℕ) (number : ℕ) (found : List Line) : Typ
   pub from_one : 1 ≤ number
   pub counted : number + length left ≤ length text + 1
 
-pub reads_none : (text : List ℕ) (found : List Line) → found ≡ [] → Reads text text 1 found
-reads_none text found e = rw e (record {
-  whole = λ ls a. a;
-  refused = λ c r. r;
-  few = omega arith;
-  from_one = omega arith;
-  counted = omega arith;
-})
-
 pub reads_line : (text left line behind : List ℕ) (number : ℕ) (found more : List Line) → Reads text left number found → lines_of left ≡ line ∷ lines_of behind
     → length behind < length left → AddsLine number line found more → Reads text behind (suc number) more
 reads_line text left line behind number found more r e shorter (adds_nothing b) = record {

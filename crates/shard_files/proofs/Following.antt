@@ -1,8 +1,11 @@
 -- What was read so far, line after line: the lines so far begin some shard, and the lines of each shard can be read.
 use Rattle.std.proofs.Common.{◌≡◌, ◌≤◌, ◌<◌, ℕ, Bool, true, false, ◌&&◌, None, Some, List, [], ◌∷◌, ◌++◌, length, map, flat_map, refl, ap, ap₂, ◌∙◌, sym, subst, arith, append_assoc, append-nil, codes, length-append}
-use Rattle.std.specs.Prelude.{◌||◌, if◌then◌else◌, nat_eq, nat_le, nat_lt}
+use Rattle.std.specs.Prelude.{◌||◌, nat_eq, nat_le, nat_lt}
 use Rattle.std.specs.List.{list_all}
 use Rattle.std.proofs.lemmas.Bool.Decides.{nat_tests}
+use Rattle.lemmas.proofs.Answers.{if_none, if_some}
+use Rattle.lemmas.proofs.Appended.{map_next}
+use Rattle.lemmas.proofs.Booleans.{both_true, neither}
 use Rattle.rdf_values.specs.Names.{is_name}
 use Rattle.rdf_values.specs.Tables.{AreColumns, IsHeader, has_name}
 use Rattle.rdf_values.specs.declared.column.Column.{Column}
@@ -100,17 +103,9 @@ columns_push : (seen cs : List Column) (c : Column) → AreColumns seen cs → h
 columns_push seen [] c h n f = (subst (λ xs. has_name xs c.name ≡ false) (append-nil seen) n, f.1, tt)
 columns_push seen (d ∷ cs) c h n f = (h.0, h.1, columns_push (seen ++ d ∷ []) cs c h.2 (subst (λ xs. has_name xs c.name ≡ false) (sym (append_assoc seen (d ∷ []) cs)) n) f)
 
-and_true : (a b : Bool) → (a && b) ≡ true → (a ≡ true) × (b ≡ true)
-and_true true b h = (refl, h)
-and_true false b h = cc h
-
 named_push : (cs : List Column) (c : Column) → list_all (λ (c : Column). is_name c.name) cs ≡ true → is_name c.name ≡ true → list_all (λ (c : Column). is_name c.name) (cs ++ c ∷ []) ≡ true
 named_push [] c h n = ap (λ b. b && true) n
-named_push (d ∷ cs) c h n = let both = and_true (is_name d.name) (list_all (λ (c : Column). is_name c.name) cs) h in ap (λ b. b && list_all (λ (c : Column). is_name c.name) (cs ++ c ∷ [])) both.0 ∙ named_push cs c both.1 n
-
-map_push : {A B : Type 0} (f : A → B) (xs : List A) (x : A) → map f (xs ++ x ∷ []) ≡ map f xs ++ f x ∷ []
-map_push f [] x = refl
-map_push f (y ∷ xs) x = ap (λ t. f y ∷ t) (map_push f xs x)
+named_push (d ∷ cs) c h n = let both = both_true (is_name d.name) (list_all (λ (c : Column). is_name c.name) cs) h in ap (λ b. b && list_all (λ (c : Column). is_name c.name) (cs ++ c ∷ [])) both.0 ∙ named_push cs c both.1 n
 
 flat_push : (loops : List ShardLoop) (x : ShardLoop) → flat_map loop_lines (loops ++ x ∷ []) ≡ flat_map loop_lines loops ++ loop_lines x
 flat_push [] x = append-nil (loop_lines x)
@@ -124,37 +119,24 @@ Followed before l q = IsProgress q × (lines_so_far q ≡ before ++ l ∷ [])
 some_is : {A : Type 0} (P : A → Type 0) (x y : A) → Some x ≡ Some y → P x → P y
 some_is P x y e h = let same : x ≡ y = cc e in subst P same h
 
--- where a test of a step holds, so does what it says
-if_some : {A : Type 0} (b : Bool) (x : A) (q : A) → (if b then Some x else None) ≡ Some q → (b ≡ true) × (x ≡ q)
-if_some true x q h = (refl, cc h)
-if_some false x q h = cc h
-
-if_none : {A : Type 0} (b : Bool) (x : A) (q : A) → (if b then None else Some x) ≡ Some q → (b ≡ false) × (x ≡ q)
-if_none true x q h = cc h
-if_none false x q h = (refl, cc h)
-
-or_false : (a b : Bool) → (a || b) ≡ false → (a ≡ false) × (b ≡ false)
-or_false true b h = cc h
-or_false false b h = (refl, h)
-
 columns_follow : (p q : Progress) (l : FileLine) → Holds at.Columns p → FitsFileLine l → p.stage ≡ at.Columns → on_columns p l ≡ Some q → Followed (lines_at at.Columns p) l q
 columns_follow p q file.Version h f s e = cc e
 columns_follow p q (file.Table a b) h f s e = cc e
 columns_follow p q (file.Column c) h f s e =
     let found = if_none (has_name p.columns c.name || nat_le 64 (length p.columns)) (record p { columns = p.columns ++ c ∷ [] }) q e in
-    let tests = or_false (has_name p.columns c.name) (nat_le 64 (length p.columns)) found.0 in
+    let tests = neither (has_name p.columns c.name) (nat_le 64 (length p.columns)) found.0 in
     let room : length p.columns < 64 = let full = tests.1 in grind (arith, nat_tests) in
     let has = h.0 in
     let more : length (p.columns ++ c ∷ []) ≤ 64 = omega (arith, length-append p.columns (c ∷ []), room) in
     let kept : HasColumns (record p { columns = p.columns ++ c ∷ [] }) =
     record { entries = has.entries; clusters = has.clusters; few = more; distinct = columns_push [] p.columns c has.distinct tests.0 f; named = named_push p.columns c has.named f.0 } in
-    let lines : lines_at at.Columns (record p { columns = p.columns ++ c ∷ [] }) ≡ lines_at at.Columns p ++ file.Column c ∷ [] = ap (λ t. file.Version ∷ file.Table p.entries p.clusters ∷ t) (map_push file.Column p.columns c) in
+    let lines : lines_at at.Columns (record p { columns = p.columns ++ c ∷ [] }) ≡ lines_at at.Columns p ++ file.Column c ∷ [] = ap (λ t. file.Version ∷ file.Table p.entries p.clusters ∷ t) (map_next file.Column p.columns c) in
     subst (Followed (lines_at at.Columns p) (file.Column c)) found.1
     (subst (λ (t : Stage). Holds t (record p { columns = p.columns ++ c ∷ [] }) × (lines_at t (record p { columns = p.columns ++ c ∷ [] }) ≡ lines_at at.Columns p ++ file.Column c ∷ [])) (sym s) ((kept, h.1), lines))
 columns_follow p q (file.Span lo hi) h f s e =
     let found = if_some (nat_lt 0 (length p.columns) && (nat_le lo hi && nat_le hi p.clusters)) (record p { stage = at.Between; lo = lo; hi = hi }) q e in
-    let tests = and_true (nat_lt 0 (length p.columns)) (nat_le lo hi && nat_le hi p.clusters) found.0 in
-    let spans = and_true (nat_le lo hi) (nat_le hi p.clusters) tests.1 in
+    let tests = both_true (nat_lt 0 (length p.columns)) (nat_le lo hi && nat_le hi p.clusters) found.0 in
+    let spans = both_true (nat_le lo hi) (nat_le hi p.clusters) tests.1 in
     let some : 0 < length p.columns = let t = tests.0 in grind (arith, nat_tests) in
     let low : lo ≤ hi = let t = spans.0 in grind (arith, nat_tests) in
     let high : hi ≤ p.clusters = let t = spans.1 in grind (arith, nat_tests) in
@@ -203,7 +185,7 @@ within_follow p q (file.Pass l) h f s e =
     let n = record p { lines = p.lines ++ l ∷ [] } in
     let before = flat_map loop_lines p.loops in
     let lines : lines_at at.Within n ≡ lines_at at.Within p ++ file.Pass l ∷ [] =
-    ap (λ t. top p ++ (before ++ file.Loop ∷ t)) (map_push file.Pass p.lines l)
+    ap (λ t. top p ++ (before ++ file.Loop ∷ t)) (map_next file.Pass p.lines l)
     ∙ ap (λ t. top p ++ t) (sym (append_assoc before (file.Loop ∷ map file.Pass p.lines) (file.Pass l ∷ []))) ∙ sym (append_assoc (top p) (before ++ file.Loop ∷ map file.Pass p.lines) (file.Pass l ∷ [])) in
     some_is (Followed (lines_at at.Within p) (file.Pass l)) n q e
     (subst (λ (t : Stage). Holds t n × (lines_at t n ≡ lines_at at.Within p ++ file.Pass l ∷ [])) (sym s) ((h.0, h.1, fits_push (FitsLine shard_limits) p.lines l h.2 f), lines))
@@ -320,7 +302,7 @@ begin_at at.Within p h =
       shard = with_loops p loops;
       valid = revalid p loops h.0 fits;
       more = more;
-      lines = parts p loops ∙ closed_lines (top p) p.loops lines (file.End ∷ []) ∙ ap (λ t. (top p ++ (before ++ file.Loop ∷ t)) ++ file.End ∷ []) (map_push file.Pass p.lines (pass.Count 0))
+      lines = parts p loops ∙ closed_lines (top p) p.loops lines (file.End ∷ []) ∙ ap (λ t. (top p ++ (before ++ file.Loop ∷ t)) ++ file.End ∷ []) (map_next file.Pass p.lines (pass.Count 0))
           ∙ ap (λ t. (top p ++ t) ++ file.End ∷ []) (sym (append_assoc before (file.Loop ∷ map file.Pass p.lines) (file.Pass (pass.Count 0) ∷ [])))
           ∙ ap (λ t. t ++ file.End ∷ []) (sym (append_assoc (top p) (before ++ file.Loop ∷ map file.Pass p.lines) (file.Pass (pass.Count 0) ∷ [])))
           ∙ append_assoc (top p ++ (before ++ file.Loop ∷ map file.Pass p.lines)) (file.Pass (pass.Count 0) ∷ []) (file.End ∷ []);
@@ -330,9 +312,3 @@ begin_at at.Ended p h = record { shard = shard_of p; valid = revalid p p.loops h
 
 pub begins : (p : Progress) → IsProgress p → Begins (lines_so_far p)
 begins p h = begin_at p.stage p h
-
--- where the end was read, the lines are those of the shard
-pub ended_lines : (p : Progress) → p.stage ≡ at.Ended → IsProgress p → IsShard (shard_of p) × (file_lines (shard_of p) ≡ lines_so_far p)
-ended_lines p s h =
-    let held : Holds at.Ended p = subst (λ (t : Stage). Holds t p) s h in
-    (revalid p p.loops held.0 held.1, parts p p.loops ∙ sym (ap (λ (t : Stage). lines_at t p) s))

@@ -4,6 +4,7 @@ use Rattle.std.specs.Prelude.{◌==◌, nat_le, not}
 use Rattle.std.specs.List.{list_all}
 use Rattle.std.proofs.lemmas.Bool.Decides.{nat_tests}
 use Rattle.std.proofs.lemmas.List.Splits.{join_with_byte-slice_split}
+use Rattle.lemmas.proofs.Booleans.{and_left, and_right}
 use Rattle.rdf_values.specs.Names.{is_name, is_word, is_word_byte, is_word_start, same}
 use Rattle.rdf_values.specs.Tables.{AreColumns}
 use Rattle.rdf_values.specs.declared.column.Column.{Column}
@@ -23,14 +24,6 @@ use Rattle.shard_files.proofs.FileLines.{FitsFileLine, same_line}
 
 -- ---- words are plain
 
-pub and_first : (x y : Bool) → (x && y) ≡ true → x ≡ true
-and_first true y e = refl
-and_first false y e = e
-
-pub and_second : (x y : Bool) → (x && y) ≡ true → y ≡ true
-and_second true y e = e
-and_second false y e = absurd (let no : false ≡ true = e in cc no)
-
 word_byte : (b : ℕ) → is_word_byte b ≡ true → 32 < b
 word_byte b e = grind (arith, nat_tests)
 
@@ -39,17 +32,17 @@ word_start b e = grind (arith, nat_tests)
 
 word_bytes : (bs : List ℕ) → list_all is_word_byte bs ≡ true → Plain bs
 word_bytes [] h = tt
-word_bytes (b ∷ bs) h = (word_byte b (and_first (is_word_byte b) (list_all is_word_byte bs) h), word_bytes bs (and_second (is_word_byte b) (list_all is_word_byte bs) h))
+word_bytes (b ∷ bs) h = (word_byte b (and_left (is_word_byte b) (list_all is_word_byte bs) h), word_bytes bs (and_right (is_word_byte b) (list_all is_word_byte bs) h))
 
 word_plain : (name : List ℕ) → is_word name ≡ true → Plain name
 word_plain [] h = tt
-word_plain (b ∷ bs) h = (word_start b (and_first (is_word_start b) (list_all is_word_byte bs) h), word_bytes bs (and_second (is_word_start b) (list_all is_word_byte bs) h))
+word_plain (b ∷ bs) h = (word_start b (and_left (is_word_start b) (list_all is_word_byte bs) h), word_bytes bs (and_right (is_word_start b) (list_all is_word_byte bs) h))
 
 pub name_plain : (name : List ℕ) → is_name name ≡ true → Plain name
 unfolding is_name
 name_plain name h =
-    word_plain name (and_first (is_word name) (nat_le (length name) 64)
-    (and_first (is_word name && nat_le (length name) 64) (not (same name (codes "true"))) (and_first (is_word name && nat_le (length name) 64 && not (same name (codes "true"))) (not (same name (codes "false"))) h)))
+    word_plain name (and_left (is_word name) (nat_le (length name) 64)
+    (and_left (is_word name && nat_le (length name) 64) (not (same name (codes "true"))) (and_left (is_word name && nat_le (length name) 64 && not (same name (codes "true"))) (not (same name (codes "false"))) h)))
 
 pub kind_plain : (t : ColType) → Plain (kind_word t)
 kind_plain k.Int = written (codes "int") refl
@@ -170,7 +163,7 @@ fit_last (m ∷ ls) l f = fit_last ls l f.1
 columns_fit : (seen cs : List Column) → AreColumns seen cs → list_all (λ (c : Column). is_name c.name) cs ≡ true → AllFit (map file.Column cs)
 columns_fit seen [] a h = tt
 columns_fit seen (c ∷ cs) a h =
-    ((and_first (is_name c.name) (list_all (λ (d : Column). is_name d.name) cs) h, a.1), columns_fit (seen ++ c ∷ []) cs a.2 (and_second (is_name c.name) (list_all (λ (d : Column). is_name d.name) cs) h))
+    ((and_left (is_name c.name) (list_all (λ (d : Column). is_name d.name) cs) h, a.1), columns_fit (seen ++ c ∷ []) cs a.2 (and_right (is_name c.name) (list_all (λ (d : Column). is_name d.name) cs) h))
 
 passes_fit : (ls : List ShardLine) → FitLines shard_limits ls → AllFit (map file.Pass ls)
 passes_fit [] h = tt

@@ -10,6 +10,7 @@ use Rattle.std.proofs.lemmas.Bool.Decides.{nat_tests}
 use Rattle.std.proofs.lemmas.Fmt.{decimal_by_steps_wide, decimal_digit, decimal_is_IsNumeral_wide, decimal_step_wide}
 use Rattle.std.proofs.lemmas.Int.Digits.{digits_value_push}
 use Rattle.std.proofs.lemmas.Str.{digit_value_digit}
+use Rattle.lemmas.proofs.Booleans.{both_true}
 use Rattle.rdf_values.proofs.Digits.{grows}
 use Rattle.rdf_values.specs.Integers.{begins_badly, digits_up_to, is_empty, magnitude_of}
 
@@ -143,15 +144,10 @@ canonical (suc k) (d ∷ e ∷ ds) l p b h =
 digit_by : (d : ℕ) → is_ascii_digit d ≡ true → (47 < d) × (d < 58)
 digit_by d h = (grind (arith, nat_tests), grind (arith, nat_tests))
 
-and_both : (x y : Bool) → (x && y) ≡ true → (x ≡ true) × (y ≡ true)
-and_both true true h = (refl, refl)
-and_both true false h = cc h
-and_both false y h = cc h
-
 digits_by : (ds : List ℕ) → all_ascii_digits ds ≡ true → Digits ds
 digits_by [] h = tt
 digits_by (d ∷ ds) h =
-    let both = and_both (is_ascii_digit d) (all_ascii_digits ds) h in
+    let both = both_true (is_ascii_digit d) (all_ascii_digits ds) h in
     let one = digit_by d both.0 in
     (one.0, one.1, digits_by ds both.1)
 

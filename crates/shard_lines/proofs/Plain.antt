@@ -4,9 +4,10 @@ use Rattle.std.specs.Prelude.{◌==◌, nat_lt}
 use Rattle.std.specs.Fmt.{signed_decimal}
 use Rattle.std.proofs.lemmas.Bool.{ltb-true}
 use Rattle.std.proofs.lemmas.Bool.Decides.{nat_tests}
+use Rattle.lemmas.proofs.Booleans.{both_true}
 use Rattle.rdf_values.specs.declared.value.Scalar.{Scalar}
 use Rattle.rdf_values.specs.declared.value.Scalar.TheVariants as scalar
-use Rattle.filters_report.specs.declared.flow.Counts.{Counts}
+use Rattle.loop_pieces.specs.declared.flow.Counts.{Counts}
 use Rattle.histograms.specs.declared.cell_sum.CellSum.{CellSum}
 use Rattle.shard_lines.specs.Lines.{cell_words, count_words, extreme_word, joined_words, line_words, scalar_word}
 use Rattle.shard_lines.specs.Reading.{words_in}
@@ -36,11 +37,6 @@ pub signed_plain : (z : ℤ) → Plain (signed_decimal z)
 signed_plain (pos n) = decimal_plain n
 signed_plain (negsuc n) = (omega arith, decimal_plain (suc n))
 
-and_both : (x y : Bool) → (x && y) ≡ true → (x ≡ true) × (y ≡ true)
-and_both true true h = (refl, refl)
-and_both true false h = cc h
-and_both false y h = cc h
-
 abbrev pub are_plain : List ℕ → Bool
 are_plain [] = true
 are_plain (b ∷ bs) = nat_lt 32 b && are_plain bs
@@ -48,7 +44,7 @@ are_plain (b ∷ bs) = nat_lt 32 b && are_plain bs
 -- a word that is written out
 pub written : (w : List ℕ) → are_plain w ≡ true → Plain w
 written [] h = tt
-written (b ∷ bs) h = let both = and_both (nat_lt 32 b) (are_plain bs) h in (ltb-true 32 b both.0, written bs both.1)
+written (b ∷ bs) h = let both = both_true (nat_lt 32 b) (are_plain bs) h in (ltb-true 32 b both.0, written bs both.1)
 
 scalar_plain : (x : Scalar) → Plain (scalar_word x)
 scalar_plain (scalar.Int z) = signed_plain z

@@ -10,7 +10,7 @@ use Rattle.rdf_values.specs.Names.{same}
 use Rattle.rdf_values.specs.Words.{Has64Bits}
 use Rattle.rdf_values.specs.declared.value.Scalar.{Scalar}
 use Rattle.rdf_values.specs.declared.value.Scalar.TheVariants as scalar
-use Rattle.filters_report.specs.declared.flow.Counts.{Counts}
+use Rattle.loop_pieces.specs.declared.flow.Counts.{Counts}
 use Rattle.histograms.specs.declared.cell_sum.CellSum.{CellSum}
 use Rattle.shard_lines.specs.Laws.{LinesReadBack, ReadLinesFit}
 use Rattle.shard_lines.specs.Lines.{AreLimits, EachFits, FitsCell, FitsCount, FitsExtreme, FitsLine, FitsScalar, FitsTake, IsShort, IsSmall, are_alike, extreme_word, line_words, scalar_word}

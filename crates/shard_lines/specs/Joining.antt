@@ -3,7 +3,7 @@ use Rattle.std.specs.Prelude.{ℕ, ℤ, ◌+◌, ◌+ℤ◌, pos, List, [], ◌�
 use Rattle.std.specs.Int.{int_min, int_max}
 use Rattle.rdf_values.specs.Fold.{reduce_step}
 use Rattle.rdf_values.specs.declared.value.Scalar.{Scalar}
-use Rattle.filters_report.specs.declared.flow.Counts.{Counts}
+use Rattle.loop_pieces.specs.declared.flow.Counts.{Counts}
 use Rattle.histograms.specs.declared.cell_sum.CellSum.{CellSum}
 use Rattle.shard_lines.specs.declared.pass_shape.PassShape.{PassShape}
 use Rattle.shard_lines.specs.declared.pass_shape.PassShape.TheVariants as shape

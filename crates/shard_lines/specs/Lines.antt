@@ -5,7 +5,7 @@ use Rattle.std.specs.List.{join_with_byte, list_all}
 use Rattle.rdf_values.specs.Words.{Has64Bits}
 use Rattle.rdf_values.specs.declared.value.Scalar.{Scalar}
 use Rattle.rdf_values.specs.declared.value.Scalar.TheVariants as scalar
-use Rattle.filters_report.specs.declared.flow.Counts.{Counts}
+use Rattle.loop_pieces.specs.declared.flow.Counts.{Counts}
 use Rattle.histograms.specs.declared.cell_sum.CellSum.{CellSum}
 use Rattle.shard_lines.specs.declared.limits.LineLimits.{LineLimits}
 use Rattle.shard_lines.specs.declared.shard_line.ShardLine.{ShardLine}

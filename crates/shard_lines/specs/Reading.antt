@@ -5,7 +5,7 @@ use Rattle.rdf_values.specs.Integers.{integer_of, magnitude_of, negative, positi
 use Rattle.rdf_values.specs.Names.{same}
 use Rattle.rdf_values.specs.declared.value.Scalar.{Scalar}
 use Rattle.rdf_values.specs.declared.value.Scalar.TheVariants as scalar
-use Rattle.filters_report.specs.declared.flow.Counts.{Counts}
+use Rattle.loop_pieces.specs.declared.flow.Counts.{Counts}
 use Rattle.histograms.specs.declared.cell_sum.CellSum.{CellSum}
 use Rattle.shard_lines.specs.Lines.{are_alike}
 use Rattle.shard_lines.specs.declared.limits.LineLimits.{LineLimits}

@@ -3,8 +3,8 @@ ghost use Rattle.std.specs.Prelude.{◌≡◌};
 ghost use Rattle.shard_lines.specs.Joining.{cells_of, count_of, counts_of, extreme_of, number_of, sum_of, taken_of};
 
 use crate::shard_line::ShardLine;
-use filters_report::Counts;
 use histograms::CellSum;
+use loop_pieces::Counts;
 use rdf_values::{ListOf, Scalar};
 use std::alloc::Global;
 

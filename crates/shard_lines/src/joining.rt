@@ -15,8 +15,8 @@ use crate::held::{
 };
 use crate::pass_shape::PassShape;
 use crate::shard_line::ShardLine;
-use filters_report::Counts;
 use histograms::CellSum;
+use loop_pieces::Counts;
 use rdf_values::{ListOf, Memory, ReduceOp, Scalar};
 use std::alloc::Global;
 

@@ -1,6 +1,6 @@
 //! The lines of what the passes of a loop came to over some of the entries: their text, their limits, and how the lines of
 //! two runs are joined. Files of results stand on it, each with first lines and limits of its own. Stands on `rdf_values`,
-//! `filters_report` and `histograms`.
+//! `loop_pieces` and `histograms`.
 //!
 //! `specs/Lines.antt` has the words and limits of a line, `specs/Shapes.antt` which line a pass has, and
 //! `specs/Joining.antt` what two lines come to.

@@ -12,8 +12,8 @@ ghost use Rattle.shard_lines.specs.Lines.{
 ghost use Rattle.shard_lines.specs.Spaced.{spaced};
 
 use crate::shard_line::ShardLine;
-use filters_report::Counts;
 use histograms::CellSum;
+use loop_pieces::Counts;
 use rdf_values::{Memory, Scalar, Text};
 use std::alloc::Global;
 

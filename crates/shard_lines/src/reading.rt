@@ -22,8 +22,8 @@ use crate::line_kind::LineKind;
 use crate::numbers::read_sum;
 use crate::shard_line::ShardLine;
 use crate::words::{first_word, lone_word, next_word};
-use filters_report::Counts;
 use histograms::CellSum;
+use loop_pieces::Counts;
 use rdf_values::{ListOf, Memory, Scalar, read_integer, read_magnitude};
 use std::alloc::Global;
 

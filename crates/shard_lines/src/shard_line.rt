@@ -1,6 +1,6 @@
 // The line of a pass.
-use filters_report::Counts;
 use histograms::CellSum;
+use loop_pieces::Counts;
 use rdf_values::{ListOf, Scalar};
 
 /// What a pass came to: a count, a sum, the number of a Reduce, an extreme or none, the values of a Take, the cells of a

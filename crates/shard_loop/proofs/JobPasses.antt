@@ -4,12 +4,12 @@ use Rattle.std.specs.Prelude.{All, option_map, slice_get}
 use Rattle.std.proofs.lemmas.Grind.{flat_map-append}
 use Rattle.std.proofs.lemmas.List.{map-append}
 use Rattle.std.proofs.lemmas.Option.{same_Some, slice_get-map}
+use Rattle.lemmas.proofs.Parts.{take_next}
 use Rattle.rdf_values.specs.Bookings.{ActionAt, Booking, Pass, ReportOn, named_before}
 use Rattle.rdf_values.specs.Path.{Path, history}
 use Rattle.rdf_values.specs.declared.action.ActionKind.{ActionKind}
 use Rattle.rdf_model.specs.LoopFacts.{kind_in, kinds_in}
 use Rattle.rdf_model.specs.PartialResults.{over_clusters}
-use Rattle.cluster_tally.proofs.ListPlaces.{take_next}
 use Rattle.graph_numbers.specs.Graphs.{GraphView, graph_filters, graph_results, graph_under}
 use Rattle.graph_numbers.specs.Results.{FilterAt, ResultAt, kind_of_booking}
 use Rattle.graph_numbers.specs.declared.pass.Pass.{Pass as NumberedPass}
@@ -18,7 +18,7 @@ use Rattle.graph_numbers.specs.declared.result_kind.ResultKind.TheVariants as wh
 use Rattle.graph_numbers.proofs.AcceptedNumbers.{filters_are_the_scripts, reports_cover_filters}
 use Rattle.loop_keys.specs.Caches.{numbered_in}
 use Rattle.loop_keys.specs.Jobs.{JobView, job_graph, passes_in}
-use Rattle.pass_laws.specs.Entries.{job_spans}
+use Rattle.loop_keys.specs.Entries.{job_spans}
 use Rattle.loop_pieces.specs.declared.loop_piece.LoopPiece.{LoopPiece}
 use Rattle.slot_state.proofs.Adding.{its_pass, its_result, of_action, of_report, result_is}
 use Rattle.shard_spans.specs.Spans.{clusters_in, pass_line}

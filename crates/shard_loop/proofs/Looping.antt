@@ -3,6 +3,8 @@ use Rattle.std.proofs.Common.{◌≡◌, ℕ, zero, suc, ◌+◌, ◌<◌, ◌�
 use Rattle.std.specs.Prelude.{option_map, slice_get, unwrap_or}
 use Rattle.std.proofs.lemmas.List.{length-map}
 use Rattle.std.proofs.lemmas.Option.{slice_get-map}
+use Rattle.lemmas.proofs.Parts.{none_left}
+use Rattle.lemmas.proofs.Places.{something_at}
 use Rattle.rdf_values.specs.Bookings.{Booked, Pass}
 use Rattle.rdf_values.specs.Path.{history}
 use Rattle.rdf_values.specs.declared.fault.Fault.{Fault}
@@ -10,13 +12,12 @@ use Rattle.rdf_values.specs.declared.script.Script.{Script}
 use Rattle.rdf_values.specs.declared.span.Span.{Span}
 use Rattle.rdf_model.specs.Loops.{loop_passes, loop_results}
 use Rattle.rdf_model.specs.Results.{Dataset}
-use Rattle.cluster_tally.proofs.ListPlaces.{there}
 use Rattle.graph_numbers.specs.Graphs.{GraphView, graph_loops}
 use Rattle.graph_numbers.specs.Results.{pass_at}
 use Rattle.graph_numbers.proofs.Extending.{itself}
 use Rattle.graph_numbers.proofs.Looping.{loops_are}
 use Rattle.loop_keys.specs.Jobs.{JobView, passes_in}
-use Rattle.pass_laws.specs.Entries.{job_spans}
+use Rattle.loop_keys.specs.Entries.{job_spans}
 use Rattle.loop_pieces.specs.declared.loop_piece.LoopPiece.{LoopPiece}
 use Rattle.shard_lines.specs.declared.shard_line.ShardLine.{ShardLine}
 use Rattle.shard_files.specs.LoopsAt.{is_faulty}
@@ -54,7 +55,7 @@ loops_many g =
 pub loop_there : (script : Script) (n : ℕ) → n < length (loops_of script) → slice_get (loops_of script) n ≡ Some (loop_in script n)
 loop_there script n lt =
     let h = history script in
-    let here = there (loop_results h) n (omega (arith, length-map (loop_results h) (loop_passes h))) in
+    let here = something_at (loop_results h) n (omega (arith, length-map (loop_results h) (loop_passes h))) in
     slice_get-map (loop_passes h) (loop_results h) n ∙ ap (option_map (loop_passes h)) here.1 ∙ ap (λ (o : Option (List Booked)). Some (loop_passes h (unwrap_or o []))) (sym here.1)
 
 pub one_left : {A : Type 0} (xs : List A) (n : ℕ) (x : A) → slice_get xs n ≡ Some x → drop n xs ≡ x ∷ drop (n + 1) xs
@@ -65,14 +66,8 @@ one_left {A} (y ∷ ys) zero x at = ap (λ z. z ∷ ys) (same_some at)
     same_some q = cc
 one_left (y ∷ ys) (suc n) x at = one_left ys n x at ∙ (let e : suc n + 1 ≡ suc (n + 1) = omega arith in ap (λ k. x ∷ drop k (y ∷ ys)) (sym e))
 
-pub all_dropped : {A : Type 0} (xs : List A) (n : ℕ) → length xs ≤ n → drop n xs ≡ []
-all_dropped [] zero le = refl
-all_dropped [] (suc n) le = refl
-all_dropped (x ∷ xs) zero le = absurd (omega arith)
-all_dropped (x ∷ xs) (suc n) le = all_dropped xs n (omega arith)
-
 module _ (spans : List Span) (d : Dataset) (lo hi : ℕ) (script : Script) where
-  -- what is there, and what follows
+  -- what is something_at, and what follows
   abbrev pub IsUpToLoop : ℕ → List ShardLoop → Type 0
   IsUpToLoop n all = all ++ span_loops spans d lo hi (drop n (loops_of script)) ≡ span_loops spans d lo hi (loops_of script)
 
@@ -102,4 +97,4 @@ module _ (spans : List Span) (d : Dataset) (lo hi : ℕ) (script : Script) where
       pushed ∙ sym (ap (λ l. all ++ l) (left n one lt is ∙ after_fault one (span_loops spans d lo hi (drop (n + 1) (loops_of script))) faulty)) ∙ h
 
   pub no_loop_left : (n : ℕ) (all : List ShardLoop) → length (loops_of script) ≤ n → IsUpToLoop n all → all ≡ span_loops spans d lo hi (loops_of script)
-  no_loop_left n all le h = sym (append-nil all) ∙ sym (ap (λ l. all ++ span_loops spans d lo hi l) (all_dropped (loops_of script) n le)) ∙ h
+  no_loop_left n all le h = sym (append-nil all) ∙ sym (ap (λ l. all ++ span_loops spans d lo hi l) (none_left (loops_of script) n le)) ∙ h

@@ -6,6 +6,7 @@ use Rattle.std.proofs.lemmas.Grind.{flat_map-append}
 use Rattle.std.proofs.lemmas.List.{length-map, map-append}
 use Rattle.std.proofs.lemmas.List.Elements.{All-from_recursion}
 use Rattle.std.proofs.lemmas.Option.{get_or_from_slice_get, same_Some, slice_get-map, slice_get_within}
+use Rattle.lemmas.proofs.Places.{something_at}
 use Rattle.rdf_values.specs.Bookings.{ActionAt, Booking, Pass, ReportOn, named_before}
 use Rattle.rdf_values.specs.Cuts.{below}
 use Rattle.rdf_values.specs.Path.{Path, path}
@@ -22,8 +23,8 @@ use Rattle.rdf_model.specs.LoopFacts.{kind_in, kinds_in, loop_facts}
 use Rattle.rdf_model.specs.PartialResults.{over_clusters}
 use Rattle.rdf_model.specs.Results.{Dataset, cutflow, fault_at, fault_or, first_fault, first_fault_from, first_fault_in, first_of, pass_result}
 use Rattle.actions.specs.Accumulators.{Accumulator}
-use Rattle.filters_report.specs.Flows.{nothing}
-use Rattle.filters_report.specs.declared.flow.Counts.{Counts}
+use Rattle.loop_pieces.specs.Flows.{nothing}
+use Rattle.loop_pieces.specs.declared.flow.Counts.{Counts}
 use Rattle.graph_numbers.proofs.Listed.{next_at, of_joined}
 use Rattle.loop_pieces.specs.LoopPieces.{StandsFor, counts_at}
 use Rattle.loop_pieces.specs.Whole.{counts_of}
@@ -32,11 +33,6 @@ use Rattle.loop_pieces.proofs.WholeLoops.{piece_holds_counts, piece_holds_result
 use Rattle.shard_spans.specs.Spans.{booking_line, filled_line, pass_line}
 
 -- ---- lists
-
-something_at : {A : Type 0} (xs : List A) (k : ℕ) → k < length xs → (x : A) × (slice_get xs k ≡ Some x)
-something_at [] k lt = absurd (omega arith)
-something_at (x ∷ xs) zero lt = (x, refl)
-something_at (x ∷ xs) (suc k) lt = something_at xs k (omega arith)
 
 -- what stands before and behind an element
 split_at : {A : Type 0} (xs : List A) (n : ℕ) (x : A) → slice_get xs n ≡ Some x → xs ≡ take n xs ++ x ∷ drop (suc n) xs

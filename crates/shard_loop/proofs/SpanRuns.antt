@@ -10,7 +10,7 @@ use Rattle.rdf_values.proofs.Below.{length-below, slice_get-below}
 use Rattle.rdf_values.proofs.Leading.{cuts_lead}
 use Rattle.rdf_model.specs.Results.{first_of}
 use Rattle.loop_keys.specs.Jobs.{IsJob, JobView, passes_in}
-use Rattle.pass_laws.specs.Entries.{job_spans}
+use Rattle.loop_keys.specs.Entries.{job_spans}
 use Rattle.loop_pieces.specs.Whole.{cluster_fault}
 use Rattle.slot_state.specs.Jobs.{job_facts}
 use Rattle.slot_state.specs.Slots.{IsFreshSlot, IsSlotOf, SlotView}

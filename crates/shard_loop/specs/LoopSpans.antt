@@ -11,7 +11,7 @@ use Rattle.rdf_model.specs.Loops.{loop_passes, loop_results}
 use Rattle.rdf_model.specs.Results.{Dataset}
 use Rattle.columns.specs.ColumnsView.{ColumnsView}
 use Rattle.loop_keys.specs.Jobs.{JobView, passes_in}
-use Rattle.pass_laws.specs.Entries.{facts_in, job_spans}
+use Rattle.loop_keys.specs.Entries.{facts_in, job_spans}
 use Rattle.loop_pieces.specs.LoopPieces.{StandsFor}
 use Rattle.loop_pieces.specs.declared.loop_piece.LoopPiece.{LoopPiece}
 use Rattle.shard_spans.specs.Spans.{clusters_in, over_span, span_fault}

@@ -1,12 +1,12 @@
 // The lines of what accumulators and filters hold.
 ghost use Rattle.std.specs.Prelude.{◌≡◌, ◌<◌, ◌++◌, All, IfOk, OnOk, flat_map, length, map, slice_index_or, []};
 ghost use Rattle.actions.specs.Fillings.{filled_seen};
-ghost use Rattle.filters_report.specs.Flows.{nothing};
+ghost use Rattle.loop_pieces.specs.Flows.{nothing};
 ghost use Rattle.shard_spans.specs.Spans.{cell_sum, filled_line};
 
 use actions::{Filled, Taken};
-use filters_report::{Counts, Flow};
 use histograms::{CellSum, Hist1, Hist2};
+use loop_pieces::{Counts, Flow};
 use rdf_values::{ListOf, Memory, Scalar};
 use shard_lines::ShardLine;
 use std::alloc::Global;

@@ -3,7 +3,7 @@ ghost use Rattle.std.specs.Prelude.{◌≡◌, ◌<◌, ◌≤◌, IfOk, length}
 ghost use Rattle.rdf_values.specs.Path.{history};
 ghost use Rattle.rdf_values.specs.Words.{StatementsHaveWords};
 ghost use Rattle.loop_keys.specs.Jobs.{Fits, job_of};
-ghost use Rattle.pass_laws.specs.Entries.{job_spans};
+ghost use Rattle.loop_keys.specs.Entries.{job_spans};
 ghost use Rattle.shard_loop.specs.LoopSpans.{IsSpanned};
 
 use expr_eval::Steps;

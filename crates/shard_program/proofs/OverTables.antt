@@ -19,9 +19,9 @@ use Rattle.rdf_values.proofs.Leading.{cuts_lead}
 use Rattle.columns.specs.ColumnsView.{ColumnsView}
 use Rattle.graph_numbers.specs.Graphs.{GraphView, IsGraph, booked, booked_unless}
 use Rattle.input_files.specs.Due.{due_of}
-use Rattle.node_graph.specs.Refusals.{refused_at}
-use Rattle.node_graph.specs.declared.refusal.GraphRefusal.{GraphRefusal}
-use Rattle.node_graph.specs.declared.refusal.GraphRefusal.TheVariants as graph
+use Rattle.graph.specs.Refusals.{refused_at}
+use Rattle.graph.specs.declared.refusal.GraphRefusal.{GraphRefusal}
+use Rattle.graph.specs.declared.refusal.GraphRefusal.TheVariants as graph
 use Rattle.shard_files.specs.Shards.{IsShard, ShardView}
 use Rattle.shard_loop.specs.LoopSpans.{cuts_of, table_of}
 use Rattle.shard_runs.proofs.Runs.{runs_are_shards}

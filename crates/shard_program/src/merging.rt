@@ -14,7 +14,7 @@ use command_words::FileName;
 use entry_fns::FnList;
 use graph_shapes::{graph_shapes, joined_loops_fit};
 use merged_text::merged_text;
-use node_graph::{Graph, GraphRefusal};
+use graph::{Graph, GraphRefusal};
 use rdf_values::{ListOf, Memory, Script};
 use shard_due::ShardStatus;
 use shard_files::{MergeCause, MergeRefusal, Shard, ShardLoop, merge_shards, same_columns};

@@ -11,10 +11,9 @@ ghost use Rattle.shard_program.specs.Running.{columns_over};
 
 use crate::answer::Answer;
 use crate::span_file::answer_span;
-use clusters::cut;
-use columns::Columns;
+use columns::{Columns, cut};
 use entry_fns::FnList;
-use node_graph::{Graph, GraphRefusal};
+use graph::{Graph, GraphRefusal};
 use rdf_values::{Memory, Script};
 use shard_words::SpanRun;
 use std::alloc::Global;

@@ -15,7 +15,7 @@ use crate::answer::Answer;
 use crate::lines::{long_files_line, span_line};
 use columns::Columns;
 use entry_fns::FnList;
-use node_graph::Graph;
+use graph::Graph;
 use rdf_values::{Column, ListOf, Memory, Name, Span};
 use shard_due::ShardStatus;
 use shard_files::{Shard, ShardParts, print_shard};

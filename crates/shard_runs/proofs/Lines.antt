@@ -2,6 +2,7 @@
 use Rattle.std.proofs.Common.{◌≡◌, ℕ, suc, ◌*◌, ◌^◌, ◌≤◌, ℤ, Bool, true, false, ◌&&◌, List, [], ◌∷◌, ◌++◌, length, map, Option, refl, ap, ◌∙◌, arith, if◌then◌else◌}
 use Rattle.std.specs.Prelude.{⊤, nat_eq, flat_map, ◌||◌}
 use Rattle.std.specs.List.{AllByRecursion, list_all}
+use Rattle.lemmas.proofs.Booleans.{or_true}
 use Rattle.rdf_values.specs.Fold.{Cell, bin, cell_of, cells_on, flat_cell, fold_items, numbers_of, scalar_of, square_cell, weight_in, weight_in2}
 use Rattle.rdf_values.specs.Words.{Has64Bits}
 use Rattle.rdf_values.specs.declared.action.ActionKind.{ActionKind}
@@ -64,10 +65,6 @@ all_of_kind t (item.Number z ∷ items) h = all_of_kind t items h.1
 all_of_kind t (item.Unit ∷ items) h = all_of_kind t items h.1
 all_of_kind t (item.Point z w ∷ items) h = all_of_kind t items h.1
 all_of_kind t (item.Point2 z s w ∷ items) h = all_of_kind t items h.1
-
-or_true : (b : Bool) → (b || true) ≡ true
-or_true true = refl
-or_true false = refl
 
 alike : (t : ColType) (xs : List Scalar) → list_all (is_taken_from t) xs ≡ true → are_alike xs ≡ true
 alike k.Int xs h = ap (λ b. b || list_all is_truth xs) h

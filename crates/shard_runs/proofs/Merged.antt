@@ -4,6 +4,7 @@ use Rattle.std.specs.Prelude.{All, nat_eq, position}
 use Rattle.std.specs.List.{AllByRecursion, position_from}
 use Rattle.std.proofs.lemmas.Bool.Decides.{nat_tests}
 use Rattle.std.proofs.lemmas.Iterator.Adapters.{position_from-zero}
+use Rattle.lemmas.proofs.Orders.{eq_itself}
 use Rattle.rdf_values.specs.Cuts.{Lead}
 use Rattle.rdf_values.specs.declared.column.Column.{Column}
 use Rattle.rdf_values.specs.declared.script.Script.{Script}
@@ -45,9 +46,6 @@ pub columns_itself : (cs : List Column) → same_columns cs cs ≡ true
 columns_itself [] = refl
 columns_itself (c ∷ cs) = ap₂ (λ a b. a && b) (ap₂ (λ a b. a && b) (itself c.name) (kind_itself c.kind)) (columns_itself cs)
 
-number_itself : (n : ℕ) → nat_eq n n ≡ true
-number_itself n = grind (arith, nat_tests)
-
 -- ---- merging
 
 module _ (script : Script) (d : Dataset) (spans : List Span) (checked : IsChecked script d) where
@@ -55,7 +53,7 @@ module _ (script : Script) (d : Dataset) (spans : List Span) (checked : IsChecke
   run s = span_shard script d spans s.lo s.hi
 
   heads : (s t : Span) → same_head (run s) (run t) ≡ true
-  heads s t = ap₂ (λ a b. a && b) (ap₂ (λ a b. a && b) (number_itself (length d.rows)) (number_itself (length spans))) (columns_itself d.columns)
+  heads s t = ap₂ (λ a b. a && b) (ap₂ (λ a b. a && b) (eq_itself (length d.rows)) (eq_itself (length spans))) (columns_itself d.columns)
 
   same_heads : (s : Span) (parts : List Span) → AllByRecursion (λ t. not (same_head (run s) t) ≡ false) (map run parts)
   same_heads s [] = tt

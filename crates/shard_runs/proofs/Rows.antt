@@ -1,6 +1,7 @@
 -- The rows of a span, and the first fault in them.
 use Rattle.std.proofs.Common.{◌≡◌, ℕ, zero, suc, ◌+◌, ◌-◌, ◌<◌, ◌≤◌, List, [], ◌∷◌, ◌++◌, length, drop, take, Option, None, Some, refl, sym, ap, ◌∙◌, arith, length-append}
 use Rattle.std.specs.Prelude.{slice_get, slice_range}
+use Rattle.lemmas.proofs.Parts.{range_length}
 use Rattle.rdf_values.specs.Bookings.{Pass}
 use Rattle.rdf_values.specs.Cuts.{Lead}
 use Rattle.rdf_values.specs.Tables.{FitRows}
@@ -12,7 +13,6 @@ use Rattle.rdf_values.specs.declared.value.Value.{Value}
 use Rattle.rdf_model.specs.PartialResults.{rows_in, span_rows}
 use Rattle.rdf_model.specs.Results.{Dataset, fault_at, fault_or, first_fault_from, first_fault_in, first_of}
 use Rattle.loop_pieces.specs.Whole.{begin_of}
-use Rattle.loop_pieces.proofs.Places.{range_length}
 use Rattle.shard_spans.specs.Spans.{clusters_in}
 use Rattle.shard_spans.proofs.SpanFaults.{clusters_none, long, range_of, rows_next}
 

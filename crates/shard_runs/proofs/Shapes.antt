@@ -4,6 +4,7 @@ use Rattle.std.specs.Prelude.{flat_map, nat_eq, nat_lt, slice_get}
 use Rattle.std.specs.List.{AllByRecursion}
 use Rattle.std.proofs.lemmas.Bool.Decides.{nat_tests}
 use Rattle.std.proofs.lemmas.List.{length-map}
+use Rattle.lemmas.proofs.Orders.{lt_true}
 use Rattle.rdf_values.specs.Bookings.{ActionAt, Booking, Pass, ReportOn}
 use Rattle.rdf_values.specs.Fold.{Cell, cells_on, flat_cell, square_cell}
 use Rattle.rdf_values.specs.Path.{Path}
@@ -35,9 +36,6 @@ use Rattle.shard_runs.proofs.Takes.{FeedsWell}
 
 pub equal : (a b : ℕ) → a ≡ b → nat_eq a b ≡ true
 equal a b h = grind (arith, nat_tests, h)
-
-pub lower : (a b : ℕ) → a < b → nat_lt a b ≡ true
-lower a b h = grind (arith, nat_tests, h)
 
 cells_long : (f : ℕ → Cell) (js : List ℕ) → length (map cell_sum (map f js)) ≡ length js
 cells_long f [] = refl
@@ -105,7 +103,7 @@ module _ (d : Dataset) (spans : List Span) (fit : FitRows d.columns d.rows) (lo 
           let shape_of : Pass → PassShape = λ p. booking_shape (pass_kind d p) p.result.booking in
           let same_number : length (map shape_of ps) ≡ length ps = length-map ps shape_of in
           let pass = at.2 in
-          lower f.pass (length (map shape_of ps)) (omega arith)
+          lt_true f.pass (length (map shape_of ps)) (omega arith)
 
 pub runs_have_shapes : RunsHaveShapes
 runs_have_shapes script d spans lo hi checked = loops_shaped d spans checked.fit lo hi (loops_of script) (all_passes script d checked)

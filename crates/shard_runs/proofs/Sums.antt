@@ -6,11 +6,11 @@ use Rattle.std.specs.List.{AllByRecursion}
 use Rattle.std.proofs.Math.Nat.{mod-eq_of_lt, mod-lt}
 use Rattle.std.proofs.lemmas.Int.{SFits-int_wrap, unsigned_abs-mul, wrapping_add-bits}
 use Rattle.std.proofs.lemmas.Nat.{and_le_l, mul-le, or_lt, xor_lt}
+use Rattle.lemmas.proofs.Orders.{abs_add}
 use Rattle.rdf_values.specs.Fold.{cell_of, extreme, integer_sum, reduce_start, reduce_step}
 use Rattle.rdf_values.specs.Words.{Has64Bits}
 use Rattle.rdf_values.specs.declared.action.ReduceOp.{ReduceOp}
 use Rattle.rdf_values.specs.declared.action.ReduceOp.TheVariants as op
-use Rattle.actions.proofs.Sums.{abs_add}
 use Rattle.shard_lines.specs.Lines.{FitsExtreme}
 
 -- ---- lists

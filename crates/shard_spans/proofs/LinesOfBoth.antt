@@ -22,7 +22,7 @@ use Rattle.actions.proofs.Folds.{extreme_fold}
 use Rattle.actions.proofs.Operations.{extreme_from, max_comm, max_swap, min_comm, min_swap}
 use Rattle.actions.proofs.Reductions.{reduce_both}
 use Rattle.actions.proofs.Unordered.{sum_both}
-use Rattle.filters_report.specs.declared.flow.Counts.{Counts}
+use Rattle.loop_pieces.specs.declared.flow.Counts.{Counts}
 use Rattle.histograms.specs.declared.cell_sum.CellSum.{CellSum}
 use Rattle.loop_pieces.specs.Whole.{counts_of}
 use Rattle.shard_lines.specs.Joining.{added_cells, added_counts, better_of, joined_line}

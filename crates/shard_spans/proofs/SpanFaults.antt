@@ -4,6 +4,7 @@ use Rattle.std.specs.Prelude.{All, slice_get, slice_range}
 use Rattle.std.proofs.lemmas.Grind.{flat_map-append}
 use Rattle.std.proofs.lemmas.List.{map-append}
 use Rattle.std.proofs.lemmas.List.Elements.{All-nil, All-push}
+use Rattle.lemmas.proofs.Parts.{range_length}
 use Rattle.rdf_values.specs.Bookings.{Pass}
 use Rattle.rdf_values.specs.Cuts.{Lead}
 use Rattle.rdf_values.specs.Machine.{first_in}
@@ -13,7 +14,7 @@ use Rattle.rdf_values.specs.declared.value.Value.{Value}
 use Rattle.rdf_model.specs.PartialResults.{rows_in, span_rows}
 use Rattle.rdf_model.specs.Results.{Dataset, first_fault_from, first_fault_in, first_of}
 use Rattle.loop_pieces.specs.Whole.{begin_of, cluster_fault}
-use Rattle.loop_pieces.proofs.Places.{lead_up, range_length}
+use Rattle.loop_pieces.proofs.Places.{lead_up}
 use Rattle.shard_spans.specs.Laws.{FirstFaultyClusterHasTheFault}
 use Rattle.shard_spans.specs.Spans.{clusters_from, clusters_in, span_fault}
 
@@ -47,10 +48,6 @@ below_end lo hi le = let same : lo + (hi - lo) ≡ hi = omega arith in subst (λ
 first_of-assoc : (a b c : Option Fault) → first_of (first_of a b) c ≡ first_of a (first_of b c)
 first_of-assoc None b c = refl
 first_of-assoc (Some f) b c = refl
-
-first_of-none : (a : Option Fault) → first_of a None ≡ a
-first_of-none None = refl
-first_of-none (Some f) = refl
 
 pub first_in-append : (xs ys : List (Option Fault)) → first_in (xs ++ ys) ≡ first_of (first_in xs) (first_in ys)
 first_in-append [] ys = refl

@@ -1,5 +1,5 @@
 -- The loops of spans that follow one another come to those of one run over all clusters.
-use Rattle.std.proofs.Common.{◌≡◌, ◌⊎◌, inl, inr, ℕ, zero, suc, ◌+◌, ◌-◌, ◌<◌, ◌≤◌, Bool, false, List, [], ◌∷◌, ◌++◌, length, map, Option, None, Some, refl, sym, ap, ap₂, ◌∙◌, subst, arith, append-nil, append_assoc, if◌then◌else◌, ⊎_elim}
+use Rattle.std.proofs.Common.{◌≡◌, ◌⊎◌, inl, inr, ℕ, zero, suc, ◌+◌, ◌-◌, ◌<◌, ◌≤◌, Bool, false, List, [], ◌∷◌, ◌++◌, length, map, Option, None, Some, refl, sym, ap, ap₂, ◌∙◌, subst, arith, append-nil, append_assoc, ⊎_elim}
 use Rattle.std.specs.Prelude.{flat_map, fold, nat_lt, slice_get}
 use Rattle.std.proofs.lemmas.Bool.Decides.{nat_tests}
 use Rattle.std.proofs.lemmas.Grind.{flat_map-append}
@@ -44,11 +44,6 @@ clusters_by a b (suc n) le =
 
 clusters_split : (a b c : ℕ) → a ≤ b → b ≤ c → clusters_in a b ++ clusters_in b c ≡ clusters_in a c
 clusters_split a b c le up = let same : b + (c - b) ≡ c = omega arith in subst (λ k. clusters_in a b ++ clusters_in b k ≡ clusters_in a k) same (clusters_by a b (c - b) le)
-
-follow_up : (n at : ℕ) (ss : List ShardView) → Each (IsWithin n) ss → Follow n at ss → at ≤ n
-follow_up n at [] within h = omega arith
-follow_up n at (s ∷ ss) within (inl h) = follow_up n at ss within.1 h.1
-follow_up n at (s ∷ ss) within (inr h) = let lt = h.1 in let top = within.0.1 in omega arith
 
 -- ---- the first fault of a span has a cluster
 

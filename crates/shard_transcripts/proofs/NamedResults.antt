@@ -2,6 +2,8 @@
 use Rattle.std.proofs.Common.{◌≡◌, ℕ, zero, suc, Bool, true, false, not, ◌||◌, List, [], ◌∷◌, ◌++◌, Option, Some, refl, sym, ap, ap₂, ◌∙◌, arith, if◌then◌else◌, filter}
 use Rattle.std.specs.Prelude.{flat_map, slice_get}
 use Rattle.std.proofs.lemmas.Grind.{flat_map-append}
+use Rattle.lemmas.proofs.Answers.{same_some}
+use Rattle.lemmas.proofs.Places.{kept_at}
 use Rattle.rdf_values.specs.Bookings.{ActionAt, Booked, Booking, Pass, ReportOn, booked_by, bookings, filled, is_watched, names_of, passes_of, results_named, waiting}
 use Rattle.rdf_values.specs.Names.{among, same}
 use Rattle.rdf_values.specs.declared.statement.Statement.{Statement}
@@ -12,13 +14,9 @@ use Rattle.rdf_model.specs.Results.{Dataset}
 use Rattle.rdf_model.specs.Transcript.{named_lines, partial_lines, result_lines}
 use Rattle.rdf_model.proofs.Accepted.{names_equal}
 use Rattle.graph_numbers.proofs.Extending.{Extends, further, itself}
-use Rattle.graph_numbers.proofs.Listed.{kept_at}
-use Rattle.node_graph.specs.LoopRows.{AreNamedInTurn}
+use Rattle.graph.specs.LoopRows.{AreNamedInTurn}
 use Rattle.lazy_loop.proofs.Filling.{one_number}
 use Rattle.lazy_loop.proofs.Found.{AreOf, passes_are_of}
-
-same_some : {A : Type 0} {a b : A} → ◌≡◌ {A = Option A} (Some a) (Some b) → a ≡ b
-same_some q = cc
 
 -- ---- the only one that passes a test
 

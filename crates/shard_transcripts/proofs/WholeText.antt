@@ -2,6 +2,8 @@
 use Rattle.std.proofs.Common.{◌≡◌, ◌⊎◌, ℕ, zero, suc, ◌+◌, ◌-◌, ◌<◌, List, [], ◌∷◌, length, map, drop, Option, None, Some, refl, sym, ap, ap₂, ◌∙◌, subst, arith, ⊎_elim}
 use Rattle.std.specs.Prelude.{option_map, slice_get, unwrap_or}
 use Rattle.std.proofs.lemmas.Option.{same_Some, slice_get-map, slice_get_within}
+use Rattle.lemmas.proofs.Orders.{lt_or_last}
+use Rattle.lemmas.proofs.Places.{something_at}
 use Rattle.rdf_values.specs.Bookings.{Booked, Pass, results_named, bookings}
 use Rattle.rdf_values.specs.Cuts.{Lead, below}
 use Rattle.rdf_values.specs.Functions.{fn_names}
@@ -98,14 +100,6 @@ no_passes : (d : Dataset) (e : ℕ) (rows : List (List Value)) → first_fault_f
 no_passes d e [] = refl
 no_passes d e (row ∷ rows) = no_passes d (e + 1) rows
 
-something_at : {A : Type 0} (xs : List A) (k : ℕ) → k < length xs → (x : A) × (slice_get xs k ≡ Some x)
-something_at [] k lt = absurd (omega arith)
-something_at (x ∷ xs) zero lt = (x, refl)
-something_at (x ∷ xs) (suc k) lt = something_at xs k (omega arith)
-
-at_or_before : (m n : ℕ) → m < n + 1 → (m < n) ⊎ (m ≡ n)
-at_or_before m n h = grind arith
-
 head_at : {A : Type 0} (xs : List A) (p : ℕ) (x : A) (rest : List A) → drop p xs ≡ x ∷ rest → (slice_get xs p ≡ Some x) × (drop (p + 1) xs ≡ rest)
 head_at [] zero x rest h = absurd (cc)
 head_at [] (suc p) x rest h = absurd (cc)
@@ -196,7 +190,7 @@ module _ (script : Script) (d : Dataset) (spans : List Span) (course : Course) (
       more l ps number none lt at = ⊎_elim
           (λ (q : l < loops_before h p). sound l ps q at)
           (λ (q : l ≡ loops_before h p). ap (first_fault d) (same_Some ps (loop_passes h f.results) (sym at ∙ ap (slice_get L) (q ∙ sym number) ∙ passes_there a f)) ∙ none)
-          (at_or_before l (loops_before h p) lt)
+          (lt_or_last l (loops_before h p) lt)
 
       by_fault : (results : List Booked) → a.fills ≡ Some results → (o : Option Fault) → first_fault d (loop_passes h f.results) ≡ o → (SoundBefore (p + 1) → prints_text g W rest ≡ printed h d course rest)
           → merged.access_printed g W a (prints_text g W rest) ≡ access_printed h d course a (first_fault d (access_passes h d course a)) (printed h d course rest)

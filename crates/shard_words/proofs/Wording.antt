@@ -1,5 +1,5 @@
 -- Words by their places.
-use Rattle.std.proofs.Common.{◌≡◌, ◌≤◌, ◌<◌, ◌+◌, ℕ, zero, suc, List, [], ◌∷◌, ◌++◌, HoldsAt, IfOk, Result, Ok, Err, Option, None, length, drop, refl, sym, ap, ap₂, ◌∙◌, arith, add-one, append-nil, append_assoc, drop-cons}
+use Rattle.std.proofs.Common.{◌≡◌, ◌≤◌, ◌<◌, ◌+◌, ℕ, zero, suc, List, [], ◌∷◌, ◌++◌, HoldsAt, IfOk, Result, Ok, Err, Option, length, drop, refl, sym, ap, ap₂, ◌∙◌, arith, add-one, append-nil, append_assoc, drop-cons}
 use Rattle.command_words.specs.Asked.{number_of}
 use Rattle.shard_words.specs.Asked.{asked_for, asked_of, merge_of, merge_with, run_of, run_with}
 use Rattle.shard_words.specs.declared.command.ShardCommand.{ShardCommand}
@@ -40,11 +40,6 @@ pub run_found : {E : Type 0} (ws : List (List ℕ)) (script table size lo hi : L
     → IfOk r (λ command. command ≡ run_with script table n m k) → IfOk r (λ command. command ≡ run_of (drop 1 ws))
 run_found ws script table size lo hi n m k (Err e) l a b c d f is_n is_m is_k h = tt
 run_found ws script table size lo hi n m k (Ok o) l a b c d f is_n is_m is_k h = h ∙ (λ i. run_with script table (is_n i) (is_m i) (is_k i)) ∙ run_is ws script table size lo hi l a b c d f
-
-pub merge_none : (ws : List (List ℕ)) → length ws < 2 → ◌≡◌ {A = Option ShardCommand} None (merge_of (drop 1 ws))
-merge_none [] l = refl
-merge_none (a ∷ []) l = refl
-merge_none (a ∷ b ∷ ws) l = absurd (omega arith)
 
 pub merge_found : (ws : List (List ℕ)) (word script : List ℕ) (files : List (List ℕ)) → 2 ≤ length ws → HoldsAt (λ x. word ≡ x) ws 1 → script ≡ word → files ≡ drop 2 ws → merge_with script files ≡ merge_of (drop 1 ws)
 merge_found [] word script files l h same rest = absurd (omega arith)

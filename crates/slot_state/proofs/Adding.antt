@@ -5,6 +5,8 @@ use Rattle.std.specs.Prelude.{⊤, MatchOption, is_none}
 use Rattle.std.proofs.lemmas.List.Concat.{flat_map-append}
 use Rattle.std.proofs.lemmas.List.{length-map, length-take}
 use Rattle.std.proofs.lemmas.Option.{same_Some}
+use Rattle.lemmas.proofs.Parts.{take_next}
+use Rattle.lemmas.proofs.Places.{mapped_at}
 use Rattle.rdf_values.specs.Bookings.{ActionAt, Booked, Booking, Pass, ReportOn, bookings, filled, has_variations, is_watched, named_before, result_depends}
 use Rattle.rdf_values.specs.Functions.{fn_names}
 use Rattle.rdf_values.specs.Kinds.{scope_of}
@@ -25,15 +27,14 @@ use Rattle.loop_keys.specs.Caches.{numbered_in}
 use Rattle.loop_keys.specs.Jobs.{IsJob, JobView, job_graph, passes_in}
 use Rattle.loop_keys.proofs.EvaluateLaws.{accepted_of}
 use Rattle.loop_keys.proofs.PassNumbers.{result_inside, result_there}
-use Rattle.loop_keys.proofs.PassTies.{get_mapped, of_chosen, of_mapped, pass_of}
-use Rattle.pass_laws.specs.Turns.{numbered_passes}
-use Rattle.pass_laws.proofs.Covered.{covered_count, passes_count}
-use Rattle.pass_laws.proofs.EntryLaws.{read_pass}
-use Rattle.pass_laws.proofs.PassCounts.{few_passes}
+use Rattle.loop_keys.proofs.PassTies.{of_chosen, of_mapped, pass_of}
+use Rattle.loop_keys.specs.Turns.{numbered_passes}
+use Rattle.loop_keys.proofs.Covered.{covered_count, passes_count}
+use Rattle.loop_keys.proofs.EntryLaws.{read_pass}
+use Rattle.loop_keys.proofs.PassCounts.{few_passes}
 use Rattle.actions.specs.Holding.{HasEdges}
 use Rattle.cluster_tally.specs.Feedings.{IsFresh, place_if}
 use Rattle.cluster_tally.specs.Tallies.{CanWatch, TallyView}
-use Rattle.cluster_tally.proofs.ListPlaces.{take_next}
 use Rattle.loop_pieces.specs.Trails.{place_if_watched, watched_from, watched_places}
 use Rattle.slot_state.specs.Passes.{IsOfPasses, is_watched_pass, places_before, watched_before}
 use Rattle.slot_state.proofs.Accepting.{all_short, can_be_watched, has_edges}
@@ -147,7 +148,7 @@ module _ (j : JobView) (n : ℕ) (m : NumberedPass) (its : numbered_in j n ≡ S
   booked_is : slice_get (bookings (history j.script)) m.result ≡ Some its_result.booked
   booked_is =
       ap (λ bs. slice_get bs m.result) (sym (booked_are j.dataset.columns (fn_names j.dataset.fns) (history j.script)))
-      ∙ get_mapped (λ (x : ResultAt). x.booked) (graph_results (job_graph j)) m.result its_result result_is
+      ∙ mapped_at (λ (x : ResultAt). x.booked) (graph_results (job_graph j)) m.result its_result result_is
 
   -- the pass is the nominal one of a watched result
   pub flag_is : (p : Pass) → slice_get (passes_in j) n ≡ Some p → m.variation ≡ None → (w : Bool) (g : GraphView) → g ≡ job_graph j

@@ -1,6 +1,7 @@
 -- A slot that finished no cluster.
 use Rattle.std.proofs.Common.{◌≡◌, ◌≤◌, ◌<◌, List, [], length, map, replicate, Some, sym, ◌∙◌, ap, subst, arith, slice_get, unwrap_or}
 use Rattle.std.proofs.lemmas.List.{length-map}
+use Rattle.lemmas.proofs.Places.{something_at}
 use Rattle.rdf_values.proofs.Below.{length-below}
 use Rattle.rdf_values.specs.Bookings.{Booked, Pass, named_before}
 use Rattle.rdf_values.specs.Cuts.{below}
@@ -13,15 +14,14 @@ use Rattle.graph_numbers.specs.Graphs.{graph_loops}
 use Rattle.graph_numbers.specs.Results.{pass_at}
 use Rattle.graph_numbers.proofs.Extending.{itself}
 use Rattle.graph_numbers.proofs.Looping.{loops_are}
-use Rattle.filters_report.specs.Flows.{nothing}
+use Rattle.loop_pieces.specs.Flows.{nothing}
 use Rattle.block_passes.specs.States.{CountsVectors, IsStateOf}
 use Rattle.loop_keys.specs.Jobs.{IsJob, JobView, job_graph, passes_in}
-use Rattle.pass_laws.specs.Entries.{facts_in, job_spans}
-use Rattle.pass_laws.proofs.EntryLaws.{all_taken}
+use Rattle.loop_keys.specs.Entries.{facts_in, job_spans}
+use Rattle.loop_keys.proofs.EntryLaws.{all_taken}
 use Rattle.cluster_tally.specs.Feedings.{IsFresh}
 use Rattle.cluster_tally.specs.Stages.{at_begin}
 use Rattle.cluster_tally.specs.Tallies.{Holds}
-use Rattle.cluster_tally.proofs.ListPlaces.{there}
 use Rattle.cluster_tally.proofs.Stagings.{fresh_holds}
 use Rattle.loop_pieces.specs.Trails.{watched_places}
 use Rattle.loop_pieces.specs.Whole.{cluster_fault}
@@ -36,7 +36,7 @@ module _ (j : JobView) (job : IsJob j) where
       let all = loops_are (history j.script) (history j.script) itself in
       let many = sym (length-map (graph_loops (job_graph j)) (map (pass_at (history j.script)))) ∙ ap length all
       ∙ length-map (loop_results (history j.script)) (λ results. map (λ (p : Pass). Some p) (loop_passes (history j.script) results)) in
-      there (loop_results (history j.script)) j.number (let lt = job.loop in omega (arith, lt, many))
+      something_at (loop_results (history j.script)) j.number (let lt = job.loop in omega (arith, lt, many))
 
   pub is_loop_facts : AnswerIn64Bits j.dataset.fns → StatementsHaveWords (history j.script) → IsLoopFacts (facts_in j)
   is_loop_facts answers words =

@@ -5,6 +5,7 @@ use Rattle.std.specs.List.Sorted.{IsStrictlyIncreasing}
 use Rattle.std.proofs.lemmas.List.{length-map, map-append}
 use Rattle.std.proofs.lemmas.List.Elements.{All-cons, All-contains, All-head, All-nil, All-tail, All-weaker, Contains-push}
 use Rattle.std.specs.declared.snapshot.Snapshot.{Snapshot}
+use Rattle.lemmas.proofs.Places.{mapped_at}
 use Rattle.rdf_values.proofs.Below.{length-below, slice_get-below}
 use Rattle.rdf_values.proofs.UnionLemmas.{Rises, rises_from}
 use Rattle.rdf_values.specs.Cuts.{below}
@@ -12,11 +13,10 @@ use Rattle.rdf_values.specs.declared.fault.Fault.{Fault}
 use Rattle.block_passes.specs.Clusters.{at_end}
 use Rattle.block_passes.specs.States.{CountsVectors, IsStateOf}
 use Rattle.loop_keys.specs.Jobs.{JobView, job_graph, passes_in}
-use Rattle.pass_laws.specs.Entries.{facts_in, job_spans}
+use Rattle.loop_keys.specs.Entries.{facts_in, job_spans}
 use Rattle.cluster_tally.specs.Feedings.{IsAtEnd}
 use Rattle.cluster_tally.specs.Stages.{at_begin}
 use Rattle.cluster_tally.specs.Tallies.{Holds}
-use Rattle.cluster_tally.proofs.ListPlaces.{mapped}
 use Rattle.loop_pieces.specs.Whole.{cluster_fault}
 use Rattle.slot_state.specs.Jobs.{job_facts}
 use Rattle.slot_state.specs.Slots.{IsSlotOf, SlotView}
@@ -57,7 +57,7 @@ goes_on phase.NoMemory a b = absurd (a refl)
 pub fault_at : (j : JobView) (cluster : ℕ) (o : Option Fault) → cluster < length (job_facts j).faults → cluster_fault j.dataset (job_spans j) (passes_in j) cluster ≡ o → slice_get (job_facts j).faults cluster ≡ Some o
 fault_at j cluster o lt is =
     let many = length-map (below (length (job_spans j))) (cluster_fault j.dataset (job_spans j) (passes_in j)) in
-    mapped (cluster_fault j.dataset (job_spans j) (passes_in j)) (below (length (job_spans j))) cluster cluster (slice_get-below (length (job_spans j)) cluster (omega (arith, length-below (length (job_spans j)))))
+    mapped_at (cluster_fault j.dataset (job_spans j) (passes_in j)) (below (length (job_spans j))) cluster cluster (slice_get-below (length (job_spans j)) cluster (omega (arith, length-below (length (job_spans j)))))
     ∙ ap Some is
 
 pub cluster_within : (j : JobView) (cluster : ℕ) → cluster < length (job_facts j).faults → cluster < length (job_spans j)

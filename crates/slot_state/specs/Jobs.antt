@@ -4,7 +4,7 @@ use Rattle.rdf_values.specs.Path.{history}
 use Rattle.rdf_values.specs.declared.fault.Fault.{Fault}
 use Rattle.rdf_model.specs.declared.loop_facts.LoopFacts.{LoopFacts}
 use Rattle.loop_keys.specs.Jobs.{JobView, passes_in}
-use Rattle.pass_laws.specs.Entries.{facts_in, job_spans}
+use Rattle.loop_keys.specs.Entries.{facts_in, job_spans}
 use Rattle.loop_pieces.specs.Trails.{watched_places}
 use Rattle.loop_pieces.specs.Whole.{cluster_faults}
 

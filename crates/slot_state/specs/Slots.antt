@@ -3,7 +3,7 @@ use Rattle.std.specs.Prelude.{◌≡◌, ◌≤◌, ◌<◌, ℕ, List, [], All,
 use Rattle.rdf_model.specs.LoopFacts.{kinds_in}
 use Rattle.loop_keys.specs.Caches.{IsPlainLoop}
 use Rattle.loop_keys.specs.Jobs.{JobView, job_graph, passes_in}
-use Rattle.pass_laws.specs.Entries.{IsNoTake}
+use Rattle.loop_keys.specs.Entries.{IsNoTake}
 use Rattle.block_passes.specs.States.{CountsVectors, IsStateOf, StateView}
 use Rattle.cluster_tally.specs.Stages.{at_begin}
 use Rattle.cluster_tally.specs.Tallies.{Holds, TallyView}

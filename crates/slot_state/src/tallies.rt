@@ -2,7 +2,7 @@
 ghost use Rattle.std.specs.Prelude.{◌≡◌, ◌<◌, ◌+◌, IfOk, OnOk, length, replicate};
 ghost use Rattle.rdf_values.specs.Bookings.{named_before};
 ghost use Rattle.rdf_values.specs.Path.{history};
-ghost use Rattle.filters_report.specs.Flows.{nothing};
+ghost use Rattle.loop_pieces.specs.Flows.{nothing};
 ghost use Rattle.loop_keys.specs.Jobs.{Fits, job_of, passes_in};
 ghost use Rattle.slot_state.specs.Passes.{IsOfPasses};
 

@@ -1,5 +1,5 @@
 -- Answers, one after another.
-use Rattle.std.proofs.Common.{◌≡◌, ℕ, zero, suc, ◌+◌, ◌<◌, Bool, true, false, List, [], ◌∷◌, ◌++◌, map, take, length, get_or, Option, Some, None, Result, Ok, Err, refl, sym, ◌∙◌, ap, subst, arith, if◌then◌else◌}
+use Rattle.std.proofs.Common.{◌≡◌, ℕ, zero, suc, ◌+◌, ◌<◌, Bool, true, false, List, [], ◌∷◌, ◌++◌, map, take, length, get_or, Option, Some, None, Result, Ok, Err, refl, sym, ◌∙◌, ap, subst, arith}
 use Rattle.std.specs.Prelude.{pos}
 use Rattle.std.specs.List.{AllByRecursion}
 use Rattle.std.proofs.lemmas.List.{append-nil, map-append}
@@ -14,7 +14,6 @@ use Rattle.rdf_model.specs.Demanded.{with_needs}
 use Rattle.rdf_model.specs.Evaluation.{Outcome, Gives, Faults, Needs, ◌>>=◌, for_all}
 use Rattle.expr_eval.specs.Inputs.{input_outcome}
 use Rattle.expr_eval.specs.declared.inputs.Input.{Input}
-use Rattle.expr_eval.specs.declared.inputs.Input.TheVariants as told
 use Rattle.snapshot_rows.specs.Snapshots.{kept_cells}
 use Rattle.snapshot_entries.specs.Entries.{IsEntryAnswer, IsRowAnswer, outcome_at}
 use Rattle.snapshot_entries.specs.Values.{AreServed, Grows, IsAnswer, IsColumn, IsServed, IsStoredOutcome, IsStoredValue, source_of, version_in}
@@ -23,30 +22,12 @@ use Rattle.snapshot_entries.proofs.Serving.{held_grows}
 use Rattle.snapshot_entries.specs.declared.stop.EntryStop.{EntryStop}
 use Rattle.snapshot_entries.specs.declared.stop.EntryStop.TheVariants as stop
 
--- what stops the first stops all
-pub stops_first : {A B : Type 0} (o : Outcome ⊥ A) (f : A → Outcome ⊥ B) (s : EntryStop) → IsAnswer {A = A} o (Err s) → IsAnswer {A = B} (o >>= f) (Err s)
-stops_first o f (stop.Fault kind) h = ap (λ x. x >>= f) h
-stops_first o f stop.Memory h = tt
-
--- and an answer goes on
-pub goes_on : {A B : Type 0} (o : Outcome ⊥ A) (f : A → Outcome ⊥ B) (a : A) (r : Result B EntryStop) → o ≡ Gives a → IsAnswer (f a) r → IsAnswer (o >>= f) r
-goes_on o f a r is h = subst (λ x. IsAnswer (x >>= f) r) (sym is) h
-
 -- ---- one value
 
 pub fault_told : (o : Outcome ⊥ Value) (k : EntryFault) → Faults k ≡ with_needs {M = ℕ} o → o ≡ Faults k
 fault_told (Gives w) k e = cc e
 fault_told (Faults l) k e = let i : k ≡ l = cc e in ap Faults (sym i)
 fault_told (Needs m) k e = elim m [ ]
-
-pub value_told : (o : Outcome ⊥ Value) (c : ℕ) (i : Input) → ((k : EntryFault) → i ≡ told.Faulted k → ⊥) → input_outcome c i ≡ with_needs o → (v : Value) × (o ≡ Gives v)
-value_told (Gives w) c i none e = (w, refl)
-value_told (Faults k) c (told.Int z) none e = cc e
-value_told (Faults k) c (told.Bool b) none e = cc e
-value_told (Faults k) c (told.Vect zs) none e = cc e
-value_told (Faults k) c (told.Faulted l) none e = absurd (none l refl)
-value_told (Faults k) c told.Missing none e = cc e
-value_told (Needs m) c i none e = elim m [ ]
 
 pub given_value : (o : Outcome ⊥ Value) (c : ℕ) (i : Input) (v : Value) → o ≡ Gives v → input_outcome c i ≡ with_needs o → input_outcome c i ≡ Gives v
 given_value o c i v is e = e ∙ ap with_needs is
@@ -87,9 +68,6 @@ module _ {A B : Type 0} (f : A → Outcome ⊥ B) where
 
   pub both_given : (c : A) (cs : List A) (v : B) (vs : List B) → f c ≡ Gives v → for_all f cs ≡ Gives vs → for_all f (c ∷ cs) ≡ Gives (v ∷ vs)
   both_given c cs v vs h k = λ i. h i >>= λ y. k i >>= λ ys. Gives (y ∷ ys)
-
-  pub first_faults : (c : A) (cs : List A) (k : EntryFault) → f c ≡ Faults k → for_all f (c ∷ cs) ≡ Faults k
-  first_faults c cs k h = ap (λ o. o >>= λ y. for_all f cs >>= λ ys. Gives (y ∷ ys)) h
 
   pub later_faults : (c : A) (cs : List A) (v : B) (k : EntryFault) → f c ≡ Gives v → for_all f cs ≡ Faults k → for_all f (c ∷ cs) ≡ Faults k
   later_faults c cs v k h q = λ i. h i >>= λ y. q i >>= λ ys. Gives (y ∷ ys)
@@ -138,10 +116,6 @@ pub served_more : (p : PlanView) (d : Dataset) (before after : List Known) (e c 
 served_more p d before after e c cs (Ok u) h grows k = ((h.0.0 ∷ k.0.0, both_given (version_in p d e) c cs h.0.0 k.0.0 h.0.1 k.0.1), (held_grows before after e (source_of p d c) grows h.1, k.1))
 served_more p d before after e c cs (Err (stop.Fault kind)) h grows k = later_faults (version_in p d e) c cs h.0.0 kind h.0.1 k
 served_more p d before after e c cs (Err stop.Memory) h grows k = tt
-
-pub served_less : (p : PlanView) (d : Dataset) (cells : List Known) (e c : ℕ) (cs : List ℕ) (s : EntryStop) → IsServed p d cells e c (Err s) → AreServed p d cells e (c ∷ cs) (Err s)
-served_less p d cells e c cs (stop.Fault kind) h = first_faults (version_in p d e) c cs kind h
-served_less p d cells e c cs stop.Memory h = tt
 
 -- ---- cells that are gathered
 

@@ -5,6 +5,7 @@ use Rattle.std.specs.List.{cons_option}
 use Rattle.std.proofs.lemmas.List.{append-nil, append_assoc}
 use Rattle.std.proofs.lemmas.List.Concat.{flat_map-append}
 use Rattle.std.proofs.lemmas.Option.{unwrap_or-slice_get}
+use Rattle.lemmas.proofs.Parts.{take_full}
 use Rattle.rdf_values.specs.declared.fault.EntryFault.{EntryFault}
 use Rattle.rdf_values.specs.declared.value.Value.{Value}
 use Rattle.rdf_model.specs.Evaluation.{Gives, Faults}
@@ -38,11 +39,6 @@ get_or_drop xs zero i d = let e : i ≡ 0 + i = omega arith in ap (λ k. get_or 
 get_or_drop [] (suc a) i d = refl
 get_or_drop (x ∷ xs) (suc a) i d = get_or_drop xs a i d ∙ (let e : suc (a + i) ≡ suc a + i = omega arith in ap (λ k. get_or (x ∷ xs) k d) e)
 
-take_long : {A : Type 0} (n : ℕ) (xs : List A) → n ≤ length xs → length (take n xs) ≡ n
-take_long zero xs le = refl
-take_long (suc n) [] le = absurd (omega (arith, le))
-take_long (suc n) (x ∷ xs) le = let r = take_long n xs (omega (arith, le)) in omega (arith, r)
-
 module _ (rows : List (List Value)) (lo e : ℕ) (low : lo ≤ e) (lt : e < length rows) where
   at_row : get_or (drop lo rows) (e - lo) [] ≡ row_in rows e
   at_row = get_or_drop rows lo (e - lo) [] ∙ (let s : lo + (e - lo) ≡ e = omega (arith, low) in ap (λ k. get_or rows k []) s) ∙ sym (unwrap_or-slice_get rows e [])
@@ -54,16 +50,13 @@ module _ (rows : List (List Value)) (lo e : ℕ) (low : lo ≤ e) (lt : e < leng
       ap (λ k. take k (drop lo rows)) s ∙ take_next (drop lo rows) (e - lo) [] inside ∙ ap (λ r. slice_range rows lo e ++ r ∷ []) at_row
 
   range_long : e ≡ lo + length (slice_range rows lo e)
-  range_long = (let n = length-drop lo rows in let m = take_long (e - lo) (drop lo rows) (omega (arith, low, lt, n)) in omega (arith, low, m))
+  range_long = (let n = length-drop lo rows in let m = take_full (e - lo) (drop lo rows) (omega (arith, low, lt, n)) in omega (arith, low, m))
 
   range_split : (hi : ℕ) → e < hi → hi ≤ length rows → (rest : List (List Value)) × (slice_range rows lo hi ≡ slice_range rows lo e ++ row_in rows e ∷ rest)
   range_split hi up most =
       let n = length-drop lo rows in
       let r = take_more (drop lo rows) (e - lo) (hi - lo) [] (omega (arith, low, up)) (omega (arith, low, up, most, n)) in
       (r.0, r.1 ∙ ap (λ x. slice_range rows lo e ++ x ∷ r.0) at_row)
-
-pub range_none : {A : Type 0} (rows : List A) (lo : ℕ) → slice_range rows lo lo ≡ []
-range_none rows lo = let e : lo - lo ≡ 0 = omega arith in ap (λ k. take k (drop lo rows)) e
 
 -- ---- what an entry gives
 
@@ -74,12 +67,6 @@ one_text (Some cells) = append-nil (entry_text cells)
 module _ (p : PlanView) (d : Dataset) (lo : ℕ) where
   abbrev pub So_far : ℕ → List (List Value)
   So_far e = slice_range d.rows lo e
-
-  pub none_yet : (text : List ℕ) → (snapshot_fault p d lo (So_far lo) ≡ None) × (text ≡ text ++ entries_text (snapshot_entries p d (So_far lo)))
-  none_yet text = (
-    ap (snapshot_fault p d lo) (range_none d.rows lo),
-    sym (append-nil text) ∙ ap (λ l. text ++ entries_text (snapshot_entries p d l)) (sym (range_none d.rows lo)),
-  )
 
   module _ (e : ℕ) (low : lo ≤ e) (lt : e < length d.rows) (none : snapshot_fault p d lo (So_far e) ≡ None) where
     pub next_entry : (kept : Option (List Value)) (first before after : List ℕ) → outcome_at p d e ≡ Gives kept → before ≡ first ++ entries_text (snapshot_entries p d (So_far e)) → after ≡ before ++ kept_text kept

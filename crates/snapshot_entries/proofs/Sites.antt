@@ -1,5 +1,5 @@
 -- What a site comes to, by what its versions come to; and what is known of the versions that it reads.
-use Rattle.std.proofs.Common.{◌≡◌, ℕ, ◌<◌, Bool, true, false, not, List, [], ◌∷◌, map, length, Option, Some, None, refl, sym, ◌∙◌, ap, subst, nat_eq, slice_get, if◌then◌else◌}
+use Rattle.std.proofs.Common.{◌≡◌, ℕ, ◌<◌, Bool, true, false, not, List, [], ◌∷◌, map, length, Option, Some, None, refl, sym, ◌∙◌, ap, subst, nat_eq, slice_get}
 use Rattle.std.specs.Prelude.{filter}
 use Rattle.std.specs.List.{AllByRecursion}
 use Rattle.rdf_values.specs.Depends.{columns_in}
@@ -109,11 +109,6 @@ module _ (d : Dataset) (row : List Value) (u : Under) (before : List Statement) 
   gives_fault (Gives w) k e = cc e
   gives_fault (Faults l) k e = let i : k ≡ l = cc e in ap Faults i
   gives_fault (Needs m) k e = elim m [ ]
-
-  pub never_needs : (o : Outcome ⊥ Value) (c : ℕ) → Needs c ≡ with_needs {M = ℕ} o → ⊥
-  never_needs (Gives w) c e = cc e
-  never_needs (Faults l) c e = cc e
-  never_needs (Needs m) c e = elim m [ ]
 
   -- an expression of a site, over what its versions come to
   abbrev pub told : NumTree → Outcome ℕ Value

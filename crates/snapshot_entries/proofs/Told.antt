@@ -13,12 +13,12 @@ use Rattle.rdf_model.specs.Evaluation.{Outcome, ◌>>=◌}
 use Rattle.rdf_model.specs.Results.{Dataset}
 use Rattle.rdf_model.proofs.Verdicts.{verdict_is_the_first_refusal}
 use Rattle.graph_numbers.specs.Graphs.{booked_statements}
-use Rattle.graph_numbers.specs.Sources.{IsBelow, cell_value, source_value}
+use Rattle.graph_numbers.specs.Sources.{cell_value, source_value}
 use Rattle.graph_numbers.specs.declared.source.Source.{Source}
 use Rattle.graph_numbers.specs.declared.source.Source.TheVariants as from
 use Rattle.snapshot_plan.specs.Views.{PlanView}
 use Rattle.snapshot_entries.specs.Jobs.{IsWork}
-use Rattle.snapshot_entries.specs.Values.{AreKnown, IsHeld, IsReadable, IsSourceHeld, element_of, outcome_of, row_in, site_in, site_total, source_of, version_in}
+use Rattle.snapshot_entries.specs.Values.{AreKnown, IsHeld, IsSourceHeld, element_of, outcome_of, row_in, site_in, source_of, version_in}
 use Rattle.snapshot_entries.specs.declared.known.Known.{Known}
 
 pub accepted_of : (p : PlanView) (d : Dataset) → IsWork p d → AreAccepted (fn_names d.fns) (scope_of d.columns) (booked_statements p.graph)
@@ -57,13 +57,3 @@ module _ (p : PlanView) (d : Dataset) (cells : List Known) (known : AreKnown p d
     told_element s i tags k o known_tag within at is held h =
         h ∙ with_bind k.outcome i tags known_tag ∙ ap (λ (x : Outcome ⊥ Value). with_needs (x >>= tag_element tags i)) (held_is s k within at (subst (IsSourceHeld cells e) (sym is) held))
         ∙ ap (λ (src : Source). with_needs (source_value (row_in d.rows e) (site_in p d e) src)) is
-
-  -- where a version's site stands
-  pub site_within : (c s : ℕ) → IsReadable p d c → from.Site s ≡ source_of p d c → s < length cells
-  site_within c s h is = let b : s < site_total p d = subst (IsBelow (length d.columns) (site_total p d)) (sym is) h.1 in let n = known.sized in omega (arith, b, n)
-
-  pub element_within : (c s i tags : ℕ) → IsReadable p d c → from.Element s i tags ≡ source_of p d c → s < length cells
-  element_within c s i tags h is = let b : s < site_total p d = subst (IsBelow (length d.columns) (site_total p d)) (sym is) h.1 in let n = known.sized in omega (arith, b, n)
-
-pub cell_within : (p : PlanView) (d : Dataset) (c col : ℕ) → IsReadable p d c → from.Cell col ≡ source_of p d c → col < length d.columns
-cell_within p d c col h is = subst (IsBelow (length d.columns) (site_total p d)) (sym is) h.1

@@ -1,17 +1,16 @@
 -- The numbers of a plan's versions and sites, by what the graph answers.
 use Rattle.std.proofs.Common.{◌≡◌, ℕ, ◌≤◌, List, length, sym, ap, ap₂, ◌∙◌, arith}
 use Rattle.rdf_values.specs.Functions.{fn_names}
-use Rattle.rdf_values.specs.Path.{path, target_of}
 use Rattle.rdf_values.specs.declared.column.Column.{Column}
 use Rattle.rdf_values.specs.declared.statement.Statement.{Statement}
 use Rattle.rdf_model.specs.Results.{Dataset}
-use Rattle.graph_numbers.specs.Graphs.{GraphView, booked_statements, graph_sites, graph_versions}
+use Rattle.graph_numbers.specs.Graphs.{booked_statements, graph_sites, graph_versions}
 use Rattle.graph_numbers.specs.Sites.{filter_sites}
-use Rattle.graph_numbers.specs.Versions.{named_version, version_at, version_count}
+use Rattle.graph_numbers.specs.Versions.{named_version, version_count}
 use Rattle.graph_numbers.proofs.Extending.{versions_count}
-use Rattle.statement_checks.specs.SiteNumbers.{filter_numbers, site_total}
-use Rattle.statement_checks.proofs.SiteTotals.{numbers_are, total_is}
-use Rattle.node_graph.proofs.Walked.{named_few}
+use Rattle.graph.specs.SiteNumbers.{filter_numbers, site_total}
+use Rattle.graph.proofs.SiteTotals.{numbers_are, total_is}
+use Rattle.graph.proofs.Walked.{named_few}
 use Rattle.snapshot_plan.specs.Views.{PlanView}
 use Rattle.snapshot_entries.specs.Jobs.{IsWork}
 
@@ -21,11 +20,6 @@ module _ (p : PlanView) (d : Dataset) (work : IsWork p d) (h : List Column) (b :
 
   pub version_few : (n : ℕ) → n ≡ length (graph_versions p.graph) → (node target : List ℕ) (v : ℕ) → v ≡ named_version h b node target → v ≤ n
   version_few n is node target v at = (let few = named_few h b node target in omega (arith, versions_many n is, at, few))
-
-  pub version_is : (node name target : List ℕ) (v : ℕ) → node ≡ p.node → target ≡ target_of (path b node) name → v ≡ named_version h b node target → v ≡ version_at d.columns (booked_statements p.graph) p.node name
-  version_is node name target v is goes at =
-      let header : h ≡ d.columns = eh ∙ ap (λ (g : GraphView). g.header) work.graph in
-      at ∙ ap (named_version h b node) goes ∙ ap₂ (λ x y. named_version x y node (target_of (path y node) name)) header eb ∙ ap (λ n. version_at d.columns (booked_statements p.graph) n name) is
 
   pub sites_many : (n : ℕ) → n ≡ length (graph_sites p.graph) → n ≡ site_total b
   sites_many n is = is ∙ total_is p.graph.header p.graph.names (booked_statements p.graph) ∙ ap site_total (sym eb)

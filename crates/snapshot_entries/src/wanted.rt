@@ -2,15 +2,14 @@
 ghost use Rattle.std.specs.Prelude.{◌≡◌, ◌<◌, ◌≤◌, IfOk, length};
 ghost use Rattle.graph_numbers.specs.Graphs.{booked_statements};
 ghost use Rattle.graph_numbers.specs.Versions.{version_at};
-ghost use Rattle.statement_checks.specs.Lookups.{statements};
-ghost use Rattle.statement_checks.specs.SiteNumbers.{filter_numbers, is_filter, own_number, own_site_total, site_total as total_of};
+ghost use Rattle.graph.specs.Lookups.{statements};
+ghost use Rattle.graph.specs.SiteNumbers.{filter_numbers, is_filter, own_number, own_site_total, site_total as total_of};
 ghost use Rattle.snapshot_entries.specs.Jobs.{IsWork, data_of, plan_of};
 ghost use Rattle.snapshot_entries.specs.Wanted.{AreVersions, IsWanted};
 
 use crate::job::SnapJob;
+use graph::{lookup::{made_from, named_version, target_of}, sets::own_site_total};
 use rdf_values::{Line, ListOf, Memory, Name, Statement};
-use statement_checks::lookup::{made_from, named_version, target_of};
-use statement_checks::sets::own_site_total;
 use std::alloc::Global;
 
 /// The sites of the filters above the plan's node, head first, and the versions of its columns.

@@ -10,8 +10,8 @@ use Rattle.rdf_values.specs.declared.statement.Statement.{Statement}
 use Rattle.rdf_values.specs.declared.value.ColType.{ColType}
 use Rattle.graph_numbers.specs.Graphs.{GraphView, booked_statements}
 use Rattle.graph_numbers.specs.Versions.{named_version, version_count}
-use Rattle.statement_checks.specs.Lookups.{AreKinds}
-use Rattle.statement_checks.proofs.Scoping.{found_as, found_none, found_within, kinds_counted}
+use Rattle.graph.specs.Lookups.{AreKinds}
+use Rattle.graph.proofs.Scoping.{found_as, found_none, found_within, kinds_counted}
 use Rattle.snapshot_plan.specs.Views.{scope_in}
 
 module _ (g : GraphView) (h : List Column) (b : List Statement) (node : List ℕ) (kinds : List ColType) (eh : h ≡ g.header) (eb : b ≡ booked_statements g) (k : AreKinds g.header g.names (booked_statements g) kinds) where

@@ -10,7 +10,7 @@ use Rattle.rdf_values.specs.declared.graph_cause.GraphCause.{GraphCause}
 use Rattle.rdf_values.specs.declared.value.ColType.{ColType}
 use Rattle.rdf_values.specs.declared.value.ColType.TheVariants as k
 use Rattle.graph_numbers.specs.Graphs.{booked_statements}
-use Rattle.statement_checks.proofs.Walking.{same_back}
+use Rattle.graph.proofs.Walking.{same_back}
 use Rattle.snapshot_plan.specs.Laws.{PlansHaveHeaders}
 use Rattle.snapshot_plan.specs.Plans.{first_bad, is_bad, is_stored, unless_bad}
 use Rattle.snapshot_plan.specs.Views.{column_at, scope_in}

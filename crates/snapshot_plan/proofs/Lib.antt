@@ -1,5 +1,4 @@
 pub mod Asked
-pub mod Causes
 pub mod Counted
 pub mod Found
 pub mod Headed

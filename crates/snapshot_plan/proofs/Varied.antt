@@ -1,33 +1,17 @@
 -- The variation that is asked for, among those of a graph.
 use Rattle.std.proofs.Common.{◌≡◌, ◌<◌, ℕ, Bool, true, false, ◌&&◌, List, length, get_or, Some, refl, ap, ap₂, sym, ◌∙◌}
-use Rattle.std.specs.Prelude.{option_map, slice_get}
 use Rattle.std.proofs.lemmas.List.Folds.{list_any_at}
 use Rattle.std.proofs.lemmas.Option.{slice_get-get_or}
 use Rattle.std.proofs.lemmas.Slice.Eq.{bytes_eq-Decides}
+use Rattle.lemmas.proofs.Booleans.{both_true}
 use Rattle.rdf_values.specs.Names.{same}
 use Rattle.rdf_values.specs.Path.{Variation, same_variation}
 use Rattle.snapshot_plan.specs.Views.{IsNumber, no_variation}
 
-and_both : (x y : Bool) → (x && y) ≡ true → (x ≡ true) × (y ≡ true)
-and_both true true h = (refl, refl)
-and_both true false h = cc h
-and_both false y h = cc h
-
 same_is : (u v : Variation) → same_variation u v ≡ true → v ≡ u
 same_is u v h =
-    let both = and_both (same u.name v.name) (same u.tag v.tag) h in
+    let both = both_true (same u.name v.name) (same u.tag v.tag) h in
     sym (ap₂ (λ (n t : List ℕ). record { name = n; tag = t }) ((bytes_eq-Decides u.name v.name).0 both.0) ((bytes_eq-Decides u.tag v.tag).0 both.1))
-
--- what the names at a place say
-pub test_is : (all : List Variation) (v : ℕ) (name tag n t : List ℕ) (b : Bool) → v < length all → option_map (λ (x : Variation). x.name) (slice_get all v) ≡ Some n → option_map (λ (x : Variation). x.tag) (slice_get all v) ≡ Some t
-    → b ≡ (same name n && same tag t) → b ≡ same_variation (record { name = name; tag = tag }) (get_or all v no_variation)
-test_is all v name tag n t b l p q h =
-    let at = slice_get-get_or all v no_variation l in
-    let first : Some ((get_or all v no_variation).name) ≡ Some n = sym (ap (option_map (λ (x : Variation). x.name)) at) ∙ p in
-    let second : Some ((get_or all v no_variation).tag) ≡ Some t = sym (ap (option_map (λ (x : Variation). x.tag)) at) ∙ q in
-    let one : (get_or all v no_variation).name ≡ n = cc first in
-    let two : (get_or all v no_variation).tag ≡ t = cc second in
-    h ∙ ap₂ (λ x y. same name x && same tag y) (sym one) (sym two)
 
 pub number_is : (all : List Variation) (v : ℕ) (u : Variation) → v < length all → same_variation u (get_or all v no_variation) ≡ true → IsNumber all (Some v) (Some u)
 number_is all v u l h =

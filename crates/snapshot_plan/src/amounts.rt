@@ -1,6 +1,6 @@
 // How many statements a plan has.
 ghost use Rattle.std.specs.Prelude.{◌≡◌, ◌≤◌, filter, length};
-ghost use Rattle.statement_checks.specs.Lookups.{statements};
+ghost use Rattle.graph.specs.Lookups.{statements};
 ghost use Rattle.snapshot_plan.specs.Plans.{makes_node};
 
 use rdf_values::{Line, Statement};

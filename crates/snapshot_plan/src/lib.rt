@@ -1,5 +1,5 @@
 //! The plan of a snapshot: the node whose entries it has, the columns there, and nominal or one variation; or the first cause
-//! for which it can't be made. Stands on `node_graph`.
+//! for which it can't be made. Stands on `graph`.
 //!
 //! `specs/Plans.antt` has the causes in their order.
 #![tactic(auto)]

@@ -9,9 +9,8 @@ use crate::cause::SnapCause;
 use crate::columns::{first_bad, kind_or_int};
 use crate::refusal::SnapRefusal;
 use crate::under::{Under, number_under};
-use node_graph::Graph;
+use graph::{Graph, lookup::is_node};
 use rdf_values::{Column, ListOf, Memory, Name};
-use statement_checks::lookup::is_node;
 use std::alloc::Global;
 use std::marker::Model;
 

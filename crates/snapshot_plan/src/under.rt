@@ -5,8 +5,8 @@ ghost use Rattle.rdf_values.specs.Path.{same_variation};
 ghost use Rattle.snapshot_plan.specs.Plans.{is_under};
 ghost use Rattle.snapshot_plan.specs.Views.{IsNumber, no_variation, under_of};
 
+use graph::Variations;
 use rdf_values::Name;
-use variation_sets::Variations;
 
 /// The entries as they are, or under the variation of a Vary's name and a tag.
 #[derive(Debug, Drop)]

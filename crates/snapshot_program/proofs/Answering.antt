@@ -85,23 +85,3 @@ module _ (fns : List Function) (words : List (List ℕ)) (c : SnapCommand) (aske
 
   pub turned : (told : Told) (before after : List (List ℕ)) → AreTurnedTo (c.script ∷ c.table ∷ []) (IsScriptFile told c.script) before after → TurnsBesides words told before after
   turned told before after h = subst (λ o. MatchOption o (after ≡ before) (λ c. AreTurnedTo (c.script ∷ c.table ∷ []) (IsScriptFile told c.script) before after)) (sym asked) h
-
--- ---- words that aren't taken
-
-module _ (fns : List Function) (words : List (List ℕ)) (none : asked_of words ≡ None) where
-  pub untaken_answer : (told : Told) (turns : List (List ℕ)) (first now : ℕ) (a : Answer) → (a.status ≡ Words) × (a.text ≡ usage_line) → IsAnswer fns words told turns first now a
-  untaken_answer told turns first now a h =
-      let s = h.0 in
-      record {
-        untaken = λ e. (none, h.1);
-        taken = λ e. h.0;
-        answers = record { no_want = λ e. cc (s, e); no_write = λ e. cc (s, e); rose = λ e. absurd (cc (s, e)); named = λ e. absurd (cc (s, e)); is_due = λ final. step told };
-      }
-    where
-      step : (told : Told) → IfSome told (λ f. IsDue fns words f (due_of a.status a.text))
-      step None = tt
-      step (Some f) =
-          subst (λ o. MatchOption o (due_of a.status a.text ≡ due_of Words usage_line) (λ command. IsDueToFiles fns command f (due_of a.status a.text))) (sym none) (λ i. due_of (h.0 i) (h.1 i))
-
-  pub unturned : (told : Told) (before after : List (List ℕ)) → after ≡ before → TurnsBesides words told before after
-  unturned told before after e = subst (λ o. MatchOption o (after ≡ before) (λ c. AreTurnedTo (c.script ∷ c.table ∷ []) (IsScriptFile told c.script) before after)) (sym none) e

@@ -1,9 +1,6 @@
 -- Plans and their refusals, and what is due of a run.
-use Rattle.std.proofs.Common.{◌≡◌, inl, inr, ◌<◌, ◌≤◌, ◌+◌, ℕ, suc, Bool, true, false, not, List, [], ◌∷◌, ◌++◌, length, Option, None, Some, Result, Ok, Err, IfOk, if◌then◌else◌, nat_lt, arith, ap, refl, sym, subst, ◌∙◌}
-use Rattle.std.specs.Prelude.{MatchOption, MatchResult}
-use Rattle.std.specs.Bool.{MatchBool}
-use Rattle.std.proofs.lemmas.Bool.{le-ltb}
-use Rattle.std.proofs.lemmas.Bool.Decides.{nat_tests}
+use Rattle.std.proofs.Common.{◌≡◌, inl, inr, ◌<◌, ◌≤◌, ◌+◌, ℕ, suc, Bool, true, false, not, List, [], ◌∷◌, ◌++◌, length, Option, None, Some, Result, Ok, Err, IfOk, nat_lt, arith, ap, refl, sym, subst, ◌∙◌}
+use Rattle.std.specs.Prelude.{MatchOption}
 use Rattle.rdf_values.specs.Answers.{Refuses}
 use Rattle.rdf_values.specs.Functions.{Function, fn_names}
 use Rattle.rdf_values.specs.Kinds.{FunctionNames, Scope, scope_of}
@@ -12,14 +9,10 @@ use Rattle.rdf_values.specs.RefusalLines.{graph_cause_line}
 use Rattle.rdf_values.specs.Tables.{TableView}
 use Rattle.rdf_values.specs.Verdict.{is_node, scope_at, verdict}
 use Rattle.rdf_values.specs.declared.column.Column.{Column}
-use Rattle.rdf_values.specs.declared.fault.EntryFault.{EntryFault}
 use Rattle.rdf_values.specs.declared.graph_cause.GraphCause.{GraphCause}
 use Rattle.rdf_values.specs.declared.script.Script.{Script}
 use Rattle.rdf_values.specs.declared.statement.Statement.{Statement}
-use Rattle.rdf_model.specs.Results.{Dataset}
 use Rattle.graph_numbers.specs.Graphs.{GraphView, booked, booked_statements, booked_unless}
-use Rattle.node_graph.specs.Refusals.{refused_at}
-use Rattle.node_graph.specs.declared.refusal.GraphRefusal.TheVariants as graph
 use Rattle.input_files.specs.Due.{due_of}
 use Rattle.snapshot_plan.specs.Plans.{first_bad, is_bad, is_under, most_statements, statements_planned, unless_bad}
 use Rattle.snapshot_plan.specs.Views.{PlanView, cause_in, planned, under_of, unless_cause}
@@ -27,15 +20,11 @@ use Rattle.snapshot_plan.specs.declared.cause.SnapCause.{SnapCause}
 use Rattle.snapshot_plan.specs.declared.cause.SnapCause.TheVariants as cause
 use Rattle.snapshot_plan.specs.declared.refusal.SnapRefusal.{SnapRefusal}
 use Rattle.snapshot_plan.specs.declared.refusal.SnapRefusal.TheVariants as refusal
-use Rattle.snapshot_rows.specs.Snapshots.{SnapFault}
-use Rattle.snapshot_run.specs.Texts.{IsRun, most_bytes}
-use Rattle.snapshot_run.specs.declared.stop.SnapStop.TheVariants as stop
-use Rattle.snapshot_text.specs.TableTexts.{table_text}
 use Rattle.snapshot_words.specs.declared.command.SnapCommand.{SnapCommand}
-use Rattle.snapshot_due.specs.Due.{IsDueOver, IsRunDue, IsTextDue, SnapshotDue, cause_over, dataset_of, graph_over, plan_over}
-use Rattle.snapshot_due.specs.Lines.{cause_line, fault_line, long_line}
+use Rattle.snapshot_due.specs.Due.{IsDueOver, IsRunDue, SnapshotDue, cause_over, dataset_of, graph_over, plan_over}
+use Rattle.snapshot_due.specs.Lines.{cause_line}
 use Rattle.snapshot_due.specs.Statuses.{status_of}
-use Rattle.snapshot_due.specs.declared.status.SnapshotStatus.TheVariants.{Done, LoopFault, ScriptRefused, TooLong}
+use Rattle.snapshot_due.specs.declared.status.SnapshotStatus.TheVariants.{ScriptRefused}
 use Rattle.snapshot_program.specs.Answers.{Answers, IsOfTable, IsPlanned, IsWithin}
 use Rattle.snapshot_program.specs.declared.answer.Answer.{Answer}
 use Rattle.snapshot_program.specs.declared.planning.Planned.TheVariants as planning
@@ -50,23 +39,6 @@ by_verdict g h (Some refused) e = absurd (cc e)
 pub booked_is : (script : Script) (header : List Column) (names : FunctionNames) (g : GraphView) → booked script header names ≡ Ok g
     → (verdict names header script ≡ None) × (g ≡ record { script = script; header = header; names = names })
 booked_is script header names g e = by_verdict (record { script = script; header = header; names = names }) g (verdict names header script) e
-
-refused_verdict : (g : GraphView) (v : Option (ℕ × GraphCause)) (c : ℕ × GraphCause) → ◌≡◌ {A = Result GraphView (ℕ × GraphCause)} (booked_unless g v) (Err c) → v ≡ Some c
-refused_verdict g None c e = absurd (cc e)
-refused_verdict g (Some d) c e = cc e
-
-refusal_of : (wanted : Result GraphView (ℕ × GraphCause)) (line : ℕ) (why : GraphCause) → Refuses refused_at graph.Memory wanted (graph.At line why) → wanted ≡ Err (line, why)
-refusal_of wanted line why (inl e) = absurd (cc e)
-refusal_of wanted line why (inr h) =
-    let e = h.1 in
-    let p : h.0.0 ≡ line = cc e in
-    let q : h.0.1 ≡ why = cc e in
-    h.2 ∙ (λ i. Err (p i, q i))
-
--- a script that isn't booked is refused
-pub unbooked_is : (script : Script) (header : List Column) (names : FunctionNames) (line : ℕ) (why : GraphCause) → Refuses refused_at graph.Memory (booked script header names) (graph.At line why)
-    → verdict names header script ≡ Some (line, why)
-unbooked_is script header names line why h = refused_verdict (record { script = script; header = header; names = names }) (verdict names header script) (line, why) (refusal_of (booked script header names) line why h)
 
 -- ---- planning
 
@@ -134,16 +106,6 @@ is_of_table cause.BadVariation = tt
 is_of_table (cause.TooMany n) = tt
 
 module _ (fns : List Function) (c : SnapCommand) (script : Script) (columns : List Column) where
-  -- the script isn't accepted
-  pub unaccepted_due : (line : ℕ) (why : GraphCause) (a : Answer) → verdict (fn_names fns) columns script ≡ Some (line, why) → (a.status ≡ ScriptRefused) × (a.text ≡ graph_cause_line line why)
-      → IsPlanned fns c script columns (planning.Refused a)
-  unaccepted_due line why a v e =
-      let due : SnapshotDue = due_of a.status a.text in
-      let is : due ≡ due_of ScriptRefused (graph_cause_line line why) = (λ i. due_of (e.0 i) (e.1 i)) in (
-        subst IsOfTable (sym e.0) tt,
-        subst (λ o. MatchOption o (MatchOption (cause_over fns c script columns) ⊥ (λ k. due ≡ due_of (status_of k) (cause_line c k))) (λ refused. due ≡ due_of ScriptRefused (graph_cause_line refused.0 refused.1))) (sym v) is,
-      )
-
   -- there is no plan
   pub unplanned_due : (why : SnapCause) (a : Answer) → verdict (fn_names fns) columns script ≡ None → cause_over fns c script columns ≡ Some why → (a.status ≡ status_of why) × (a.text ≡ cause_line c why)
       → IsPlanned fns c script columns (planning.Refused a)
@@ -154,38 +116,6 @@ module _ (fns : List Function) (c : SnapCommand) (script : Script) (columns : Li
         subst IsOfTable (sym e.0) (is_of_table why),
         subst (λ o. MatchOption o (MatchOption (cause_over fns c script columns) ⊥ (λ k. due ≡ due_of (status_of k) (cause_line c k))) (λ refused. due ≡ due_of ScriptRefused (graph_cause_line refused.0 refused.1))) (sym v) by,
       )
-
--- ---- a run
-
-module _ (p : PlanView) (d : Dataset) where
-  abbrev OfRun : SnapshotDue → Result TableView SnapFault → Type 0
-  OfRun due r = MatchResult r (λ t. IsTextDue t due) (λ fault. due ≡ due_of LoopFault (fault_line p.node fault))
-
-  pub text_due : (text : List ℕ) → IsRun p d (Ok text) → Answers (IsRunDue p d) (record { status = Done; text = text })
-  text_due text h =
-      let t : TableView = h.0 in
-      let due : SnapshotDue = due_of Done text in
-      let fits : nat_lt most_bytes (length (table_text t)) ≡ false = le-ltb most_bytes (length (table_text t)) (subst (λ (x : List ℕ). length x ≤ most_bytes) h.2 h.3) in
-      let short : IsTextDue t due = subst (λ b. MatchBool b (due ≡ due_of TooLong long_line) (due ≡ due_of Done (table_text t))) (sym fits) (ap (due_of Done) h.2) in
-      (tt, subst (OfRun due) (sym h.1) short)
-
-  pub fault_due : (entry : ℕ) (kind : EntryFault) (a : Answer) → IsRun p d (Err (stop.Fault entry kind)) → (a.status ≡ LoopFault) × (a.text ≡ fault_line p.node (record { entry = entry; kind = kind })) → Answers (IsRunDue p d) a
-  fault_due entry kind a h e =
-      let due : SnapshotDue = due_of a.status a.text in
-      let is : due ≡ due_of LoopFault (fault_line p.node (record { entry = entry; kind = kind })) = (λ i. due_of (e.0 i) (e.1 i)) in
-      (subst IsOfTable (sym e.0) tt, subst (OfRun due) (sym h) is)
-
-  pub long_due : (bytes : ℕ) (a : Answer) → IsRun p d (Err (stop.TooLong bytes)) → (a.status ≡ TooLong) × (a.text ≡ long_line) → Answers (IsRunDue p d) a
-  long_due bytes a h e =
-      let t : TableView = h.0 in
-      let due : SnapshotDue = due_of a.status a.text in
-      let over : nat_lt most_bytes (length (table_text t)) ≡ true = is_over (length (table_text t)) (subst (λ (n : ℕ). most_bytes < n) h.2 h.3) in
-      let is : due ≡ due_of TooLong long_line = (λ i. due_of (e.0 i) (e.1 i)) in
-      let long : IsTextDue t due = subst (λ b. MatchBool b (due ≡ due_of TooLong long_line) (due ≡ due_of Done (table_text t))) (sym over) is in
-      (subst IsOfTable (sym e.0) tt, subst (OfRun due) (sym h.1) long)
-    where
-      is_over : (n : ℕ) → most_bytes < n → nat_lt most_bytes n ≡ true
-      is_over n lt = grind (arith, nat_tests)
 
 -- ---- the plan over a table's columns
 

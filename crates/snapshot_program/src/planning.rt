@@ -13,7 +13,7 @@ use crate::answer::Answer;
 use crate::lines::cause_line;
 use columns::Columns;
 use entry_fns::FnList;
-use node_graph::{Graph, GraphRefusal};
+use graph::{Graph, GraphRefusal};
 use rdf_values::{GraphCause, Memory, Script};
 use result_text::{Refusal, refusal_line};
 use snapshot_due::SnapshotStatus;

@@ -2,6 +2,7 @@
 use Rattle.std.proofs.Common.{◌≡◌, ℕ, ◌+◌, ◌-◌, ◌<◌, ◌≤◌, List, [], ◌∷◌, ◌++◌, length, map, drop, Option, Some, None, refl, sym, ◌∙◌, ap, ap₂, arith, slice_get}
 use Rattle.std.specs.Prelude.{flat_map, option_map, slice_range}
 use Rattle.std.proofs.lemmas.Option.{slice_get-map}
+use Rattle.lemmas.proofs.Parts.{range_length, take_at_most}
 use Rattle.rdf_values.specs.Cuts.{Lead}
 use Rattle.rdf_values.specs.Machine.{AreInEntryOrder, first_in}
 use Rattle.rdf_values.specs.Path.{Path, Under}
@@ -10,7 +11,7 @@ use Rattle.rdf_values.specs.declared.span.Span.{Span}
 use Rattle.rdf_values.specs.declared.value.Value.{Value}
 use Rattle.rdf_values.proofs.Leading.{led_are_in_order}
 use Rattle.rdf_model.specs.Results.{Dataset}
-use Rattle.loop_pieces.proofs.Places.{lead_up, ranges_join, range_length, range_none, range_whole, take_short}
+use Rattle.loop_pieces.proofs.Places.{lead_up, ranges_join, range_none, range_whole}
 use Rattle.snapshot_rows.specs.Snapshots.{SnapFault, fault_from, kept_row, kept_rows}
 use Rattle.snapshot_run.specs.Runs.{as_fault}
 use Rattle.snapshot_entries.proofs.Rows.{fault_append, fault_within, first_of, kept_append}
@@ -56,7 +57,7 @@ module _ (d : Dataset) (at : Path) (names : List (List ℕ)) (u : Under) where
           let w = fault_within d at names u (slice_range d.rows s.lo s.hi) s.lo g q in
           let low = w.0 in
           let high = w.1 in
-          let short = take_short (s.hi - s.lo) (drop s.lo d.rows) in
+          let short = take_at_most (s.hi - s.lo) (drop s.lo d.rows) in
           (omega arith, omega arith)
 
       go : (o : Option Span) → slice_get spans c ≡ o → option_map fault_of o ≡ Some (Some f) → HasSpan spans c f

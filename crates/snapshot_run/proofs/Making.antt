@@ -16,7 +16,7 @@ use Rattle.rdf_values.specs.declared.span.Span.{Span}
 use Rattle.rdf_values.proofs.Leading.{cuts_lead}
 use Rattle.rdf_model.specs.Results.{Dataset}
 use Rattle.loop_pieces.proofs.Places.{lead_up}
-use Rattle.clusters.specs.CutsView.{CutsView}
+use Rattle.columns.specs.CutsView.{CutsView}
 use Rattle.snapshot_plan.specs.Views.{PlanView}
 use Rattle.snapshot_text.specs.TableTexts.{entries_text}
 use Rattle.snapshot_rows.specs.Snapshots.{snapshot_entries, snapshot_fault}

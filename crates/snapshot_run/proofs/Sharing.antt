@@ -10,8 +10,8 @@ use Rattle.rdf_values.specs.contracts.list.ListOf.{the_row as list_row}
 use Rattle.rdf_values.specs.contracts.name.Name.{the_row as name_row}
 use Rattle.rdf_values.proofs.SharedExpr.{name_sync}
 use Rattle.rdf_values.proofs.SharedScript.{columns_sync, list_sync}
-use Rattle.node_graph.proofs.Shared.{graph_sync}
-use Rattle.clusters.specs.contracts.cuts.Cuts.{the_row as cuts_row}
+use Rattle.graph.proofs.Shared.{graph_sync}
+use Rattle.columns.specs.contracts.cuts.Cuts.{the_row as cuts_row}
 use Rattle.columns.specs.contracts.columns.Columns.{the_row as columns_row}
 use Rattle.cluster_claims.specs.contracts.claims.Claims.{the_row as claims_row}
 use Rattle.cluster_claims.proofs.claims.Claims.TheSendSync as claims

@@ -17,7 +17,7 @@ use Rattle.rdf_values.specs.declared.span.Span.{Span}
 use Rattle.rdf_values.specs.declared.value.Value.{Value}
 use Rattle.rdf_values.proofs.Leading.{cuts_lead}
 use Rattle.rdf_model.specs.Results.{Dataset}
-use Rattle.clusters.specs.CutsView.{CutsView}
+use Rattle.columns.specs.CutsView.{CutsView}
 use Rattle.cluster_claims.specs.Seats.{ClaimsSeen, SeatSeen, fresh_seat, fresh_seats}
 use Rattle.graph_numbers.specs.Graphs.{GraphView, IsGraph}
 use Rattle.graph_numbers.specs.Laws.{graph_of}
@@ -112,11 +112,6 @@ is_work p d header names booked planned table =
 module _ (p : PlanView) (d : Dataset) where
   abbrev table : TableView
   table = record { columns = plan_columns p; rows = snapshot_entries p d d.rows }
-
-  pub run_stopped : (s : SnapStop) → AreRecords p d (Err s) → IsRun p d (Err s)
-  run_stopped (stop.Fault entry kind) h = ap (unless_fault table) h
-  run_stopped (stop.TooLong bytes) h = absurd h
-  run_stopped stop.Memory h = tt
 
   pub is_run : (texts : List (List ℕ)) (r : Result (List ℕ) SnapStop) → AreRecords p d (Ok texts) → IsTogether (header_text (plan_columns p) ++ flat_map (λ t. t) texts) r → IsRun p d r
   is_run texts (Ok text) h t =

@@ -6,7 +6,7 @@ use Rattle.rdf_values.specs.declared.span.Span.{Span}
 use Rattle.rdf_model.specs.Results.{Dataset}
 use Rattle.rdf_values.specs.Functions.{Function}
 use Rattle.columns.specs.ColumnsView.{ColumnsView}
-use Rattle.clusters.specs.CutsView.{CutsView}
+use Rattle.columns.specs.CutsView.{CutsView}
 use Rattle.snapshot_plan.specs.Views.{PlanView}
 use Rattle.snapshot_text.specs.TableTexts.{entries_text}
 use Rattle.snapshot_rows.specs.Snapshots.{SnapFault, snapshot_entries, snapshot_fault}

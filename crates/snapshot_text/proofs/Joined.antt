@@ -12,10 +12,6 @@ pub joined_behind : {A : Type 0} (c : ℕ) (f : A → List ℕ) (x : A) (xs : Li
 joined_behind c f x [] = sym (append-nil (f x))
 joined_behind c f x (y ∷ ys) = ap (λ t. f x ++ c ∷ t) (joined_behind c f y ys)
 
-pub on_ok : {A E : Type 0} (r : Result A E) (P Q : Type 0) → (P → Q) → OnOk r P → OnOk r Q
-on_ok (Ok x) P Q f h = f h
-on_ok (Err e) P Q f h = h
-
 -- a text that grows twice
 pub grown : (old mid new a b whole : List ℕ) → mid ≡ old ++ a → new ≡ mid ++ b → whole ≡ a ++ b → new ≡ old ++ whole
 grown old mid new a b whole m n w = n ∙ ap (λ t. t ++ b) m ∙ append_assoc old a b ∙ ap (λ t. old ++ t) (sym w)

@@ -9,6 +9,7 @@ use Rattle.std.specs.Str.Parse.{digits_value}
 use Rattle.std.proofs.lemmas.Str.Parse.{IsNumeralModel, numerals_by_value, tells_all_ascii_digits}
 use Rattle.std.proofs.lemmas.Fmt.{decimal_nonempty, digits_decimal}
 use Rattle.std.proofs.lemmas.Bool.Decides.{nat_tests}
+use Rattle.lemmas.proofs.Booleans.{both_true}
 use Rattle.csv.specs.Writing.{default_writer, needs_byte}
 use Rattle.rdf_values.specs.Names.{is_name, is_word_byte, is_word_start}
 use Rattle.rdf_values.specs.Words.{Has64Bits}
@@ -55,18 +56,13 @@ abbrev pub AllNumerals : List (List ℕ) → Type 0
 AllNumerals [] = Unit {0}
 AllNumerals (x ∷ xs) = Numeral x × AllNumerals xs
 
-and_both : (x y : Bool) → (x && y) ≡ true → (x ≡ true) × (y ≡ true)
-and_both true true h = (refl, refl)
-and_both true false h = cc h
-and_both false y h = cc h
-
 digit_by : (d : ℕ) → is_ascii_digit d ≡ true → (44 < d) × (d < 58)
 digit_by d h = (grind (arith, nat_tests), grind (arith, nat_tests))
 
 digits_numeral : (ds : List ℕ) → all_ascii_digits ds ≡ true → Numeral ds
 digits_numeral [] h = tt
 digits_numeral (d ∷ ds) h =
-    let both = and_both (is_ascii_digit d) (all_ascii_digits ds) h in
+    let both = both_true (is_ascii_digit d) (all_ascii_digits ds) h in
     let one = digit_by d both.0 in
     (one.0, one.1, digits_numeral ds both.1)
 
@@ -110,7 +106,7 @@ first_byte b h = (grind (arith, nat_tests), grind (arith, nat_tests), grind (ari
 word_bytes : (bs : List ℕ) → list_all is_word_byte bs ≡ true → Wordy bs
 word_bytes [] h = tt
 word_bytes (b ∷ bs) h =
-    let both = and_both (is_word_byte b) (list_all is_word_byte bs) h in
+    let both = both_true (is_word_byte b) (list_all is_word_byte bs) h in
     let one = word_byte b both.0 in
     (one.0, one.1, word_bytes bs both.1)
 
@@ -127,10 +123,10 @@ pub name_bytes : (name : List ℕ) → is_name name ≡ true → Wordy name × S
 unfolding is_name
 name_bytes [] h = cc h
 name_bytes (b ∷ bs) h =
-    let most = and_both _ _ h in
-    let short = and_both _ _ most.0 in
-    let word = and_both _ _ short.0 in
-    let parts = and_both (is_word_start b) (list_all is_word_byte bs) word.0 in
+    let most = both_true _ _ h in
+    let short = both_true _ _ most.0 in
+    let word = both_true _ _ short.0 in
+    let parts = both_true (is_word_start b) (list_all is_word_byte bs) word.0 in
     let one = first_byte b parts.0 in
     ((one.0, one.1, word_bytes bs parts.1), one.2)
 

@@ -6,6 +6,7 @@ use Rattle.std.specs.List.{after_first, before_first, join_with_byte, list_all, 
 use Rattle.std.proofs.lemmas.List.{append-nil, length-map}
 use Rattle.std.proofs.lemmas.List.Elements.{All-head, All-tail}
 use Rattle.std.proofs.lemmas.Bool.Decides.{nat_tests}
+use Rattle.lemmas.proofs.Booleans.{both_true}
 use lib.Signed.{mag}
 use Rattle.rdf_values.proofs.OneText.{integer_of_text}
 use Rattle.rdf_values.specs.Integers.{integer_of}
@@ -194,17 +195,12 @@ next_back before c l h s new =
     let few : nat_lt (length before) 64 ≡ true = grind (arith, nat_tests) in
     rw (column_back c h s, few, new) refl
 
-and_both : (x y : Bool) → (x && y) ≡ true → (x ≡ true) × (y ≡ true)
-and_both true true h = (refl, refl)
-and_both true false h = cc h
-and_both false y h = cc h
-
 header_back : (cols : List Column) (i : ℕ) (before : List Column) → length before + length cols ≤ 64 → AreColumns before cols → AreNamed cols
     → header_from i before (map column_field cols) ≡ Ok (record { columns = cols; marked = false })
 unfolding header_from
 header_back [] i before l a h = refl
 header_back (c ∷ cs) i before l a h =
-    let names = and_both (is_name c.name) (list_all (λ (d : Column). is_name d.name) cs) h in
+    let names = both_true (is_name c.name) (list_all (λ (d : Column). is_name d.name) cs) h in
     let on = no_end before (column_field c) (map column_field cs) (no_cut before c names.0) in
     let size = length-append before (c ∷ []) in
     let rest = header_back cs (i + 1) (before ++ c ∷ []) (omega (arith, l, size)) a.2 names.1 in

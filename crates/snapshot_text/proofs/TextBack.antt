@@ -5,6 +5,7 @@ use Rattle.std.specs.List.{join_with_byte, list_all}
 use Rattle.std.proofs.lemmas.Grind.{flat_map-append}
 use Rattle.std.proofs.lemmas.List.{length-map}
 use Rattle.std.proofs.lemmas.List.Elements.{All-head}
+use Rattle.lemmas.proofs.Booleans.{both_true}
 use Rattle.csv.specs.Writing.{default_writer, row_text}
 use Rattle.csv.proofs.RoundTrip.{rows_text}
 use Rattle.table_csv.specs.Csv.{csv_records}
@@ -24,11 +25,6 @@ use Rattle.snapshot_text.proofs.Plain.{Above, AllAbove, AllNumerals, Starts, abo
 use Rattle.snapshot_text.proofs.RecordsBack.{HaveFields, many_written, none_written, one_written, records_back}
 use Rattle.snapshot_text.proofs.TableBack.{AllStored, all_stored, joined_some, numbers_numerals, row_length, table_back}
 
-and_both : (x y : Bool) → (x && y) ≡ true → (x ≡ true) × (y ≡ true)
-and_both true true h = (refl, refl)
-and_both true false h = cc h
-and_both false y h = cc h
-
 -- ---- the header
 
 kind_above : (kind : ColType) → Above (kind_word kind)
@@ -42,7 +38,7 @@ column_above c h = above_joined c.name (58 ∷ kind_word c.kind) (wordy_above c.
 columns_above : (cols : List Column) → AreNamed cols → AllAbove (map column_field cols)
 columns_above [] h = tt
 columns_above (c ∷ cs) h =
-    let names = and_both (is_name c.name) (list_all (λ (d : Column). is_name d.name) cs) h in
+    let names = both_true (is_name c.name) (list_all (λ (d : Column). is_name d.name) cs) h in
     (column_above c names.0, columns_above cs names.1)
 
 column_some : (c : Column) → 0 < length (column_field c)
@@ -60,7 +56,7 @@ joined_starts x (y ∷ ys) b h = starts_joined x (b ∷ join_with_byte b (y ∷ 
 header_starts : (cols : List Column) → 0 < length cols → AreNamed cols → Starts (header_text cols)
 header_starts [] l h = absurd (omega arith)
 header_starts (c ∷ cs) l h =
-    let names = and_both (is_name c.name) (list_all (λ (d : Column). is_name d.name) cs) h in
+    let names = both_true (is_name c.name) (list_all (λ (d : Column). is_name d.name) cs) h in
     let first = starts_joined c.name (58 ∷ kind_word c.kind) (name_bytes c.name names.0).1 in
     starts_joined (join_with_byte 44 (map column_field (c ∷ cs))) (10 ∷ []) (joined_starts (column_field c) (map column_field cs) 44 first)
 

@@ -1,7 +1,7 @@
 -- Names between commas, part by part.
-use Rattle.std.proofs.Common.{◌≡◌, ◌<◌, ◌≤◌, ◌+◌, ℕ, List, [], ◌∷◌, ◌++◌, length, Bool, true, false, ◌&&◌, None, Some, Option, arith, refl, suc, sym, ap, ◌∙◌, length-append, append-nil, append_assoc}
+use Rattle.std.proofs.Common.{◌≡◌, ◌<◌, ◌≤◌, ◌+◌, ℕ, List, [], ◌∷◌, ◌++◌, length, Bool, true, false, ◌&&◌, None, Some, Option, arith, refl, suc, ap, ◌∙◌, length-append, append-nil}
 use Rattle.std.specs.Borrow.{Bor}
-use Rattle.std.specs.Prelude.{MatchOption, cond, nat_le, nat_lt, position, if◌then◌else◌}
+use Rattle.std.specs.Prelude.{MatchOption, cond, nat_le, nat_lt, position}
 use Rattle.std.specs.List.{after_first, before_first, list_all, position_or_len, slice_split}
 use Rattle.std.proofs.lemmas.List.{drop_all}
 use Rattle.std.proofs.lemmas.Bool.Decides.{nat_tests}
@@ -36,14 +36,6 @@ pub nothing_read : (text : List ℕ) → AreRead text [] (slice_split is_comma t
 nothing_read text = record { parts = refl; named = refl; few = omega arith }
 
 -- ---- lists of names
-
-one_more : (read : List (List ℕ)) (part : List ℕ) → list_all is_name read ≡ true → is_name part ≡ true → list_all is_name (read ++ part ∷ []) ≡ true
-one_more [] part r p = rw p refl
-one_more (x ∷ xs) part r p = go (is_name x) r (λ e. one_more xs part e p)
-  where
-    go : (b : Bool) → b && list_all is_name xs ≡ true → (list_all is_name xs ≡ true → list_all is_name (xs ++ part ∷ []) ≡ true) → b && list_all is_name (xs ++ part ∷ []) ≡ true
-    go true e more = more e
-    go false e more = absurd (cc e)
 
 one_bad : (read : List (List ℕ)) (part : List ℕ) (left : List (List ℕ)) → is_name part ≡ false → list_all is_name (read ++ part ∷ left) ≡ false
 one_bad [] part left p = rw p refl
@@ -80,12 +72,6 @@ too_many text read left part r h =
     let long = length-append read (part ∷ left) in
     let over : nat_le (length (read ++ part ∷ left)) 64 ≡ false = grind (arith, nat_tests, long) in
     ap if_names r.parts ∙ and_bad (nat_le (length (read ++ part ∷ left)) 64) (read ++ part ∷ left) (list_all is_name (read ++ part ∷ left)) over
-
-pub one_read : (text : List ℕ) (read more left : List (List ℕ)) (part name : List ℕ) → AreRead text read (part ∷ left) → is_name part ≡ true → name ≡ part → length read < 64 → more ≡ read ++ name ∷ [] → AreRead text more left
-one_read text read more left part name r p same room e =
-    let whole : more ≡ read ++ part ∷ [] = e ∙ ap (λ x. read ++ x ∷ []) same in
-    let long = length-append read (part ∷ []) in
-    rw whole (record { parts = r.parts ∙ sym (append_assoc read (part ∷ []) left); named = one_more read part r.named p; few = omega (arith, long) })
 
 pub all_read : (text : List ℕ) (read : List (List ℕ)) → AreRead text read [] → names_of text ≡ Some read
 unfolding names_of

@@ -2,6 +2,7 @@
 use Rattle.std.proofs.Common.{◌≡◌, ◌+◌, ℕ, List, [], ◌∷◌, ◌++◌, length, Bool, true, false, arith, refl, sym, ◌∙◌, append_assoc, append-nil, inl, inr}
 use Rattle.std.specs.Prelude.{if◌then◌else◌, ◌==◌, ◌&&◌, ◌||◌, nat_eq}
 use Rattle.std.specs.List.{list_any}
+use Rattle.lemmas.proofs.Booleans.{and_false, neither}
 use Rattle.csv.specs.Machine.{ends_with, next_record, step, in_field, start_field, start_record}
 use Rattle.csv.specs.Reading.{default_config, is_bom, records_from, strip_bom}
 use Rattle.csv.specs.declared.parser.Action.{Action}
@@ -62,15 +63,11 @@ line_ends st.AfterQuote h = cc h
 line_ends st.InEscape h = cc h
 line_ends st.InComment h = cc h
 
-or_none : (a b : Bool) → (a || b) ≡ false → (a ≡ false) × (b ≡ false)
-or_none false b e = (refl, e)
-or_none true b e = cc e
-
 lines_end : (front : List ℕ) (s : State) → unquoted s ≡ true → list_any is_quote front ≡ false → state_after s (front ++ 10 ∷ []) ≡ st.StartRecord
 unfolding state_after
 lines_end [] s h n = line_ends s h
 lines_end (c ∷ front) s h n =
-    let p = or_none (is_quote c) (list_any is_quote front) n in
+    let p = neither (is_quote c) (list_any is_quote front) n in
     lines_end front (step default_config s c).0 (step_stays s c h p.0) p.1
 
 -- ---- the byte order mark
@@ -78,8 +75,8 @@ lines_end (c ∷ front) s h n =
 pub no_quote : (bytes : List ℕ) → list_any is_special bytes ≡ false → list_any is_quote bytes ≡ false
 no_quote [] n = refl
 no_quote (c ∷ bytes) n =
-    let p = or_none (is_special c) (list_any is_special bytes) n in
-    rw ((or_none (nat_eq c 34) (nat_eq c 239) p.0).0) (no_quote bytes p.1)
+    let p = neither (is_special c) (list_any is_special bytes) n in
+    rw ((neither (nat_eq c 34) (nat_eq c 239) p.0).0) (no_quote bytes p.1)
 
 no_mark : (bytes : List ℕ) → list_any is_special bytes ≡ false → strip_bom bytes ≡ bytes
 unfolding strip_bom
@@ -87,12 +84,8 @@ no_mark [] n = refl
 no_mark (a ∷ []) n = refl
 no_mark (a ∷ b ∷ []) n = refl
 no_mark (a ∷ b ∷ c ∷ rest) n =
-    let p = or_none (is_special a) (list_any is_special (b ∷ c ∷ rest)) n in
-    rw ((or_none (nat_eq a 34) (nat_eq a 239) p.0).1) refl
-
-no_third : (b : Bool) → (b && false) ≡ false
-no_third true = refl
-no_third false = refl
+    let p = neither (is_special a) (list_any is_special (b ∷ c ∷ rest)) n in
+    rw ((neither (nat_eq a 34) (nat_eq a 239) p.0).1) refl
 
 no_second : (b c : Bool) → ((b && false) && c) ≡ false
 no_second true c = refl
@@ -124,14 +117,14 @@ unfolding strip_bom
 stripped [] n = record { kept = []; plain = refl; same = line_kept }
 stripped (a ∷ []) n = record { kept = a ∷ []; plain = n; same = second_kept a }
 stripped (a ∷ b ∷ []) n =
-    record { kept = a ∷ b ∷ []; plain = n; same = λ rest. no_mark_if (is_bom a b 10) rest (a ∷ b ∷ 10 ∷ rest) (no_third ((a == 239) && (b == 187))) }
+    record { kept = a ∷ b ∷ []; plain = n; same = λ rest. no_mark_if (is_bom a b 10) rest (a ∷ b ∷ 10 ∷ rest) (and_false ((a == 239) && (b == 187))) }
 stripped (a ∷ b ∷ c ∷ front) n = go (is_bom a b c) refl
   where
     go : (t : Bool) → is_bom a b c ≡ t → Stripped (a ∷ b ∷ c ∷ front)
     go true e =
-        let p = or_none (is_quote a) (list_any is_quote (b ∷ c ∷ front)) n in
-        let q = or_none (is_quote b) (list_any is_quote (c ∷ front)) p.1 in
-        let r = or_none (is_quote c) (list_any is_quote front) q.1 in
+        let p = neither (is_quote a) (list_any is_quote (b ∷ c ∷ front)) n in
+        let q = neither (is_quote b) (list_any is_quote (c ∷ front)) p.1 in
+        let r = neither (is_quote c) (list_any is_quote front) q.1 in
         record { kept = front; plain = r.1; same = λ rest. rw e refl }
     go false e = record { kept = a ∷ b ∷ c ∷ front; plain = n; same = λ rest. rw e refl }
 
@@ -149,7 +142,7 @@ line_cut front rest n m =
 front_plain : (front rest : List ℕ) → list_any is_quote (front ++ rest) ≡ false → list_any is_quote front ≡ false
 front_plain [] rest n = refl
 front_plain (c ∷ front) rest n =
-    let p = or_none (is_quote c) (list_any is_quote (front ++ rest)) n in
+    let p = neither (is_quote c) (list_any is_quote (front ++ rest)) n in
     rw p.0 (front_plain front rest p.1)
 
 no_records : csv_records [] ≡ []

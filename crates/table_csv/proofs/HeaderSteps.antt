@@ -1,6 +1,6 @@
 -- One more field of a header, and that columns of a header are those of a table.
 use Rattle.std.proofs.Common.{◌≡◌, ◌<◌, ◌≤◌, ◌+◌, ℕ, suc, List, [], ◌∷◌, ◌++◌, length, get_or, drop, Bool, true, false, None, Some, Option, Result, Ok, Err, arith, refl, ap, sym, ◌∙◌, append_assoc, length-append, codes, not, ◌&&◌}
-use Rattle.std.specs.Prelude.{if◌then◌else◌, nat_eq, nat_lt, option_and_then, option_map, ok_or}
+use Rattle.std.specs.Prelude.{nat_eq, nat_lt, option_and_then, option_map, ok_or}
 use Rattle.std.specs.List.{after_first, before_first}
 use Rattle.std.proofs.lemmas.List.{append-nil, at_drop_more, drop_all, length-drop}
 use Rattle.std.proofs.lemmas.Bool.Decides.{nat_tests}
@@ -109,11 +109,6 @@ next_by i size before field None go l e more = tt
 next_by i size before field (Some c) go l e more =
     let new = next_new before field c e in
     next_cons i size before c (go c) new.1 new.2 (more c new.0)
-
--- a field of marks isn't the first
-first_no : (b c : Bool) → (not b && c) ≡ true → b ≡ false
-first_no true c h = cc h
-first_no false c h = refl
 
 cut_behind : (before : List Column) (field : List ℕ) (rest : List (List ℕ)) → ends_in_cut before (field ∷ rest) ≡ true → 0 < length before
 unfolding is_cut

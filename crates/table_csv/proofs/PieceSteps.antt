@@ -15,7 +15,7 @@ use Rattle.rdf_values.specs.declared.value.Value.{Value}
 use Rattle.table_csv.specs.Csv.{Took, csv_records}
 use Rattle.table_csv.specs.Entries.{IsHeaded, entries_of}
 use Rattle.table_csv.specs.Joins.{marks_behind}
-use Rattle.table_pieces.specs.Joins.{table_joined}
+use Rattle.columns.specs.Joins.{table_joined}
 use Rattle.table_csv.specs.Lines.{IsCut, is_quote, is_special}
 use Rattle.table_csv.specs.Pieces.{IsHead, IsPiece}
 use Rattle.table_csv.specs.declared.marked.Marked.{Marked}

@@ -1,6 +1,6 @@
 -- The table of two parts, from that of each.
 use Rattle.std.proofs.Common.{◌≡◌, ◌≤◌, ◌<◌, ◌+◌, ℕ, suc, List, [], ◌∷◌, ◌++◌, length, map, drop, Bool, true, false, None, Some, Option, Result, Ok, Err, arith, refl, ap, sym, ◌∙◌}
-use Rattle.std.specs.Prelude.{if◌then◌else◌, codes, nat_eq, nat_le, ok_or, option_map}
+use Rattle.std.specs.Prelude.{codes, nat_eq, nat_le, ok_or, option_map}
 use Rattle.std.proofs.lemmas.List.{length-map, map-append}
 use Rattle.std.proofs.lemmas.Bool.Decides.{nat_tests}
 use Rattle.rdf_values.specs.Integers.{integer_of}
@@ -29,10 +29,6 @@ keeps_cons (Ok x) y (Ok xs) ys h k = rw (h, k) refl
 keeps_on : {A B E : Type 0} (x y : Result A E) (f g : A → Result B E) → Keeps x y → ((a : A) → Keeps (f a) (g a)) → Keeps (on_ok x f) (on_ok y g)
 keeps_on (Err e) y f g h k = tt
 keeps_on (Ok x) y f g h k = rw h (k x)
-
-keeps_same : {A E : Type 0} (x : Result A E) → Keeps x x
-keeps_same (Err e) = tt
-keeps_same (Ok x) = refl
 
 keeps_or : {A E : Type 0} (o : Option A) (c d : E) → Keeps (ok_or o c) (ok_or o d)
 keeps_or None c d = tt

@@ -1,6 +1,6 @@
 -- One more entry of a table.
-use Rattle.std.proofs.Common.{◌≡◌, ◌≤◌, ◌<◌, ◌+◌, ℕ, Bool, true, false, List, [], ◌∷◌, ◌++◌, length, map, All, Result, Ok, Err, arith, refl, ap, ap₂, sym, subst, ◌∙◌, length-append, if◌then◌else◌}
-use Rattle.std.proofs.lemmas.List.{append-nil, length-map, map-append}
+use Rattle.std.proofs.Common.{◌≡◌, ◌≤◌, ◌<◌, ◌+◌, ℕ, Bool, true, false, List, [], ◌∷◌, ◌++◌, length, map, All, Result, Ok, Err, arith, refl, ap, ap₂, sym, subst, ◌∙◌, length-append}
+use Rattle.std.proofs.lemmas.List.{append-nil, map-append}
 use Rattle.std.proofs.lemmas.List.Elements.{All-cons}
 use Rattle.rdf_values.specs.Kept.{rows_kept}
 use Rattle.rdf_values.specs.Tables.{TableView}
@@ -87,9 +87,6 @@ pub record Reading (answer : Result MarkedTable TableCause) (marked : Bool) (tab
 
 pub reading_start : (columns : List Column) (marked : Bool) (left : List (List (List ℕ))) → Reading (entries_of (record { columns = columns; marked = marked }) left) marked (record { columns = columns; rows = [] }) [] 0 left
 reading_start columns marked left = record { read = []; so_far = start (record { columns = columns; marked = marked }) left; rows = refl; marks_read = refl; count = refl }
-
-pub reading_rows : (answer : Result MarkedTable TableCause) (marked : Bool) (table : TableView) (marks : List ℕ) (entry : ℕ) (left : List (List (List ℕ))) → Reading answer marked table marks entry left → length table.rows ≡ entry
-reading_rows answer marked table marks entry left r = sym (ap length r.rows) ∙ length-map r.read (λ (m : MarkedRow). m.row) ∙ r.count
 
 pub reading_marks : (answer : Result MarkedTable TableCause) (marked : Bool) (table : TableView) (marks : List ℕ) (entry : ℕ) (left : List (List (List ℕ))) → Reading answer marked table marks entry left → All (λ m. m < entry) marks
 reading_marks answer marked table marks entry left r = let n = r.count in subst (λ (l : List ℕ). All (λ m. m < entry) l) r.marks_read (marks_below r.read 0 entry (omega (arith, n)))

@@ -1,6 +1,6 @@
 // Tables in pieces that mark their clusters.
+use columns::TablePieces;
 use rdf_values::Marks;
-use table_pieces::TablePieces;
 
 /// A table in pieces, and the entries at which its column of marks says that a cluster begins.
 #[derive(Drop)]

@@ -2,7 +2,7 @@
 ghost use Rattle.std.specs.Prelude.{◌≡◌, ◌≤◌, ◌+◌, ◌<◌, ◌++◌, true, All, IfOk, IfSome, length};
 ghost use Rattle.table_csv.specs.Joins.{marks_behind};
 ghost use Rattle.table_csv.specs.Pieces.{IsHead, IsPiece};
-ghost use Rattle.table_pieces.specs.Joins.{table_joined};
+ghost use Rattle.columns.specs.Joins.{table_joined};
 
 use crate::appending::append_marks;
 use crate::entries::{read_entries, read_heading};
@@ -10,10 +10,10 @@ use crate::lines::has_special;
 use crate::marked::Marked;
 use crate::marked_pieces::MarkedPieces;
 use crate::records::{next, open};
+use columns::TablePieces;
 use csv::ByteRecord;
 use rdf_values::Memory;
 use std::alloc::Global;
-use table_pieces::TablePieces;
 
 const MAX_ENTRIES: u32 = 1_000_000;
 

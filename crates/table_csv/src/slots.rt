@@ -11,9 +11,9 @@ use crate::marked_pieces::MarkedPieces;
 use crate::pieces::{append_pieces, in_one_piece, is_head, read_piece};
 use crate::reading::read_table;
 use crate::refusal::TableRefusal;
+use columns::halves;
 use std::alloc::Global;
 use std::thread::{Threads, join};
-use table_pieces::halves;
 
 // A piece of fewer bytes is read sooner than a thread is made for it.
 const LEAST_PIECE: usize = 16_384;

@@ -1,9 +1,9 @@
-use crate::slots::read_side_by_side;
 use crate::{MarkedPieces, TableRefusal, read_table_in_slots};
+use crate::slots::read_side_by_side;
+use columns::ColumnPieces;
 use rdf_values::TableCause;
 use std::alloc::{AllocError, Global};
 use std::test::Fail;
-use table_pieces::ColumnPieces;
 
 // A column of these lines, with so many lines of 0 before and behind them.
 fn padded(alloc: Global, before: u32, lines: &str, behind: u32) -> Result<String, AllocError> {
@@ -27,12 +27,12 @@ fn holds(marked: MarkedPieces, before: u32, numbers: &[i64], behind: u32) -> boo
             return false;
         };
         for piece in pieces {
-            for number in piece.as_slice() {
+            for place in 0..piece.len() {
                 let wanted = match entry.checked_sub(before) {
                     Some(i) => numbers.get(i as usize).copied().unwrap_or(0),
                     None => 0,
                 };
-                if *number != wanted || entry >= parts.entries {
+                if piece.at(place) != wanted || entry >= parts.entries {
                     return false;
                 }
                 entry += 1;

@@ -1,8 +1,9 @@
 use Rattle.std.proofs.Common.{rules, arith, ◌≡◌, ◌≤◌, ◌<◌, ◌^◌, length, get_or, pos, ap, sym, ◌∙◌, w64, FitsSigned}
 use Rattle.std.specs.Prelude.{nat_abs}
 use Rattle.std.proofs.lemmas.Int.{to_z-of_z}
+use Rattle.lemmas.proofs.Booleans.{neither}
 use Rattle.actions.specs.Batches.{places_of}
-use Rattle.actions.proofs.Batching.{either_false, light_all, one_more_light}
+use Rattle.actions.proofs.Batching.{light_all, one_more_light}
 use Rattle.actions.proofs.batch.any_heavy.Goals as goal
 
 pub loop-i-preserved : goal.loop-i-preserved
@@ -10,7 +11,7 @@ loop-i-preserved c = λ h.
     let ps = places_of c.args.places.now in
     let i = c.loop-i.i in
     let below : i < length ps = search rules in
-    let both = either_false c.loop-i.heavy _ h in
+    let both = neither c.loop-i.heavy _ h in
     let fits : FitsSigned w64 (get_or c.args.weights.now c.at.result (pos 0)) = search rules in
     let over = both.1 in
     let light : c.unsigned_abs.result < 2 ^ 31 = grind (arith, over) in

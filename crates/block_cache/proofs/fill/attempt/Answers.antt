@@ -4,7 +4,7 @@ use Rattle.std.proofs.lemmas.List.Elements.{Contains-get_or}
 use Rattle.expr_lanes.specs.declared.stopped.Stopped.{Stopped}
 use Rattle.loop_keys.specs.Jobs.{job_of}
 use Rattle.block_cache.specs.Faults.{IsLeastFault}
-use Rattle.block_cache.proofs.Attempts.{attempted_from, place_inside}
+use Rattle.block_cache.proofs.Attempts.{attempted_from, place_inside, whole_from}
 use Rattle.block_cache.proofs.Answering.{on_err}
 use Rattle.block_cache.proofs.BrokenOff.{broken_off}
 use Rattle.block_cache.proofs.fill.attempt.Goals as goal
@@ -28,3 +28,8 @@ returns-in_err-try_lane-clause-broken g c =
 
 pub returns-in_err-try_lane-clause-plain : goal.returns-in_err-try_lane-clause-plain
 returns-in_err-try_lane-clause-plain g c = λ used p q. absurd (c.in_err-try_lane.ensures.plain used p q)
+
+pub returns-clause-whole : goal.returns-clause-whole
+returns-clause-whole g c = λ empty.
+    whole_from (job_of c.args.block.now.at.now.job.now) c.args.block.now.at.now.entry c.args.block.now.at.now.under c.args.block.now.count c.args.site c.requires.site c.args.level.now.group c.try_lane.new.selection c.args.lanes.now c.try_lane.new.lanes _ _ c.clear.ensures c.in_ok-try_lane.ensures.tried
+    c.requires.selected.inside c.requires.lacks empty

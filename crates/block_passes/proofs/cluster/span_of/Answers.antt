@@ -1,6 +1,6 @@
 use Rattle.std.proofs.Common.{◌≡◌, ◌<◌, Some, length, slice_get, subst, sym}
 use Rattle.rdf_values.specs.Cuts.{cut}
-use Rattle.clusters.specs.CutsView.{CutsView}
+use Rattle.columns.specs.CutsView.{CutsView}
 use Rattle.block_passes.proofs.cluster.span_of.Goals as goal
 
 pub range-requires : goal.range-requires

@@ -1,5 +1,5 @@
 use Rattle.loop_keys.specs.Jobs.{job_of}
-use Rattle.pass_laws.specs.Entries.{facts_in}
+use Rattle.loop_keys.specs.Entries.{facts_in}
 use Rattle.block_passes.proofs.Fed.{fed_hand, fed_low, feeds_any, last_there, only_takes, pass_there}
 use Rattle.block_passes.proofs.feed.feed_action.Goals as goal
 

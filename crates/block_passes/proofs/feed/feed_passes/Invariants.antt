@@ -1,6 +1,6 @@
 use Rattle.std.proofs.Common.{◌≡◌}
 use Rattle.loop_keys.specs.Jobs.{job_of}
-use Rattle.pass_laws.specs.Turns.{actions_before}
+use Rattle.loop_keys.specs.Turns.{actions_before}
 use Rattle.block_passes.proofs.FedPasses.{IsFedTo}
 use Rattle.block_passes.proofs.feed.feed_passes.Given as goal
 

@@ -2,7 +2,7 @@ use Rattle.std.proofs.Common.{◌≡◌, ◌∙◌, ap, arith, length, subst, �
 use Rattle.graph_numbers.specs.Graphs.{GraphView, graph_filters}
 use Rattle.loop_keys.specs.Jobs.{job_graph, job_of}
 use Rattle.cluster_tally.specs.Blocks.{HoldsIn}
-use Rattle.pass_laws.specs.Entries.{facts_in}
+use Rattle.loop_keys.specs.Entries.{facts_in}
 use Rattle.block_passes.specs.Counting.{at_filter}
 use Rattle.block_passes.proofs.Counting.{can_note}
 use Rattle.block_passes.proofs.PlanSteps.{filter_in}

@@ -4,7 +4,7 @@ use Rattle.std.proofs.lemmas.Result.{on_ok_weaker}
 use Rattle.graph_numbers.specs.Graphs.{GraphView, graph_results}
 use Rattle.graph_numbers.specs.Results.{ResultAt}
 use Rattle.loop_keys.specs.Jobs.{job_of}
-use Rattle.pass_laws.proofs.EntryLaws.{own_covers}
+use Rattle.loop_keys.proofs.EntryLaws.{own_covers}
 use Rattle.block_passes.specs.Selections.{IsMadeAt}
 use Rattle.block_passes.specs.Tries.{IsNamedMade, IsTriedTo, filters_fault}
 use Rattle.block_passes.proofs.TriedFilters.{no_action, report_tried, same_report}

@@ -2,9 +2,9 @@ use Rattle.std.proofs.Common.{arith, ◌≡◌, ◌+◌, below_more, ◌∙◌, 
 use Rattle.rdf_values.specs.declared.value.ColType.{ColType}
 use Rattle.block_lanes.specs.Lanes.{kinds_of}
 use Rattle.loop_keys.specs.Jobs.{job_of, passes_in}
-use Rattle.pass_laws.specs.Turns.{pass_fault}
+use Rattle.loop_keys.specs.Turns.{pass_fault}
 use Rattle.block_passes.specs.Searches.{IsSearched}
-use Rattle.pass_laws.proofs.EntryLaws.{read_pass}
+use Rattle.loop_keys.proofs.EntryLaws.{read_pass}
 use Rattle.block_passes.specs.Tries.{CanServeAll, IsPassMade}
 use Rattle.block_passes.proofs.PlanMade.{plan_made}
 use Rattle.block_passes.proofs.Remaking.{pass_stays}

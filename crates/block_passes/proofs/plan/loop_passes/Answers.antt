@@ -2,9 +2,9 @@ use Rattle.std.proofs.Common.{◌≡◌, ◌≤◌, ℕ, List, [], length, Some,
 use Rattle.graph_numbers.specs.Graphs.{GraphView, graph_loops, graph_variations}
 use Rattle.graph_numbers.specs.declared.pass.Pass.{Pass as NumberedPass}
 use Rattle.loop_keys.specs.Jobs.{JobView, IsJob, job_graph, job_of}
-use Rattle.pass_laws.specs.Turns.{numbered_passes}
-use Rattle.pass_laws.proofs.Covered.{passes_count}
-use Rattle.pass_laws.proofs.PassCounts.{few_passes}
+use Rattle.loop_keys.specs.Turns.{numbered_passes}
+use Rattle.loop_keys.proofs.Covered.{passes_count}
+use Rattle.loop_keys.proofs.PassCounts.{few_passes}
 use Rattle.block_passes.proofs.plan.loop_passes.Goals as goal
 
 read : (j : JobView) (g : GraphView) (ps : List NumberedPass) → g ≡ job_graph j → slice_get (graph_loops g) j.number ≡ Some ps → ps ≡ numbered_passes j

@@ -1,6 +1,6 @@
 use Rattle.std.proofs.Common.{◌≡◌, None, ◌++◌, arith, length}
 use Rattle.loop_keys.specs.Jobs.{job_of, passes_in}
-use Rattle.pass_laws.proofs.EntryLaws.{read_pass}
+use Rattle.loop_keys.proofs.EntryLaws.{read_pass}
 use Rattle.block_passes.proofs.PlanSteps.{passes_begin, passes_end, passes_go_on}
 use Rattle.block_passes.proofs.plan.pass_steps.Goals as goal
 

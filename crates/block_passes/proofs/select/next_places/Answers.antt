@@ -1,6 +1,7 @@
 use Rattle.std.proofs.Common.{◌<◌, arith, refl, length}
 use Rattle.std.proofs.lemmas.Option.{slice_get_read}
 use Rattle.std.proofs.lemmas.Result.{on_ok_weaker}
+use Rattle.lemmas.proofs.Places.{kept_at}
 use Rattle.loop_keys.specs.Jobs.{job_of}
 use Rattle.block_passes.specs.Selections.{IsFilteredTo}
 use Rattle.block_passes.specs.Steps.{longer}
@@ -8,7 +9,6 @@ use Rattle.block_passes.specs.declared.steps.Step.TheVariants as step
 use Rattle.block_passes.proofs.NextPlaces.{from_inside, next_selected, next_spends}
 use Rattle.block_passes.proofs.Remaking.{remade_behind}
 use Rattle.block_passes.proofs.SitesThere.{site_there, site_used}
-use Rattle.block_passes.proofs.StepLaws.{get_kept}
 use Rattle.block_passes.proofs.select.next_places.Goals as goal
 
 pub filter_places-requires-clause-site : goal.filter_places-requires-clause-site
@@ -46,7 +46,7 @@ filter_places-requires-clause-inside g c =
     let here = slice_get_read c.args.above.now (length c.args.above.now) c.args.next.parent c.index-above-next.result refl lt c.index-above-next.is in
     from_inside (job_of c.args.at.now.job.now) c.requires.job.job c.args.at.now.first c.args.at.now.count c.args.at.now.pass c.args.at.now.plan.now c.requires.plan c.args.next.step c.args.next.parent c.args.next.filter.site c.args.next.filter.under c.requires.step
     c.requires.within c.args.above.now c.args.own.now c.index-above-next.result here c.requires.above c.args.work.now.lanes.items c.args.work.now.found (c.requires.ready c.requires.plan)
-    (c.requires.made c.index-above-next.result (get_kept c.args.above.now c.args.own.now c.args.next.parent c.index-above-next.result here))
+    (c.requires.made c.index-above-next.result (kept_at c.args.above.now c.args.own.now c.args.next.parent c.index-above-next.result here))
 
 pub returns-clause-spends : goal.returns-clause-spends
 returns-clause-spends g c =
@@ -55,7 +55,7 @@ returns-clause-spends g c =
     let here = slice_get_read c.args.above.now (length c.args.above.now) c.args.next.parent c.index-above-next.result refl lt c.index-above-next.is in
     next_spends (job_of c.args.at.now.job.now) c.requires.job.job c.args.at.now.first c.args.at.now.count c.args.at.now.pass c.args.at.now.plan.now c.requires.plan c.args.next.step c.args.next.parent c.args.next.filter.site c.args.next.filter.under c.requires.step
     c.requires.within c.args.above.now c.args.own.now c.index-above-next.result here c.requires.above c.args.work.now.lanes.items c.args.work.now.found (c.requires.ready c.requires.plan)
-    (c.requires.made c.index-above-next.result (get_kept c.args.above.now c.args.own.now c.args.next.parent c.index-above-next.result here))
+    (c.requires.made c.index-above-next.result (kept_at c.args.above.now c.args.own.now c.args.next.parent c.index-above-next.result here))
     c.filter_places.new.work.lanes.items _ _ c.filter_places.ensures.spent
 
 pub returns-clause-selected : goal.returns-clause-selected
@@ -67,7 +67,7 @@ returns-clause-selected g c = λ p.
     (λ (h : IsFilteredTo (job_of c.args.at.now.job.now) c.args.at.now.first c.args.at.now.count c.args.next.filter.under c.args.next.filter.site c.args.at.now.pass c.index-above-next.result.places c.filter_places.new.to c.filter_places.new.work.lanes.items c.args.work.now.found c.filter_places.new.work.found).
     next_selected (job_of c.args.at.now.job.now) c.requires.job.job c.args.at.now.first c.args.at.now.count c.args.at.now.pass c.args.at.now.plan.now p c.args.next.step c.args.next.parent c.args.next.filter.site c.args.next.filter.under c.requires.step
     c.requires.within c.args.above.now c.args.own.now c.index-above-next.result here c.requires.above c.args.work.now.lanes.items c.args.work.now.found (c.requires.ready p)
-    (c.requires.made c.index-above-next.result (get_kept c.args.above.now c.args.own.now c.args.next.parent c.index-above-next.result here))
+    (c.requires.made c.index-above-next.result (kept_at c.args.above.now c.args.own.now c.args.next.parent c.index-above-next.result here))
     c.filter_places.new.to _ c.filter_places.new.work.lanes.items c.filter_places.new.work.found h refl c.requires.own)
     c.filter_places.ensures.filtered
 

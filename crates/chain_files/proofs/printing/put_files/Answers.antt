@@ -1,7 +1,8 @@
 use Rattle.std.proofs.Common.{List, ℕ, [], ◌∷◌, codes, decimal}
+use Rattle.lemmas.proofs.Answers.{on_ok}
 use Rattle.chain_files.specs.Parts.{line_text}
 use Rattle.chain_files.proofs.Runs.{line_on}
-use Rattle.shard_lines.proofs.Runs.{on_ok, spaced_on, words_on}
+use Rattle.shard_lines.proofs.Runs.{spaced_on, words_on}
 use Rattle.shard_lines.specs.Lines.{joined_words}
 use Rattle.chain_files.proofs.printing.put_files.Goals as goal
 

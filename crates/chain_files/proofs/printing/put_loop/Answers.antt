@@ -1,7 +1,7 @@
 use Rattle.std.proofs.Common.{◌∙◌, ap, ◌++◌, ◌∷◌, [], map, sym}
+use Rattle.lemmas.proofs.Answers.{on_ok}
 use Rattle.chain_files.specs.Parts.{lines_text, loop_lines}
 use Rattle.chain_files.proofs.Runs.{behind_loop, one_line}
-use Rattle.shard_lines.proofs.Runs.{on_ok}
 use Rattle.chain_files.specs.declared.part_line.PartLine.TheVariants as on
 use Rattle.chain_files.proofs.printing.put_loop.Goals as goal
 

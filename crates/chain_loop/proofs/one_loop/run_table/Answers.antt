@@ -1,6 +1,6 @@
 use Rattle.std.proofs.Common.{length, refl, ap, ◌∙◌}
 use Rattle.loop_keys.specs.Jobs.{job_of}
-use Rattle.pass_laws.specs.Entries.{job_spans}
+use Rattle.loop_keys.specs.Entries.{job_spans}
 use Rattle.chain_files.specs.declared.chain_fault.ChainFault.{ChainFault}
 use Rattle.chain_files.specs.declared.part_loop.PartLoop.TheVariants as part
 use Rattle.chain_loop.proofs.WholeTables.{faulted_loop, is_piece, whole_loop}

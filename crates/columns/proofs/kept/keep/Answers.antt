@@ -1,6 +1,6 @@
 use Rattle.std.proofs.Common.{ap}
 use Rattle.rdf_values.specs.declared.cells.Cells.TheVariants as cells
-use Rattle.table_pieces.specs.Wholes.{joined}
+use Rattle.columns.specs.Wholes.{joined}
 use Rattle.columns.proofs.Joining.{packed_is_by}
 use Rattle.columns.proofs.kept.keep.Goals as goal
 

@@ -2,7 +2,7 @@ use Rattle.std.proofs.Common.{◌≤◌, ◌∙◌, arith, length, take, drop, �
 use Rattle.std.proofs.lemmas.List.{length-map, take_all}
 use Rattle.rdf_values.specs.Cuts.{cut}
 use Rattle.rdf_values.proofs.Leading.{cuts_lead}
-use Rattle.table_pieces.specs.Wholes.{joined}
+use Rattle.columns.specs.Wholes.{joined}
 use Rattle.columns.specs.Blocks.{cluster_values}
 use Rattle.columns.proofs.BlockSteps.{block_more, blocks_back, blocks_hold}
 use Rattle.columns.proofs.Joining.{span_within, take_next_of, values_of_cluster}

@@ -1,6 +1,6 @@
 use Rattle.std.proofs.Common.{take}
 use Rattle.rdf_values.specs.Cuts.{cut}
-use Rattle.table_pieces.specs.Wholes.{joined}
+use Rattle.columns.specs.Wholes.{joined}
 use Rattle.columns.specs.Blocks.{AreBlocks, cluster_values}
 use Rattle.columns.proofs.packed_ints.pack.Given as goal
 

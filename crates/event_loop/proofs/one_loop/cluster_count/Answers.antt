@@ -1,6 +1,6 @@
 use Rattle.std.proofs.Common.{◌≡◌, ◌≤◌, length, subst}
 use Rattle.rdf_values.specs.Cuts.{cut}
-use Rattle.clusters.specs.CutsView.{CutsView}
+use Rattle.columns.specs.CutsView.{CutsView}
 use Rattle.event_loop.proofs.one_loop.cluster_count.Goals as goal
 
 pub returns-clause-value : goal.returns-clause-value

@@ -10,8 +10,8 @@ use Rattle.std.proofs.Crossing.{crosses, dyn_box_sync}
 use Rattle.rdf_values.proofs.fn_names.FnNames.TheSendSync as names
 use Rattle.std.specs.contracts.alloc.Global.{the_row as global_row}
 use Rattle.std.specs.contracts.option.Option.{the_row as option_row}
-use Rattle.node_graph.specs.contracts.graph.Graph.{the_row as graph_row}
-use Rattle.node_graph.proofs.Shared.{graph_sync}
+use Rattle.graph.specs.contracts.graph.Graph.{the_row as graph_row}
+use Rattle.graph.proofs.Shared.{graph_sync}
 use Rattle.columns.specs.contracts.columns.Columns.{the_row as columns_row}
 use Rattle.partial_watch.specs.contracts.book.Book.{the_row as book_row}
 use Rattle.cluster_claims.specs.contracts.claims.Claims.{the_row as claims_row}

@@ -1,6 +1,6 @@
 use Rattle.std.proofs.Common.{◌<◌, arith, length, map, subst, sym}
 use Rattle.std.proofs.lemmas.List.{length-map}
-use Rattle.table_pieces.specs.Wholes.{whole}
+use Rattle.columns.specs.Wholes.{whole}
 use Rattle.friend_join.specs.Matches.{IsSmall, column_elements}
 use Rattle.friend_join.proofs.Counting.{small_at, sum_next}
 use Rattle.friend_join.proofs.Removing.{whole_at}

@@ -1,6 +1,6 @@
 use Rattle.std.proofs.Common.{◌≡◌, ◌≤◌, ◌*◌, map, take}
 use Rattle.std.specs.List.{sum_by}
-use Rattle.table_pieces.specs.Wholes.{whole}
+use Rattle.columns.specs.Wholes.{whole}
 use Rattle.friend_join.specs.Matches.{column_elements}
 use Rattle.friend_join.proofs.elements.elements.Given as goal
 

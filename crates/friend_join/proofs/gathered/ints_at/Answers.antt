@@ -1,6 +1,7 @@
-use Rattle.std.proofs.Common.{◌∙◌, sym}
-use Rattle.friend_join.proofs.Counting.{below_at}
+use Rattle.std.proofs.Common.{◌<◌, ℕ, Option, length, subst, sym}
+use Rattle.std.specs.Prelude.{⊤, MatchOption}
+use Rattle.friend_join.proofs.Counting.{match_below}
 use Rattle.friend_join.proofs.gathered.ints_at.Goals as goal
 
-pub bounds-numbers-entry : goal.bounds-numbers-entry
-bounds-numbers-entry c = below_at _ c.args.matches.now c.loop-entry.entry-index _ _ c.requires c.loop-entry-test.true (sym c.entry-item.is ∙ sym c.get.ensures ∙ c.in-Some.is)
+pub number_for-requires : goal.number_for-requires
+number_for-requires c = subst (λ (o : Option ℕ). MatchOption o ⊤ (λ e. e < length c.args.numbers.now)) (sym c.entry-item.is) (match_below _ c.args.matches.now c.loop-entry.entry-index _ c.requires c.loop-entry-test.true)

@@ -1,5 +1,5 @@
 use Rattle.std.proofs.Common.{◌≡◌, ◌++◌, map}
-use Rattle.table_pieces.specs.Wholes.{whole}
+use Rattle.columns.specs.Wholes.{whole}
 use Rattle.friend_join.specs.Matches.{AreEntries, matched_cells}
 use Rattle.friend_join.proofs.gathered.put_behind.Given as goal
 

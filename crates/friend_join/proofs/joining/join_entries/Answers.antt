@@ -2,7 +2,7 @@ use Rattle.std.proofs.Common.{◌≡◌, ◌<◌, ◌+◌, ◌^◌, ◌∙◌, a
 use Rattle.std.specs.List.{remove, sum_by}
 use Rattle.std.proofs.lemmas.Int.{to_z-of_z}
 use Rattle.std.proofs.lemmas.List.{length-map}
-use Rattle.table_pieces.specs.Wholes.{whole}
+use Rattle.columns.specs.Wholes.{whole}
 use Rattle.friend_join.specs.Matches.{column_elements, keyed_in}
 use Rattle.friend_join.specs.declared.cause.JoinCause.TheVariants as cause
 use Rattle.friend_join.proofs.Fitting.{bits}

@@ -1,14 +1,17 @@
-use Rattle.std.proofs.Common.{◌<◌, ◌∙◌, ◌++◌, ◌∷◌, [], ap, append_assoc, get_or, length, map, pos, rules, sym, take}
+use Rattle.std.proofs.Common.{◌∙◌, ◌++◌, ◌∷◌, [], ap, append_assoc, map, rules, sym, take, w64, FitsSigned}
+use Rattle.std.proofs.lemmas.Int.{to_z-of_z}
+use Rattle.std.proofs.lemmas.List.{map_push}
+use Rattle.rdf_values.proofs.Fronts.{take_next_of}
 use Rattle.friend_join.specs.Matches.{entry_of}
-use Rattle.friend_join.proofs.Removing.{map_next}
 use Rattle.friend_join.proofs.matches.match_numbers.Goals as goal
 
-pub loop-number-preserved : goal.loop-number-preserved
-loop-number-preserved c =
+pub loop-place-preserved : goal.loop-place-preserved
+loop-place-preserved c =
     let ns = c.args.numbers.now in
-    let i = c.loop-number.number-index in
+    let i = c.loop-place.place in
+    let number = c.at-number.result in
     let f = entry_of c.args.keys.now.keys in
-    let below : i < length ns = search rules in
-    let entry = c.new.ensures ∙ c.get_index_of.ensures.index in
-    c.in_ok-push.ensures.items ∙ ap (λ e. c.loop-number.matches.items ++ e ∷ []) entry ∙ ap (λ xs. xs ++ f (get_or ns i (pos 0)) ∷ []) c.loop-number.invariant
-    ∙ append_assoc c.args.matches.now.items (map f (take i ns)) (f (get_or ns i (pos 0)) ∷ []) ∙ ap (λ xs. c.args.matches.now.items ++ xs) (sym (map_next f ns i (pos 0) below))
+    let fits : FitsSigned w64 number = search rules in
+    let entry = rw (to_z-of_z w64 number fits) at (c.new.ensures ∙ c.get_index_of.ensures.index) in
+    c.in_ok-push.ensures.items ∙ ap (λ e. c.loop-place.matches.items ++ e ∷ []) entry ∙ ap (λ xs. xs ++ f number ∷ []) c.loop-place.invariant
+    ∙ append_assoc c.args.matches.now.items (map f (take i ns)) (f number ∷ []) ∙ ap (λ xs. c.args.matches.now.items ++ xs) (sym (ap (map f) (take_next_of ns i number c.at-number.ensures) ∙ map_push f (take i ns) number))

@@ -2,5 +2,5 @@ use Rattle.std.proofs.Common.{◌≡◌, ◌++◌, map, take}
 use Rattle.friend_join.specs.Matches.{entry_of}
 use Rattle.friend_join.proofs.matches.match_numbers.Given as goal
 
-abbrev pub invariant-loop-number : goal.invariant-loop-number
-invariant-loop-number l = l.matches.items ≡ l.fn.matches.items ++ map (entry_of l.keys.keys) (take l.number-index l.numbers)
+abbrev pub invariant-loop-place : goal.invariant-loop-place
+invariant-loop-place l = l.matches.items ≡ l.fn.matches.items ++ map (entry_of l.keys.keys) (take l.place l.numbers)

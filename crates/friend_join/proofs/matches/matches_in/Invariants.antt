@@ -1,5 +1,5 @@
 use Rattle.std.proofs.Common.{◌≡◌, map, take}
-use Rattle.table_pieces.specs.Wholes.{joined}
+use Rattle.columns.specs.Wholes.{joined}
 use Rattle.friend_join.specs.Matches.{entry_of}
 use Rattle.friend_join.proofs.matches.matches_in.Given as goal
 

@@ -1,6 +1,7 @@
 use Rattle.std.proofs.Common.{◌≤◌, ◌*◌, arith, sym}
+use Rattle.lemmas.proofs.Parts.{take_no_longer}
 use native.Mathlib.Nat.{mul-le-mul_left}
-use Rattle.lazy_loop.proofs.Found.{loop_few, none_found, pass_of, place_is, taken_at, taken_few}
+use Rattle.lazy_loop.proofs.Found.{loop_few, none_found, pass_of, place_is, taken_at}
 use Rattle.lazy_loop.proofs.place.place_in.Goals as goal
 
 pub returns-in_default : goal.returns-in_default
@@ -14,7 +15,7 @@ counts_of-before-requires-clause-passes c = λ i p at.
 pub counts_of-before-requires-clause-few : goal.counts_of-before-requires-clause-few
 counts_of-before-requires-clause-few c =
     let few = loop_few c.args.graph.now c.is_booked.ensures c.args.loop_index c.passes-passes.result.now c.passes-passes.ensures _ _ c.variations.ensures c.len-variations.ensures.count c.len-variations.ensures.few in
-    let front = taken_few c.in-Some.start c.passes-passes.result.now in
+    let front = take_no_longer c.in-Some.start c.passes-passes.result.now in
     omega (arith, few, front)
 
 pub overflow_cast-own : goal.overflow_cast-own

@@ -1,7 +1,7 @@
 use Rattle.std.proofs.Common.{◌++◌, ap, ◌∙◌, map}
+use Rattle.lemmas.proofs.Answers.{on_ok}
 use Rattle.histograms.specs.Cells.{cell_seen}
 use Rattle.result_text.proofs.CellNames.{flat_lines}
-use Rattle.result_text.proofs.Runs.{on_ok}
 use Rattle.merged_text.proofs.cells.put_flat.Goals as goal
 
 pub returns : goal.returns

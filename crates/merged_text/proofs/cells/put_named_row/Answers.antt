@@ -1,7 +1,7 @@
 use Rattle.std.proofs.Common.{map}
+use Rattle.lemmas.proofs.Answers.{on_ok}
 use Rattle.histograms.specs.Cells.{cell_seen}
 use Rattle.result_text.proofs.CellNames.{plane_put}
-use Rattle.result_text.proofs.Runs.{on_ok}
 use Rattle.merged_text.proofs.cells.put_named_row.Goals as goal
 
 pub returns : goal.returns

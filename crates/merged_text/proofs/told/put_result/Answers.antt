@@ -1,9 +1,9 @@
 use Rattle.std.proofs.Common.{None, arith, inl, inr, length, refl}
 use Rattle.std.specs.Prelude.{slice_index_or}
 use Rattle.std.proofs.lemmas.Option.{slice_get_read}
+use Rattle.lemmas.proofs.Places.{something_at}
 use Rattle.graph_numbers.specs.declared.pass.Pass.{Pass}
 use Rattle.result_text.specs.FilledLines.{passes_at}
-use Rattle.result_text.proofs.ActionLines.{something_at}
 use Rattle.result_text.proofs.Passes.{pass_there}
 use Rattle.merged_text.specs.Numbered.{IsPassIn}
 use Rattle.merged_text.proofs.LoopPasses.{same_length}

@@ -1,17 +1,34 @@
-use Rattle.rdf_program.proofs.Answering.{fault_ok, from_bytes_ok, turns_from_bytes}
+use Rattle.std.proofs.lemmas.Result.{IfOk-weaker}
+use Rattle.entry_fns.specs.Lists.{functions_in}
+use Rattle.input_files.specs.Reading.{marked_table}
+use Rattle.rdf_program.proofs.Inputs.{always_ok, friend_answer, turned_to_friend, turned_to_table}
 use Rattle.rdf_program.proofs.input.answer_files.Goals as goal
 
-pub returns-in-Whole-clause-turns : goal.returns-in-Whole-clause-turns
-returns-in-Whole-clause-turns g c =
-    let fetched = rw c.in-Whole.is at c.in_ok-bytes.ensures.fetched in
-    turns_from_bytes c.args.script.now c.args.table.now _ _ c.args.friend.now _ _ _ _ _ fetched c.in_ok-bytes.ensures.same c.as_slice.ensures c.in_ok-bytes.ensures.turns c.answer_bytes.ensures.turns
+pub returns-in-Refused-2-clause-turns : goal.returns-in-Refused-2-clause-turns
+returns-in-Refused-2-clause-turns g c =
+    let read = rw c.in-Whole.is at c.in_ok-script.ensures.read in
+    turned_to_table c.args.script_name.now c.args.table_name.now c.args.friend.now (g.S.Shelf.files c.args.shelf.now) c.in-Whole.script read.holds _ _ _ c.in_ok-script.ensures.turns c.in_ok-marked.ensures.turns
 
-pub returns-in-Whole-clause-answer : goal.returns-in-Whole-clause-answer
-returns-in-Whole-clause-answer g c =
-    let fetched = rw c.in-Whole.is at c.in_ok-bytes.ensures.fetched in
-    from_bytes_ok _ c.args.settings.cluster c.args.settings.watch _ _ _ _ _ (g.S.Shelf.turns c.answer_bytes.new.shelf) _ (g.S.Shelf.faults c.answer_bytes.new.shelf) _ c.args.table.now _ _ c.args.friend.now _ fetched c.in_ok-bytes.ensures.later c.in_ok-bytes.ensures.same c.as_slice.ensures c.in_ok-bytes.ensures.turns c.answer_bytes.ensures.answer
+pub returns-in-None-clause-turns : goal.returns-in-None-clause-turns
+returns-in-None-clause-turns g c =
+    let read = rw c.in-Whole.is at c.in_ok-script.ensures.read in
+    always_ok c.answer_script.result _ (turned_to_table c.args.script_name.now c.args.table_name.now c.args.friend.now (g.S.Shelf.files c.args.shelf.now) c.in-Whole.script read.holds _ _ _ c.in_ok-script.ensures.turns c.in_ok-marked.ensures.turns)
 
-pub returns-in-Failed-clause-answer : goal.returns-in-Failed-clause-answer
-returns-in-Failed-clause-answer g c =
-    let fetched = rw c.in-Failed.is at c.in_ok-bytes.ensures.fetched in
-    fault_ok _ _ _ (g.S.Shelf.files c.args.shelf.now) _ _ _ _ c.args.script.now c.args.table.now c.args.friend.now _ c.in_ok-bytes.ensures.turns fetched c.unread.ensures
+pub returns-in-Some-clause-turns : goal.returns-in-Some-clause-turns
+returns-in-Some-clause-turns g c =
+    let read = rw c.in-Whole.is at c.in_ok-script.ensures.read in
+    let table = rw c.in_ok-script.ensures.same at (rw c.in-Whole-2.is at c.in_ok-marked.ensures.read) in
+    always_ok c.answer_with_friend.result _
+    (turned_to_friend c.args.script_name.now c.args.table_name.now c.args.friend.now (g.S.Shelf.files c.args.shelf.now) c.in-Whole.script read.holds (marked_table c.in-Whole-2.marked) table.holds c.in-Some.friend c.in-Some.is _ _ _ _ c.in_ok-script.ensures.turns
+    c.in_ok-marked.ensures.turns c.answer_with_friend.ensures.turns)
+
+pub returns-in-Some-clause-answer : goal.returns-in-Some-clause-answer
+returns-in-Some-clause-answer g c =
+    let read = rw c.in-Whole.is at c.in_ok-script.ensures.read in
+    let table = rw c.in_ok-script.ensures.same at (rw c.in-Whole-2.is at c.in_ok-marked.ensures.read) in
+    let answer = rw (c.in_ok-marked.ensures.same, c.in_ok-script.ensures.same) at c.answer_with_friend.ensures.answer in
+    IfOk-weaker c.answer_with_friend.result _ _
+    (λ a h.
+    friend_answer c.args.script_name.now c.args.table_name.now c.args.friend.now (g.S.Shelf.files c.args.shelf.now) c.in-Whole.script read.holds (marked_table c.in-Whole-2.marked) table.holds c.in-Some.friend c.in-Some.is (functions_in c.args.means.now.functions.now)
+    c.args.means.now.settings.cluster c.args.means.now.settings.watch (g.S.Shelf.faults c.args.shelf.now) (g.S.Shelf.faults c.read_script_file.new.shelf) (g.S.Shelf.faults c.read_table_file.new.shelf) (g.S.Shelf.faults c.answer_with_friend.new.shelf) _
+    (g.S.Shelf.turns c.answer_with_friend.new.shelf) a c.in_ok-script.ensures.later c.in_ok-marked.ensures.later c.answer_with_friend.ensures.turns h) answer

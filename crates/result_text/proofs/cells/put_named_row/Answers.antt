@@ -1,6 +1,6 @@
 use Rattle.std.proofs.Common.{◌++◌, [], get_or, sym, ap, ◌∙◌, append-nil}
+use Rattle.lemmas.proofs.Answers.{on_ok}
 use Rattle.result_text.proofs.CellNames.{no_plane, plane_put}
-use Rattle.result_text.proofs.Runs.{on_ok}
 use Rattle.result_text.proofs.cells.put_named_row.Goals as goal
 
 pub returns-then-i-x_edges : goal.returns-then-i-x_edges

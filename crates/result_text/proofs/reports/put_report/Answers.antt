@@ -1,6 +1,6 @@
 use Rattle.std.proofs.Common.{◌++◌, ap, ◌∙◌}
+use Rattle.lemmas.proofs.Answers.{on_ok}
 use Rattle.result_text.proofs.PassLines.{report_lines}
-use Rattle.result_text.proofs.Runs.{on_ok}
 use Rattle.result_text.proofs.reports.put_report.Goals as goal
 
 pub returns : goal.returns

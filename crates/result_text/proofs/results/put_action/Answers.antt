@@ -1,10 +1,11 @@
 use Rattle.std.proofs.Common.{◌++◌, ◌+◌, None, length, sym, ap, ◌∙◌, arith, append_assoc}
+use Rattle.lemmas.proofs.Answers.{on_ok}
+use Rattle.lemmas.proofs.Places.{something_at}
 use Rattle.rdf_model.specs.ResultLines.{filled_lines, label}
-use Rattle.variation_sets.specs.Sets.{has}
+use Rattle.graph.specs.Sets.{has}
 use Rattle.graph_numbers.specs.Graphs.{graph_results}
 use Rattle.result_text.specs.FilledLines.{members_from, under_lines}
-use Rattle.result_text.proofs.ActionLines.{accs_within, its_name, members_many, nominal_text, numbers_few, passes_many, something_at, varied_text}
-use Rattle.result_text.proofs.Runs.{on_ok}
+use Rattle.result_text.proofs.ActionLines.{accs_within, its_name, members_many, nominal_text, numbers_few, passes_many, varied_text}
 use Rattle.result_text.proofs.results.put_action.Goals as goal
 
 pub acc-nominal-requires : goal.acc-nominal-requires

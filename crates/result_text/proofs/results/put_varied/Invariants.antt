@@ -1,5 +1,5 @@
 use Rattle.std.proofs.Common.{◌≡◌, ◌+◌, ◌≤◌, ◌++◌, drop, length}
-use Rattle.variation_sets.specs.Sets.{has}
+use Rattle.graph.specs.Sets.{has}
 use Rattle.result_text.specs.FilledLines.{members_from, under_lines}
 use Rattle.result_text.proofs.results.put_varied.Given as goal
 

@@ -1,5 +1,6 @@
+use Rattle.lemmas.proofs.Answers.{on_ok}
 use Rattle.result_text.specs.FilledLines.{counts_seen}
-use Rattle.result_text.proofs.Runs.{flow_put, on_ok}
+use Rattle.result_text.proofs.Runs.{flow_put}
 use Rattle.result_text.proofs.shares.put_flow_line.Goals as goal
 
 pub returns : goal.returns

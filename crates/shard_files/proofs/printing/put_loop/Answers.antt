@@ -1,7 +1,7 @@
 use Rattle.std.proofs.Common.{◌∙◌, ap, ◌++◌, ◌∷◌, [], map, sym}
+use Rattle.lemmas.proofs.Answers.{on_ok}
 use Rattle.shard_files.specs.Shards.{lines_text, loop_lines}
 use Rattle.shard_files.proofs.Runs.{behind_loop, one_line}
-use Rattle.shard_lines.proofs.Runs.{on_ok}
 use Rattle.shard_files.specs.declared.file_line.FileLine.TheVariants as file
 use Rattle.shard_files.proofs.printing.put_loop.Goals as goal
 

@@ -1,6 +1,7 @@
 use Rattle.std.proofs.Common.{List, ℕ, [], ◌∷◌, decimal}
+use Rattle.lemmas.proofs.Answers.{on_ok}
 use Rattle.shard_files.proofs.Runs.{line_on}
-use Rattle.shard_lines.proofs.Runs.{on_ok, spaced_on, words_on}
+use Rattle.shard_lines.proofs.Runs.{spaced_on, words_on}
 use Rattle.shard_lines.specs.Lines.{joined_words}
 use Rattle.shard_files.proofs.printing.put_pair.Goals as goal
 

@@ -1,6 +1,6 @@
+use Rattle.lemmas.proofs.Answers.{on_ok}
 use Rattle.shard_files.specs.Shards.{line_text}
 use Rattle.shard_files.proofs.Runs.{line_on}
-use Rattle.shard_lines.proofs.Runs.{on_ok}
 use Rattle.shard_files.proofs.printing.put_pass.Goals as goal
 
 pub returns : goal.returns

@@ -1,5 +1,5 @@
 use Rattle.std.proofs.Common.{◌≡◌, ◌<◌, ◌∙◌, ap, length, subst, sym}
-use Rattle.clusters.specs.CutsView.{CutsView}
+use Rattle.columns.specs.CutsView.{CutsView}
 use Rattle.entry_fns.specs.Lists.{functions_in}
 use Rattle.graph_numbers.specs.Graphs.{GraphView, IsGraph, graph_loops}
 use Rattle.rdf_values.specs.Functions.{fn_names}

@@ -7,9 +7,9 @@ use Rattle.rdf_values.specs.Path.{history}
 use Rattle.rdf_model.specs.LoopFacts.{kinds_in}
 use Rattle.actions.specs.Accumulators.{Accumulator}
 use Rattle.loop_keys.specs.Jobs.{job_of, passes_in}
-use Rattle.pass_laws.specs.Entries.{job_spans}
+use Rattle.loop_keys.specs.Entries.{job_spans}
 use Rattle.slot_state.proofs.Adding.{of_action, result_within}
-use Rattle.filters_report.specs.Flows.{nothing}
+use Rattle.loop_pieces.specs.Flows.{nothing}
 use Rattle.shard_lines.specs.declared.shard_line.ShardLine.{ShardLine}
 use Rattle.shard_lines.specs.declared.shard_line.ShardLine.TheVariants as line
 use Rattle.shard_spans.specs.Spans.{booking_line, clusters_in, filled_line, pass_line}

@@ -1,7 +1,7 @@
 use Rattle.std.proofs.Common.{◌≡◌, ◌∙◌, ◌+◌, ◌≤◌, ap, arith, length, map, refl, sym}
 use Rattle.std.proofs.lemmas.List.{take_all}
+use Rattle.lemmas.proofs.Places.{something_at}
 use Rattle.loop_keys.specs.Jobs.{job_of, passes_in}
-use Rattle.cluster_tally.proofs.ListPlaces.{there}
 use Rattle.shard_spans.specs.Spans.{pass_line}
 use Rattle.shard_loop.specs.LoopSpans.{span_rows_of}
 use Rattle.shard_loop.proofs.JobPasses.{lines_next}
@@ -16,7 +16,7 @@ loop-number-preserved g c =
     let inv = c.loop-number.invariant in
     let lt = c.loop-number-test.true in
     let end = inv.end in
-    let here = there (passes_in j) c.loop-number.number (omega arith) in
+    let here = something_at (passes_in j) c.loop-number.number (omega arith) in
     let few = inv.few in
     let more = c.accumulators.ensures.few in
     record {

@@ -1,7 +1,7 @@
 use Rattle.std.proofs.Common.{◌∙◌, ap, length, refl, subst, sym}
 use Rattle.entry_fns.specs.Lists.{functions_in}
 use Rattle.rdf_values.specs.Cuts.{cut}
-use Rattle.clusters.specs.CutsView.{CutsView}
+use Rattle.columns.specs.CutsView.{CutsView}
 use Rattle.shard_files.specs.Shards.{IsShard}
 use Rattle.shard_program.specs.Running.{AreNamed}
 use Rattle.shard_program.proofs.OverTables.{found_is_shard, parts_are}

@@ -1,5 +1,5 @@
 use Rattle.std.proofs.Common.{◌∙◌, ap, replicate}
-use Rattle.filters_report.specs.Flows.{nothing}
+use Rattle.loop_pieces.specs.Flows.{nothing}
 use Rattle.loop_keys.specs.Jobs.{job_of}
 use Rattle.slot_state.proofs.Adding.{filters_same}
 use Rattle.slot_state.proofs.tallies.tally_of.Goals as goal

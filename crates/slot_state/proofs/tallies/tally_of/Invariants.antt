@@ -1,7 +1,7 @@
 use Rattle.std.proofs.Common.{◌≡◌, length, replicate}
 use Rattle.rdf_values.specs.Bookings.{named_before}
 use Rattle.rdf_values.specs.Path.{history}
-use Rattle.filters_report.specs.Flows.{nothing}
+use Rattle.loop_pieces.specs.Flows.{nothing}
 use Rattle.loop_keys.specs.Jobs.{job_of, passes_in}
 use Rattle.slot_state.specs.Passes.{IsOfPasses}
 use Rattle.slot_state.proofs.tallies.tally_of.Given as goal

@@ -1,6 +1,6 @@
 use Rattle.std.proofs.Common.{length, ap, ◌∙◌, arith}
 use Rattle.graph_numbers.specs.Graphs.{GraphView, booked_statements, graph_versions}
-use Rattle.statement_checks.specs.Lookups.{statements}
+use Rattle.graph.specs.Lookups.{statements}
 use Rattle.snapshot_entries.specs.Jobs.{data_of, plan_of}
 use Rattle.snapshot_entries.proofs.Versions.{version_few, versions_many}
 use Rattle.snapshot_entries.proofs.wanted.version_at.Goals as goal

@@ -1,7 +1,7 @@
 use Rattle.std.proofs.Common.{ℕ, sym, ◌∙◌, ap, subst, arith}
 use Rattle.std.specs.Prelude.{length}
 use Rattle.std.specs.List.{All}
-use Rattle.clusters.specs.CutsView.{CutsView}
+use Rattle.columns.specs.CutsView.{CutsView}
 use Rattle.snapshot_entries.specs.Jobs.{data_of, plan_of}
 use Rattle.snapshot_pieces.specs.Facts.{AreFacts}
 use Rattle.snapshot_pieces.specs.Stopping.{HasStopped}

@@ -1,6 +1,7 @@
 use Rattle.std.proofs.Common.{rules, ◌≡◌, ◌∷◌}
+use Rattle.lemmas.proofs.Answers.{on_ok}
 use Rattle.snapshot_text.specs.TableTexts.{column_field}
-use Rattle.snapshot_text.proofs.Joined.{grown_by, on_ok}
+use Rattle.snapshot_text.proofs.Joined.{grown_by}
 use Rattle.snapshot_text.proofs.header.put_columns.Goals as goal
 
 pub returns-in_ok-put_column-in-Some : goal.returns-in_ok-put_column-in-Some

@@ -6,7 +6,7 @@ use Rattle.rdf_values.specs.Draws.{DrawnBy}
 use Rattle.cluster_claims.specs.Seats.{IsOf, hand_seen, last_of}
 use Rattle.cluster_claims.specs.Claiming.{IsOver}
 use Rattle.cluster_claims.proofs.Steps.{gathers, finished, IsFinished}
-use Rattle.draw_sums.proofs.Hands.{taken_first, taken_next}
+use Rattle.cluster_claims.proofs.Hands.{taken_first, taken_next}
 use Rattle.cluster_claims.proofs.Dealt.{drawn_of, kept_of, lowered_of, all_seen}
 use Rattle.cluster_claims.proofs.claims.Claims.finish.Goals as goal
 

@@ -4,8 +4,8 @@ use Rattle.atomic_table.specs.Seated.{TableId}
 use Rattle.atomic_table.specs.Table.{Me}
 use Rattle.cluster_claims.specs.declared.hand.Hand.{Hand}
 use Rattle.cluster_claims.specs.Seats.{ClaimsSeen, fresh_seat, fresh_seats, empty_hand, hand_of, seat_seen}
-use Rattle.draw_sums.specs.Hands.{others, first_alone}
-use Rattle.draw_sums.proofs.Hands.{dealt_more, others_replicate, first_replicate}
+use Rattle.cluster_claims.specs.Hands.{others, first_alone}
+use Rattle.cluster_claims.proofs.Hands.{dealt_more, others_replicate, first_replicate}
 use Rattle.cluster_claims.proofs.Steps.{deals_as}
 use Rattle.cluster_claims.proofs.claims.Claims.new.Goals as goal
 

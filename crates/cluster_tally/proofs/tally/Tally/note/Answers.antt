@@ -1,5 +1,5 @@
 use Rattle.std.proofs.Common.{◌<◌, length, subst, sym}
-use Rattle.filters_report.specs.Flows.{HasRoom}
+use Rattle.loop_pieces.specs.Flows.{HasRoom}
 use Rattle.cluster_tally.specs.Feedings.{CanNote}
 use Rattle.cluster_tally.specs.Tallies.{TallyView}
 use Rattle.cluster_tally.specs.contracts.tally.Tally.{the_view}

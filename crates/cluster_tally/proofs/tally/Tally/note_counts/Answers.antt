@@ -1,5 +1,5 @@
 use Rattle.std.proofs.Common.{◌<◌, ◌≤◌, ◌+◌, ◌^◌, get_or, length, subst, sym}
-use Rattle.filters_report.specs.Flows.{nothing}
+use Rattle.loop_pieces.specs.Flows.{nothing}
 use Rattle.cluster_tally.specs.Blocks.{CanNoteCounts}
 use Rattle.cluster_tally.specs.Tallies.{TallyView}
 use Rattle.cluster_tally.specs.contracts.tally.Tally.{the_view}

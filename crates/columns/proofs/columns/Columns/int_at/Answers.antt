@@ -8,7 +8,7 @@ use Rattle.rdf_values.proofs.KeptLemmas.{cell_of_column, column_length}
 use Rattle.rdf_values.proofs.RowPushed.{length-rows_kept}
 use Rattle.columns.specs.ColumnsView.{ColumnsView}
 use Rattle.columns.specs.KeptColumns.{cells_of}
-use Rattle.table_pieces.specs.Wholes.{joined}
+use Rattle.columns.specs.Wholes.{joined}
 use Rattle.columns.proofs.Keeping.{entry_here}
 use Rattle.columns.proofs.columns.Columns.int_at.Goals as goal
 

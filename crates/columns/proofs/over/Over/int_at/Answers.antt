@@ -4,7 +4,7 @@ use mir.Syntax.{w64}
 use Rattle.std.proofs.Math.Facts.{to_z-of_z}
 use Rattle.rdf_values.specs.declared.value.Value.TheVariants as v
 use Rattle.rdf_values.proofs.KeptLemmas.{cell_of_column, column_length}
-use Rattle.table_pieces.specs.Wholes.{joined}
+use Rattle.columns.specs.Wholes.{joined}
 use Rattle.columns.proofs.Keeping.{entry_here}
 use Rattle.columns.proofs.over.Over.int_at.Goals as goal
 

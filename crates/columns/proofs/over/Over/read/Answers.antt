@@ -2,7 +2,7 @@ use Rattle.std.proofs.Common.{◌≡◌, ◌∙◌, ◌-◌, arith, length, sym,
 use Rattle.std.proofs.lemmas.List.{length-take}
 use Rattle.rdf_values.specs.declared.value.Value.TheVariants as v
 use Rattle.rdf_values.proofs.KeptLemmas.{cell_of_column, column_length}
-use Rattle.table_pieces.specs.Wholes.{joined}
+use Rattle.columns.specs.Wholes.{joined}
 use Rattle.columns.proofs.Reading.{cluster_long, number_read}
 use Rattle.columns.proofs.over.Over.read.Goals as goal
 

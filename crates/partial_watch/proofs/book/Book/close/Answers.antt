@@ -6,7 +6,7 @@ use Rattle.rdf_values.specs.Draws.{DrawnBy}
 use Rattle.partial_watch.specs.declared.hand.Hand.{Hand}
 use Rattle.partial_watch.specs.Shares.{IsOf, hand_seen, many_in, ShareSeen}
 use Rattle.partial_watch.proofs.Notes.{gathers, closed}
-use Rattle.draw_sums.proofs.Hands.{taken_first, taken_next}
+use Rattle.cluster_claims.proofs.Hands.{taken_first, taken_next}
 use Rattle.partial_watch.proofs.Dealt.{drawn_of}
 use Rattle.partial_watch.proofs.book.Book.close.Goals as goal
 

@@ -1,8 +1,8 @@
 use Rattle.std.proofs.Common.{◌≡◌, ◌+◌, ◌-◌, [], length, refl, ap, ◌∙◌, arith}
 use Rattle.std.proofs.lemmas.List.{length-replicate}
 use Rattle.partial_watch.specs.Shares.{BookSeen, fresh_share, fresh_shares, hand_with}
-use Rattle.draw_sums.specs.Hands.{others}
-use Rattle.draw_sums.proofs.Hands.{dealt_more, others_replicate}
+use Rattle.cluster_claims.specs.Hands.{others}
+use Rattle.cluster_claims.proofs.Hands.{dealt_more, others_replicate}
 use Rattle.partial_watch.proofs.Notes.{deals_as}
 use Rattle.partial_watch.proofs.book.Book.new.Goals as goal
 

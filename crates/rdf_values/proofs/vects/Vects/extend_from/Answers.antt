@@ -6,11 +6,9 @@ pub push_further-requires-clause-few : goal.push_further-requires-clause-few
 push_further-requires-clause-few c =
     let ends = c.more.inside.ends.items in
     let begin = c.len-begin.result in
-    subst (All (λ e. begin + e < 2 ^ 64)) (sym c.as_slice-2.ensures.value) (λ k d lt.
+    subst (All (λ e. begin + e < 2 ^ 32)) (sym c.as_slice-2.ensures.value) (λ k d lt.
     let here = ends_within ends 0 (length c.more.inside.elements.items) c.more.invariant k d lt in
-    let grown = c.in_ok-extend_from_slice.ensures.len in
-    let ok = c.extend_from_slice.new.self.ok in
-    omega (arith, here, grown, ok))
+    omega (arith, here))
 
 pub invariant_of-self-2 : goal.invariant_of-self-2
 invariant_of-self-2 c =

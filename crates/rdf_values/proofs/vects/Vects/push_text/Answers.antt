@@ -7,7 +7,7 @@ pub invariant_of-self : goal.invariant_of-self
 invariant_of-self c =
     let good : c.read_elements-read.result ≡ Ok true = search rules in
     let read = read_good _ _ _ _ good c.read_elements-read.ensures.read in
-    ascend_after c.self.inside.ends.items c.push.new.self.items c.self.inside.elements.items c.read_elements-read.new.elements.items read.0 c.len-end.result
+    ascend_after c.self.inside.ends.items c.push_end.new.ends.items c.self.inside.elements.items c.read_elements-read.new.elements.items read.0 c.len-end.result
     c.self.invariant read.2 (search rules) (search rules)
 
 pub returns-then-is_ok-clause-ok : goal.returns-then-is_ok-clause-ok
@@ -17,6 +17,6 @@ returns-then-is_ok-clause-ok c =
       read.0,
       read.1,
       rw (← c.self.view_is) (
-          pieces_after c.self.inside.ends.items c.push.new.self.items c.self.inside.elements.items c.read_elements-read.new.elements.items read.0 c.len-end.result
+          pieces_after c.self.inside.ends.items c.push_end.new.ends.items c.self.inside.elements.items c.read_elements-read.new.elements.items read.0 c.len-end.result
           c.self.invariant read.2 (search rules) (search rules)),
     )

@@ -1,7 +1,7 @@
 use Rattle.std.proofs.Common.{ap, arith, length, map, refl, subst, ℕ}
 use Rattle.std.specs.declared.snapshot.Snapshot.{Snapshot}
 use Rattle.rdf_values.specs.Cuts.{cut}
-use Rattle.clusters.specs.CutsView.{CutsView}
+use Rattle.columns.specs.CutsView.{CutsView}
 use Rattle.block_passes.specs.States.{CountsVectors}
 use Rattle.loop_keys.specs.Jobs.{job_of}
 use Rattle.graph_numbers.specs.Graphs.{GraphView}

@@ -2,7 +2,7 @@ use Rattle.std.proofs.Common.{ℕ, ◌≡◌, ◌∙◌, ◌<◌, ◌++◌, ◌�
 use Rattle.std.proofs.lemmas.List.{length-map}
 use Rattle.std.specs.declared.snapshot.Snapshot.{Snapshot}
 use Rattle.loop_keys.specs.Jobs.{job_of}
-use Rattle.pass_laws.specs.Entries.{facts_in}
+use Rattle.loop_keys.specs.Entries.{facts_in}
 use Rattle.cluster_tally.specs.Stages.{at_begin}
 use Rattle.cluster_tally.specs.Tallies.{Holds}
 use Rattle.block_passes.specs.Clusters.{IsClusterAnswer, at_end}

@@ -1,6 +1,6 @@
 use Rattle.std.proofs.Common.{length, refl, ap, ◌∙◌}
 use Rattle.graph_numbers.specs.Graphs.{GraphView, booked_statements, graph_sites}
-use Rattle.statement_checks.specs.Lookups.{statements}
+use Rattle.graph.specs.Lookups.{statements}
 use Rattle.snapshot_entries.specs.Jobs.{data_of, plan_of}
 use Rattle.snapshot_entries.proofs.Versions.{filters_are, sites_many}
 use Rattle.snapshot_entries.proofs.wanted.Wanted.of.Goals as goal

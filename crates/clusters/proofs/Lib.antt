@@ -1,5 +1,0 @@
-pub mod Clusters
-pub mod Ends
-pub mod Leading
-pub mod MarkedCuts
-pub mod Walking

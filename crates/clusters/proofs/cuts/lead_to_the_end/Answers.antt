@@ -1,9 +1,0 @@
-use Rattle.rdf_values.proofs.Leading.{cuts_lead}
-use Rattle.clusters.proofs.Leading.{in_one}
-use Rattle.clusters.proofs.cuts.lead_to_the_end.Goals as goal
-
-pub returns-clause-leads : goal.returns-clause-leads
-returns-clause-leads c = cuts_lead c.args.entries c.args.size c.args.marks.now
-
-pub returns-clause-once : goal.returns-clause-once
-returns-clause-once c = in_one _ 0 c.args.entries (cuts_lead c.args.entries c.args.size c.args.marks.now)

@@ -1,5 +1,0 @@
-use Rattle.clusters.proofs.Walking.{Walked}
-use Rattle.clusters.proofs.marked.ends.Given as goal
-
-abbrev pub invariant-loop-entry : goal.invariant-loop-entry
-invariant-loop-entry l = Walked l.entries l.size l.marks l.ends l.lo l.entry l.next

@@ -1,3 +1,0 @@
-pub mod CutsView
-pub mod Ranges
-pub mod Walk

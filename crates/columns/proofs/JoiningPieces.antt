@@ -1,0 +1,163 @@
+-- Columns of a table with those of another behind them.
+use Rattle.std.proofs.Common.{◌≡◌, ◌≤◌, ◌<◌, ◌+◌, ℕ, zero, suc, pos, List, [], ◌∷◌, ◌++◌, length, get_or, set, drop, map, arith, refl, ap, ap₂, ◌∙◌, sym, subst, length-append, add-one, append-nil, append_assoc}
+use Rattle.std.proofs.lemmas.List.{get_or-append-add, get_or_append_left, get_or-map, length-drop, length-map, length-set, map-append, map-set}
+use Rattle.rdf_values.specs.Cuts.{below}
+use Rattle.rdf_values.specs.Kept.{AreKept, HoldsTable, IsKept, cell_at, rows_kept}
+use Rattle.rdf_values.specs.Tables.{FitRows}
+use Rattle.rdf_values.specs.declared.cells.Cells.{Cells}
+use Rattle.rdf_values.specs.declared.cells.Cells.TheVariants as kept
+use Rattle.rdf_values.specs.declared.column.Column.{Column}
+use Rattle.rdf_values.specs.declared.value.ColType.{ColType}
+use Rattle.rdf_values.specs.declared.value.ColType.TheVariants as k
+use Rattle.rdf_values.specs.declared.value.Value.{Value}
+use Rattle.rdf_values.specs.declared.value.Value.TheVariants as v
+use Rattle.rdf_values.proofs.Below.{map-below}
+use Rattle.rdf_values.proofs.RowPushed.{kept_length}
+use Rattle.columns.specs.Joins.{cells_joined, columns_joined}
+use Rattle.columns.specs.Wholes.{whole}
+use Rattle.columns.specs.declared.column_pieces.ColumnPieces.{ColumnPieces}
+
+-- ---- the first columns are joined
+
+abbrev pub partly_joined : ℕ → List Cells → List Cells → List Cells
+partly_joined zero xs more = xs
+partly_joined (suc i) [] more = []
+partly_joined (suc i) (x ∷ xs) [] = x ∷ xs
+partly_joined (suc i) (x ∷ xs) (y ∷ more) = cells_joined x y ∷ partly_joined i xs more
+
+joined_set : (i : ℕ) (xs more : List Cells) (x y : Cells) → i < length xs → i < length more
+    → set (partly_joined i xs more) i (cells_joined (get_or (partly_joined i xs more) i x) (get_or more i y)) ≡ partly_joined (suc i) xs more
+joined_set i [] more x y h l = absurd (omega arith)
+joined_set i (w ∷ ws) [] x y h l = absurd (omega arith)
+joined_set zero (w ∷ ws) (u ∷ more) x y h l = refl
+joined_set (suc i) (w ∷ ws) (u ∷ more) x y h l = ap (λ t. cells_joined w u ∷ t) (joined_set i ws more x y (omega arith) (omega arith))
+
+pub joined_more : (i : ℕ) (xs at more : List Cells) (d new y : Cells) → at ≡ partly_joined i xs more → i < length more → length more ≡ length xs → y ≡ get_or more i y → new ≡ cells_joined (get_or at i d) y
+    → set at i new ≡ partly_joined (i + 1) xs more
+joined_more i xs at more d new y a l w q n =
+    let step = joined_set i xs more d y (omega arith) l in
+    ap₂ (λ t z. set t i z) a (n ∙ ap₂ cells_joined (ap (λ t. get_or t i d) a) q) ∙ step ∙ ap (λ j. partly_joined j xs more) (sym (add-one i))
+
+pub joined_all : (i : ℕ) (xs more : List Cells) → length more ≤ i → length more ≡ length xs → partly_joined i xs more ≡ columns_joined xs more
+joined_all zero [] more h l = refl
+joined_all zero (x ∷ xs) [] h l = absurd (omega arith)
+joined_all zero (x ∷ xs) (y ∷ more) h l = absurd (omega arith)
+joined_all (suc i) [] more h l = refl
+joined_all (suc i) (x ∷ xs) [] h l = refl
+joined_all (suc i) (x ∷ xs) (y ∷ more) h l = ap (λ t. cells_joined x y ∷ t) (joined_all i xs more (omega arith) (omega arith))
+
+-- ---- the rows of the second stand behind those of the first
+
+kept_join : (kind : ColType) (x y : Cells) (n m : ℕ) → IsKept kind n x → IsKept kind m y → IsKept kind (n + m) (cells_joined x y)
+kept_join k.Int (kept.Ints ns) (kept.Ints ms) n m h l = omega (arith, h, l, length-append ns ms)
+kept_join k.Int (kept.Ints ns) (kept.Vects ws) n m h l = absurd l
+kept_join k.Int (kept.Vects vs) y n m h l = absurd h
+kept_join k.Bool x y n m h l = absurd h
+kept_join k.Vect (kept.Ints ns) y n m h l = absurd h
+kept_join k.Vect (kept.Vects vs) (kept.Ints ms) n m h l = absurd l
+kept_join k.Vect (kept.Vects vs) (kept.Vects ws) n m h l = omega (arith, h, l, length-append vs ws)
+
+are_kept_join : (columns : List Column) (xs ys : List Cells) (n m : ℕ) → AreKept n columns xs → AreKept m columns ys → AreKept (n + m) columns (columns_joined xs ys)
+are_kept_join [] [] ys n m h l = tt
+are_kept_join [] (x ∷ xs) ys n m h l = absurd h
+are_kept_join (c ∷ cs) [] ys n m h l = absurd h
+are_kept_join (c ∷ cs) (x ∷ xs) [] n m h l = absurd l
+are_kept_join (c ∷ cs) (x ∷ xs) (y ∷ ys) n m h l = (kept_join c.kind x y n m h.0 l.0, are_kept_join cs xs ys n m h.1 l.1)
+
+cell_first : (kind : ColType) (x y : Cells) (n m e : ℕ) → IsKept kind n x → IsKept kind m y → e < n → cell_at e (cells_joined x y) ≡ cell_at e x
+cell_first k.Int (kept.Ints ns) (kept.Ints ms) n m e h l t = ap v.Int (get_or_append_left ns ms (pos 0) e (omega (arith, h)))
+cell_first k.Int (kept.Ints ns) (kept.Vects ws) n m e h l t = absurd l
+cell_first k.Int (kept.Vects vs) y n m e h l t = absurd h
+cell_first k.Bool x y n m e h l t = absurd h
+cell_first k.Vect (kept.Ints ns) y n m e h l t = absurd h
+cell_first k.Vect (kept.Vects vs) (kept.Ints ms) n m e h l t = absurd l
+cell_first k.Vect (kept.Vects vs) (kept.Vects ws) n m e h l t = ap v.Vect (get_or_append_left vs ws [] e (omega (arith, h)))
+
+cell_second : (kind : ColType) (x y : Cells) (n m e : ℕ) → IsKept kind n x → IsKept kind m y → cell_at (n + e) (cells_joined x y) ≡ cell_at e y
+cell_second k.Int (kept.Ints ns) (kept.Ints ms) n m e h l = rw (← h) (ap v.Int (get_or-append-add ns ms e (pos 0)))
+cell_second k.Int (kept.Ints ns) (kept.Vects ws) n m e h l = absurd l
+cell_second k.Int (kept.Vects vs) y n m e h l = absurd h
+cell_second k.Bool x y n m e h l = absurd h
+cell_second k.Vect (kept.Ints ns) y n m e h l = absurd h
+cell_second k.Vect (kept.Vects vs) (kept.Ints ms) n m e h l = absurd l
+cell_second k.Vect (kept.Vects vs) (kept.Vects ws) n m e h l = rw (← h) (ap v.Vect (get_or-append-add vs ws e []))
+
+row_first : (columns : List Column) (xs ys : List Cells) (n m e : ℕ) → AreKept n columns xs → AreKept m columns ys → e < n → map (cell_at e) (columns_joined xs ys) ≡ map (cell_at e) xs
+row_first [] [] ys n m e h l t = refl
+row_first [] (x ∷ xs) ys n m e h l t = absurd h
+row_first (c ∷ cs) [] ys n m e h l t = absurd h
+row_first (c ∷ cs) (x ∷ xs) [] n m e h l t = absurd l
+row_first (c ∷ cs) (x ∷ xs) (y ∷ ys) n m e h l t = ap₂ (λ z zs. z ∷ zs) (cell_first c.kind x y n m e h.0 l.0 t) (row_first cs xs ys n m e h.1 l.1 t)
+
+row_second : (columns : List Column) (xs ys : List Cells) (n m e : ℕ) → AreKept n columns xs → AreKept m columns ys → map (cell_at (n + e)) (columns_joined xs ys) ≡ map (cell_at e) ys
+row_second [] [] [] n m e h l = refl
+row_second [] [] (y ∷ ys) n m e h l = absurd l
+row_second [] (x ∷ xs) ys n m e h l = absurd h
+row_second (c ∷ cs) [] ys n m e h l = absurd h
+row_second (c ∷ cs) (x ∷ xs) [] n m e h l = absurd l
+row_second (c ∷ cs) (x ∷ xs) (y ∷ ys) n m e h l = ap₂ (λ z zs. z ∷ zs) (cell_second c.kind x y n m e h.0 l.0) (row_second cs xs ys n m e h.1 l.1)
+
+rows_below : (columns : List Column) (xs ys : List Cells) (n m t : ℕ) → AreKept n columns xs → AreKept m columns ys
+    → map (λ e. map (cell_at e) (columns_joined xs ys)) (below (n + t)) ≡ map (λ e. map (cell_at e) xs) (below n) ++ map (λ e. map (cell_at e) ys) (below t)
+rows_below columns xs ys n m zero h l =
+    let none : n + 0 ≡ n = omega arith in
+    rw (none, append-nil (map (λ e. map (cell_at e) xs) (below n))) (map-below n (λ e. map (cell_at e) (columns_joined xs ys)) (λ e. map (cell_at e) xs) (λ e s. row_first columns xs ys n m e h l s))
+rows_below columns xs ys n m (suc t) h l =
+    let next : n + suc t ≡ suc (n + t) = omega arith in
+    rw (next, map-append (λ e. map (cell_at e) (columns_joined xs ys)) (below (n + t)) ((n + t) ∷ []), map-append (λ e. map (cell_at e) ys) (below t) (t ∷ []), rows_below columns xs ys n m t h l, row_second columns xs ys n m t h l)
+    (append_assoc (map (λ e. map (cell_at e) xs) (below n)) (map (λ e. map (cell_at e) ys) (below t)) (map (cell_at t) ys ∷ []))
+
+pub rows_joined : (columns : List Column) (xs ys : List Cells) (n m : ℕ) → AreKept n columns xs → AreKept m columns ys → rows_kept (n + m) (columns_joined xs ys) ≡ rows_kept n xs ++ rows_kept m ys
+unfolding rows_kept
+rows_joined columns xs ys n m h l = rows_below columns xs ys n m m h l
+
+fit_append : (columns : List Column) (xs ys : List (List Value)) → FitRows columns xs → FitRows columns ys → FitRows columns (xs ++ ys)
+fit_append columns [] ys h l = l
+fit_append columns (x ∷ xs) ys h l = (h.0, fit_append columns xs ys h.1 l)
+
+pub holds_joined : (columns : List Column) (xs ys at : List Cells) (n m t : ℕ) → HoldsTable columns xs n → HoldsTable columns ys m → n + m ≤ 1000000 → at ≡ columns_joined xs ys → t ≡ n + m → HoldsTable columns at t
+holds_joined columns xs ys at n m t h l few a s = rw (a, s) (record {
+  header = h.header;
+  kept = are_kept_join columns xs ys n m h.kept l.kept;
+  fit = subst (λ rows. FitRows columns rows) (sym (rows_joined columns xs ys n m h.kept l.kept)) (fit_append columns (rows_kept n xs) (rows_kept m ys) h.fit l.fit);
+  few = few;
+})
+
+-- ---- two tables of one header
+
+pub same_count : (columns others : List Column) (xs ys : List Cells) (n m : ℕ) → AreKept n columns xs → AreKept m others ys → others ≡ columns → length ys ≡ length xs
+same_count columns others xs ys n m h l e = kept_length others ys m l ∙ ap length e ∙ sym (kept_length columns xs n h)
+
+-- ---- the pieces of one more column
+
+piece_next : (more rest : List ColumnPieces) (i : ℕ) (y d : ColumnPieces) → drop i more ≡ y ∷ rest → (i < length more) × (get_or more i d ≡ y) × (drop (i + 1) more ≡ rest)
+piece_next more rest zero y d e = rw e (omega arith, refl, refl)
+piece_next [] rest (suc i) y d e = cc e
+piece_next (x ∷ more) rest (suc i) y d e =
+    let next = piece_next more rest i y d e in
+    let lt = next.0 in
+    let on : suc i + 1 ≡ suc (i + 1) = omega arith in
+    (omega (arith, lt), next.1, ap (λ (k : ℕ). drop k (x ∷ more)) on ∙ next.2)
+
+pub pieces_more : (xs at more rest : List ColumnPieces) (i col j : ℕ) (new old y : ColumnPieces) → map whole at ≡ partly_joined i (map whole xs) (map whole more) → drop i more ≡ y ∷ rest → length more ≡ length xs → length at ≡ length xs → col ≡ i → j ≡ i + 1
+    → old ≡ get_or at col old → whole new ≡ cells_joined (whole old) (whole y) → (map whole (set at col new) ≡ partly_joined j (map whole xs) (map whole more)) × (drop j more ≡ rest) × (length (set at col new) ≡ length xs)
+pieces_more xs at more rest i col j new old y a e l k c n o w =
+    let next = piece_next more rest i y new e in
+    let lt = next.0 in
+    let here : i < length at = omega (arith, lt, l, k) in
+    let there : i < length (map whole more) = omega (arith, lt, length-map more whole) in
+    let wide : length (map whole more) ≡ length (map whole xs) = omega (arith, l, length-map more whole, length-map xs whole) in
+    let his : whole y ≡ get_or (map whole more) i (whole y) = sym (get_or-map whole more i new (whole y) lt ∙ ap whole next.1) in
+    let was : old ≡ get_or at i old = o ∙ ap (λ (k : ℕ). get_or at k old) c in
+    let own : whole new ≡ cells_joined (get_or (map whole at) i (whole new)) (whole y) = w ∙ ap (λ z. cells_joined z (whole y)) (ap whole was ∙ sym (get_or-map whole at i old (whole new) here)) in
+    rw (c, n) (map-set whole at i new ∙ joined_more i (map whole xs) (map whole at) (map whole more) (whole new) (whole new) (whole y) a there wide his own, next.2, omega (arith, k, length-set at i new))
+
+pub pieces_all : (xs more rest : List ColumnPieces) (i : ℕ) → drop i more ≡ rest → length rest ≡ 0 → length more ≡ length xs → partly_joined i (map whole xs) (map whole more) ≡ columns_joined (map whole xs) (map whole more)
+pieces_all xs more rest i e n l =
+    let size = length-drop i more in
+    let gone = ap length e in
+    let wide : length (map whole more) ≡ length (map whole xs) = omega (arith, l, length-map more whole, length-map xs whole) in
+    joined_all i (map whole xs) (map whole more) (omega (arith, size, gone, n, length-map more whole)) wide
+
+pub same_pieces : (xs more : List ColumnPieces) → length (map whole more) ≡ length (map whole xs) → length more ≡ length xs
+same_pieces xs more l = omega (arith, l, length-map more whole, length-map xs whole)

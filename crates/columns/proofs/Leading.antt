@@ -1,0 +1,38 @@
+-- Ranges that follow one another hold each number once.
+use Rattle.std.proofs.Common.{◌≡◌, ◌≤◌, ◌<◌, ◌+◌, ℕ, zero, suc, List, [], ◌∷◌, length, Some, arith, refl, ap, ◌⊎◌, inl, inr}
+use Rattle.std.specs.Prelude.{slice_get}
+use Rattle.lemmas.proofs.Orders.{lt_or_le}
+use Rattle.rdf_values.specs.Cuts.{Lead}
+use Rattle.rdf_values.specs.declared.span.Span.{Span}
+use Rattle.columns.specs.Ranges.{Holds, IsInOne}
+
+-- no range begins before the first
+begins_after : (rs : List Span) (from to place : ℕ) (r : Span) → Lead from to rs → slice_get rs place ≡ Some r → from ≤ r.lo
+begins_after [] from to place r h e = cc e
+begins_after (x ∷ xs) from to zero r h e = let same : x ≡ r = cc e in rw (← same) (let at = h.0 in omega arith)
+begins_after (x ∷ xs) from to (suc place) r h e = let later = begins_after xs x.hi to place r h.2 e in omega (arith, h.0, h.1)
+
+first_holds : (x : Span) (xs : List Span) (number from to other : ℕ) → Lead from to (x ∷ xs) → number < x.hi → Holds (x ∷ xs) number other → other ≡ 0
+first_holds x xs number from to zero h l held = refl
+first_holds x xs number from to (suc other) h l held = let later = begins_after xs x.hi to other held.range h.2 held.stands in absurd (omega (arith, held.from))
+
+later_holds : (x : Span) (xs : List Span) (number place other : ℕ) → x.hi ≤ number → ((o : ℕ) → Holds xs number o → o ≡ place) → Holds (x ∷ xs) number other → other ≡ suc place
+later_holds x xs number place zero l one held = let same : x ≡ held.range = cc held.stands in absurd (omega (arith, held.below, ap (λ s. s.hi) same))
+later_holds x xs number place (suc other) l one held = ap suc (one other (record { range = held.range; stands = held.stands; from = held.from; below = held.below }))
+
+in_one_by : (x : Span) (xs : List Span) (from to number : ℕ) → Lead from to (x ∷ xs) → from ≤ number → number < to → IsInOne xs x.hi to → ((number < x.hi) ⊎ (x.hi ≤ number))
+    → (place : ℕ) × Holds (x ∷ xs) number place × ((other : ℕ) → Holds (x ∷ xs) number other → other ≡ place)
+in_one_by x xs from to number h a b later (inl l) =
+    (0, record { range = x; stands = refl; from = (let at = h.0 in omega arith); below = l }, λ other held. first_holds x xs number from to other h l held)
+in_one_by x xs from to number h a b later (inr r) =
+    let one = later number r b in
+    (suc one.0, record { range = one.1.range; stands = one.1.stands; from = one.1.from; below = one.1.below }, λ other held. later_holds x xs number one.0 other r one.2 held)
+
+pub in_one : (rs : List Span) (from to : ℕ) → Lead from to rs → IsInOne rs from to
+in_one [] from to h number a b = absurd (omega arith)
+in_one (x ∷ xs) from to h number a b = in_one_by x xs from to number h a b (in_one xs x.hi to h.2) (lt_or_le number x.hi)
+
+-- none is empty, so there are no more than numbers
+pub few_ranges : (rs : List Span) (from to : ℕ) → Lead from to rs → length rs + from ≤ to
+few_ranges [] from to h = omega (arith, h)
+few_ranges (x ∷ xs) from to h = let more = few_ranges xs x.hi to h.2 in let some = h.1 in omega (arith, more, some)

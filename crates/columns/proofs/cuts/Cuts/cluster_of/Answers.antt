@@ -1,0 +1,29 @@
+use Rattle.std.proofs.Common.{◌/◌, arith, leb, rules}
+use Rattle.std.proofs.lemmas.List.Sorted.{IsPartitionPoint-from_clause, IsPartitionedBy-leb}
+use Rattle.columns.proofs.Clusters.{div_high, div_low, even_holds, is_even}
+use Rattle.columns.proofs.MarkedCuts.{few_ends, holds_first, they_rise}
+use Rattle.columns.proofs.cuts.Cuts.cluster_of.Goals as goal
+
+pub overflow_cast-result : goal.overflow_cast-result
+overflow_cast-result c =
+    let kept = rw c.in-Marked.is at c.self.invariant.kept in
+    let few = few_ends c.in-Marked.ends c.self.inside.entries c.self.inside.size c.self.inside.marks kept in
+    let bound = rw c.as_slice.ensures at c.partition_point.ensures.bound in
+    omega (arith, few, bound, c.self.invariant.valid.few)
+
+pub returns-in-Even : goal.returns-in-Even
+returns-in-Even c =
+    let none = rw c.in-Even.is at c.self.invariant.kept in
+    let some = c.self.invariant.valid.some in
+    let there = rw (← c.self.view_is) at c.requires in
+    rw (← c.self.view_is, is_even c.self.inside.entries c.self.inside.size c.self.inside.marks some none)
+    (even_holds c.self.inside.entries c.self.inside.size c.args.entry (c.args.entry / c.self.inside.size) some there (div_low c.args.entry c.self.inside.size some) (div_high c.args.entry c.self.inside.size some))
+
+pub returns-in-Marked : goal.returns-in-Marked
+returns-in-Marked c =
+    let kept = rw c.in-Marked.is at c.self.invariant.kept in
+    let there = rw (← c.self.view_is) at c.requires in
+    let rise = they_rise c.in-Marked.ends c.self.inside.entries c.self.inside.size c.self.inside.marks kept in
+    let parted = IsPartitionedBy-leb (λ x. x) c.in-Marked.ends c.args.entry rise in
+    let point = IsPartitionPoint-from_clause (λ x. leb x c.args.entry) _ _ (rw c.as_slice.ensures at c.partition_point.ensures.partitioned) parted (λ a r q k. search rules) in
+    rw (← c.self.view_is) (holds_first c.in-Marked.ends c.self.inside.entries c.self.inside.size c.self.inside.marks c.args.entry c.partition_point.result kept there point.0 point.1)

@@ -1,0 +1,6 @@
+use Rattle.std.proofs.Common.{◌≡◌, ◌++◌, map}
+use Rattle.columns.specs.Wholes.{whole}
+use Rattle.columns.proofs.table_pieces.one_piece_each.Given as goal
+
+abbrev pub invariant-loop-column : goal.invariant-loop-column
+invariant-loop-column l = (map whole l.pieces.items ≡ l.yielded) × (l.fn.cells.items ≡ l.yielded ++ l.column-iterator.rest.items)

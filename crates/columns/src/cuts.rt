@@ -1,0 +1,105 @@
+// How entries are cut into clusters.
+ghost use Rattle.std.specs.Prelude.{◌≡◌, ◌≤◌, ◌<◌, All, IfOk, length, slice_get};
+ghost use Rattle.rdf_values.specs.Cuts.{Lead, cut};
+ghost use Rattle.columns.specs.CutsView.{AreCuts};
+ghost use Rattle.columns.specs.Ranges.{Holds, IsInOne};
+
+use crate::marked::ends;
+use crate::places::{even_range, range_at};
+use crate::ranges::Ranges;
+use rdf_values::{ListOf, Marks, Memory, Span};
+use std::alloc::Global;
+use std::marker::Model;
+
+/// So many entries, cut at the marks and into clusters of at most one size between them.
+#[derive(Drop)]
+pub struct Cuts {
+    entries: u32,
+    size: u32,
+    marks: ListOf<u32>,
+    ranges: Ranges,
+}
+
+impl Model for Cuts {
+    ghost use Rattle.columns.specs.CutsView.{CutsView, HoldCuts};
+
+    ghost Value = { CutsView };
+
+    ghost view = { λ c. record { entries = c.entries; size = c.size; marks = c.marks } };
+
+    ghost invariant = { λ c. HoldCuts (record { entries = c.entries; size = c.size; marks = c.marks }) c.ranges };
+}
+
+/// The entries, cut at the marks and into clusters of at most that size between them; no entries give no clusters.
+/// Without marks no memory is taken.
+pub fn cut(alloc: Global, entries: u32, size: u32, marks: &Marks) -> Result<Cuts, Memory>
+    requires few { entries ≤ 1000000 }
+    requires some { 1 ≤ size }
+    requires within { All (λ m. m < entries) marks.now }
+    ensures { IfOk result (λ cuts. cuts ≡ record { entries = entries; size = size; marks = marks.now }) }
+{
+    if marks.len() == 0 {
+        return Ok(Cuts {
+            entries,
+            size,
+            marks: ListOf::new(alloc),
+            ranges: Ranges::Even,
+        });
+    }
+    let ends = ends(alloc, entries, size, marks.as_slice())?;
+    Ok(Cuts {
+        entries,
+        size,
+        marks: ListOf::from_vec(Vec::from_slice(alloc, marks.as_slice())?),
+        ranges: Ranges::Marked(ends),
+    })
+}
+
+/// A law: the clusters' ranges lead from 0 to the number of entries, so that each entry is in one of them and no other.
+pub fn lead_to_the_end(entries: u32, size: u32, marks: &Marks)
+    ensures leads { Lead 0 entries (cut entries size marks.now) }
+    ensures once { IsInOne (cut entries size marks.now) 0 entries }
+{}
+
+impl Cuts {
+    /// How many entries are cut.
+    pub fn entries(&self) -> u32
+        ensures value { result ≡ self.now.entries }
+        ensures valid { AreCuts self.now }
+    {
+        self.entries
+    }
+
+    /// How many clusters there are.
+    pub fn count(&self) -> u32
+        ensures value { result ≡ length (cut self.now.entries self.now.size self.now.marks) }
+        ensures valid { AreCuts self.now }
+    {
+        match &self.ranges {
+            Ranges::Even => self.entries.div_ceil(self.size),
+            Ranges::Marked(ends) => ends.len() as u32,
+        }
+    }
+
+    /// The entries of a cluster.
+    pub fn range(&self, cluster: u32) -> Span
+        requires { cluster < length (cut self.now.entries self.now.size self.now.marks) }
+        ensures { slice_get (cut self.now.entries self.now.size self.now.marks) cluster ≡ Some result }
+    {
+        match &self.ranges {
+            Ranges::Even => even_range(self.entries, self.size, cluster),
+            Ranges::Marked(ends) => range_at(ends.as_slice(), cluster as usize),
+        }
+    }
+
+    /// The cluster that holds an entry.
+    pub fn cluster_of(&self, entry: u32) -> u32
+        requires { entry < self.now.entries }
+        ensures { Holds (cut self.now.entries self.now.size self.now.marks) entry result }
+    {
+        match &self.ranges {
+            Ranges::Even => entry / self.size,
+            Ranges::Marked(ends) => ends.as_slice().partition_point(|end| *end <= entry) as u32,
+        }
+    }
+}

@@ -1,0 +1,89 @@
+-- Members of sets, by the bits of a number.
+use Rattle.std.proofs.Common.{◌≡◌, ℕ, zero, suc, ◌+◌, ◌-◌, ◌*◌, ◌/◌, ◌%◌, ◌^◌, ◌<◌, ◌≤◌, max, Bool, true, false, ◌||◌, if◌then◌else◌, refl, sym, ◌∙◌, ap, subst, nat_eq, count_ones, bit_or, arith, shr-shr, nat_lt, Decides}
+use Rattle.std.proofs.lemmas.Bool.Decides.{Decides-eqb, Decides-ltb}
+use Rattle.std.proofs.lemmas.Nat.{ones_le_self, shr_le}
+use Rattle.std.proofs.lemmas.Nat.Bits.{bit_at-zero, bit_at-lt, bit_at_or, bit_at-suc, bit_at_lowest, bit_at_above, bit_at-trailing_zeros, bit_at_set_same, bit_at_set_other}
+use Rattle.std.specs.Int.{bit_at, w128, trailing_zeros}
+use Rattle.graph.specs.Sets.{count_below, IsNext}
+use Rattle.graph.specs.declared.var_set.VarSet.{VarSet}
+use native.Mathlib.Nat.{pow-suc}
+use lib.Count.{ones_step}
+
+pub none_in : (v : ℕ) → nat_eq (bit_at 0 v) 1 ≡ false
+none_in v = ap (λ n. nat_eq n 1) (bit_at-zero v)
+
+either : (a b : ℕ) → a < 2 → b < 2 → nat_eq (max a b) 1 ≡ (nat_eq a 1 || nat_eq b 1)
+either zero zero p q = refl
+either zero (suc zero) p q = refl
+either (suc zero) zero p q = refl
+either (suc zero) (suc zero) p q = refl
+either (suc (suc a)) b p q = absurd (omega arith)
+either a (suc (suc b)) p q = absurd (omega arith)
+
+pub either_in : (a b v : ℕ) → nat_eq (bit_at (bit_or a b) v) 1 ≡ (nat_eq (bit_at a v) 1 || nat_eq (bit_at b v) 1)
+either_in a b v = ap (λ n. nat_eq n 1) (bit_at_or a b v) ∙ either (bit_at a v) (bit_at b v) (bit_at-lt a v) (bit_at-lt b v)
+
+-- one number more
+pub more_in : (a v : ℕ) → v < 128 → (u : ℕ) → nat_eq (bit_at (bit_or a (1 * 2 ^ v % 2 ^ 128)) u) 1 ≡ (nat_eq u v || nat_eq (bit_at a u) 1)
+more_in a v h u = go (nat_eq u v) refl
+  where
+    go : (b : Bool) → nat_eq u v ≡ b → nat_eq (bit_at (bit_or a (1 * 2 ^ v % 2 ^ 128)) u) 1 ≡ (b || nat_eq (bit_at a u) 1)
+    go true e = let same : u ≡ v = (Decides-eqb u v).0 e in subst (λ n. nat_eq (bit_at (bit_or a (1 * 2 ^ v % 2 ^ 128)) n) 1 ≡ true) (sym same) (ap (λ n. nat_eq n 1) (bit_at_set_same w128 a v h))
+    go false e = ap (λ n. nat_eq n 1) (bit_at_set_other w128 a v h u (λ q. cc (sym e ∙ (Decides-eqb u v).1 q)))
+
+one_bit : (b : ℕ) → b < 2 → b ≡ (if nat_eq b 1 then 1 else 0)
+one_bit zero h = refl
+one_bit (suc zero) h = refl
+one_bit (suc (suc b)) h = absurd (omega arith)
+
+lowest_bit : (n : ℕ) → n % 2 ≡ (if nat_eq (bit_at n 0) 1 then 1 else 0)
+lowest_bit n = sym (bit_at_lowest n) ∙ one_bit (bit_at n 0) (bit_at-lt n 0)
+
+halved : (k n : ℕ) → n < 2 ^ suc k → n / 2 < 2 ^ k
+halved k n h = let p : 2 ^ suc k ≡ 2 ^ k * 2 = pow-suc 2 k in omega (arith, p, h)
+
+no_ones : count_ones 0 ≡ 0
+no_ones = let h = ones_le_self 0 in omega (arith, h)
+
+-- a count of ones is the count of members
+pub ones_are_members : (k n : ℕ) → n < 2 ^ k → count_ones n ≡ count_below k (λ v. nat_eq (bit_at n v) 1)
+ones_are_members zero n h = let z : n ≡ 0 = omega (arith, h) in ap count_ones z ∙ no_ones
+ones_are_members (suc k) n h =
+    ones_step n ∙ (λ i. lowest_bit n i + ones_are_members k (n / 2) (halved k n h) i)
+    ∙ ap (λ p. (if nat_eq (bit_at n 0) 1 then 1 else 0) + count_below k p) (λ i v. nat_eq (sym (bit_at-suc n v) i) 1)
+
+-- a number from v on is a bit of what is left after a shift
+shifted : (n v u : ℕ) → v ≤ u → bit_at n u ≡ bit_at (n / 2 ^ v) (u - v)
+shifted n v u h = let e : u ≡ v + (u - v) = omega (arith, h) in (λ i. n / 2 ^ e i % 2) ∙ ap (λ m. m % 2) (sym (shr-shr n v (u - v)))
+
+-- there is no member from 128 on
+pub none_above : (n v : ℕ) → n < 2 ^ 128 → 128 ≤ v → (u : ℕ) → v ≤ u → nat_eq (bit_at n u) 1 ≡ false
+none_above n v h p u q = ap (λ b. nat_eq b 1) (bit_at_above n 128 u h (omega arith))
+
+-- nor from v on where nothing is left
+pub none_left : (n v : ℕ) → n / 2 ^ v ≡ 0 → (u : ℕ) → v ≤ u → nat_eq (bit_at n u) 1 ≡ false
+none_left n v h u q = ap (λ b. nat_eq b 1) (shifted n v u q ∙ ap (λ m. bit_at m (u - v)) h ∙ bit_at-zero (u - v))
+
+-- the lowest bit that is left after a shift is the next member
+pub next_in : (s : VarSet) (v : ℕ) → s.bits < 2 ^ 128 → v < 128 → (s.bits / 2 ^ v ≡ 0 → ⊥) → IsNext s v (v + trailing_zeros w128 (s.bits / 2 ^ v))
+next_in s v fits h p =
+    let left : s.bits / 2 ^ v < 2 ^ 128 = let l = shr_le s.bits v in omega (arith, l, fits) in
+    let t = bit_at-trailing_zeros w128 (s.bits / 2 ^ v) (omega (arith, p)) left in
+    let w = v + trailing_zeros w128 (s.bits / 2 ^ v) in
+    let own : bit_at s.bits w ≡ 1 = shifted s.bits v w (omega arith) ∙ ap (bit_at (s.bits / 2 ^ v)) (omega arith) ∙ t.1 in
+    record {
+      above = omega arith;
+      small = under_bits s.bits w fits own;
+      member = ap (λ b. nat_eq b 1) own;
+      least = λ u a b. ap (λ x. nat_eq x 1) (shifted s.bits v u a ∙ t.2 (u - v) (omega (arith, a, b)));
+    }
+  where
+    under_bits : (n w : ℕ) → n < 2 ^ 128 → bit_at n w ≡ 1 → w < 128
+    under_bits n w f e = go (nat_lt w 128) refl (Decides-ltb w 128)
+      where
+        go : (b : Bool) → nat_lt w 128 ≡ b → Decides (nat_lt w 128) (w < 128) → w < 128
+        go true q d = d.0 q
+        go false q d =
+            let far : 128 ≤ w = let no : (w < 128 → ⊥) = λ l. absurd (cc (sym q ∙ d.1 l)) in omega (arith, no) in
+            let z : bit_at n w ≡ 0 = bit_at_above n 128 w f far in
+            absurd (omega (arith, z, e))

@@ -1,0 +1,227 @@
+-- The fields of a finished graph.
+use Rattle.std.proofs.Common.{◌≡◌, inl, inr, ℕ, suc, ◌+◌, ◌≤◌, Bool, true, false, List, [], ◌∷◌, ◌++◌, map, length, reverse, Option, Some, None, option_map, refl, sym, ◌∙◌, ap, subst, arith, slice_get, length-append}
+use Rattle.std.specs.List.{AllByRecursion}
+use Rattle.std.proofs.lemmas.List.{length-map, reverse-reverse, reverse-append}
+use Rattle.std.proofs.lemmas.List.Elements.{recursion_from_All}
+use Rattle.rdf_values.specs.Answers.{Refuses}
+use Rattle.rdf_values.specs.Bookable.{IsBookable, IsShort}
+use Rattle.rdf_values.specs.Bookings.{Booked, bookings, is_watched, named_before, result_depends}
+use Rattle.rdf_values.specs.Kinds.{FunctionNames, scope_of}
+use Rattle.rdf_values.specs.Path.{variations}
+use Rattle.rdf_values.specs.Tables.{IsHeader}
+use Rattle.rdf_values.specs.Verdict.{AreAccepted, verdict}
+use Rattle.rdf_values.specs.declared.column.Column.{Column}
+use Rattle.rdf_values.specs.declared.script.Line.{Line}
+use Rattle.rdf_values.specs.declared.script.Script.{Script}
+use Rattle.rdf_values.specs.declared.statement.Statement.{Statement}
+use Rattle.rdf_values.specs.declared.statement.Statement.TheVariants.{Define, Redefine, Alias, Filter, Vary, Action, Report, VariationsFor, Watch, Print}
+use Rattle.rdf_model.specs.Loops.{Access, accesses, filled_by}
+use Rattle.graph_numbers.proofs.Resulting.{booked_are}
+use Rattle.graph_numbers.specs.Graphs.{GraphView, IsGraph, booked, booked_unless, booked_statements, graph_results, graph_sources, graph_variations, holds_at}
+use Rattle.graph_numbers.specs.Results.{FilterAt, ResultAt, filters, result_number}
+use Rattle.graph_numbers.specs.declared.version.Version.{Version}
+use Rattle.graph_numbers.proofs.Extending.{versions_count}
+use Rattle.graph.specs.Dependence.{Numbers, depends_at, result_sets}
+use Rattle.graph.specs.Gains.{AreRows as AreCheckRows, AreTables}
+use Rattle.graph.specs.Laws.{ResultSetsAreDependence, SiteSetsAreDependence}
+use Rattle.graph.specs.Lookups.{statements}
+use Rattle.graph.specs.declared.result_row.ResultRow.{ResultRow}
+use Rattle.graph.specs.Bookings.{IsBooking, refused, IsRefusal}
+use Rattle.graph.specs.GraphFields.{IsBooked, view_of}
+use Rattle.graph.specs.LoopRows.{AreNamedInTurn, AreRowsOf, AreLoops}
+use Rattle.graph.specs.Refusals.{refused_at}
+use Rattle.graph.specs.Rows.{AreRows, is_named, result_path}
+use Rattle.graph.specs.VersionSources.{AreSourcesOf, AreAbove}
+use Rattle.graph.specs.declared.booking.Booking.{Booking}
+use Rattle.graph.specs.declared.loops.LoopTables.{LoopTables}
+use Rattle.graph.specs.declared.refusal.GraphRefusal.{GraphRefusal}
+use Rattle.graph.specs.declared.refusal.GraphRefusal.TheVariants as refusal
+use Rattle.graph.proofs.Counted.{versions_are, sites_fit}
+use Rattle.graph.proofs.Filled.{all_in_turn}
+use Rattle.graph.proofs.Looped.{bookings_few, loops_few}
+use Rattle.graph.proofs.Reading.{mapped, rows_length, labels_are, labels_count}
+use Rattle.graph.proofs.Refusing.{history_is, none_refused, verdict_of}
+use Rattle.graph.proofs.Sourced.{sources_are, versions_above}
+use Rattle.graph.proofs.Walked.{named_more}
+
+-- ---- the statements of a graph's lines
+
+pub history_of : (ls : List Line) (header : List Column) (names : FunctionNames) → statements ls ≡ booked_statements (view_of ls header names)
+history_of ls header names = history_is (record { lines = reverse ls }) ls (sym (reverse-reverse ls))
+
+-- the script of lines that were turned round
+script_again : (script : Script) (ls : List Line) → ls ≡ reverse script.lines → ◌≡◌ {A = Script} script (record { lines = reverse ls })
+script_again script ls e = λ i. record { lines = (sym (reverse-reverse script.lines) ∙ ap (λ (xs : List Line). reverse xs) (sym e)) i }
+
+pub graph_is : (script : Script) (ls : List Line) (header : List Column) (names : FunctionNames) → ls ≡ reverse script.lines → IsBookable script → IsHeader header → AreAccepted names (scope_of header) (statements ls) → IsGraph (view_of ls header names)
+graph_is script ls header names e bookable head ok = record {
+  header = head;
+  bookable = subst IsBookable (script_again script ls e) bookable;
+  accepted = subst (λ (s : Script). verdict names header s ≡ None) (script_again script ls e) (sym (verdict_of names header script ls e) ∙ none_refused names (scope_of header) ls ok);
+}
+
+pub refusal_answered : (script : Script) (ls : List Line) (header : List Column) (names : FunctionNames) (r : GraphRefusal) → ls ≡ reverse script.lines → IsRefusal (refused names (scope_of header) ls) r → Refuses refused_at refusal.Memory (booked script header names) r
+refusal_answered script ls header names refusal.Memory e h = inl refl
+refusal_answered script ls header names (refusal.At line cause) e h =
+    inr ((line, cause), refl, ap (booked_unless (record { script = script; header = header; names = names })) (sym (verdict_of names header script ls e) ∙ h))
+
+all_back : (P : Line → Type 0) (xs : List Line) → AllByRecursion P xs → AllByRecursion P (reverse xs)
+all_back P [] h = tt
+all_back P (x ∷ xs) h = subst (λ (ys : List Line). AllByRecursion P ys) (sym (reverse-append (x ∷ []) xs)) (joined (reverse xs) (all_back P xs h.1) h.0)
+  where
+    joined : (ys : List Line) → AllByRecursion P ys → P x → AllByRecursion P (ys ++ x ∷ [])
+    joined [] k q = (q, tt)
+    joined (y ∷ ys) k q = (k.0, joined ys k.1 q)
+
+short_statements : (ls : List Line) → AllByRecursion (λ (l : Line). IsShort l.statement) ls → AllByRecursion IsShort (statements ls)
+short_statements [] h = tt
+short_statements (l ∷ ls) h = (h.0, short_statements ls h.1)
+
+-- the statements of a script that can be booked are short
+pub all_short : (script : Script) (ls : List Line) → ls ≡ reverse script.lines → IsBookable script → AllByRecursion IsShort (statements ls)
+all_short script ls e h =
+    short_statements ls (subst (λ (xs : List Line). AllByRecursion (λ (l : Line). IsShort l.statement) xs) (sym e) (all_back (λ (l : Line). IsShort l.statement) script.lines (recursion_from_All (λ (l : Line). IsShort l.statement) script.lines h.short)))
+
+-- ---- rows of results
+
+rows_of : (script : List Statement) (bs : List Booked) (ds : List Numbers) (rs : List ResultRow) → AreCheckRows bs ds rs
+    → ((j v : ℕ) (b : Booked) → slice_get bs j ≡ Some b → depends_at ds j v ≡ holds_at (λ w. result_depends w b.booking) (slice_get (variations script) v)) → AreRowsOf script bs rs
+rows_of script [] [] [] h k = tt
+rows_of script [] [] (r ∷ rs) h k = absurd h
+rows_of script [] (d ∷ ds) rs h k = absurd h
+rows_of script (b ∷ bs) [] rs h k = absurd h
+rows_of script (b ∷ bs) (d ∷ ds) [] h k = absurd h
+rows_of script (b ∷ bs) (d ∷ ds) (r ∷ rs) h k = (record { name = h.0.name; set = λ v. h.0.set v ∙ k 0 v b refl }, rows_of script bs ds rs h.1 (λ j v c q. k (suc j) v c q))
+
+watches_of : (f : List ℕ → Bool) (bs : List Booked) (ds : List Numbers) (rs : List ResultRow) → AreCheckRows bs ds rs → map (λ (r : ResultRow). f r.name) rs ≡ map (λ (b : Booked). f b.name) bs
+watches_of f [] [] [] h = refl
+watches_of f [] [] (r ∷ rs) h = absurd h
+watches_of f [] (d ∷ ds) rs h = absurd h
+watches_of f (b ∷ bs) [] rs h = absurd h
+watches_of f (b ∷ bs) (d ∷ ds) [] h = absurd h
+watches_of f (b ∷ bs) (d ∷ ds) (r ∷ rs) h = λ i. f (h.0.name i) ∷ watches_of f bs ds rs h.1 i
+
+rows_of_graph : (g : GraphView) → IsGraph g → ResultSetsAreDependence → (rs : List ResultRow) → AreCheckRows (bookings (booked_statements g)) (result_sets g.header g.names (booked_statements g)) rs → AreRowsOf (booked_statements g) (bookings (booked_statements g)) rs
+rows_of_graph g graph law rs h =
+    rows_of (booked_statements g) (bookings (booked_statements g)) (result_sets g.header g.names (booked_statements g)) rs h
+    (λ j v b q. law g graph j v ∙ at v b (slice_get (graph_results g) j) (sym (mapped (λ (x : ResultAt). x.booked) (graph_results g) j) ∙ ap (λ bs. slice_get bs j) (booked_are g.header g.names (booked_statements g)) ∙ q))
+  where
+    at : (v : ℕ) (b : Booked) (o : Option ResultAt) → option_map (λ (x : ResultAt). x.booked) o ≡ Some b
+        → holds_at (λ (x : ResultAt). holds_at (λ w. result_depends w x.booked.booking) (slice_get (graph_variations g) v)) o ≡ holds_at (λ w. result_depends w b.booking) (slice_get (variations (booked_statements g)) v)
+    at v b None e = cc e
+    at v b (Some x) e = let is : x.booked ≡ b = cc e in ap (λ (c : Booked). holds_at (λ w. result_depends w c.booking) (slice_get (graph_variations g) v)) is
+
+-- ---- counts
+
+named_few : (before : List Statement) → length (named_before before) ≤ length before
+named_few [] = omega arith
+named_few (s ∷ before) = let n = named_few before in let m = named_more s before in go (is_named s) n m
+  where
+    go : (b : Bool) → length (named_before before) ≤ length before → length (named_before (s ∷ before)) ≡ length (named_before before) + (if b then 1 else 0) → length (named_before (s ∷ before)) ≤ length (s ∷ before)
+    go true n m = omega (arith, n, m)
+    go false n m = omega (arith, n, m)
+
+accesses_few : (before : List Statement) → length (accesses before) ≤ length before
+accesses_few [] = omega arith
+accesses_few (Print r ∷ before) = let n = accesses_few before in let m = length-append (accesses before) (record { result = r; fills = filled_by before r } ∷ []) in omega (arith, n, m)
+accesses_few (Define node parent column expr ∷ before) = let n = accesses_few before in omega (arith, n)
+accesses_few (Redefine node parent column expr ∷ before) = let n = accesses_few before in omega (arith, n)
+accesses_few (Alias node parent column target ∷ before) = let n = accesses_few before in omega (arith, n)
+accesses_few (Filter node parent expr label ∷ before) = let n = accesses_few before in omega (arith, n)
+accesses_few (Vary node parent columns values tags vary ∷ before) = let n = accesses_few before in omega (arith, n)
+accesses_few (Action result parent k ∷ before) = let n = accesses_few before in omega (arith, n)
+accesses_few (Report result parent ∷ before) = let n = accesses_few before in omega (arith, n)
+accesses_few (VariationsFor result ∷ before) = let n = accesses_few before in omega (arith, n)
+accesses_few (Watch result ∷ before) = let n = accesses_few before in omega (arith, n)
+
+-- ---- finishing
+
+module _ (ls all : List Line) (header : List Column) (names : FunctionNames) (b : Booking) (rs : List ResultRow) (same_lines : all ≡ ls) (same_rows : rs ≡ b.tables.results.items)
+    (graph : IsGraph (view_of ls header names)) (h : IsBooking header names (statements ls) b) where
+  abbrev g : GraphView
+  g = view_of ls header names
+
+  pub finish_named : AreNamedInTurn (statements all)
+  finish_named = subst (λ (xs : List Line). AreNamedInTurn (statements xs)) (sym same_lines) (all_in_turn names (scope_of header) (statements ls) h.tables.versions.accepted)
+
+  tables_of : AreTables header names (booked_statements g) b.tables
+  tables_of = subst (λ (x : List Statement). AreTables header names x b.tables) (history_of ls header names) h.tables
+
+  rows_here : AreRows header names (booked_statements g) b.rows
+  rows_here = subst (λ (x : List Statement). AreRows header names x b.rows) (history_of ls header names) h.rows
+
+  pub finish_rows : ResultSetsAreDependence → AreRowsOf (statements all) (bookings (statements all)) rs
+  finish_rows law =
+      subst (λ (xs : List ResultRow). AreRowsOf (statements all) (bookings (statements all)) xs) (sym same_rows)
+      (subst (λ (xs : List Line). AreRowsOf (statements xs) (bookings (statements xs)) b.tables.results.items) (sym same_lines)
+      (subst (λ (x : List Statement). AreRowsOf x (bookings x) b.tables.results.items) (sym (history_of ls header names)) (rows_of_graph g graph law b.tables.results.items tables_of.results)))
+
+  pub finish_count : length rs ≡ length (bookings (statements all))
+  finish_count = ap length same_rows ∙ rows_length _ _ b.tables.results.items h.tables.results ∙ (λ i. length (bookings (statements (sym same_lines i))))
+
+  pub finish_few : length ls ≤ 256 → length rs ≤ 256
+  finish_few few =
+      let n = finish_count in let m = bookings_few (statements all) in let k = length-map all (λ (l : Line). l.statement) in let e = ap length same_lines in omega (arith, n, m, k, e, few)
+
+  accepted_here : AreAccepted names (scope_of header) (booked_statements g)
+  accepted_here = subst (λ (x : List Statement). AreAccepted names (scope_of header) x) (history_of ls header names) h.tables.versions.accepted
+
+  length_here : length (booked_statements g) ≡ length ls
+  length_here = sym (ap length (history_of ls header names)) ∙ length-map ls (λ (l : Line). l.statement)
+
+  module _ (site_law : SiteSetsAreDependence) (result_law : ResultSetsAreDependence) (short : AllByRecursion IsShort (statements ls)) (few : length ls ≤ 256) (loops : LoopTables) (watched : List Bool)
+      (are_loops : AreLoops (statements all) (statements all) loops) (are_watched : watched ≡ map (λ (r : ResultRow). is_watched (statements all) r.name) rs) where
+    loops_here : AreLoops (booked_statements g) (booked_statements g) loops
+    loops_here = subst (λ (x : List Statement). AreLoops x x loops) (history_of ls header names) (subst (λ (xs : List Line). AreLoops (statements xs) (statements xs) loops) same_lines are_loops)
+
+    result_total : length b.rows.results.items ≤ 256
+    result_total =
+        let n = ap length rows_here.results in let m = length-map (graph_results g) result_path in
+        let k = ap length (booked_are header names (booked_statements g)) in let j = length-map (graph_results g) (λ (x : ResultAt). x.booked) in
+        let f = bookings_few (booked_statements g) in let l = length_here in omega (arith, n, m, k, j, f, l, few)
+
+    print_total : length loops.prints.items ≤ 256
+    print_total =
+        let n = ap length loops_here.prints in let m = length-map loops.prints.items (λ k. Some k) in
+        let k = length-map (accesses (booked_statements g)) (λ (a : Access). result_number (booked_statements g) a.result) in
+        let f = accesses_few (booked_statements g) in let l = length_here in omega (arith, n, m, k, f, l, few)
+
+    loop_total : length loops.loops.items ≤ 256
+    loop_total = let n = ap length loops_here.loops in let f = loops_few (booked_statements g) (booked_statements g) in let l = length_here in omega (arith, n, f, l, few)
+
+    filter_total : length b.rows.filters.items ≤ 256
+    filter_total =
+        let n = ap length rows_here.filters in let m = length-map (filters header names (booked_statements g)) (λ (f : FilterAt). f.sites) in
+        let k = length-map (filters header names (booked_statements g)) (λ (f : FilterAt). f.label) in
+        let j = ap length (labels_are header names (booked_statements g)) in let i = labels_count (booked_statements g) in
+        let f = named_few (booked_statements g) in let l = length_here in omega (arith, n, m, k, j, i, f, l, few)
+
+    version_total : length b.rows.versions.items ≤ 4294967295
+    version_total =
+        let n = ap length h.rows.versions in let m = versions_count header names (statements ls) in let k = versions_are header names ls b h in let f = h.tables.versions.few in omega (arith, n, m, k, f)
+
+    made : IsBooked g b.tables b.rows loops watched
+    made = record {
+      graph = graph;
+      tables = tables_of;
+      rows = rows_here;
+      loops = loops_here;
+      watches = are_watched ∙ (λ i. map (λ (r : ResultRow). is_watched (statements (same_lines i)) r.name) (same_rows i))
+          ∙ watches_of (is_watched (statements ls)) (bookings (statements ls)) _ b.tables.results.items h.tables.results
+          ∙ (λ i. map (λ (c : Booked). is_watched (history_of ls header names i) c.name) (bookings (history_of ls header names i)));
+      site_sets = λ s v. site_law g graph s v;
+      result_sets = λ n v. result_law g graph n v;
+      sources = λ u. subst (λ (vs : List Version). AreSourcesOf vs u (graph_sources g u)) (sym rows_here.versions) (sources_are header names (booked_statements g) accepted_here u);
+      above = subst AreAbove (sym rows_here.versions) (versions_above header names (booked_statements g) accepted_here);
+      few_results = result_total;
+      few_filters = filter_total;
+      few_prints = print_total;
+      few_loops = loop_total;
+      few_sites = sites_fit header names ls b h short few;
+      few_versions = version_total;
+    }
+
+    -- over copies of the columns and names
+    pub finished : (columns : List Column) (functions : FunctionNames) → columns ≡ header → functions ≡ names → IsBooked (view_of ls columns functions) b.tables b.rows loops watched
+    finished columns functions c f =
+        subst (λ (xs : List Column). IsBooked (view_of ls xs functions) b.tables b.rows loops watched) (sym c) (subst (λ (fs : FunctionNames). IsBooked (view_of ls header fs) b.tables b.rows loops watched) (sym f) made)

@@ -1,0 +1,257 @@
+-- A scope of the columns of an expression means what the node's columns do.
+use Rattle.std.proofs.Common.{◌≡◌, ℕ, zero, suc, ◌<◌, Bool, true, false, ◌||◌, List, [], ◌∷◌, ◌++◌, All, length, Some, Result, Ok, Err, OnOk, IfOk, IfErr, refl, sym, ◌∙◌, ap, subst, arith, slice_get, nat_eq}
+use Rattle.std.specs.List.{AllByRecursion}
+use Rattle.std.proofs.lemmas.Bool.Decides.{Decides-eqb}
+use Rattle.std.proofs.lemmas.List.Elements.{All-push, All-weaker, recursion_from_All}
+use Rattle.lemmas.proofs.Places.{within}
+use Rattle.rdf_values.specs.Depends.{columns_in, columns_in_all}
+use Rattle.rdf_values.specs.EachColumn.{EachColumn, EachArgument}
+use Rattle.rdf_values.specs.Kinds.{FunctionNames, Scope, Shape, scope_of, column_kind, kind_of, kind_by, kinds_by, shape_of, ◌>>=◌, operator_kind, negated_kind, inverted_kind, chosen_kind, picked_kind, args_count, result_kind}
+use Rattle.rdf_values.specs.Names.{same}
+use Rattle.rdf_values.specs.Path.{path, target_of}
+use Rattle.rdf_values.specs.Numbered.{ScopeColumn, kinds_in, number_in, renamed, all_renamed, callee, numbered}
+use Rattle.rdf_values.specs.Tree.{Tree, Trees, NamedTree, Lit, Truth, Col, Neg, Not, Bin, Cond, Pick, Call, End, More}
+use Rattle.rdf_values.specs.Verdict.{is_visible, scope_at}
+use Rattle.rdf_values.specs.declared.column.Column.{Column}
+use Rattle.rdf_values.specs.declared.statement.Statement.{Statement}
+use Rattle.rdf_values.specs.declared.value.ColType.{ColType}
+use Rattle.rdf_values.specs.declared.graph_cause.GraphCause.{GraphCause}
+use Rattle.rdf_values.specs.declared.graph_cause.GraphCause.TheVariants.{UnknownColumn, WrongCount}
+use Rattle.rdf_model.proofs.Accepted.{names_equal, itself, visible_known}
+use Rattle.expr_check.specs.CheckAnswers.{RefusedAs}
+use Rattle.expr_check.specs.declared.refusal.CheckRefusal.{CheckRefusal}
+use Rattle.expr_check.specs.NumKinds.{CheckedExpr, IsWellTyped, CallsFit, number_kind}
+use Rattle.expr_check.specs.Scopes.{numbers_in}
+use Rattle.graph.specs.Lookups.{AreKinds, IsFound, IsAlike, IsScopeAt, AreNoted, IsScopeOf, IsCheckedAt}
+use Rattle.graph_numbers.specs.Versions.{named_version, version_at, version_count}
+use Rattle.rdf_model.proofs.KnownColumns.{IsKnownColumn, known_columns, each_weaker}
+use Rattle.graph_numbers.proofs.VersionKinds.{kind_count, visible_kind}
+
+-- a name that isn't visible is unknown
+pub invisible : (scope : Scope) (name : List ℕ) → is_visible scope name ≡ false → column_kind scope name ≡ Err UnknownColumn
+invisible [] name h = refl
+invisible (c ∷ cs) name h = go (same c.0 name) h (invisible cs name)
+  where
+    go : (b : Bool) → (b || is_visible cs name) ≡ false → (is_visible cs name ≡ false → column_kind cs name ≡ Err UnknownColumn) → (if b then Ok c.1 else column_kind cs name) ≡ Err UnknownColumn
+    go true q next = cc q
+    go false q next = next q
+
+-- a refusal of a name says that it is unknown
+only_unknown : (scope : Scope) (name : List ℕ) (c : GraphCause) → column_kind scope name ≡ Err c → column_kind scope name ≡ Err UnknownColumn
+only_unknown [] name c h = refl
+only_unknown (d ∷ ds) name c h = go (same d.0 name) h (only_unknown ds name c)
+  where
+    go : (b : Bool) → (if b then Ok d.1 else column_kind ds name) ≡ Err c → (column_kind ds name ≡ Err c → column_kind ds name ≡ Err UnknownColumn) → (if b then Ok d.1 else column_kind ds name) ≡ Err UnknownColumn
+    go true q next = cc q
+    go false q next = next q
+
+-- a column at the end, by its own name and by others
+end_own : (cs : List ScopeColumn) (e : ScopeColumn) → column_kind (kinds_in cs) e.name ≡ Err UnknownColumn → (column_kind (kinds_in (cs ++ e ∷ [])) e.name ≡ Ok e.kind) × (number_in (cs ++ e ∷ []) e.name ≡ e.number)
+end_own [] e h = (ap (λ b. if b then Ok e.kind else Err UnknownColumn) (itself e.name), ap (λ b. if b then e.number else 0) (itself e.name))
+end_own (c ∷ cs) e h = go (same c.name e.name) h (end_own cs e)
+  where
+    go : (b : Bool) → (if b then Ok c.kind else column_kind (kinds_in cs) e.name) ≡ Err UnknownColumn
+        → (column_kind (kinds_in cs) e.name ≡ Err UnknownColumn → (column_kind (kinds_in (cs ++ e ∷ [])) e.name ≡ Ok e.kind) × (number_in (cs ++ e ∷ []) e.name ≡ e.number))
+        → ((if b then Ok c.kind else column_kind (kinds_in (cs ++ e ∷ [])) e.name) ≡ Ok e.kind) × ((if b then c.number else number_in (cs ++ e ∷ []) e.name) ≡ e.number)
+    go true q next = cc q
+    go false q next = next q
+
+end_other : (cs : List ScopeColumn) (e : ScopeColumn) (x : List ℕ) → same e.name x ≡ false → (column_kind (kinds_in (cs ++ e ∷ [])) x ≡ column_kind (kinds_in cs) x) × (number_in (cs ++ e ∷ []) x ≡ number_in cs x)
+end_other [] e x h = (ap (λ b. if b then Ok e.kind else Err UnknownColumn) h, ap (λ b. if b then e.number else 0) h)
+end_other (c ∷ cs) e x h = let q = end_other cs e x h in (ap (λ r. if same c.name x then Ok c.kind else r) q.0, ap (λ n. if same c.name x then c.number else n) q.1)
+
+both_parts : {A : Type 0} (P : A → Type 0) (xs ys : List A) → AllByRecursion P (xs ++ ys) → AllByRecursion P xs × AllByRecursion P ys
+both_parts P [] ys h = (tt, h)
+both_parts P (x ∷ xs) ys h = let q = both_parts P xs ys h.1 in ((h.0, q.0), q.1)
+
+module _ {C F : Type 0} (P : C → Type 0) where
+  mutual
+    pub each_listed : (e : Tree C F) → AllByRecursion P (columns_in e) → EachColumn P e
+    each_listed (Lit z) h = tt
+    each_listed (Truth b) h = tt
+    each_listed (Col c) h = h.0
+    each_listed (Neg a) h = each_listed a h
+    each_listed (Not a) h = each_listed a h
+    each_listed (Bin o a b) h = let q = both_parts P (columns_in a) (columns_in b) h in (each_listed a q.0, each_listed b q.1)
+    each_listed (Cond c a b) h =
+        let q = both_parts P (columns_in c ++ columns_in a) (columns_in b) h in
+        let r = both_parts P (columns_in c) (columns_in a) q.0 in (each_listed c r.0, each_listed a r.1, each_listed b q.1)
+    each_listed (Pick v i) h = let q = both_parts P (columns_in v) (columns_in i) h in (each_listed v q.0, each_listed i q.1)
+    each_listed (Call f args) h = each_listed_argument args h
+
+    pub each_listed_argument : (es : Trees C F) → AllByRecursion P (columns_in_all es) → EachArgument P es
+    each_listed_argument End h = tt
+    each_listed_argument (More a rest) h = let q = both_parts P (columns_in a) (columns_in_all rest) h in (each_listed a q.0, each_listed_argument rest q.1)
+
+module _ (header : List Column) (names : FunctionNames) (before : List Statement) (node : List ℕ) (kinds : List ColType) where
+  -- a visible column is found
+  pub found_at : AreKinds header names before kinds → (name : List ℕ) → is_visible (scope_at names (scope_of header) before node) name ≡ true
+      → (t : ColType) × IsFound header names before node kinds name t (version_at header before node name)
+  found_at k name h =
+      let v = visible_known (scope_at names (scope_of header) before node) name h in
+      (v.0, record { kind = v.1; number = refl; own = ap (λ ks. slice_get ks (version_at header before node name)) k.are ∙ visible_kind header names before k.accepted node name v.0 v.1 })
+
+  pub found_as : AreKinds header names before kinds → (name target : List ℕ) → target ≡ target_of (path before node) name → (b : Bool) → b ≡ is_visible (scope_at names (scope_of header) before node) name → b ≡ true
+      → (v : ℕ) → v ≡ named_version header before node target → (t : ColType) (n : ℕ) → (slice_get kinds v ≡ Some t) × (n ≡ v) → IsFound header names before node kinds name t n
+  found_as k name target is b e h v at t n s =
+      let f = found_at k name (sym e ∙ h) in
+      let q : v ≡ version_at header before node name = at ∙ ap (named_version header before node) is in
+      let same_kind : Some f.0 ≡ Some t = sym f.1.own ∙ ap (slice_get kinds) (sym q) ∙ s.0 in
+      let r : f.0 ≡ t = cc same_kind in
+      record { kind = f.1.kind ∙ ap Ok r; number = sym q ∙ sym s.1; own = ap (slice_get kinds) s.1 ∙ s.0 }
+
+  pub found_within : AreKinds header names before kinds → (name target : List ℕ) → target ≡ target_of (path before node) name → (b : Bool) → b ≡ is_visible (scope_at names (scope_of header) before node) name → b ≡ true
+      → (v : ℕ) → v ≡ named_version header before node target → v < length kinds
+  found_within k name target is b e h v at =
+      let f = found_at k name (sym e ∙ h) in
+      let q : v ≡ version_at header before node name = at ∙ ap (named_version header before node) is in within kinds v f.0 (ap (slice_get kinds) q ∙ f.1.own)
+
+  pub found_none : (name : List ℕ) (b : Bool) → b ≡ is_visible (scope_at names (scope_of header) before node) name → b ≡ false → column_kind (scope_at names (scope_of header) before node) name ≡ Err UnknownColumn
+  found_none name b e h = invisible (scope_at names (scope_of header) before node) name (sym e ∙ h)
+
+  pub kinds_counted : AreKinds header names before kinds → length kinds ≡ version_count header before
+  kinds_counted k = ap length k.are ∙ kind_count header names before
+
+  pub scope_of_noted : (none scope : List ScopeColumn) → none ≡ [] → (e : NamedTree) (xs ys : List (List ℕ)) → ys ≡ columns_in e → xs ≡ ys → AreNoted header names before node kinds none scope xs → IsScopeOf header names before node kinds e scope
+  scope_of_noted none scope is_none e xs ys is eq n = record { scope_at_node = n.scope; each = each_listed (IsAlike header names before node scope) e (subst (AllByRecursion (IsAlike header names before node scope)) (eq ∙ is) n.each) }
+
+  -- nothing is added for a name that isn't visible
+  pub noted_unknown : (scope : List ScopeColumn) → IsScopeAt header names before node kinds scope → (name : List ℕ) → column_kind (scope_at names (scope_of header) before node) name ≡ Err UnknownColumn
+      → AreNoted header names before node kinds scope scope (name ∷ [])
+  noted_unknown scope s name h = record { scope = s; kept = λ x a. a; each = (go (column_kind (kinds_in scope) name) refl, tt) }
+    where
+      go : (r : Result ColType GraphCause) → column_kind (kinds_in scope) name ≡ r → IsAlike header names before node scope name
+      go (Ok t) q = s.means name t q
+      go (Err c) q = record { kind = only_unknown (kinds_in scope) name c q ∙ sym h; number = λ t k. cc (sym h ∙ k) }
+
+  same_known : (r : Result ColType GraphCause) (t u : ColType) → r ≡ Ok t → r ≡ Ok u → t ≡ u
+  same_known (Ok s) t u p q = let a : s ≡ t = cc p in let b : s ≡ u = cc q in sym a ∙ b
+  same_known (Err c) t u p q = cc p
+
+  pub noted_added : (scope : List ScopeColumn) → IsScopeAt header names before node kinds scope → (e : ScopeColumn) → column_kind (kinds_in scope) e.name ≡ Err UnknownColumn
+      → IsFound header names before node kinds e.name e.kind e.number → AreNoted header names before node kinds scope (scope ++ e ∷ []) (e.name ∷ [])
+  noted_added scope s e new f = record {
+    scope = record { own = All-push (λ (c : ScopeColumn). slice_get kinds c.number ≡ Some c.kind) scope e s.own f.own; means = means };
+    kept = kept;
+    each = (own, tt);
+  }
+    where
+      own : IsAlike header names before node (scope ++ e ∷ []) e.name
+      own = let q = end_own scope e new in record { kind = q.0 ∙ sym f.kind; number = λ t k. q.1 ∙ sym f.number }
+
+      other : (x : List ℕ) → same e.name x ≡ false → IsAlike header names before node scope x → IsAlike header names before node (scope ++ e ∷ []) x
+      other x h a = let q = end_other scope e x h in record { kind = q.0 ∙ a.kind; number = λ t k. q.1 ∙ a.number t k }
+
+      by : (x : List ℕ) (b : Bool) → same e.name x ≡ b → (b ≡ false → IsAlike header names before node scope x) → IsAlike header names before node (scope ++ e ∷ []) x
+      by x true h a = subst (IsAlike header names before node (scope ++ e ∷ [])) (names_equal e.name x h) own
+      by x false h a = other x h (a refl)
+
+      kept : (x : List ℕ) → IsAlike header names before node scope x → IsAlike header names before node (scope ++ e ∷ []) x
+      kept x a = by x (same e.name x) refl (λ h. a)
+
+      means : (x : List ℕ) (t : ColType) → column_kind (kinds_in (scope ++ e ∷ [])) x ≡ Ok t → IsAlike header names before node (scope ++ e ∷ []) x
+      means x t h = by x (same e.name x) refl (λ q. s.means x t (sym (end_other scope e x q).0 ∙ h))
+
+  pub noted_end : {E : Type 0} (r : Result Unit E) (scope new : List ScopeColumn) → IsScopeAt header names before node kinds scope → (name : List ℕ) (t : ColType) (n : ℕ) → column_kind (kinds_in scope) name ≡ Err UnknownColumn
+      → IsFound header names before node kinds name t n → OnOk r (new ≡ scope ++ record { name = name; kind = t; number = n } ∷ []) → OnOk r (AreNoted header names before node kinds scope new (name ∷ []))
+  noted_end (Ok u) scope new s name t n unknown f h =
+      subst (λ (xs : List ScopeColumn). AreNoted header names before node kinds scope xs (name ∷ [])) (sym h) (noted_added scope s (record { name = name; kind = t; number = n }) unknown f)
+  noted_end (Err e) scope new s name t n unknown f h = tt
+
+-- ---- expressions
+
+-- an expression has one kind where its columns have one
+module _ {C F : Type 0} (f g : C → Result ColType GraphCause) (function : F → Result Shape GraphCause) where
+  mutual
+    pub kind_alike : (e : Tree C F) → EachColumn (λ c. f c ≡ g c) e → kind_by f function e ≡ kind_by g function e
+    kind_alike (Lit z) h = refl
+    kind_alike (Truth b) h = refl
+    kind_alike (Col c) h = h
+    kind_alike (Neg a) h = λ i. kind_alike a h i >>= negated_kind
+    kind_alike (Not a) h = λ i. kind_alike a h i >>= inverted_kind
+    kind_alike (Bin o a b) h = λ i. kind_alike a h.0 i >>= λ s. kind_alike b h.1 i >>= λ t. operator_kind o s t
+    kind_alike (Cond c a b) h = λ i. kind_alike c h.0 i >>= λ r. kind_alike a h.1 i >>= λ s. kind_alike b h.2 i >>= λ t. chosen_kind r s t
+    kind_alike (Pick v j) h = λ i. kind_alike v h.0 i >>= λ s. kind_alike j h.1 i >>= λ t. picked_kind s t
+    kind_alike (Call k args) h = λ i. function k >>= λ s. if nat_eq (args_count args) (length s.takes) then kinds_alike args h i >>= result_kind s else Err WrongCount
+
+    pub kinds_alike : (es : Trees C F) → EachArgument (λ c. f c ≡ g c) es → kinds_by f function es ≡ kinds_by g function es
+    kinds_alike End h = refl
+    kinds_alike (More a rest) h = λ i. kind_alike a h.0 i >>= λ t. kinds_alike rest h.1 i >>= λ ts. Ok (t ∷ ts)
+
+-- and one form where its columns have one number
+module _ {C D F G : Type 0} (f g : C → D) (function : F → G) where
+  mutual
+    pub renamed_alike : (e : Tree C F) → EachColumn (λ c. f c ≡ g c) e → renamed f function e ≡ renamed g function e
+    renamed_alike (Lit z) h = refl
+    renamed_alike (Truth b) h = refl
+    renamed_alike (Col c) h = ap Col h
+    renamed_alike (Neg a) h = ap Neg (renamed_alike a h)
+    renamed_alike (Not a) h = ap Not (renamed_alike a h)
+    renamed_alike (Bin o a b) h = λ i. Bin o (renamed_alike a h.0 i) (renamed_alike b h.1 i)
+    renamed_alike (Cond c a b) h = λ i. Cond (renamed_alike c h.0 i) (renamed_alike a h.1 i) (renamed_alike b h.2 i)
+    renamed_alike (Pick v j) h = λ i. Pick (renamed_alike v h.0 i) (renamed_alike j h.1 i)
+    renamed_alike (Call k args) h = ap (Call (function k)) (all_renamed_alike args h)
+
+    pub all_renamed_alike : (es : Trees C F) → EachArgument (λ c. f c ≡ g c) es → all_renamed f function es ≡ all_renamed g function es
+    all_renamed_alike End h = refl
+    all_renamed_alike (More a rest) h = λ i. More (renamed_alike a h.0 i) (all_renamed_alike rest h.1 i)
+
+module _ {C F : Type 0} (P Q : C → Type 0) where
+  mutual
+    pub each_two : (e : Tree C F) → EachColumn P e → EachColumn Q e → EachColumn (λ c. P c × Q c) e
+    each_two (Lit z) h k = tt
+    each_two (Truth b) h k = tt
+    each_two (Col c) h k = (h, k)
+    each_two (Neg a) h k = each_two a h k
+    each_two (Not a) h k = each_two a h k
+    each_two (Bin o a b) h k = (each_two a h.0 k.0, each_two b h.1 k.1)
+    each_two (Cond c a b) h k = (each_two c h.0 k.0, each_two a h.1 k.1, each_two b h.2 k.2)
+    each_two (Pick v i) h k = (each_two v h.0 k.0, each_two i h.1 k.1)
+    each_two (Call f args) h k = each_two_argument args h k
+
+    pub each_two_argument : (es : Trees C F) → EachArgument P es → EachArgument Q es → EachArgument (λ c. P c × Q c) es
+    each_two_argument End h k = tt
+    each_two_argument (More a rest) h k = (each_two a h.0 k.0, each_two_argument rest h.1 k.1)
+
+-- the kind of a number that a scope has
+own_number : (kinds : List ColType) (cs : List ScopeColumn) (n : ℕ) (t : ColType) → AllByRecursion (λ (c : ScopeColumn). slice_get kinds c.number ≡ Some c.kind) cs → number_kind (numbers_in cs) n ≡ Ok t → slice_get kinds n ≡ Some t
+own_number kinds [] n t each h = cc h
+own_number kinds (c ∷ cs) n t each h = go (nat_eq c.number n) refl h (own_number kinds cs n t each.1)
+  where
+    go : (b : Bool) → nat_eq c.number n ≡ b → (if b then Ok c.kind else number_kind (numbers_in cs) n) ≡ Ok t → (number_kind (numbers_in cs) n ≡ Ok t → slice_get kinds n ≡ Some t) → slice_get kinds n ≡ Some t
+    go true e q next = let k : c.kind ≡ t = cc q in ap (slice_get kinds) (sym ((Decides-eqb c.number n).0 e)) ∙ each.0 ∙ ap Some k
+    go false e q next = next q
+
+module _ (header : List Column) (names : FunctionNames) (before : List Statement) (node : List ℕ) (kinds : List ColType) (k : AreKinds header names before kinds) (e : NamedTree) (scope : List ScopeColumn) (s : IsScopeOf header names before node kinds e scope) where
+  -- the expression has the kind that it has at the node
+  pub scope_kind : kind_of (kinds_in scope) names e ≡ kind_of (scope_at names (scope_of header) before node) names e
+  scope_kind = kind_alike (column_kind (kinds_in scope)) (column_kind (scope_at names (scope_of header) before node)) (shape_of names) e (each_weaker (IsAlike header names before node scope) _ (λ c a. a.kind) e s.each)
+
+  -- and the form
+  pub scope_tree : (t : ColType) → kind_of (scope_at names (scope_of header) before node) names e ≡ Ok t → numbered scope names e ≡ renamed (version_at header before node) (callee names) e
+  scope_tree t h =
+      renamed_alike (number_in scope) (version_at header before node) (callee names) e
+      (each_weaker (λ c. IsAlike header names before node scope c × IsKnownColumn (column_kind (scope_at names (scope_of header) before node)) (shape_of names) c) _ (λ c q. q.0.number q.1.0 q.1.1) e
+      (each_two (IsAlike header names before node scope) (IsKnownColumn (column_kind (scope_at names (scope_of header) before node)) (shape_of names)) e s.each
+      (known_columns (column_kind (scope_at names (scope_of header) before node)) (shape_of names) e t h)))
+
+  pub checked_at : (c : CheckedExpr) → kind_of (kinds_in scope) names e ≡ Ok c.kind → c.tree ≡ numbered scope names e → All (λ (n : ℕ × ColType). number_kind (numbers_in scope) n.0 ≡ Ok n.1) c.kinds
+      → IsWellTyped names c → CallsFit names c.tree → IsCheckedAt header names before node e c
+  checked_at c h tree ks typed calls =
+      let h : kind_of (scope_at names (scope_of header) before node) names e ≡ Ok c.kind = sym scope_kind ∙ h in
+      record {
+        kind = h;
+        tree = tree ∙ scope_tree c.kind h;
+        kinds = All-weaker (λ (n : ℕ × ColType). number_kind (numbers_in scope) n.0 ≡ Ok n.1) _
+            (λ n q. ap (λ xs. slice_get xs n.0) (sym k.are) ∙ own_number kinds scope n.0 n.1 (recursion_from_All _ scope s.scope_at_node.own) q) c.kinds ks;
+        typed = typed;
+        calls = calls;
+      }
+
+  pub checked_ok : (r : Result CheckedExpr CheckRefusal) → IfOk r (λ c. kind_of (kinds_in scope) names e ≡ Ok c.kind) → IfOk r (λ c. c.tree ≡ numbered scope names e) → IfOk r (λ c. All (λ n. number_kind (numbers_in scope) n.0 ≡ Ok n.1) c.kinds)
+      → IfOk r (IsWellTyped names) → IfOk r (λ c. CallsFit names c.tree) → IfOk r (IsCheckedAt header names before node e)
+  checked_ok (Ok c) h tree ks typed calls = checked_at c h tree ks typed calls
+  checked_ok (Err x) h tree ks typed calls = tt
+
+  pub checked_err : (r : Result CheckedExpr CheckRefusal) → IfErr r (λ x. RefusedAs x (kind_of (kinds_in scope) names e)) → IfErr r (λ x. RefusedAs x (kind_of (scope_at names (scope_of header) before node) names e))
+  checked_err r h = subst (λ k. IfErr r (λ x. RefusedAs x k)) scope_kind h

@@ -1,0 +1,5 @@
+use Rattle.std.proofs.Common.{length}
+use Rattle.graph.proofs.amounts.+amounts_printed.Given as goal
+
+abbrev pub decreases-amounts_printed : goal.decreases-amounts_printed
+decreases-amounts_printed l = length l.lines.now

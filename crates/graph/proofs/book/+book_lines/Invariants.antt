@@ -1,0 +1,5 @@
+use Rattle.std.proofs.Common.{length}
+use Rattle.graph.proofs.book.+book_lines.Given as goal
+
+abbrev pub decreases-book_lines : goal.decreases-book_lines
+decreases-book_lines l = length l.lines.now

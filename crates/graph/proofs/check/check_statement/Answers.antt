@@ -1,0 +1,24 @@
+use Rattle.std.proofs.Common.{sym, ◌∙◌}
+use Rattle.rdf_values.specs.declared.statement.Statement.TheVariants.{Vary}
+use Rattle.graph.specs.Lookups.{statements}
+use Rattle.graph.proofs.Gaining.{decided_at}
+use Rattle.graph.proofs.check.check_statement.Goals as goal
+
+pub returns-in-Define-clause-decided : goal.returns-in-Define-clause-decided
+returns-in-Define-clause-decided c = decided_at c.args.header.now c.args.names.now (statements c.args.before.now) c.args.statement.now _ c.define_gain.result c.in-Define.is c.define_gain.ensures.decided
+
+pub returns-in-Redefine-clause-decided : goal.returns-in-Redefine-clause-decided
+returns-in-Redefine-clause-decided c = decided_at c.args.header.now c.args.names.now (statements c.args.before.now) c.args.statement.now _ c.redefine_gain.result c.in-Redefine.is c.redefine_gain.ensures.decided
+
+pub returns-in-Filter-clause-decided : goal.returns-in-Filter-clause-decided
+returns-in-Filter-clause-decided c = decided_at c.args.header.now c.args.names.now (statements c.args.before.now) c.args.statement.now _ c.filter_gain.result c.in-Filter.is (c.filter_gain.ensures.decided c.in-Filter.label)
+
+pub returns-in-Vary-clause-decided : goal.returns-in-Vary-clause-decided
+returns-in-Vary-clause-decided c = decided_at c.args.header.now c.args.names.now (statements c.args.before.now) c.args.statement.now _ c.vary_gain.result
+    (c.in-Vary.is ∙ (λ i. Vary c.in-Vary.node c.in-Vary.parent (sym c.as_slice.ensures i) c.in-Vary.values (sym c.as_slice-in-Vary.ensures i) c.in-Vary.name)) c.vary_gain.ensures.decided
+
+pub returns-in-Action-clause-decided : goal.returns-in-Action-clause-decided
+returns-in-Action-clause-decided c = decided_at c.args.header.now c.args.names.now (statements c.args.before.now) c.args.statement.now _ c.action_gain.result c.in-Action.is c.action_gain.ensures.decided
+
+pub returns-in-Alias-clause-decided : goal.returns-in-Alias-clause-decided
+returns-in-Alias-clause-decided c = decided_at c.args.header.now c.args.names.now (statements c.args.before.now) c.args.statement.now _ c.alias_gain.result c.in-Alias.is c.alias_gain.ensures.decided

@@ -1,0 +1,20 @@
+use Rattle.std.proofs.Common.{◌∙◌}
+use Rattle.graph.proofs.Finished.{finish_named, finish_rows, finish_few, finish_count, finished}
+use Rattle.graph.proofs.graph.Graph.finish.Goals as goal
+
+pub loop_tables-requires-clause-named : goal.loop_tables-requires-clause-named
+loop_tables-requires-clause-named c = finish_named c.args.lines.items c.as_slice-all.result.now c.args.header.now c.args.names.now c.args.booking c.as_slice-results.result.now c.as_slice-all.ensures.value c.as_slice-results.ensures.value c.requires.graph c.requires.booking
+
+pub loop_tables-requires-clause-rows : goal.loop_tables-requires-clause-rows
+loop_tables-requires-clause-rows c = finish_rows c.args.lines.items c.as_slice-all.result.now c.args.header.now c.args.names.now c.args.booking c.as_slice-results.result.now c.as_slice-all.ensures.value c.as_slice-results.ensures.value c.requires.graph c.requires.booking c.result_sets_are_dependence.ensures
+
+pub loop_tables-requires-clause-results : goal.loop_tables-requires-clause-results
+loop_tables-requires-clause-results c = finish_few c.args.lines.items c.as_slice-all.result.now c.args.header.now c.args.names.now c.args.booking c.as_slice-results.result.now c.as_slice-all.ensures.value c.as_slice-results.ensures.value c.requires.graph c.requires.booking c.requires.few
+
+pub loop_tables-requires-clause-booked : goal.loop_tables-requires-clause-booked
+loop_tables-requires-clause-booked c = finish_count c.args.lines.items c.as_slice-all.result.now c.args.header.now c.args.names.now c.args.booking c.as_slice-results.result.now c.as_slice-all.ensures.value c.as_slice-results.ensures.value c.requires.graph c.requires.booking
+
+pub invariant_of-result : goal.invariant_of-result
+invariant_of-result c =
+    finished c.args.lines.items c.as_slice-all.result.now c.args.header.now c.args.names.now c.args.booking c.as_slice-results.result.now c.as_slice-all.ensures.value c.as_slice-results.ensures.value c.requires.graph c.requires.booking c.site_sets_are_dependence.ensures c.result_sets_are_dependence.ensures c.requires.short c.requires.few c.in_ok-loops.loops c.in_ok-watched.watched.items c.in_ok-loops.ensures c.in_ok-watched.ensures
+    c.in_ok-columns.columns c.in_ok-functions.functions c.in_ok-columns.ensures (c.in_ok-functions.ensures ∙ c.as_slice.ensures.value)

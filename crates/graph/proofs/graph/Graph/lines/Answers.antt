@@ -1,0 +1,15 @@
+use Rattle.std.proofs.Common.{◌∙◌, ap, arith, length}
+use Rattle.std.proofs.lemmas.List.{length-reverse}
+use Rattle.graph.specs.Lookups.{statements}
+use Rattle.graph_numbers.specs.Graphs.{booked_statements}
+use Rattle.graph.proofs.Finished.{history_of}
+use Rattle.graph.proofs.graph.Graph.lines.Goals as goal
+
+pub returns-clause-value : goal.returns-clause-value
+returns-clause-value c =
+    ap statements c.as_slice.ensures.value ∙ history_of c.self.inside.lines.items c.self.inside.header c.self.inside.names ∙ ap booked_statements c.self.view_is
+
+pub returns-clause-few : goal.returns-clause-few
+returns-clause-few c =
+    let few = c.self.invariant.graph.bookable.few in
+    omega (arith, few, ap length c.as_slice.ensures.value, length-reverse c.self.inside.lines.items)

@@ -1,0 +1,5 @@
+use Rattle.std.proofs.Common.{length}
+use Rattle.graph.proofs.loops.+loop_tables.Given as goal
+
+abbrev pub decreases-loop_tables : goal.decreases-loop_tables
+decreases-loop_tables l = length l.lines.now

@@ -1,0 +1,17 @@
+pub mod Amounts
+pub mod Bookings
+pub mod Checks
+pub mod Dependence
+pub mod Gains
+pub mod GraphFields
+pub mod Laws
+pub mod Lookups
+pub mod LoopRows
+pub mod Names
+pub mod Refusals
+pub mod Rows
+pub mod Sets
+pub mod SiteNumbers
+pub mod VarSets
+pub mod VaryChecks
+pub mod VersionSources

@@ -1,0 +1,92 @@
+-- The loops and Prints of a script, as they are listed while its lines are walked.
+use Rattle.std.specs.Prelude.{◌≡◌, ⊤, ℕ, zero, suc, Bool, true, false, List, [], ◌∷◌, ◌++◌, map, length, take, Option, Some, None, if◌then◌else◌, slice_get}
+use Rattle.rdf_values.specs.Bookings.{Booked, bookings, names_of, filled, has_variations, result_depends}
+use Rattle.rdf_values.specs.Names.{among, place}
+use Rattle.rdf_values.specs.Path.{variations}
+use Rattle.rdf_values.specs.Verdict.{is_result}
+use Rattle.rdf_values.specs.declared.statement.Statement.{Statement}
+use Rattle.rdf_values.specs.declared.statement.Statement.TheVariants.{Action, Report, Print}
+use Rattle.rdf_model.specs.Loops.{Access, accesses, loop_results}
+use Rattle.graph_numbers.specs.Graphs.{holds_at}
+use Rattle.graph_numbers.specs.Results.{loops, runs, numbered_pass, result_number}
+use Rattle.graph_numbers.specs.declared.pass.Pass.{Pass}
+use Rattle.graph.specs.declared.result_row.ResultRow.{ResultRow}
+use Rattle.graph.specs.Sets.{has}
+use Rattle.graph.specs.declared.loops.LoopTables.{LoopTables}
+
+-- ---- statements
+
+-- the statement is no Print
+abbrev pub IsNoPrint : Statement → Type 0
+IsNoPrint (Print result) = ⊥
+IsNoPrint s = ⊤
+
+-- the statement books a result
+abbrev pub is_booking : Statement → Bool
+is_booking (Action result parent k) = true
+is_booking (Report result parent) = true
+is_booking s = false
+
+-- a result that is booked is new, and one that is printed isn't
+abbrev pub IsNamedInTurn : List Statement → Statement → Type 0
+IsNamedInTurn before (Action result parent k) = is_result before result ≡ false
+IsNamedInTurn before (Report result parent) = is_result before result ≡ false
+IsNamedInTurn before (Print result) = is_result before result ≡ true
+IsNamedInTurn before s = ⊤
+
+abbrev pub AreNamedInTurn : List Statement → Type 0
+AreNamedInTurn [] = ⊤
+AreNamedInTurn (s ∷ before) = IsNamedInTurn before s × AreNamedInTurn before
+
+-- how many results are filled after the statements so far: all that were booked before the latest Print that filled any
+abbrev pub filled_count : List Statement → ℕ
+filled_count [] = 0
+filled_count (Print p ∷ before) = if among p (filled before) then filled_count before else length (bookings before)
+filled_count (s ∷ before) = filled_count before
+
+-- ---- passes
+
+-- the members among so many numbers from v on
+abbrev pub members_from : (ℕ → Bool) → ℕ → ℕ → List ℕ
+members_from test v zero = []
+members_from test v (suc k) = if test v then v ∷ members_from test (suc v) k else members_from test (suc v) k
+
+-- a result's name, and the variations on which it depends
+pub record IsRowOf (script : List Statement) (b : Booked) (r : ResultRow) : Type 0 where
+  pub name : r.name ≡ b.name
+  pub set : (v : ℕ) → has r.set v ≡ holds_at (λ w. result_depends w b.booking) (slice_get (variations script) v)
+
+-- one for each result
+abbrev pub AreRowsOf : List Statement → List Booked → List ResultRow → Type 0
+AreRowsOf script [] [] = ⊤
+AreRowsOf script [] (r ∷ rs) = ⊥
+AreRowsOf script (b ∷ bs) [] = ⊥
+AreRowsOf script (b ∷ bs) (r ∷ rs) = IsRowOf script b r × AreRowsOf script bs rs
+
+-- the passes of results that are numbered from n on, over so many variations
+abbrev pub passes_of_row : List Statement → ℕ → ℕ → ResultRow → List Pass
+passes_of_row script count n r =
+    numbered_pass n None ∷ (if has_variations script r.name then map (λ v. numbered_pass n (Some v)) (members_from (has r.set) 0 count) else [])
+
+abbrev pub passes_of_rows : List Statement → ℕ → ℕ → List ResultRow → List Pass
+passes_of_rows script count n [] = []
+passes_of_rows script count n (r ∷ rs) = passes_of_row script count n r ++ passes_of_rows script count (suc n) rs
+
+-- ---- the lists
+
+-- the place of the loop that fills the result of that name
+abbrev pub filler_of : List Statement → List ℕ → Option ℕ
+filler_of before name = place (λ bs. among name (names_of bs)) (loop_results before)
+
+-- the lists are those of the statements before, which belong to the script
+pub record AreLoops (script before : List Statement) (t : LoopTables) : Type 0 where
+  pub loops : t.loops.items ≡ loops script before
+  pub runs : t.runs.items ≡ runs before
+  pub prints : map (λ n. Some n) t.prints.items ≡ map (λ (a : Access). result_number script a.result) (accesses before)
+  pub filling : map (λ n. Some n) t.filling.items ≡ map (λ (a : Access). filler_of before a.result) (accesses before)
+  pub count : length t.fillers.items ≡ filled_count before
+  pub fillers : (n l : ℕ) (b : Booked) → slice_get t.fillers.items n ≡ Some l → slice_get (bookings script) n ≡ Some b → filler_of before b.name ≡ Some l
+
+-- the results of the former are the first of the latter's
+abbrev pub BeginsWith : List Statement → List Statement → Type 0
+BeginsWith script before = take (length (bookings before)) (bookings script) ≡ bookings before

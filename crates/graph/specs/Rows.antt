@@ -1,0 +1,118 @@
+-- What a statement adds to the lists of versions, named filters and results, by the numbers of its first site and variation.
+use Rattle.std.specs.Prelude.{◌≡◌, ℕ, zero, suc, ◌+◌, Bool, true, false, List, [], ◌∷◌, ◌++◌, map, length, Option, Some, None, option_to_list, if◌then◌else◌}
+use Rattle.rdf_values.specs.Bookings.{columns_of, named_before}
+use Rattle.rdf_values.specs.Kinds.{FunctionNames}
+use Rattle.rdf_values.specs.Path.{Path, makes, parent_of, path}
+use Rattle.rdf_values.specs.declared.column.Column.{Column}
+use Rattle.rdf_values.specs.declared.vary_values.VaryValues.{VaryValues}
+use Rattle.rdf_values.specs.declared.vary_values.VaryValues.TheVariants.{Lists, Vector}
+use Rattle.rdf_values.specs.declared.statement.Statement.{Statement}
+use Rattle.rdf_values.specs.declared.statement.Statement.TheVariants.{Define, Redefine, Filter, Vary, Action, Report}
+use Rattle.graph_numbers.specs.Results.{FilterAt, ResultAt, filters, results, kind_of_booking}
+use Rattle.graph_numbers.specs.Sites.{list_start}
+use Rattle.graph_numbers.specs.Sources.{versions}
+use Rattle.graph_numbers.specs.Versions.{named_version, version_at}
+use Rattle.graph_numbers.specs.declared.result_kind.ResultKind.TheVariants as what
+use Rattle.graph_numbers.specs.declared.version.Version.{Version}
+use Rattle.graph_numbers.specs.declared.version.Version.TheVariants as as_version
+use Rattle.graph.specs.SiteNumbers.{filter_numbers}
+use Rattle.graph.specs.declared.rows.ResultPath.{ResultPath}
+use Rattle.graph.specs.declared.rows.Rows.{Rows}
+
+-- so many numbers from the first on
+abbrev pub count_from : ℕ → ℕ → List ℕ
+count_from n zero = []
+count_from n (suc k) = n ∷ count_from (suc n) k
+
+-- ---- versions
+
+-- the table's columns, numbered from n on
+abbrev pub cell_rows : ℕ → List Column → List Version
+cell_rows n [] = []
+cell_rows n (c ∷ cs) = as_version.Cell n ∷ cell_rows (suc n) cs
+
+-- a column that a Vary changes, over the version below
+abbrev pub varied_row : VaryValues → ℕ → ℕ → ℕ → ℕ → ℕ → Version
+varied_row (Lists lists) below first site tags i = as_version.Varied below first tags (count_from (site + list_start lists i) tags) false
+varied_row (Vector e) below first site tags i = as_version.Varied below first tags (site ∷ []) true
+
+-- those that a Vary changes, from place i on
+abbrev pub varied_rows : List Column → List Statement → List ℕ → VaryValues → ℕ → ℕ → ℕ → ℕ → List (List ℕ) → List Version
+varied_rows header before parent values first site tags i [] = []
+varied_rows header before parent values first site tags i (name ∷ columns) =
+    varied_row values (named_version header before parent name) first site tags i ∷ varied_rows header before parent values first site tags (suc i) columns
+
+-- the columns that a statement makes or changes
+abbrev pub version_rows : List Column → List Statement → ℕ → ℕ → Statement → List Version
+version_rows header before first site (Define node parent column expr) = as_version.Computed site ∷ []
+version_rows header before first site (Redefine node parent column expr) = as_version.Computed site ∷ []
+version_rows header before first site (Vary node parent columns values tags vary) = varied_rows header before parent values first site (length tags) 0 columns
+version_rows header before first site s = []
+
+-- ---- named filters
+
+-- the statement is a named Filter
+abbrev pub is_named : Statement → Bool
+is_named (Filter node parent expr (Some label)) = true
+is_named s = false
+
+-- the label of a named Filter
+abbrev pub own_label : Statement → Option (List ℕ)
+own_label (Filter node parent expr label) = label
+own_label s = None
+
+-- the labels of the named filters, in the order of booking
+abbrev pub labels : List Statement → List (List ℕ)
+labels [] = []
+labels (s ∷ before) = labels before ++ option_to_list (own_label s)
+
+-- the sites of a named filter: of those above it, and its own
+abbrev pub filter_rows : List Statement → ℕ → Statement → List (List ℕ)
+filter_rows before site (Filter node parent expr (Some label)) = (filter_numbers before parent ++ site ∷ []) ∷ []
+filter_rows before site s = []
+
+-- so many named filters
+abbrev pub named_count : List Statement → ℕ
+named_count before = length (named_before before)
+
+-- the number of a named filter, which is numbered next
+abbrev pub own_named : Bool → ℕ → List ℕ
+own_named true next = next ∷ []
+own_named false next = []
+
+-- the named filters of the path of a node, head first
+abbrev pub named_numbers : List Statement → List ℕ → List ℕ
+named_numbers [] node = []
+named_numbers (s ∷ before) node =
+    if makes s node then named_numbers before (parent_of s) ++ own_named (is_named s) (named_count before) else named_numbers before node
+
+-- ---- results
+
+-- the path isn't the head's
+abbrev pub has_made : Path → Bool
+has_made [] = false
+has_made (s ∷ up) = true
+
+-- the filters that a Report on a node covers
+abbrev pub covered_numbers : List Statement → List ℕ → List ℕ
+covered_numbers before node = if has_made (path before node) then named_numbers before node else count_from 0 (named_count before)
+
+-- the result that a statement books
+abbrev pub result_rows : List Column → List Statement → Statement → List ResultPath
+result_rows header before (Action result parent k) =
+    record { kind = what.Action k; filters = filter_numbers before parent; inputs = map (version_at header before parent) (columns_of k); covers = [] } ∷ []
+result_rows header before (Report result parent) =
+    record { kind = what.Report; filters = filter_numbers before parent; inputs = []; covers = covered_numbers before parent } ∷ []
+result_rows header before s = []
+
+-- ---- the lists
+
+-- a result as it is kept
+abbrev pub result_path : ResultAt → ResultPath
+result_path x = record { kind = kind_of_booking x.booked.booking; filters = x.filters; inputs = x.inputs; covers = x.covers }
+
+-- the lists are those of the statements so far
+pub record AreRows (header : List Column) (names : FunctionNames) (before : List Statement) (r : Rows) : Type 0 where
+  pub versions : r.versions.items ≡ versions header names before
+  pub filters : r.filters.items ≡ map (λ (f : FilterAt). f.sites) (filters header names before)
+  pub results : r.results.items ≡ map result_path (results header names before)

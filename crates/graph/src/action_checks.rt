@@ -1,0 +1,197 @@
+// The columns and edges of an action.
+ghost use Rattle.std.specs.Prelude.{◌≡◌, ◌++◌, [], IfOk, OnOk};
+ghost use Rattle.rdf_values.specs.Bookings.{columns_of, weight_column};
+ghost use Rattle.rdf_values.specs.Kinds.{scope_of};
+ghost use Rattle.rdf_values.specs.Verdict.{begins, may_begin, permitted_kinds, check_columns, check_edges, scope_at};
+ghost use Rattle.rdf_values.specs.Edges.{are_edges, rises};
+ghost use Rattle.graph.specs.Lookups.{statements, AreKinds};
+
+use crate::columns::find_column;
+use crate::parts::same_kind;
+use crate::push::{push, push_name};
+use rdf_values::{ActionKind, ColType, Column, FnNames, GraphCause, IntList, Line, Memory, Name};
+use std::alloc::Global;
+
+fn begins(kinds: &[ColType], permitted: &[ColType]) -> bool
+    ensures { result ≡ begins kinds.now permitted.now }
+{
+    let Some((kind, kinds)) = kinds.split_first() else {
+        return true;
+    };
+    let Some((first, rest)) = permitted.split_first() else {
+        return false;
+    };
+    same_kind(*kind, *first) && begins(kinds, rest)
+}
+
+const INT: &[ColType] = &[ColType::Int];
+
+const VECT: &[ColType] = &[ColType::Vect];
+
+const TRUTH: &[ColType] = &[ColType::Bool];
+
+const INTS: &[ColType] = &[ColType::Int, ColType::Int];
+
+const VECT_INT: &[ColType] = &[ColType::Vect, ColType::Int];
+
+const VECTS: &[ColType] = &[ColType::Vect, ColType::Vect];
+
+const THREE_INTS: &[ColType] = &[ColType::Int, ColType::Int, ColType::Int];
+
+const VECTS_INT: &[ColType] = &[ColType::Vect, ColType::Vect, ColType::Int];
+
+const THREE_VECTS: &[ColType] = &[ColType::Vect, ColType::Vect, ColType::Vect];
+
+/// Whether kinds begin those of one of an action's forms.
+fn may_begin(action: &ActionKind, kinds: &[ColType]) -> bool
+    ensures { result ≡ may_begin (permitted_kinds action.now) kinds.now }
+{
+    match action {
+        ActionKind::Count => begins(kinds, &[]),
+        ActionKind::Sum(_) | ActionKind::Min(_) | ActionKind::Max(_) => {
+            begins(kinds, INT) || begins(kinds, VECT)
+        }
+        ActionKind::Take(_) => begins(kinds, INT) || begins(kinds, TRUTH),
+        ActionKind::Reduce(_, _) => begins(kinds, INT),
+        ActionKind::Histo1D { weight: None, .. } => begins(kinds, INT) || begins(kinds, VECT),
+        ActionKind::Histo1D {
+            weight: Some(_),
+            ..
+        } => begins(kinds, INTS) || begins(kinds, VECT_INT) || begins(kinds, VECTS),
+        ActionKind::Histo2D { weight: None, .. } => begins(kinds, INTS) || begins(kinds, VECTS),
+        ActionKind::Histo2D {
+            weight: Some(_),
+            ..
+        } => begins(kinds, THREE_INTS) || begins(kinds, VECTS_INT) || begins(kinds, THREE_VECTS),
+    }
+}
+
+/// The columns of an action, whose kinds so far are these.
+fn check_columns(
+    before: &[Line],
+    header: &[Column],
+    names: &FnNames,
+    table: &[ColType],
+    node: &Name,
+    action: &ActionKind,
+    kinds: &mut Vec<ColType>,
+    columns: &[Name],
+) -> Result<Option<GraphCause>, Memory>
+    requires kinds { AreKinds header.now names.now (statements before.now) table.now }
+    ensures { IfOk result (λ o. o ≡ check_columns (scope_at names.now (scope_of header.now) (statements before.now) node.now) (permitted_kinds action.now) kinds.old.items columns.now) }
+{
+    let Some((first, rest)) = columns.split_first() else {
+        return Ok(None);
+    };
+    match find_column(before, header, names, table, node, first) {
+        None => Ok(Some(GraphCause::UnknownColumn)),
+        Some((kind, _)) => {
+            push(kinds, kind)?;
+            if may_begin(action, kinds.as_slice()) {
+                check_columns(before, header, names, table, node, action, kinds, rest)
+            } else {
+                Ok(Some(GraphCause::WrongType))
+            }
+        }
+    }
+}
+
+fn push_weight(alloc: Global, names: &mut Vec<Name>, weight: &Option<Name>) -> Result<(), Memory>
+    ensures { OnOk result (names.new.items ≡ names.old.items ++ weight_column weight.now) }
+{
+    match weight {
+        None => Ok(()),
+        Some(name) => push_name(alloc, names, name),
+    }
+}
+
+/// The columns that an action reads, in written order.
+pub(crate) fn columns_of(alloc: Global, action: &ActionKind) -> Result<Vec<Name>, Memory>
+    ensures { IfOk result (λ v. v.items ≡ columns_of action.now) }
+{
+    let mut names = Vec::new(alloc);
+    match action {
+        ActionKind::Count => {}
+        ActionKind::Sum(x)
+        | ActionKind::Min(x)
+        | ActionKind::Max(x)
+        | ActionKind::Take(x)
+        | ActionKind::Reduce(_, x) => push_name(alloc, &mut names, x)?,
+        ActionKind::Histo1D { x, weight, .. } => {
+            push_name(alloc, &mut names, x)?;
+            push_weight(alloc, &mut names, weight)?;
+        }
+        ActionKind::Histo2D { x, y, weight, .. } => {
+            push_name(alloc, &mut names, x)?;
+            push_name(alloc, &mut names, y)?;
+            push_weight(alloc, &mut names, weight)?;
+        }
+    }
+    Ok(names)
+}
+
+/// Whether each number is above the one before.
+fn rises(edges: &[i64]) -> bool
+    ensures { result ≡ rises edges.now }
+{
+    let Some((first, rest)) = edges.split_first() else {
+        return true;
+    };
+    match rest.first() {
+        None => true,
+        Some(next) => *first < *next && rises(rest),
+    }
+}
+
+fn are_edges(edges: &IntList) -> bool
+    ensures { result ≡ are_edges edges.now }
+{
+    edges.len() >= 2 && rises(edges.as_slice())
+}
+
+/// The edges of an action's axes.
+pub(crate) fn check_edges(action: &ActionKind) -> Option<GraphCause>
+    ensures { result ≡ check_edges action.now }
+{
+    let fit = match action {
+        ActionKind::Histo1D { x_edges, .. } => are_edges(x_edges),
+        ActionKind::Histo2D {
+            x_edges,
+            y_edges,
+            ..
+        } => are_edges(x_edges) && are_edges(y_edges),
+        _ => true,
+    };
+    if fit {
+        None
+    } else {
+        Some(GraphCause::BadEdges)
+    }
+}
+
+/// The columns of an action.
+pub(crate) fn action_columns(
+    alloc: Global,
+    before: &[Line],
+    header: &[Column],
+    names: &FnNames,
+    kinds: &[ColType],
+    node: &Name,
+    action: &ActionKind,
+) -> Result<Option<GraphCause>, Memory>
+    requires kinds { AreKinds header.now names.now (statements before.now) kinds.now }
+    ensures { IfOk result (λ o. o ≡ check_columns (scope_at names.now (scope_of header.now) (statements before.now) node.now) (permitted_kinds action.now) [] (columns_of action.now)) }
+{
+    let columns = columns_of(alloc, action)?;
+    let mut seen = Vec::new(alloc);
+    check_columns(
+        before,
+        header,
+        names,
+        kinds,
+        node,
+        action,
+        &mut seen,
+        columns.as_slice(),
+    )
+}

@@ -1,0 +1,232 @@
+// How many histogram cells and Takes the passes of results have.
+ghost use Rattle.std.specs.Prelude.{◌≡◌, ◌∷◌, ◌++◌, ◌+◌, ◌*◌, ◌||◌, ℕ, List, [], nat_lt, IfOk};
+ghost use Rattle.std.specs.Option.{option_copied};
+ghost use Rattle.rdf_values.specs.Bookings.{ActionAt, has_variations};
+ghost use Rattle.rdf_values.specs.Path.{Path};
+ghost use Rattle.rdf_values.specs.Verdict.{cells_of, takes_of, first_refusal, refuse_if};
+ghost use Rattle.rdf_values.specs.declared.graph_cause.GraphCause.TheVariants as cause_of;
+ghost use Rattle.rdf_values.specs.declared.statement.Statement.TheVariants.{Print};
+ghost use Rattle.graph.specs.Amounts.{asked_after, row_passes, rows_named, rows_below, printed_rows, IsAmount, front};
+ghost use Rattle.graph.specs.Lookups.{statements};
+
+use crate::refusals::{first_of, refuse_if};
+use crate::result_row::ResultRow;
+use rdf_values::{ActionKind, GraphCause, Line, Memory, Name, Statement};
+
+const MOST_CELLS: usize = 1048576;
+
+const MOST_TAKES: usize = 16;
+
+/// Histogram cells and Takes, each counted over passes.
+#[derive(Clone, Copy)]
+pub struct Amounts {
+    pub cells: usize,
+    pub takes: usize,
+}
+
+fn total(m: usize, n: usize) -> Result<usize, Memory>
+    ensures { IfOk result (λ p. p ≡ m + n) }
+{
+    match m.checked_add(n) {
+        Some(p) => Ok(p),
+        None => Err(Memory),
+    }
+}
+
+fn product(m: usize, n: usize) -> Result<usize, Memory>
+    ensures { IfOk result (λ p. p ≡ m * n) }
+{
+    match m.checked_mul(n) {
+        Some(p) => Ok(p),
+        None => Err(Memory),
+    }
+}
+
+/// The cells of an action's histogram.
+pub(crate) fn cells_of(action: &ActionKind) -> Result<usize, Memory>
+    ensures { IfOk result (λ n. (at : Path) → n ≡ cells_of (ActionAt action.now at)) }
+{
+    match action {
+        ActionKind::Histo1D { x_edges, .. } => total(x_edges.len(), 1),
+        ActionKind::Histo2D {
+            x_edges,
+            y_edges,
+            ..
+        } => {
+            let rows = total(x_edges.len(), 1)?;
+            let columns = total(y_edges.len(), 1)?;
+            product(rows, columns)
+        }
+        _ => Ok(0),
+    }
+}
+
+/// 1 for a Take.
+pub(crate) fn takes_of(action: &ActionKind) -> usize
+    ensures { (at : Path) → result ≡ takes_of (ActionAt action.now at) }
+{
+    match action {
+        ActionKind::Take(_) => 1,
+        _ => 0,
+    }
+}
+
+/// Whether a statement asks for the variations of the result.
+fn asks(statement: &Statement, name: &Name) -> bool
+    ensures { (before : List Statement) → has_variations (statement.now ∷ before) name.now ≡ (result || has_variations before name.now) }
+{
+    match statement {
+        Statement::VariationsFor { result } => result.is(name),
+        _ => false,
+    }
+}
+
+/// Whether the variations of the result are asked for.
+fn has_variations(before: &[Line], name: &Name) -> bool
+    ensures { result ≡ has_variations (statements before.now) name.now }
+{
+    let Some((last, rest)) = before.split_first() else {
+        return false;
+    };
+    asks(&last.statement, name) || has_variations(rest, name)
+}
+
+/// Whether they are, where those of one result more are asked for.
+fn is_asked(before: &[Line], more: Option<&Name>, name: &Name) -> bool
+    ensures { result ≡ has_variations (asked_after (option_copied more.entry) (statements before.now)) name.now }
+{
+    match more {
+        None => has_variations(before, name),
+        Some(result) => result.is(name) || has_variations(before, name),
+    }
+}
+
+/// The cells and Takes of all passes of a result.
+fn row_amounts(before: &[Line], more: Option<&Name>, row: &ResultRow) -> Result<Amounts, Memory>
+    ensures { IfOk result (IsAmount (asked_after (option_copied more.entry) (statements before.now)) (row.now ∷ [])) }
+{
+    let varied = if is_asked(before, more, &row.name) {
+        row.set.count() as usize
+    } else {
+        0
+    };
+    let passes = varied + 1;
+    Ok(Amounts {
+        cells: product(passes, row.cells)?,
+        takes: product(passes, row.takes)?,
+    })
+}
+
+fn both(first: Amounts, second: Amounts) -> Result<Amounts, Memory>
+    ensures { IfOk result (λ a. (a.cells ≡ first.cells + second.cells) × (a.takes ≡ first.takes + second.takes)) }
+{
+    Ok(Amounts {
+        cells: total(first.cells, second.cells)?,
+        takes: total(first.takes, second.takes)?,
+    })
+}
+
+/// Those of results.
+pub(crate) fn amounts_of(
+    before: &[Line],
+    more: Option<&Name>,
+    rows: &[ResultRow],
+) -> Result<Amounts, Memory>
+    ensures { IfOk result (IsAmount (asked_after (option_copied more.entry) (statements before.now)) rows.now) }
+{
+    let Some((first, rest)) = rows.split_first() else {
+        return Ok(Amounts { cells: 0, takes: 0 });
+    };
+    let own = row_amounts(before, more, first)?;
+    let others = amounts_of(before, more, rest)?;
+    both(own, others)
+}
+
+/// Those of the results of that name.
+fn amounts_named(before: &[Line], rows: &[ResultRow], name: &Name) -> Result<Amounts, Memory>
+    ensures { IfOk result (IsAmount (statements before.now) (rows_named name.now rows.now)) }
+{
+    let Some((first, rest)) = rows.split_first() else {
+        return Ok(Amounts { cells: 0, takes: 0 });
+    };
+    let others = amounts_named(before, rest, name)?;
+    if first.name.is(name) {
+        let own = row_amounts(before, None, first)?;
+        both(own, others)
+    } else {
+        Ok(others)
+    }
+}
+
+/// The rows before a statement.
+fn rows_below<'a>(statement: &Statement, rows: &'a [ResultRow]) -> &'a [ResultRow]
+    ensures { result.now ≡ rows_below statement.now rows.now }
+{
+    match statement {
+        Statement::Action { .. } | Statement::Report { .. } => front(rows),
+        _ => rows,
+    }
+}
+
+#[tactic(auto, using(crate::proofs::Counting::front_is))]
+fn front(rows: &[ResultRow]) -> &[ResultRow]
+    ensures { result.now ≡ front rows.now }
+{
+    match rows.split_last() {
+        None => rows,
+        Some((_, front)) => front,
+    }
+}
+
+/// Those of the results that statements print.
+fn amounts_printed(before: &[Line], lines: &[Line], rows: &[ResultRow]) -> Result<Amounts, Memory>
+    ensures { IfOk result (IsAmount (statements before.now) (printed_rows (statements lines.now) rows.now)) }
+{
+    let Some((last, rest)) = lines.split_first() else {
+        return Ok(Amounts { cells: 0, takes: 0 });
+    };
+    let others = amounts_printed(before, rest, rows_below(&last.statement, rows))?;
+    match &last.statement {
+        Statement::Print { result } => {
+            let own = amounts_named(before, rows, result)?;
+            both(own, others)
+        }
+        _ => Ok(others),
+    }
+}
+
+/// Those of the results that the statements so far print, and of one Print more.
+pub(crate) fn amounts_printed_with(
+    before: &[Line],
+    rows: &[ResultRow],
+    name: &Name,
+) -> Result<Amounts, Memory>
+    ensures { IfOk result (IsAmount (statements before.now) (printed_rows (Print name.now ∷ statements before.now) rows.now)) }
+{
+    let own = amounts_named(before, rows, name)?;
+    let others = amounts_printed(before, before, rows)?;
+    both(own, others)
+}
+
+/// Those of results and of one more.
+pub(crate) fn amounts_with(
+    before: &[Line],
+    rows: &[ResultRow],
+    row: &ResultRow,
+) -> Result<Amounts, Memory>
+    ensures { IfOk result (IsAmount (statements before.now) (rows.now ++ row.now ∷ [])) }
+{
+    let others = amounts_of(before, None, rows)?;
+    let own = row_amounts(before, None, row)?;
+    both(others, own)
+}
+
+/// Whether cells or Takes are too many.
+pub(crate) fn too_many(a: Amounts) -> Option<GraphCause>
+    ensures { result ≡ first_refusal (refuse_if (nat_lt 1048576 a.cells) cause_of.TooMany ∷ refuse_if (nat_lt 16 a.takes) cause_of.TooMany ∷ []) }
+{
+    first_of(
+        refuse_if(a.cells > MOST_CELLS, GraphCause::TooMany),
+        refuse_if(a.takes > MOST_TAKES, GraphCause::TooMany),
+    )
+}

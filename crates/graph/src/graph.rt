@@ -1,0 +1,355 @@
+// The booked graph.
+ghost use Rattle.std.specs.Prelude.{◌≡◌, ◌<◌, ◌≤◌, ℕ, length, Some, option_map, slice_get, reverse, IfOk};
+ghost use Rattle.rdf_values.specs.Answers.{Answers};
+ghost use Rattle.rdf_values.specs.Bookable.{IsBookable};
+ghost use Rattle.rdf_values.specs.Bookings.{is_watched};
+ghost use Rattle.rdf_values.specs.Tables.{IsHeader};
+ghost use Rattle.rdf_model.specs.Loops.{accesses, loop_of};
+ghost use Rattle.graph.specs.Sets.{has};
+ghost use Rattle.graph_numbers.specs.Graphs.{IsGraph, IsSiteExpr, booked, booked_statements, graph_filters, graph_kinds, graph_loops, graph_prints, graph_results, graph_runs, graph_sites, graph_sources, graph_variations, graph_versions, result_depends_at, site_depends_at};
+ghost use Rattle.graph_numbers.specs.Results.{kind_of_booking};
+ghost use Rattle.graph.specs.Refusals.{refused_at};
+
+use crate::book::{book_lines, reversed};
+use crate::booking::Booking;
+use crate::copies::{copy_header, copy_names};
+use crate::laws::{result_sets_are_dependence, site_sets_are_dependence};
+use crate::loops::{LoopTables, loop_tables, watched_results};
+use crate::refusal::GraphRefusal;
+use crate::rows::Rows;
+use crate::sources::source_of;
+use crate::tables::Tables;
+use crate::var_set::VarSet;
+use crate::variations::Variations;
+use crate::walks::label_of;
+use expr_check::Checked;
+use graph_numbers::{Pass, ResultKind, Source, Version};
+use rdf_values::{ColType, Column, FnName, FnNames, Label, Line, ListOf, Memory, Name, Script};
+use std::alloc::Global;
+use std::marker::Model;
+
+/// A script that was accepted over a table's columns, by numbers. Contracts see what it was booked from.
+#[derive(Drop)]
+pub struct Graph {
+    lines: Vec<Line>,
+    header: ListOf<Column>,
+    names: ListOf<FnName>,
+    tables: Tables,
+    rows: Rows,
+    loops: LoopTables,
+    watched: Vec<bool>,
+}
+
+impl Model for Graph {
+    ghost use Rattle.std.specs.Prelude.{reverse};
+    ghost use Rattle.std.specs.Coded.{codes};
+    ghost use Rattle.rdf_values.specs.TreeCode.{named_code};
+    ghost use Rattle.graph_numbers.specs.Graphs.{GraphView};
+    ghost use Rattle.graph.specs.GraphFields.{view_of, IsBooked};
+
+    ghost Value = { GraphView };
+
+    ghost coded = { Prim.hlevel (codes, named_code) };
+
+    ghost view = { λ g. view_of g.lines.items g.header g.names };
+
+    ghost invariant = { λ g. IsBooked (view_of g.lines.items g.header g.names) g.tables g.rows g.loops g.watched.items };
+}
+
+/// The item of that number.
+fn at<T>(items: &[T], n: u32) -> &T
+    requires { n < length items.now }
+    ensures { slice_get items.now n ≡ Some result.now }
+{
+    &items[n as usize]
+}
+
+impl Graph {
+    ghost use Rattle.graph.specs.GraphFields.{view_of};
+    ghost use Rattle.std.specs.List.{AllByRecursion};
+    ghost use Rattle.rdf_values.specs.Bookable.{IsShort};
+    ghost use Rattle.graph.specs.Lookups.{AreKinds, statements};
+    ghost use Rattle.graph.specs.Bookings.{IsBooking};
+
+    /// Books a script over a table's columns: each line is checked after those before it, and the first that is refused is
+    /// named with its cause.
+    pub fn book(
+        alloc: Global,
+        script: Script,
+        header: &[Column],
+        names: &FnNames,
+    ) -> Result<Graph, GraphRefusal>
+        requires script { IsBookable script }
+        requires header { IsHeader header.now }
+        ensures { Answers refused_at GraphRefusal.Memory (booked script header.now names.now) result }
+    {
+        let lines = reversed(script.lines);
+        let booking = match book_lines(alloc, lines.as_slice(), header, names) {
+            Ok(booking) => booking,
+            Err(refusal) => return Err(refusal),
+        };
+        match Graph::finish(alloc, lines, header, names, booking) {
+            Ok(graph) => Ok(graph),
+            Err(_) => Err(GraphRefusal::Memory),
+        }
+    }
+
+    /// The graph of lines that were booked, the latest first.
+    fn finish(
+        alloc: Global,
+        lines: Vec<Line>,
+        header: &[Column],
+        names: &FnNames,
+        booking: Booking,
+    ) -> Result<Graph, Memory>
+        requires graph { IsGraph (view_of lines.items header.now names.now) }
+        requires booking { IsBooking header.now names.now (statements lines.items) booking }
+        requires short { AllByRecursion IsShort (statements lines.items) }
+        requires few { length lines.items ≤ 256 }
+        ensures { IfOk result (λ g. g ≡ view_of lines.items header.now names.now) }
+    {
+        site_sets_are_dependence();
+        result_sets_are_dependence();
+        let columns = copy_header(alloc, header)?;
+        let functions = copy_names(alloc, names.as_slice())?;
+        let all = lines.as_slice();
+        let results = booking.tables.results.as_slice();
+        let count = booking.tables.variations.len();
+        let loops = loop_tables(alloc, all, all, results, count, results.len())?;
+        let watched = watched_results(alloc, all, results)?;
+        Ok(Graph {
+            lines,
+            header: columns,
+            names: functions,
+            tables: booking.tables,
+            rows: booking.rows,
+            loops,
+            watched,
+        })
+    }
+
+    /// What holds of each graph, as a fact: its script is accepted.
+    pub fn is_booked(&self)
+        ensures { IsGraph self.now }
+    {
+        let _lines = self.lines.is_empty();
+    }
+
+    // ---- the statements
+
+    /// The lines that were booked, the latest first, as look-ups in them walk.
+    pub fn lines(&self) -> &[Line]
+        ensures value { statements result.now ≡ booked_statements self.now }
+        ensures few { length result.now ≤ 256 }
+    {
+        self.lines.as_slice()
+    }
+
+    /// The table's columns.
+    pub fn header(&self) -> &[Column]
+        ensures { result.now ≡ self.now.header }
+    {
+        self.header.as_slice()
+    }
+
+    /// The kinds of the versions, as look-ups of columns ask for them.
+    pub fn kinds(&self) -> &[ColType]
+        ensures { AreKinds self.now.header self.now.names (booked_statements self.now) result.now }
+    {
+        self.tables.kinds.as_slice()
+    }
+
+    // ---- results
+
+    /// How many results there are.
+    pub fn results(&self) -> u32
+        ensures { result ≡ length (graph_results self.now) }
+    {
+        self.rows.results.as_slice().len() as u32
+    }
+
+    /// The name of a result.
+    pub fn result_name(&self, r: u32) -> &Name
+        requires { r < length (graph_results self.now) }
+        ensures { option_map (λ x. x.booked.name) (slice_get (graph_results self.now) r) ≡ Some result.now }
+    {
+        &at(self.tables.results.as_slice(), r).name
+    }
+
+    /// What a result is.
+    pub fn kind(&self, r: u32) -> &ResultKind
+        requires { r < length (graph_results self.now) }
+        ensures { option_map (λ x. kind_of_booking x.booked.booking) (slice_get (graph_results self.now) r) ≡ Some result.now }
+    {
+        &at(self.rows.results.as_slice(), r).kind
+    }
+
+    /// The variations on which a result depends.
+    pub fn depends(&self, r: u32) -> VarSet
+        requires { r < length (graph_results self.now) }
+        ensures { (v : ℕ) → has result v ≡ result_depends_at self.now r v }
+    {
+        at(self.tables.results.as_slice(), r).set
+    }
+
+    /// Whether partial results of a result are asked for.
+    pub fn watched(&self, r: u32) -> bool
+        requires { r < length (graph_results self.now) }
+        ensures { option_map (λ x. is_watched (booked_statements self.now) x.booked.name) (slice_get (graph_results self.now) r) ≡ Some result }
+    {
+        *at(self.watched.as_slice(), r)
+    }
+
+    /// The sites of the filters above a result, head first.
+    pub fn path(&self, r: u32) -> &[u32]
+        requires { r < length (graph_results self.now) }
+        ensures { option_map (λ x. x.filters) (slice_get (graph_results self.now) r) ≡ Some result.now }
+    {
+        at(self.rows.results.as_slice(), r).filters.as_slice()
+    }
+
+    /// The versions that an action reads, in written order.
+    pub fn inputs(&self, r: u32) -> &[u32]
+        requires { r < length (graph_results self.now) }
+        ensures { option_map (λ x. x.inputs) (slice_get (graph_results self.now) r) ≡ Some result.now }
+    {
+        at(self.rows.results.as_slice(), r).inputs.as_slice()
+    }
+
+    /// The named filters that a report covers.
+    pub fn covered(&self, r: u32) -> &[u32]
+        requires { r < length (graph_results self.now) }
+        ensures { option_map (λ x. x.covers) (slice_get (graph_results self.now) r) ≡ Some result.now }
+    {
+        at(self.rows.results.as_slice(), r).covers.as_slice()
+    }
+
+    // ---- Prints and loops
+
+    /// How many Prints there are.
+    pub fn prints(&self) -> u32
+        ensures { result ≡ length (graph_prints self.now) }
+    {
+        self.loops.prints.as_slice().len() as u32
+    }
+
+    /// The result of a Print.
+    pub fn print_result(&self, p: u32) -> u32
+        requires { p < length (graph_prints self.now) }
+        ensures { slice_get (graph_prints self.now) p ≡ Some (Some result) }
+    {
+        *at(self.loops.prints.as_slice(), p)
+    }
+
+    /// How many event loops there are.
+    pub fn loops(&self) -> u32
+        ensures { result ≡ length (graph_loops self.now) }
+    {
+        self.loops.loops.as_slice().len() as u32
+    }
+
+    /// The loop that a Print runs; none where its result was filled before.
+    pub fn loop_of(&self, p: u32) -> Option<u32>
+        requires { p < length (graph_prints self.now) }
+        ensures { slice_get (graph_runs self.now) p ≡ Some result }
+    {
+        *at(self.loops.runs.as_slice(), p)
+    }
+
+    /// The loop that fills the result of a Print: the one that it runs, or one before.
+    pub fn filling(&self, p: u32) -> u32
+        requires { p < length (graph_prints self.now) }
+        ensures { option_map (λ a. loop_of (booked_statements self.now) a.result) (slice_get (accesses (booked_statements self.now)) p) ≡ Some result }
+    {
+        *at(self.loops.filling.as_slice(), p)
+    }
+
+    /// The passes of a loop, in the order of booking, nominal first, then the variations in their order.
+    pub fn passes(&self, l: u32) -> &[Pass]
+        requires { l < length (graph_loops self.now) }
+        ensures { slice_get (graph_loops self.now) l ≡ Some result.now }
+    {
+        at(self.loops.loops.as_slice(), l).as_slice()
+    }
+
+    // ---- named filters
+
+    /// How many named filters there are.
+    pub fn filters(&self) -> u32
+        ensures { result ≡ length (graph_filters self.now) }
+    {
+        self.rows.filters.as_slice().len() as u32
+    }
+
+    /// The label of a named filter.
+    pub fn label(&self, f: u32) -> &Label
+        requires { f < length (graph_filters self.now) }
+        ensures { option_map (λ x. x.label) (slice_get (graph_filters self.now) f) ≡ Some result.now }
+    {
+        let count = self.rows.filters.as_slice().len();
+        label_of(self.lines.as_slice(), f as usize, count)
+    }
+
+    /// The sites of the filters above a named filter, head first, and then its own.
+    pub fn filter_path(&self, f: u32) -> &[u32]
+        requires { f < length (graph_filters self.now) }
+        ensures { option_map (λ x. x.sites) (slice_get (graph_filters self.now) f) ≡ Some result.now }
+    {
+        at(self.rows.filters.as_slice(), f).as_slice()
+    }
+
+    // ---- sites and versions
+
+    /// How many sites there are.
+    pub fn sites(&self) -> u32
+        ensures { result ≡ length (graph_sites self.now) }
+    {
+        self.tables.sites.as_slice().len() as u32
+    }
+
+    /// A site's expression over versions.
+    pub fn site(&self, s: u32) -> &Checked
+        requires { s < length (graph_sites self.now) }
+        ensures { IsSiteExpr self.now s result.now }
+    {
+        at(self.tables.sites.as_slice(), s)
+    }
+
+    /// The variations on which a site depends.
+    pub fn site_depends(&self, s: u32) -> VarSet
+        requires { s < length (graph_sites self.now) }
+        ensures { (v : ℕ) → has result v ≡ site_depends_at self.now s v }
+    {
+        *at(self.tables.site_sets.as_slice(), s)
+    }
+
+    /// How many versions there are.
+    pub fn versions(&self) -> u32
+        ensures { result ≡ length (graph_versions self.now) }
+    {
+        self.rows.versions.as_slice().len() as u32
+    }
+
+    /// A version of a column.
+    pub fn version(&self, c: u32) -> &Version
+        requires { c < length (graph_versions self.now) }
+        ensures { slice_get (graph_versions self.now) c ≡ Some result.now }
+    {
+        at(self.rows.versions.as_slice(), c)
+    }
+
+    /// What gives a version its value under nominal or a variation; it takes at most one step for each Vary of the column.
+    pub fn source(&self, c: u32, under: Option<u32>) -> Source
+        requires { c < length (graph_versions self.now) }
+        ensures { slice_get (graph_sources self.now under) c ≡ Some result }
+    {
+        source_of(self.rows.versions.as_slice(), c, under)
+    }
+
+    /// The variations in the order of their numbers.
+    pub fn variations(&self) -> &Variations
+        ensures { result.now ≡ graph_variations self.now }
+    {
+        &self.tables.variations
+    }
+}

@@ -1,0 +1,17 @@
+// Laws of the sets of variations. Each function does nothing; its contract is the law, and its proof the law's.
+ghost use Rattle.graph.specs.Laws.{VersionsDependAsColumns, SiteSetsAreDependence, ResultSetsAreDependence};
+
+/// A visible column depends on the variations on which its version does.
+pub fn versions_depend_as_columns()
+    ensures { VersionsDependAsColumns }
+{}
+
+/// The sets of the sites are their dependence.
+pub fn site_sets_are_dependence()
+    ensures { SiteSetsAreDependence }
+{}
+
+/// The sets of the results are their dependence.
+pub fn result_sets_are_dependence()
+    ensures { ResultSetsAreDependence }
+{}

@@ -1,0 +1,346 @@
+// The event loops of a script and the loop that each Print runs.
+ghost use Rattle.std.specs.Prelude.{◌≡◌, ◌≤◌, ◌<◌, ◌+◌, ◌++◌, ◌∷◌, [], ℕ, Some, None, length, map, replicate, take, drop, ◌-◌, List, IfOk, IfSome, OnOk, MatchOption, if◌then◌else◌, slice_get};
+ghost use Rattle.rdf_values.specs.Bookings.{bookings, has_variations, is_watched};
+ghost use Rattle.rdf_values.specs.Names.{same, place};
+ghost use Rattle.rdf_values.specs.Path.{variations};
+ghost use Rattle.graph_numbers.specs.Results.{numbered_pass};
+ghost use Rattle.graph.specs.LoopRows.{IsNoPrint, is_booking, AreNamedInTurn, members_from, AreRowsOf, passes_of_row, passes_of_rows, AreLoops, BeginsWith};
+ghost use Rattle.graph.specs.Lookups.{statements};
+ghost use Rattle.graph.specs.Sets.{has};
+
+use crate::push::{push, push_many};
+use crate::result_row::ResultRow;
+use crate::var_set::VarSet;
+use graph_numbers::Pass;
+use rdf_values::{Line, ListOf, Memory, Name, Statement};
+use std::alloc::Global;
+
+/// The passes of each loop; for each Print the loop that it runs, its result, and the loop that fills it; and for each
+/// result that is filled its loop.
+#[derive(Drop)]
+pub struct LoopTables {
+    pub loops: Vec<ListOf<Pass>>,
+    pub runs: Vec<Option<u32>>,
+    pub prints: Vec<u32>,
+    pub filling: Vec<u32>,
+    pub fillers: Vec<u32>,
+}
+
+impl LoopTables {
+    ghost use Rattle.graph.specs.LoopRows.{IsNamedInTurn, AreNamedInTurn, AreRowsOf, AreLoops, BeginsWith};
+    ghost use Rattle.rdf_values.specs.declared.statement.Statement.{Statement};
+
+    /// No loops.
+    #[tactic(auto, using(crate::proofs::Looped::none_yet))]
+    fn new(alloc: Global) -> LoopTables
+        ensures { (script : List Statement) → AreLoops script [] result }
+    {
+        LoopTables {
+            loops: Vec::new(alloc),
+            runs: Vec::new(alloc),
+            prints: Vec::new(alloc),
+            filling: Vec::new(alloc),
+            fillers: Vec::new(alloc),
+        }
+    }
+
+    /// Notes a Print of a result that was filled before.
+    fn add_again(&mut self, n: u32, filler: u32) -> Result<(), Memory>
+        ensures loops { self.new.loops ≡ self.old.loops }
+        ensures fillers { self.new.fillers ≡ self.old.fillers }
+        ensures runs { OnOk result (self.new.runs.items ≡ self.old.runs.items ++ None ∷ []) }
+        ensures prints { OnOk result (self.new.prints.items ≡ self.old.prints.items ++ n ∷ []) }
+        ensures filling { OnOk result (self.new.filling.items ≡ self.old.filling.items ++ filler ∷ []) }
+    {
+        push(&mut self.runs, None)?;
+        push(&mut self.prints, n)?;
+        push(&mut self.filling, filler)
+    }
+
+    /// Notes a Print that runs a new loop, which fills so many results more.
+    fn add_loop(&mut self, passes: ListOf<Pass>, n: u32, more: usize) -> Result<(), Memory>
+        requires { length self.old.loops.items ≤ 4294967295 }
+        ensures loops { OnOk result (self.new.loops.items ≡ self.old.loops.items ++ passes ∷ []) }
+        ensures fillers { OnOk result (self.new.fillers.items ≡ self.old.fillers.items ++ replicate more (length self.old.loops.items)) }
+        ensures runs { OnOk result (self.new.runs.items ≡ self.old.runs.items ++ Some (length self.old.loops.items) ∷ []) }
+        ensures prints { OnOk result (self.new.prints.items ≡ self.old.prints.items ++ n ∷ []) }
+        ensures filling { OnOk result (self.new.filling.items ≡ self.old.filling.items ++ length self.old.loops.items ∷ []) }
+    {
+        let place = self.loops.len() as u32;
+        push(&mut self.loops, passes)?;
+        push_many(&mut self.fillers, place, more)?;
+        push(&mut self.runs, Some(place))?;
+        push(&mut self.prints, n)?;
+        push(&mut self.filling, place)
+    }
+
+    /// Adds a Print after the lines before it.
+    fn add_print(
+        &mut self,
+        alloc: Global,
+        all: &[Line],
+        before: &[Line],
+        name: &Name,
+        results: &[ResultRow],
+        count: u32,
+        booked: usize,
+    ) -> Result<(), Memory>
+        requires turn { IsNamedInTurn (statements before.now) (Statement.Print name.now) }
+        requires named { AreNamedInTurn (statements before.now) }
+        requires begins { BeginsWith (statements all.now) (statements before.now) }
+        requires rows { AreRowsOf (statements all.now) (bookings (statements all.now)) results.now }
+        requires results { length results.now ≤ 256 }
+        requires count { count ≡ length (variations (statements all.now)) }
+        requires few { count ≤ 128 }
+        requires booked { booked ≡ length (bookings (statements before.now)) }
+        requires lines { length before.now ≤ 256 }
+        requires old { AreLoops (statements all.now) (statements before.now) self.old }
+        ensures { OnOk result (AreLoops (statements all.now) (Statement.Print name.now ∷ statements before.now) self.new) }
+    {
+        let n = match number_of(results, name) {
+            Some(n) => n,
+            None => unreachable!(),
+        };
+        let filled = self.fillers.as_slice().len();
+        if n < filled {
+            let filler = number_at(self.fillers.as_slice(), n);
+            self.add_again(n as u32, filler)
+        } else {
+            let passes = waiting_passes(alloc, all, results, count, filled, booked)?;
+            self.add_loop(passes, n as u32, booked - filled)
+        }
+    }
+
+    /// Adds a statement after the lines before it.
+    fn add_line(
+        &mut self,
+        alloc: Global,
+        all: &[Line],
+        before: &[Line],
+        statement: &Statement,
+        results: &[ResultRow],
+        count: u32,
+        booked: usize,
+    ) -> Result<(), Memory>
+        requires turn { IsNamedInTurn (statements before.now) statement.now }
+        requires named { AreNamedInTurn (statements before.now) }
+        requires begins { BeginsWith (statements all.now) (statements before.now) }
+        requires rows { AreRowsOf (statements all.now) (bookings (statements all.now)) results.now }
+        requires results { length results.now ≤ 256 }
+        requires count { count ≡ length (variations (statements all.now)) }
+        requires few { count ≤ 128 }
+        requires booked { booked ≡ length (bookings (statements before.now)) }
+        requires lines { length before.now ≤ 256 }
+        requires old { AreLoops (statements all.now) (statements before.now) self.old }
+        ensures { OnOk result (AreLoops (statements all.now) (statement.now ∷ statements before.now) self.new) }
+    {
+        match printed(statement) {
+            None => Ok(()),
+            Some(name) => self.add_print(alloc, all, before, name, results, count, booked),
+        }
+    }
+}
+
+/// The number at a place.
+fn number_at(numbers: &[u32], n: usize) -> u32
+    requires { n < length numbers.now }
+    ensures { slice_get numbers.now n ≡ Some result }
+{
+    numbers[n]
+}
+
+/// How many results are booked before the last statement of so many.
+fn booked_before(last: &Statement, booked: usize) -> usize
+    requires { (if is_booking last.now then 1 else 0) ≤ booked }
+    ensures { result ≡ booked - (if is_booking last.now then 1 else 0) }
+{
+    if is_booking(last) { booked - 1 } else { booked }
+}
+
+/// The passes of the results from the first that isn't filled to the last that is booked.
+fn waiting_passes(
+    alloc: Global,
+    all: &[Line],
+    results: &[ResultRow],
+    count: u32,
+    filled: usize,
+    booked: usize,
+) -> Result<ListOf<Pass>, Memory>
+    requires order { filled ≤ booked }
+    requires within { booked ≤ length results.now }
+    requires results { length results.now ≤ 256 }
+    requires few { count ≤ 128 }
+    ensures { IfOk result (λ p. p ≡ passes_of_rows (statements all.now) count filled (take (booked - filled) (drop filled results.now))) }
+{
+    let mut passes = ListOf::new(alloc);
+    let open = &results[filled..booked];
+    push_passes(&mut passes, all, count, filled as u32, open)?;
+    Ok(passes)
+}
+
+/// The loops of the lines, the latest first, of which so many book results; `all` are the script's, with the rows of their
+/// results and the number of their variations.
+pub(crate) fn loop_tables(
+    alloc: Global,
+    all: &[Line],
+    lines: &[Line],
+    results: &[ResultRow],
+    count: u32,
+    booked: usize,
+) -> Result<LoopTables, Memory>
+    requires named { AreNamedInTurn (statements lines.now) }
+    requires begins { BeginsWith (statements all.now) (statements lines.now) }
+    requires rows { AreRowsOf (statements all.now) (bookings (statements all.now)) results.now }
+    requires results { length results.now ≤ 256 }
+    requires count { count ≡ length (variations (statements all.now)) }
+    requires few { count ≤ 128 }
+    requires booked { booked ≡ length (bookings (statements lines.now)) }
+    requires lines { length lines.now ≤ 256 }
+    ensures { IfOk result (AreLoops (statements all.now) (statements lines.now)) }
+{
+    let Some((last, rest)) = lines.split_first() else {
+        return Ok(LoopTables::new(alloc));
+    };
+    let below = booked_before(&last.statement, booked);
+    let mut tables = loop_tables(alloc, all, rest, results, count, below)?;
+    match tables.add_line(alloc, all, rest, &last.statement, results, count, below) {
+        Ok(()) => Ok(tables),
+        Err(_) => Err(Memory),
+    }
+}
+
+/// The result of a Print.
+fn printed(statement: &Statement) -> Option<&Name>
+    ensures { MatchOption result (IsNoPrint statement.now) (λ r. statement.now ≡ Statement.Print r.now) }
+{
+    match statement {
+        Statement::Print { result } => Some(result),
+        _ => None,
+    }
+}
+
+/// Whether the statement books a result.
+fn is_booking(statement: &Statement) -> bool
+    ensures { result ≡ is_booking statement.now }
+{
+    matches!(
+        statement,
+        Statement::Action { .. } | Statement::Report { .. }
+    )
+}
+
+/// Whether a line asks for the variations of the result.
+fn has_variations(lines: &[Line], name: &Name) -> bool
+    ensures { result ≡ has_variations (statements lines.now) name.now }
+{
+    let Some((last, rest)) = lines.split_first() else {
+        return false;
+    };
+    let own = match &last.statement {
+        Statement::VariationsFor { result } => result.is(name),
+        _ => false,
+    };
+    own || has_variations(rest, name)
+}
+
+/// Whether a line asks for partial results of the result.
+fn is_watched(lines: &[Line], name: &Name) -> bool
+    ensures { result ≡ is_watched (statements lines.now) name.now }
+{
+    let Some((last, rest)) = lines.split_first() else {
+        return false;
+    };
+    let own = match &last.statement {
+        Statement::Watch { result } => result.is(name),
+        _ => false,
+    };
+    own || is_watched(rest, name)
+}
+
+/// The number of the result of that name.
+fn number_of(results: &[ResultRow], name: &Name) -> Option<usize>
+    ensures value { result ≡ place (λ r. same r.name name.now) results.now }
+    ensures within { IfSome result (λ n. n < length results.now) }
+{
+    let Some((first, rest)) = results.split_first() else {
+        return None;
+    };
+    if first.name.is(name) {
+        return Some(0);
+    }
+    match number_of(rest, name) {
+        None => None,
+        Some(n) => Some(n + 1),
+    }
+}
+
+/// Appends the passes of a result under those of so many variations from v on that are in the set.
+fn push_varied(
+    passes: &mut ListOf<Pass>,
+    n: u32,
+    set: VarSet,
+    v: u32,
+    left: u32,
+) -> Result<(), Memory>
+    requires { v + left ≤ 128 }
+    ensures { OnOk result (passes.new ≡ passes.old ++ map (λ w. numbered_pass n (Some w)) (members_from (has set) v left)) }
+{
+    if left == 0 {
+        return Ok(());
+    }
+    if set.contains(v) {
+        passes.push(Pass {
+            result: n,
+            variation: Some(v),
+        })?;
+    }
+    push_varied(passes, n, set, v + 1, left - 1)
+}
+
+/// Appends the passes of results that are numbered from n on, over so many variations.
+fn push_passes(
+    passes: &mut ListOf<Pass>,
+    all: &[Line],
+    variations: u32,
+    n: u32,
+    results: &[ResultRow],
+) -> Result<(), Memory>
+    requires few { variations ≤ 128 }
+    requires fit { n + length results.now ≤ 4294967295 }
+    ensures { OnOk result (passes.new ≡ passes.old ++ passes_of_rows (statements all.now) variations n results.now) }
+{
+    let Some((first, rest)) = results.split_first() else {
+        return Ok(());
+    };
+    passes.push(Pass {
+        result: n,
+        variation: None,
+    })?;
+    if has_variations(all, &first.name) {
+        push_varied(passes, n, first.set, 0, variations)?;
+    }
+    push_passes(passes, all, variations, n + 1, rest)
+}
+
+/// For each result whether partial results of it are asked for.
+pub(crate) fn watched_results(
+    alloc: Global,
+    all: &[Line],
+    results: &[ResultRow],
+) -> Result<Vec<bool>, Memory>
+    ensures { IfOk result (λ w. w.items ≡ map (λ r. is_watched (statements all.now) r.name) results.now) }
+{
+    let mut watched = Vec::new(alloc);
+    push_watched(&mut watched, all, results)?;
+    Ok(watched)
+}
+
+fn push_watched(watched: &mut Vec<bool>, all: &[Line], results: &[ResultRow]) -> Result<(), Memory>
+    ensures { OnOk result (watched.new.items ≡ watched.old.items ++ map (λ r. is_watched (statements all.now) r.name) results.now) }
+{
+    let Some((first, rest)) = results.split_first() else {
+        return Ok(());
+    };
+    push(watched, is_watched(all, &first.name))?;
+    push_watched(watched, all, rest)
+}

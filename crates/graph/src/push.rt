@@ -1,0 +1,45 @@
+// Appending, where an error keeps no item.
+ghost use Rattle.std.specs.Prelude.{◌≡◌, ◌∷◌, ◌++◌, [], replicate, OnOk};
+
+use rdf_values::{Memory, Name};
+use std::alloc::Global;
+
+/// Appends an item.
+pub(crate) fn push<T: Drop>(items: &mut Vec<T>, item: T) -> Result<(), Memory>
+    ensures { OnOk result (items.new.items ≡ items.old.items ++ item ∷ []) }
+{
+    match items.push(item) {
+        Ok(()) => Ok(()),
+        Err(_) => Err(Memory),
+    }
+}
+
+/// Appends a number so many times.
+pub(crate) fn push_many(items: &mut Vec<u32>, item: u32, count: usize) -> Result<(), Memory>
+    ensures { OnOk result (items.new.items ≡ items.old.items ++ replicate count item) }
+{
+    if count == 0 {
+        return Ok(());
+    }
+    push(items, item)?;
+    push_many(items, item, count - 1)
+}
+
+/// Appends a copy of a name.
+pub(crate) fn push_name(alloc: Global, names: &mut Vec<Name>, name: &Name) -> Result<(), Memory>
+    ensures { OnOk result (names.new.items ≡ names.old.items ++ name.now ∷ []) }
+{
+    let name = name.copy(alloc)?;
+    push(names, name)
+}
+
+/// Appends a list.
+pub(crate) fn append<T: Drop>(items: &mut Vec<T>, more: Vec<T>) -> Result<(), Memory>
+    ensures { OnOk result (items.new.items ≡ items.old.items ++ more.items) }
+{
+    let mut more = more;
+    match items.append(&mut more) {
+        Ok(()) => Ok(()),
+        Err(_) => Err(Memory),
+    }
+}

@@ -1,0 +1,6 @@
+pub mod Answers
+pub mod Appended
+pub mod Booleans
+pub mod Orders
+pub mod Parts
+pub mod Places

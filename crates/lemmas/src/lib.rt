@@ -1,0 +1,2 @@
+//! Lemmas that proofs of many crates cite: of tests, orders, answers and lists.
+#![tactic(auto)]

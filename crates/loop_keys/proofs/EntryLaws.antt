@@ -1,0 +1,101 @@
+-- One pass of an entry, over plain values.
+use Rattle.std.proofs.Common.{◌≡◌, ℕ, zero, suc, ◌+◌, ◌<◌, ◌≤◌, List, [], ◌∷◌, ◌++◌, length, take, Option, Some, None, option_map, refl, sym, ◌∙◌, ap, arith, get_or, slice_get}
+use Rattle.std.specs.Prelude.{MatchOption}
+use Rattle.std.proofs.lemmas.Option.{slice_get-get_or}
+use Rattle.rdf_values.specs.Bookings.{ActionAt, Booking, Pass, ReportOn}
+use Rattle.rdf_values.specs.Path.{Path}
+use Rattle.rdf_values.specs.declared.action.ActionKind.{ActionKind}
+use Rattle.rdf_model.specs.LoopFacts.{kind_in, kinds_in}
+use Rattle.graph_numbers.specs.Graphs.{graph_results}
+use Rattle.graph_numbers.specs.Results.{ResultAt, kind_of_booking}
+use Rattle.graph_numbers.specs.declared.pass.Pass.{Pass as NumberedPass}
+use Rattle.graph_numbers.specs.declared.result_kind.ResultKind.{ResultKind}
+use Rattle.graph_numbers.specs.declared.result_kind.ResultKind.TheVariants as what
+use Rattle.loop_keys.specs.Caches.{IsActionBooking, IsActionPass, numbered_in}
+use Rattle.loop_keys.specs.Jobs.{JobView, job_graph, passes_in}
+use Rattle.loop_keys.proofs.PassNumbers.{result_there, some_same}
+use Rattle.loop_keys.proofs.PassTies.{pass_of}
+use Rattle.loop_keys.specs.Turns.{IsReportPass, actions_before, numbered_passes}
+use Rattle.loop_keys.proofs.Taken.{place_next, place_same}
+
+-- ---- the entry's row
+
+-- ---- the kinds of passes
+
+pub record IsOf (j : JobView) (n : ℕ) : Type 0 where
+  pub pass : Pass
+  pub its_pass : slice_get (passes_in j) n ≡ Some pass
+  pub kind : ActionKind
+  pub at : Path
+  pub booking : pass.result.booking ≡ ActionAt kind at
+
+pub action_of : (j : JobView) (n : ℕ) → IsActionPass j n → IsOf j n
+action_of j n h = go (slice_get (passes_in j) n) refl h
+  where
+    booked : (p : Pass) → slice_get (passes_in j) n ≡ Some p → (b : Booking) → p.result.booking ≡ b → IsActionBooking b → IsOf j n
+    booked p q (ActionAt k at) e i = record { pass = p; its_pass = q; kind = k; at = at; booking = e }
+    booked p q (ReportOn fs) e i = elim i [ ]
+
+    go : (o : Option Pass) → slice_get (passes_in j) n ≡ o → MatchOption o ⊥ (λ (p : Pass). IsActionBooking p.result.booking) → IsOf j n
+    go None q i = elim i [ ]
+    go (Some p) q i = booked p q p.result.booking refl i
+
+module _ (j : JobView) (n : ℕ) (m : NumberedPass) (its : numbered_in j n ≡ Some m) (found : ResultKind) (q : option_map (λ (x : ResultAt). kind_of_booking x.booked.booking) (slice_get (graph_results (job_graph j)) m.result) ≡ Some found) where
+  abbrev its_result : ResultAt
+  its_result = (result_there j n m its).0
+
+  found_is : found ≡ kind_of_booking its_result.booked.booking
+  found_is = some_same found (kind_of_booking its_result.booked.booking) (sym q ∙ ap (option_map (λ (x : ResultAt). kind_of_booking x.booked.booking)) (result_there j n m its).1)
+
+  pub found_report : found ≡ what.Report → IsReportPass j n m.result
+  found_report e = go its_result.booked.booking refl (sym found_is ∙ e)
+    where
+      go : (b : Booking) → its_result.booked.booking ≡ b → kind_of_booking b ≡ what.Report → IsReportPass j n m.result
+      go (ActionAt l at) s h = cc h
+      go (ReportOn fs) s h = record { numbered = m; its_pass = its; its_result = refl; result = its_result; there_is = (result_there j n m its).1; filters = fs; report = s }
+
+-- ---- places
+
+pub actions_few : (n : ℕ) (ps : List Pass) → length (kinds_in (take n ps)) ≤ n
+actions_few zero [] = omega arith
+actions_few zero (p ∷ ps) = omega arith
+actions_few (suc n) [] = omega arith
+actions_few (suc n) (p ∷ ps) = go p.result.booking (actions_few n ps)
+  where
+    go : (b : Booking) → length (kinds_in (take n ps)) ≤ n → length (kind_in b ++ kinds_in (take n ps)) ≤ suc n
+    go (ActionAt k at) h = omega (arith, h)
+    go (ReportOn fs) h = omega (arith, h)
+
+pub action_next : (j : JobView) (n place : ℕ) → IsActionPass j n → place ≡ actions_before j n → place + 1 ≡ actions_before j (n + 1)
+action_next j n place h e = let a = action_of j n h in ap (λ m. m + 1) e ∙ place_next j n a.pass a.kind a.at a.its_pass a.booking
+
+pub report_next : (j : JobView) (n own place : ℕ) → IsReportPass j n own → place ≡ actions_before j n → place ≡ actions_before j (n + 1)
+report_next j n own place p e =
+    e ∙ place_same j n _ p.filters (pass_of j n p.numbered p.its_pass p.result (ap (slice_get (graph_results (job_graph j))) p.its_result ∙ p.there_is)) p.report
+
+-- ---- an action's pass
+
+-- ---- a report's pass
+
+pub own_covers : (j : JobView) (pass own : ℕ) (p : IsReportPass j pass own) (ns : List ℕ) → option_map (λ (x : ResultAt). x.covers) (slice_get (graph_results (job_graph j)) own) ≡ Some ns → p.result.covers ≡ ns
+own_covers j pass own p ns q = some_same p.result.covers ns (sym (ap (option_map (λ (x : ResultAt). x.covers)) p.there_is) ∙ q)
+
+-- ---- the whole entry
+
+-- ---- memory
+
+-- ---- an action's pass, by what the cache answers
+
+-- ---- all passes
+
+pub all_taken : (ps : List Pass) → take (length ps) ps ≡ ps
+all_taken [] = refl
+all_taken (p ∷ ps) = ap (λ qs. p ∷ qs) (all_taken ps)
+
+pub all_actions : (j : JobView) (n : ℕ) → n ≡ length (passes_in j) → actions_before j n ≡ length (kinds_in (passes_in j))
+all_actions j n e = ap (actions_before j) e ∙ ap (λ ps. length (kinds_in ps)) (all_taken (passes_in j))
+
+pub read_pass : (j : JobView) (ps : List NumberedPass) → ps ≡ numbered_passes j → (n : ℕ) → n < length ps → (d : NumberedPass) → numbered_in j n ≡ Some (get_or ps n d)
+read_pass j ps e n lt d = ap (λ qs. slice_get qs n) (sym e) ∙ slice_get-get_or ps n d lt
+
+-- ---- the end of an entry

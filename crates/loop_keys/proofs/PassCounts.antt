@@ -1,0 +1,92 @@
+-- How many passes a loop has.
+use Rattle.std.proofs.Common.{◌≡◌, ◌⊎◌, inl, inr, ℕ, zero, suc, ◌+◌, ◌*◌, ◌<◌, ◌≤◌, ◌^◌, Bool, true, false, not, List, [], ◌∷◌, ◌++◌, length, map, Option, Some, None, refl, ap, arith, slice_get, unwrap_or, if◌then◌else◌, length-append}
+use Rattle.std.proofs.Math.Nat.{mul-le-mul, mul-le-mul_right}
+use Rattle.std.proofs.lemmas.List.{length-map, length-reverse}
+use Rattle.rdf_values.specs.Bookings.{Booked, booked_by, bookings, filled, has_variations, result_depends}
+use Rattle.rdf_values.specs.Names.{among}
+use Rattle.rdf_values.specs.Path.{history, variations}
+use Rattle.rdf_values.specs.declared.script.Line.{Line}
+use Rattle.rdf_values.specs.declared.script.Script.{Script}
+use Rattle.rdf_values.specs.declared.statement.Statement.{Statement}
+use Rattle.rdf_values.specs.declared.statement.Statement.TheVariants.{Action, Print, Report}
+use Rattle.graph_numbers.specs.Graphs.{graph_loops, graph_variations}
+use Rattle.graph_numbers.specs.Results.{loops, numbered_pass, own_loop, passes_from, places_from, result_passes}
+use Rattle.graph_numbers.specs.declared.pass.Pass.{Pass as NumberedPass}
+use Rattle.graph_numbers.proofs.Listed.{of_joined}
+use Rattle.loop_keys.specs.Jobs.{JobView, IsJob, job_graph}
+use Rattle.loop_keys.specs.Turns.{numbered_passes}
+
+places_few : {A : Type 0} (test : A → Bool) (n : ℕ) (xs : List A) → length (places_from test n xs) ≤ length xs
+places_few test n [] = omega arith
+places_few test n (x ∷ xs) = go (test x) (places_few test (suc n) xs)
+  where
+    go : (b : Bool) → length (places_from test (suc n) xs) ≤ length xs → length (if b then n ∷ places_from test (suc n) xs else places_from test (suc n) xs) ≤ suc (length xs)
+    go true h = omega (arith, h)
+    go false h = omega (arith, h)
+
+bookings_few : (before : List Statement) → length (bookings before) ≤ length before
+bookings_few [] = omega arith
+bookings_few (s ∷ before) = let l = length-append (bookings before) (booked_by before s) in let h = bookings_few before in let o = own s in omega (arith, l, h, o)
+  where
+    own : (s : Statement) → length (booked_by before s) ≤ 1
+    own (Action result parent k) = omega arith
+    own (Report result parent) = omega arith
+    own s = omega arith
+
+module _ (script : List Statement) where
+  result_few : (n : ℕ) (b : Booked) → length (result_passes script n b) ≤ suc (length (variations script))
+  result_few n b = go (has_variations script b.name)
+    where
+      go : (t : Bool) → suc (length (if t then map (λ v. numbered_pass n (Some v)) (places_from (λ v. result_depends v b.booking) 0 (variations script)) else [])) ≤ suc (length (variations script))
+      go true =
+          let l = length-map (places_from (λ v. result_depends v b.booking) 0 (variations script)) (λ v. numbered_pass n (Some v)) in
+          let h = places_few (λ v. result_depends v b.booking) 0 (variations script) in omega (arith, l, h)
+      go false = omega arith
+
+  passes_few : (test : Booked → Bool) (n : ℕ) (bs : List Booked) → length (passes_from script test n bs) ≤ length bs * suc (length (variations script))
+  passes_few test n [] = omega arith
+  passes_few test n (b ∷ bs) = go (test b) (passes_few test (suc n) bs)
+    where
+      go : (t : Bool) → length (passes_from script test (suc n) bs) ≤ length bs * suc (length (variations script))
+          → length ((if t then result_passes script n b else []) ++ passes_from script test (suc n) bs) ≤ suc (length bs) * suc (length (variations script))
+      go true h = let l = length-append (result_passes script n b) (passes_from script test (suc n) bs) in let r = result_few n b in omega (arith, l, h, r)
+      go false h = omega (arith, h)
+
+  loops_few : (before : List Statement) (k : ℕ) (ps : List NumberedPass) → slice_get (loops script before) k ≡ Some ps → length ps ≤ length before * suc (length (variations script))
+  loops_few [] k ps h = cc h
+  loops_few (s ∷ before) k ps h = go (loops_few before k ps) (of_joined (loops script before) (own_loop script before s) k ps h)
+    where
+      printed : (b : Bool) (i : ℕ) → slice_get (if b then [] else passes_from script (λ (b : Booked). not (among b.name (filled before))) 0 (bookings before) ∷ []) i ≡ Some ps
+          → length ps ≤ suc (length before) * suc (length (variations script))
+      printed true i q = cc q
+      printed false (suc i) q = cc q
+      printed false zero q =
+          let e : passes_from script (λ (b : Booked). not (among b.name (filled before))) 0 (bookings before) ≡ ps = cc q in
+          let l : length (passes_from script (λ (b : Booked). not (among b.name (filled before))) 0 (bookings before)) ≡ length ps = ap length e in
+          let a = passes_few (λ (b : Booked). not (among b.name (filled before))) 0 (bookings before) in
+          let b = mul-le-mul_right {m = length (bookings before)} {n = suc (length before)} (suc (length (variations script))) (let c = bookings_few before in omega (arith, c)) in
+          omega (arith, l, a, b)
+
+      own : (s : Statement) (i : ℕ) → slice_get (own_loop script before s) i ≡ Some ps → length ps ≤ suc (length before) * suc (length (variations script))
+      own (Print result) i q = printed (among result (filled before)) i q
+      own s i q = cc q
+
+      go : (slice_get (loops script before) k ≡ Some ps → length ps ≤ length before * suc (length (variations script)))
+          → (slice_get (loops script before) k ≡ Some ps) ⊎ ((i : ℕ) × (k ≡ length (loops script before) + i) × (slice_get (own_loop script before s) i ≡ Some ps)) → length ps ≤ suc (length before) * suc (length (variations script))
+      go next (inl q) = let n = next q in omega (arith, n)
+      go next (inr q) = own s q.0 q.2
+
+lines_few : (script : Script) → length script.lines ≤ 256 → length (history script) ≤ 256
+lines_few script h =
+    let a = length-reverse (map (λ (l : Line). l.statement) script.lines) in let b = length-map script.lines (λ (l : Line). l.statement) in omega (arith, a, b, h)
+
+-- fewer than can be numbered
+pub few_passes : (j : JobView) → IsJob j → length (graph_variations (job_graph j)) ≤ 128 → length (numbered_passes j) < 2 ^ 32
+few_passes j job few = go (slice_get (graph_loops (job_graph j)) j.number) refl
+  where
+    go : (o : Option (List NumberedPass)) → slice_get (graph_loops (job_graph j)) j.number ≡ o → length (unwrap_or o []) < 2 ^ 32
+    go None q = omega arith
+    go (Some ps) q =
+        let a = loops_few (history j.script) (history j.script) j.number ps q in
+        let b : length (history j.script) * suc (length (graph_variations (job_graph j))) ≤ 256 * 129 =
+        mul-le-mul {n₁ = length (history j.script)} {m₁ = suc (length (graph_variations (job_graph j)))} {n₂ = 256} {m₂ = 129} (lines_few j.script job.graph.bookable.few) (omega (arith, few)) in omega (arith, a, b)

@@ -1,0 +1,90 @@
+-- What the next entry gives to a tally, by the passes of a job's loop.
+use Rattle.std.proofs.Common.{◌≡◌, ℕ, zero, suc, ◌+◌, true, false, List, [], ◌∷◌, ◌++◌, length, take, Some, sym, ◌∙◌, ap, arith, slice_get, if◌then◌else◌}
+use Rattle.lemmas.proofs.Places.{mapped_at}
+use Rattle.rdf_values.specs.Bookings.{ActionAt, Booking, Pass, ReportOn, named_before}
+use Rattle.rdf_values.specs.Path.{Path, history}
+use Rattle.rdf_values.specs.declared.action.ActionKind.{ActionKind}
+use Rattle.rdf_values.specs.declared.value.Value.{Value}
+use Rattle.rdf_model.specs.LoopFacts.{filter_reach, is_covered, kind_in, kinds_in, reaches_of, spread_in, spreads_of}
+use Rattle.rdf_model.specs.Results.{Dataset, items_of}
+use Rattle.rdf_model.specs.declared.loop_facts.Reach.{Reach}
+use Rattle.rdf_model.specs.declared.loop_facts.Reach.TheVariants.{Stopped}
+use Rattle.graph_numbers.specs.Graphs.{graph_filters}
+use Rattle.graph_numbers.specs.Results.{FilterAt}
+use Rattle.loop_keys.specs.Jobs.{JobView, job_graph, passes_in}
+use Rattle.loop_keys.specs.Turns.{actions_before}
+use Rattle.loop_keys.proofs.Covered.{filters_are}
+
+-- ---- rows of a range
+
+module _ (j : JobView) (entry : ℕ) (row : List Value) (here : slice_get j.dataset.rows entry ≡ Some row) where
+  abbrev pub own_reaches : List Reach
+  own_reaches = reaches_of j.dataset (passes_in j) (named_before (history j.script)) row
+
+-- ---- the places of action passes
+
+actions_next : (n : ℕ) (ps : List Pass) (p : Pass) → slice_get ps n ≡ Some p → length (kinds_in (take (suc n) ps)) ≡ length (kinds_in (take n ps)) + length (kind_in p.result.booking)
+actions_next n [] p q = cc q
+actions_next zero (x ∷ ps) p q =
+    let e : x ≡ p = cc q in go x.result.booking (ap (λ (y : Pass). y.result.booking) e)
+  where
+    go : (b : Booking) → b ≡ p.result.booking → length (kind_in b ++ kinds_in (take 0 ps)) ≡ 0 + length (kind_in p.result.booking)
+    go (ActionAt k at) e = ap (λ (c : Booking). 0 + length (kind_in c)) e
+    go (ReportOn fs) e = ap (λ (c : Booking). 0 + length (kind_in c)) e
+actions_next (suc n) (x ∷ ps) p q = go x.result.booking (actions_next n ps p q)
+  where
+    go : (b : Booking) → length (kinds_in (take (suc n) ps)) ≡ length (kinds_in (take n ps)) + length (kind_in p.result.booking)
+        → length (kind_in b ++ kinds_in (take (suc n) ps)) ≡ length (kind_in b ++ kinds_in (take n ps)) + length (kind_in p.result.booking)
+    go (ActionAt k at) h = let e : suc (length (kinds_in (take n ps)) + length (kind_in p.result.booking)) ≡ suc (length (kinds_in (take n ps))) + length (kind_in p.result.booking) = omega arith in ap suc h ∙ e
+    go (ReportOn fs) h = h
+
+-- after an action's pass there is one more, and after a report's none
+after_pass : (j : JobView) (n : ℕ) (p : Pass) (c : Booking) → slice_get (passes_in j) n ≡ Some p → p.result.booking ≡ c → actions_before j (n + 1) ≡ actions_before j n + length (kind_in c)
+after_pass j n p c q b =
+    let e : n + 1 ≡ suc n = omega arith in
+    ap (actions_before j) e ∙ actions_next n (passes_in j) p q ∙ ap (λ (x : Booking). actions_before j n + length (kind_in x)) b
+
+pub place_next : (j : JobView) (n : ℕ) (p : Pass) (k : ActionKind) (at : Path) → slice_get (passes_in j) n ≡ Some p → p.result.booking ≡ ActionAt k at → actions_before j n + 1 ≡ actions_before j (n + 1)
+place_next j n p k at q b = sym (after_pass j n p (ActionAt k at) q b)
+
+pub place_same : (j : JobView) (n : ℕ) (p : Pass) (fs : List Path) → slice_get (passes_in j) n ≡ Some p → p.result.booking ≡ ReportOn fs → actions_before j n ≡ actions_before j (n + 1)
+place_same j n p fs q b = let e = after_pass j n p (ReportOn fs) q b in omega (arith, e)
+
+module _ (d : Dataset) (row : List Value) where
+  -- the kind of an action's pass, and what the row feeds to it, at its place
+  pub at_place : (n : ℕ) (ps : List Pass) (p : Pass) (k : ActionKind) (at : Path) → slice_get ps n ≡ Some p → p.result.booking ≡ ActionAt k at
+      → (slice_get (kinds_in ps) (length (kinds_in (take n ps))) ≡ Some k) × (slice_get (spreads_of d ps row) (length (kinds_in (take n ps))) ≡ Some (items_of d k at p.under row))
+  at_place n [] p k at q b = cc q
+  at_place zero (x ∷ ps) p k at q b = let e : p ≡ x = sym (cc q) in go x.result.booking (ap (λ (y : Pass). y.result.booking) (sym e) ∙ b)
+    where
+      go : (c : Booking) → c ≡ ActionAt k at → (slice_get (kind_in c ++ kinds_in ps) 0 ≡ Some k) × (slice_get (spread_in d row x c ++ spreads_of d ps row) 0 ≡ Some (items_of d k at p.under row))
+      go c e =
+          let i : x ≡ p = cc q in (
+            ap (λ (y : Booking). slice_get (kind_in y ++ kinds_in ps) 0) e,
+            ap (λ (y : Booking). slice_get (spread_in d row x y ++ spreads_of d ps row) 0) e ∙ ap (λ (y : Pass). Some (items_of d k at y.under row)) i,
+          )
+  at_place (suc n) (x ∷ ps) p k at q b = go x.result.booking (at_place n ps p k at q b)
+    where
+      go : (c : Booking)
+          → (slice_get (kinds_in ps) (length (kinds_in (take n ps))) ≡ Some k) × (slice_get (spreads_of d ps row) (length (kinds_in (take n ps))) ≡ Some (items_of d k at p.under row))
+          → (slice_get (kind_in c ++ kinds_in ps) (length (kind_in c ++ kinds_in (take n ps))) ≡ Some k)
+          × (slice_get (spread_in d row x c ++ spreads_of d ps row) (length (kind_in c ++ kinds_in (take n ps))) ≡ Some (items_of d k at p.under row))
+      go (ActionAt l up) h = h
+      go (ReportOn fs) h = h
+
+-- ---- what is fed
+
+-- ---- what named filters do
+
+module _ (j : JobView) (entry : ℕ) (row : List Value) (here : slice_get j.dataset.rows entry ≡ Some row) (f : ℕ) (x : FilterAt) (q : slice_get (graph_filters (job_graph j)) f ≡ Some x) where
+  pub filter_at : slice_get (named_before (history j.script)) f ≡ Some x.at
+  filter_at = ap (λ ps. slice_get ps f) (sym (filters_are j.dataset.columns _ (history j.script))) ∙ mapped_at (λ (y : FilterAt). y.at) (graph_filters (job_graph j)) f x q
+
+  its_reach : slice_get (own_reaches j entry row here) f ≡ Some (if is_covered (passes_in j) x.at then filter_reach j.dataset row x.at else Stopped)
+  its_reach = mapped_at (λ g. if is_covered (passes_in j) g then filter_reach j.dataset row g else Stopped) (named_before (history j.script)) f x.at filter_at
+
+  pub uncovered_reach : is_covered (passes_in j) x.at ≡ false → slice_get (own_reaches j entry row here) f ≡ Some Stopped
+  uncovered_reach h = its_reach ∙ ap (λ b. Some (if b then filter_reach j.dataset row x.at else Stopped)) h
+
+  pub covered_reach : is_covered (passes_in j) x.at ≡ true → (r : Reach) → filter_reach j.dataset row x.at ≡ r → slice_get (own_reaches j entry row here) f ≡ Some r
+  covered_reach h r e = its_reach ∙ ap (λ b. Some (if b then filter_reach j.dataset row x.at else Stopped)) h ∙ ap Some e

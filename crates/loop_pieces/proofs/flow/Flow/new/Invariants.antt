@@ -1,0 +1,6 @@
+use Rattle.std.proofs.Common.{◌≡◌, replicate}
+use Rattle.loop_pieces.specs.Flows.{nothing}
+use Rattle.loop_pieces.proofs.flow.Flow.new.Given as goal
+
+abbrev pub invariant-loop : goal.invariant-loop
+invariant-loop l = l.counts.items ≡ replicate l.counter nothing

@@ -1,5 +1,0 @@
-use Rattle.std.proofs.Common.{length}
-use Rattle.node_graph.proofs.book.+book_lines.Given as goal
-
-abbrev pub decreases-book_lines : goal.decreases-book_lines
-decreases-book_lines l = length l.lines.now

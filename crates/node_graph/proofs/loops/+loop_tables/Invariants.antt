@@ -1,5 +1,0 @@
-use Rattle.std.proofs.Common.{length}
-use Rattle.node_graph.proofs.loops.+loop_tables.Given as goal
-
-abbrev pub decreases-loop_tables : goal.decreases-loop_tables
-decreases-loop_tables l = length l.lines.now

@@ -1,6 +1,0 @@
-pub mod Bookings
-pub mod GraphFields
-pub mod LoopRows
-pub mod Refusals
-pub mod Rows
-pub mod VersionSources

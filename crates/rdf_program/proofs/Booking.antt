@@ -1,0 +1,40 @@
+-- A script that can't be booked over a table is refused.
+use Rattle.std.proofs.Common.{Result, Err, ◌≡◌, ℕ, List, Option, None, Some, inr, inl, refl, ◌∙◌}
+use Rattle.rdf_values.specs.Answers.{Refuses}
+use Rattle.rdf_values.specs.Functions.{Function, fn_names}
+use Rattle.rdf_values.specs.Kinds.{FunctionNames}
+use Rattle.rdf_values.specs.RefusalLines.{graph_cause_line}
+use Rattle.rdf_values.specs.TableText.{MarkedTable}
+use Rattle.rdf_values.specs.Verdict.{verdict}
+use Rattle.rdf_values.specs.declared.column.Column.{Column}
+use Rattle.rdf_values.specs.declared.graph_cause.GraphCause.{GraphCause}
+use Rattle.rdf_values.specs.declared.script.Script.{Script}
+use Rattle.graph_numbers.specs.Graphs.{GraphView, booked, booked_unless}
+use Rattle.graph.specs.Refusals.{refused_at}
+use Rattle.graph.specs.declared.refusal.GraphRefusal.{GraphRefusal}
+use Rattle.graph.specs.declared.refusal.GraphRefusal.TheVariants as graph
+use Rattle.rdf_program.specs.Answers.{Answers}
+use Rattle.rdf_program.specs.Due.{IsDueOver}
+use Rattle.rdf_program.specs.declared.answer.Answer.{Answer}
+use Rattle.rdf_program.specs.declared.status.Status.TheVariants.{ScriptRefused}
+
+refusal_of : (wanted : Result GraphView (ℕ × GraphCause)) (line : ℕ) (cause : GraphCause) → Refuses refused_at graph.Memory wanted (graph.At line cause) → wanted ≡ Err (line, cause)
+refusal_of wanted line cause (inl e) = absurd (cc e)
+refusal_of wanted line cause (inr h) =
+    let e = h.1 in
+    let p : h.0.0 ≡ line = cc e in
+    let q : h.0.1 ≡ cause = cc e in
+    h.2 ∙ (λ i. Err (p i, q i))
+
+refused_verdict : (g : GraphView) (v : Option (ℕ × GraphCause)) (c : ℕ × GraphCause) → ◌≡◌ {A = Result GraphView (ℕ × GraphCause)} (booked_unless g v) (Err c) → v ≡ Some c
+refused_verdict g None c e = absurd (cc e)
+refused_verdict g (Some d) c e = cc e
+
+pub over_refused : (fns : List Function) (size watch : ℕ) (script : Script) (header : List Column) (names : FunctionNames) (table : MarkedTable) (refusal : GraphRefusal) (line line' : ℕ) (cause cause' : GraphCause) (a : Answer)
+    → header ≡ table.table.columns → names ≡ fn_names fns → refusal ≡ graph.At line cause → Refuses refused_at graph.Memory (booked script header names) refusal
+    → line' ≡ line → cause' ≡ cause → (a.status ≡ ScriptRefused) × (a.text ≡ graph_cause_line line' cause') → Answers (IsDueOver fns size watch script table) a
+over_refused fns size watch script header names table refusal line line' cause cause' a h n is refused l k e =
+    let v = refused_verdict _ (verdict names header script) (line, cause) (refusal_of _ line cause (rw is at refused)) in
+    let w : verdict (fn_names fns) table.table.columns script ≡ Some (line, cause) = rw (h, n) at v in
+    let text : a.text ≡ graph_cause_line line cause = rw (l, k) at e.1 in
+    (rw e.0 tt, rw (w, e.0, text) refl)

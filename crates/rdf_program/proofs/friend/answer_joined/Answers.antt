@@ -1,6 +1,0 @@
-use Rattle.std.proofs.Common.{◌<◌, ℕ, All, subst, sym}
-use Rattle.friend_join.proofs.Stays.{entries_stay}
-use Rattle.rdf_program.proofs.friend.answer_joined.Goals as goal
-
-pub answer_script-requires-clause-within : goal.answer_script-requires-clause-within
-answer_script-requires-clause-within g c κs within = subst (λ (n : ℕ). All (λ e. e < n) c.args.marked.marks) (sym (entries_stay _ _ _ _ _ c.in-Ok-join.ensures)) c.requires.within

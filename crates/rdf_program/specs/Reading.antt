@@ -1,0 +1,32 @@
+-- What reading a friend, or the generator's table, comes to.
+use Rattle.std.specs.Prelude.{◌≡◌, ◌<◌, ℕ, List, [], All, Option, Some, Ok, length}
+use Rattle.rdf_values.specs.Generator.{generated_table}
+use Rattle.rdf_values.specs.TableText.{table_of}
+use Rattle.table_csv.specs.Csv.{csv_records}
+use Rattle.table_csv.specs.declared.marked_pieces.MarkedPieces.{MarkedPieces}
+use Rattle.input_files.specs.Answers.{Files}
+use Rattle.input_files.specs.Due.{due_of}
+use Rattle.input_files.specs.Fetching.{Tells}
+use Rattle.input_files.specs.Reading.{HoldsTheTable, RefusesTableFile, marked_table}
+use Rattle.input_files.specs.declared.file_cause.FileCause.TheVariants.{TableRefused}
+use Rattle.input_files.specs.declared.read_file.ReadFile.{ReadFile}
+use Rattle.input_files.specs.declared.read_file.ReadFile.TheVariants as file
+use Rattle.rdf_program.specs.Answers.{Answers, IsAnswer}
+use Rattle.rdf_program.specs.Due.{ReadsFriend, WithFriendFile}
+use Rattle.rdf_program.specs.declared.answer.Read.{Read}
+use Rattle.rdf_program.specs.declared.answer.Read.TheVariants.{Whole, Refused}
+
+-- the table that the friend's bytes spell, or why they spell none
+abbrev pub ReadsFriendText : List ℕ → Read MarkedPieces → Type 0
+ReadsFriendText bytes (Whole m) = table_of (csv_records bytes) ≡ Ok (marked_table m)
+ReadsFriendText bytes (Refused a) = Answers (λ d. ReadsFriend bytes (λ other e. ⊥) d) a
+
+-- the table that the friend's file holds, or why it holds none
+abbrev pub ReadsFriendFile : Option Files → List ℕ → ℕ → ℕ → Read MarkedPieces → Type 0
+ReadsFriendFile told name before now (Whole m) = Tells told name (HoldsTheTable (marked_table m))
+ReadsFriendFile told name before now (Refused a) = IsAnswer (λ files d. WithFriendFile name (files name) (λ other e. ⊥) d) (λ unread. unread ≡ name) told before now a
+
+-- the generator's table, as a file would hold it
+abbrev pub ReadsMade : ℕ → ℕ → ReadFile MarkedPieces → Type 0
+ReadsMade entries seed (file.Whole m) = HoldsTheTable (marked_table m) (Some (generated_table entries seed)) × All (λ e. e < length m.table.rows) m.marks
+ReadsMade entries seed (file.Refused r) = (r.cause ≡ TableRefused) × RefusesTableFile [] (Some (generated_table entries seed)) (due_of r.cause r.line)

@@ -1,0 +1,17 @@
+-- The first items of a list.
+use Rattle.std.proofs.Common.{◌≡◌, ◌+◌, ◌∙◌, ◌++◌, ◌∷◌, [], ℕ, List, Some, ap, append_assoc, length, sym, take}
+use Rattle.std.specs.Prelude.{slice_get}
+use Rattle.std.proofs.lemmas.List.{take_more}
+use Rattle.std.proofs.lemmas.Option.{get_or_from_slice_get, slice_get_within}
+use Rattle.std.proofs.Math.Seq.{take-append_seam}
+
+-- with the one behind them
+pub take_next_of : {A : Type 0} (xs : List A) (i : ℕ) (x : A) → slice_get xs i ≡ Some x → take (i + 1) xs ≡ take i xs ++ x ∷ []
+take_next_of xs i x e = take_more xs i x (slice_get_within xs i x e) ∙ ap (λ y. take i xs ++ y ∷ []) (get_or_from_slice_get xs i x x e)
+
+-- without what was appended
+pub front_of : {A : Type 0} (xs ys more now : List A) (n : ℕ) → n ≡ length xs → ys ≡ xs ++ more → now ≡ take n ys → now ≡ xs
+front_of xs ys more now n l e t = t ∙ ap (λ k. take k ys) l ∙ ap (take (length xs)) e ∙ take-append_seam xs more
+
+pub front_more : {A : Type 0} (old now next more : List A) (i : ℕ) (x : A) → next ≡ now ++ x ∷ [] → now ≡ old ++ take i more → slice_get more i ≡ Some x → next ≡ old ++ take (i + 1) more
+front_more old now next more i x p s e = p ∙ ap (λ t. t ++ x ∷ []) s ∙ append_assoc old (take i more) (x ∷ []) ∙ ap (λ t. old ++ t) (sym (take_next_of more i x e))

@@ -1,5 +1,0 @@
-use Rattle.std.proofs.Common.{length}
-use Rattle.statement_checks.proofs.amounts.+amounts_of.Given as goal
-
-abbrev pub decreases-amounts_of : goal.decreases-amounts_of
-decreases-amounts_of l = length l.rows.now

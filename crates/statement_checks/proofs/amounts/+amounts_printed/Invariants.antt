@@ -1,5 +1,0 @@
-use Rattle.std.proofs.Common.{length}
-use Rattle.statement_checks.proofs.amounts.+amounts_printed.Given as goal
-
-abbrev pub decreases-amounts_printed : goal.decreases-amounts_printed
-decreases-amounts_printed l = length l.lines.now

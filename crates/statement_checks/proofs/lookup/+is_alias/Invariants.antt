@@ -1,5 +1,0 @@
-use Rattle.std.proofs.Common.{length}
-use Rattle.statement_checks.proofs.lookup.+is_alias.Given as goal
-
-abbrev pub decreases-is_alias : goal.decreases-is_alias
-decreases-is_alias l = length l.before.now

@@ -1,5 +1,0 @@
-use Rattle.std.proofs.Common.{length}
-use Rattle.statement_checks.proofs.lookup.+is_result.Given as goal
-
-abbrev pub decreases-is_result : goal.decreases-is_result
-decreases-is_result l = length l.before.now

@@ -1,5 +1,0 @@
-use Rattle.std.proofs.Common.{length}
-use Rattle.statement_checks.proofs.lookup.+named_version.Given as goal
-
-abbrev pub decreases-named_version : goal.decreases-named_version
-decreases-named_version l = length l.before.now

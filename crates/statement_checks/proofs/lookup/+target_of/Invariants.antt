@@ -1,5 +1,0 @@
-use Rattle.std.proofs.Common.{length}
-use Rattle.statement_checks.proofs.lookup.+target_of.Given as goal
-
-abbrev pub decreases-target_of : goal.decreases-target_of
-decreases-target_of l = length l.before.now

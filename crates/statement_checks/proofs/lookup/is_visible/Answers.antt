@@ -1,9 +1,0 @@
-use Rattle.rdf_values.specs.Kinds.{scope_of}
-use Rattle.rdf_values.specs.Path.{path}
-use Rattle.statement_checks.specs.Lookups.{statements}
-use Rattle.statement_checks.proofs.Walking.{visible_else}
-use Rattle.statement_checks.proofs.lookup.is_visible.Goals as goal
-
-pub returns-else-is_alias : goal.returns-else-is_alias
-returns-else-is_alias c names =
-    visible_else names (scope_of c.args.header.now) (path (statements c.args.before.now) c.args.node.now) c.args.name.now _ _ c.is_alias.ensures c.if-is_alias.false (c.is_made.ensures names)

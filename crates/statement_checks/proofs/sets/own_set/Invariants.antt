@@ -1,7 +1,0 @@
-use Rattle.std.proofs.Common.{◌≡◌, ◌-◌, ℕ}
-use Rattle.statement_checks.specs.Dependence.{is_among_own}
-use Rattle.variation_sets.specs.Sets.{has}
-use Rattle.statement_checks.proofs.sets.own_set.Given as goal
-
-abbrev pub invariant-loop-v : goal.invariant-loop-v
-invariant-loop-v l = (u : ℕ) → has l.set u ≡ is_among_own l.first (l.v - l.first) u

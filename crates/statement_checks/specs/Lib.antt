@@ -1,9 +1,0 @@
-pub mod Amounts
-pub mod Checks
-pub mod Dependence
-pub mod Gains
-pub mod Laws
-pub mod Lookups
-pub mod SiteNumbers
-pub mod VarSets
-pub mod VaryChecks

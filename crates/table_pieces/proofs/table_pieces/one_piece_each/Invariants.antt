@@ -1,6 +1,0 @@
-use Rattle.std.proofs.Common.{◌≡◌, ◌++◌, map}
-use Rattle.table_pieces.specs.Wholes.{whole}
-use Rattle.table_pieces.proofs.table_pieces.one_piece_each.Given as goal
-
-abbrev pub invariant-loop-column : goal.invariant-loop-column
-invariant-loop-column l = (map whole l.pieces.items ≡ l.yielded) × (l.fn.cells.items ≡ l.yielded ++ l.column-iterator.rest.items)

@@ -1,5 +1,0 @@
-use Rattle.variation_sets.proofs.Bits.{more_in}
-use Rattle.variation_sets.proofs.var_set.VarSet.with.Goals as goal
-
-pub returns : goal.returns
-returns c = more_in c.args.self.bits c.args.v c.requires
