@@ -10,7 +10,7 @@ ghost use Rattle.friend_join.specs.JoinRefused.{join_entries, join_of};
 ghost use Rattle.friend_join.specs.Matches.{AreEntries, keyed_in, matched_cells};
 
 use crate::cause::JoinCause;
-use crate::columns::{first_taken, key_place};
+use crate::column_names::{first_taken, key_place};
 use crate::elements::{elements, matched_elements};
 use crate::friend_entry::FriendEntry;
 use crate::gathered::put_behind;

@@ -8,7 +8,7 @@
 #![tactic(auto)]
 
 mod cause;
-mod columns;
+mod column_names;
 mod elements;
 mod friend_entry;
 mod gathered;
