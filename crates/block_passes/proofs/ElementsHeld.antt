@@ -1,5 +1,5 @@
 -- Elements of a site's vector, where the site's value is held.
-use Rattle.std.proofs.Common.{◌≡◌, ◌⊎◌, inl, inr, ℤ, get_or, option_map, Result, ℕ, ◌+◌, ◌<◌, ◌≤◌, Bool, true, false, ◌&&◌, List, [], Option, None, Some, refl, sym, ◌∙◌, ap, subst, arith, slice_get, nat_lt, length, pos}
+use Rattle.std.proofs.Common.{if◌then◌else◌, ◌≡◌, ◌⊎◌, inl, inr, ℤ, get_or, option_map, Result, ℕ, ◌+◌, ◌<◌, ◌≤◌, Bool, true, false, ◌&&◌, List, [], Option, None, Some, refl, sym, ◌∙◌, ap, subst, arith, slice_get, nat_lt, length, pos}
 use Rattle.std.specs.Prelude.{nat_abs, slice_index_or}
 use Rattle.std.specs.List.{filter}
 use Rattle.std.proofs.lemmas.Option.{slice_get-get_or}

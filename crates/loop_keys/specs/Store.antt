@@ -1,5 +1,5 @@
 -- What is held of the sites of an entry, and what an evaluation is told of it.
-use Rattle.std.specs.Prelude.{◌≡◌, ⊤, ◌≤◌, ◌<◌, ◌⊎◌, ℕ, zero, suc, ◌+◌, Bool, true, false, List, [], length, Option, Some, None, slice_get, slice_index_or, count_by, unwrap_or, MatchOption, All}
+use Rattle.std.specs.Prelude.{if◌then◌else◌, ◌≡◌, ⊤, ◌≤◌, ◌<◌, ◌⊎◌, ℕ, zero, suc, ◌+◌, Bool, true, false, List, [], length, Option, Some, None, slice_get, slice_index_or, count_by, unwrap_or, MatchOption, All}
 use Rattle.rdf_values.specs.declared.value.Value.{Value}
 use Rattle.rdf_values.specs.declared.value.Value.TheVariants as val
 use Rattle.rdf_model.specs.Evaluation.{Outcome, Gives, Faults, Needs, ◌>>=◌}

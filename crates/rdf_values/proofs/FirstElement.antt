@@ -1,5 +1,5 @@
 -- The first element of a vector's text.
-use Rattle.std.proofs.Common.{◌≡◌, ◌<◌, ◌+◌, ◌∙◌, ℕ, ℤ, List, [], ◌∷◌, ◌++◌, length, take, drop, get_or, Bool, true, false, None, Some, Option, ap, arith, refl, sym}
+use Rattle.std.proofs.Common.{if◌then◌else◌, ◌≡◌, ◌<◌, ◌+◌, ◌∙◌, ℕ, ℤ, List, [], ◌∷◌, ◌++◌, length, take, drop, get_or, Bool, true, false, None, Some, Option, ap, arith, refl, sym}
 use Rattle.std.specs.Prelude.{leb, ◌==◌, ◌&&◌}
 use Rattle.std.specs.Char.{is_ascii_digit}
 use Rattle.std.specs.List.{All, slice_split}

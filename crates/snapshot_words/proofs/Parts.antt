@@ -1,5 +1,5 @@
 -- Names between commas, part by part.
-use Rattle.std.proofs.Common.{◌≡◌, ◌<◌, ◌≤◌, ◌+◌, ℕ, List, [], ◌∷◌, ◌++◌, length, Bool, true, false, ◌&&◌, None, Some, Option, arith, refl, suc, ap, ◌∙◌, length-append, append-nil}
+use Rattle.std.proofs.Common.{if◌then◌else◌, ◌≡◌, ◌<◌, ◌≤◌, ◌+◌, ℕ, List, [], ◌∷◌, ◌++◌, length, Bool, true, false, ◌&&◌, None, Some, Option, arith, refl, suc, ap, ◌∙◌, length-append, append-nil}
 use Rattle.std.specs.Borrow.{Bor}
 use Rattle.std.specs.Prelude.{MatchOption, cond, nat_le, nat_lt, position}
 use Rattle.std.specs.List.{after_first, before_first, list_all, position_or_len, slice_split}

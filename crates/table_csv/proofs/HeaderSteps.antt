@@ -1,5 +1,5 @@
 -- One more field of a header, and that columns of a header are those of a table.
-use Rattle.std.proofs.Common.{◌≡◌, ◌<◌, ◌≤◌, ◌+◌, ℕ, suc, List, [], ◌∷◌, ◌++◌, length, get_or, drop, Bool, true, false, None, Some, Option, Result, Ok, Err, arith, refl, ap, sym, ◌∙◌, append_assoc, length-append, codes, not, ◌&&◌}
+use Rattle.std.proofs.Common.{if◌then◌else◌, ◌≡◌, ◌<◌, ◌≤◌, ◌+◌, ℕ, suc, List, [], ◌∷◌, ◌++◌, length, get_or, drop, Bool, true, false, None, Some, Option, Result, Ok, Err, arith, refl, ap, sym, ◌∙◌, append_assoc, length-append, codes, not, ◌&&◌}
 use Rattle.std.specs.Prelude.{nat_eq, nat_lt, option_and_then, option_map, ok_or}
 use Rattle.std.specs.List.{after_first, before_first}
 use Rattle.std.proofs.lemmas.List.{append-nil, at_drop_more, drop_all, length-drop}
