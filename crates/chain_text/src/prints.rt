@@ -8,8 +8,8 @@ ghost use Rattle.result_text.specs.FilledLines.{passes_at};
 ghost use Rattle.chain_text.specs.ChainPrints.{FitGraph, access_printed, chain_fault_line, chain_text};
 
 use chain_files::{ChainFault, PartLoop};
-use merged_text::{Merging, put_result};
 use graph::Graph;
+use merged_text::{Merging, put_result};
 use rdf_values::{Fault, Memory, Text};
 use result_text::fault_line;
 use result_text::numbers::put_count;

@@ -2,10 +2,10 @@ ghost use Rattle.std.specs.Prelude.{◌≡◌, ⊤, [], ◌∷◌, length, pos, 
 ghost use Rattle.rdf_values.specs.Tables.{kind_at};
 ghost use Rattle.columns.specs.Wholes.{joined};
 
-use crate::{Columns, Packing};
 use crate::cuts::cut;
 use crate::pieces::gather;
 use crate::table_pieces::TablePieces;
+use crate::{Columns, Packing};
 use rdf_values::{ColType, Column, IntList, ListOf, Marks, Memory, Name, Numbers, Table, Value};
 use std::alloc::Global;
 use std::test::Fail;

@@ -9,8 +9,8 @@ ghost use Rattle.shard_lines.specs.Shapes.{action_shape, booking_shape};
 ghost use Rattle.shard_spans.specs.Laws.{pass_shapes};
 ghost use Rattle.graph_shapes.specs.GraphShapes.{graph_shapes, input_kind, pass_kind};
 
-use graph_numbers::{Pass, ResultKind};
 use graph::Graph;
+use graph_numbers::{Pass, ResultKind};
 use rdf_values::{ActionKind, ColType, ListOf, Memory};
 use shard_lines::PassShape;
 use std::alloc::Global;

@@ -10,8 +10,8 @@ ghost use Rattle.graph_numbers.specs.declared.pass.Pass.{Pass as NumberedPass};
 ghost use Rattle.loop_pieces.specs.Trails.{place_if_watched, watched_places};
 ghost use Rattle.lazy_loop.specs.Places.{IsFilledPlace, IsPassOf, fills};
 
-use graph_numbers::{Pass, ResultKind};
 use graph::Graph;
+use graph_numbers::{Pass, ResultKind};
 
 /// How many action passes of the loop come before those of the result, how many are its own, and how many
 /// watched ones come before them.

@@ -7,8 +7,8 @@ ghost use Rattle.lazy_loop.specs.Sessions.{IsSession, session_of};
 
 use columns::{Columns, cut};
 use entry_fns::FnList;
-use lazy_loop::{LoopRefusal, Session};
 use graph::Graph;
+use lazy_loop::{LoopRefusal, Session};
 use rdf_model::laws::{scripts_are_bookable, scripts_have_words};
 use rdf_outside::OpenGate;
 use rdf_values::{EntryFault, Fault, Memory, Script};

@@ -4,8 +4,8 @@ ghost use Rattle.graph_numbers.specs.Graphs.{graph_sites};
 ghost use Rattle.loop_keys.specs.Keys.{AreKeys, ArePlaces, AreSiteKeys, AreUnder, IsRow, key_count, key_or_count, place_of as place_in, row_under};
 
 use crate::keys::{SiteKeys, keys_of, slot};
-use graph_numbers::Source;
 use graph::Graph;
+use graph_numbers::Source;
 use rdf_values::{ListOf, Memory};
 use std::alloc::Global;
 

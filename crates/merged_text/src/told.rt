@@ -9,9 +9,9 @@ ghost use Rattle.merged_text.specs.MergedPrints.{lines_of_result, named_text, pa
 ghost use Rattle.merged_text.specs.Numbered.{IsPassIn, filter_counts};
 
 use crate::values::put_line;
+use graph::Graph;
 use graph_numbers::{Pass, ResultKind};
 use loop_pieces::Counts;
-use graph::Graph;
 use rdf_values::{Memory, Name, Text};
 use result_text::labels::put_label;
 use result_text::shares::put_flow_line;

@@ -8,8 +8,8 @@ ghost use Rattle.loop_pieces.specs.declared.filled_result.PartialLine.{PartialLi
 ghost use Rattle.result_text.specs.PartialText.{AreRuns, more_runs, run_of, runs_text, watch_line, watch_lines};
 
 use crate::numbers::{put_count, put_option, put_sum};
-use loop_pieces::{PartialLine, PartialLines, WatchPiece};
 use graph::Graph;
+use loop_pieces::{PartialLine, PartialLines, WatchPiece};
 use rdf_values::{Memory, Span, Text};
 use std::alloc::Global;
 

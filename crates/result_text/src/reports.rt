@@ -5,8 +5,8 @@ ghost use Rattle.rdf_model.specs.ResultLines.{flow_line, flow_lines};
 ghost use Rattle.result_text.specs.FilledLines.{flow_at};
 
 use crate::shares::put_flow_line;
-use loop_pieces::Flow;
 use graph::Graph;
+use loop_pieces::Flow;
 use rdf_values::{Memory, Text};
 use std::alloc::Global;
 

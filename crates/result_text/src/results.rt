@@ -7,9 +7,9 @@ ghost use Rattle.result_text.specs.FilledLines.{FitsResult, filled_text, members
 
 use crate::reports::put_report;
 use crate::values::put_pass;
+use graph::{Graph, VarSet, Variations};
 use graph_numbers::ResultKind;
 use loop_pieces::FilledResult;
-use graph::{Graph, VarSet, Variations};
 use rdf_values::{ActionKind, Memory, Name, Text};
 use std::alloc::Global;
 

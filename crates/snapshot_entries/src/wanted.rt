@@ -8,7 +8,8 @@ ghost use Rattle.snapshot_entries.specs.Jobs.{IsWork, data_of, plan_of};
 ghost use Rattle.snapshot_entries.specs.Wanted.{AreVersions, IsWanted};
 
 use crate::job::SnapJob;
-use graph::{lookup::{made_from, named_version, target_of}, sets::own_site_total};
+use graph::lookup::{made_from, named_version, target_of};
+use graph::sets::own_site_total;
 use rdf_values::{Line, ListOf, Memory, Name, Statement};
 use std::alloc::Global;
 

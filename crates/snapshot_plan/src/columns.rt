@@ -7,7 +7,8 @@ ghost use Rattle.rdf_values.specs.declared.graph_cause.GraphCause.TheVariants.{U
 ghost use Rattle.snapshot_plan.specs.Plans.{first_bad, is_bad};
 ghost use Rattle.snapshot_plan.specs.Views.{scope_in};
 
-use graph::{Graph, lookup::{is_visible, named_version, target_of}};
+use graph::Graph;
+use graph::lookup::{is_visible, named_version, target_of};
 use rdf_values::{ColType, Name};
 
 fn kind_of(kinds: &[ColType], version: usize) -> ColType

@@ -1,5 +1,5 @@
-use crate::{MarkedPieces, TableRefusal, read_table_in_slots};
 use crate::slots::read_side_by_side;
+use crate::{MarkedPieces, TableRefusal, read_table_in_slots};
 use columns::ColumnPieces;
 use rdf_values::TableCause;
 use std::alloc::{AllocError, Global};
