@@ -15,6 +15,7 @@ ghost use Rattle.expr_lanes.specs.Places.{EachPlace, IsSelected};
 ghost use Rattle.block_lanes.specs.Lanes.{IsBegun, IsEvaluated, LaneView, is_held};
 ghost use Rattle.block_cache.specs.Blocks.{AreReady, CanRead, CanTry, IsBegunOver, IsTriedOver, cells_at};
 
+use crate::able::can_evaluate;
 use crate::cells::CellLane;
 use crate::site_values::SiteValues;
 use crate::view::BlockView;
@@ -22,7 +23,7 @@ use arrayvec::ArrayVec;
 use block_lanes::Lane;
 use expr_check::Checked;
 use expr_eval::Steps;
-use expr_lanes::{MAX_PLACES, Scratch, Selection, Stopped, can_eval_lane};
+use expr_lanes::{MAX_PLACES, Scratch, Selection, Stopped};
 use loop_keys::reading::{Reading, expression, key};
 use rdf_values::Memory;
 use std::sync::ledger::Ledger;
@@ -36,6 +37,7 @@ pub struct Block<'a> {
 }
 
 /// Evaluates an expression at one selected place after another into the lane of its key, over the lanes of the keys below.
+#[inline(never)]
 fn each_own<L: Ledger>(
     block: &Block<'_>,
     below: &[Lane],
@@ -72,6 +74,7 @@ fn each_own<L: Ledger>(
 
 /// Evaluates an expression at the selected places into the lane of its key, over the lanes of the keys below: at all places at once
 /// where it can be.
+#[inline(always)]
 fn try_own<L: Ledger>(
     block: &Block<'_>,
     below: &[Lane],
@@ -103,7 +106,7 @@ fn try_own<L: Ledger>(
         block,
         lanes: below,
     };
-    if !can_eval_lane(expr, &view) {
+    if !can_evaluate(expr, &view) {
         return each_own(block, below, own, expr, selection, stops, steps);
     }
     let functions = block.at.job.functions;
@@ -112,6 +115,7 @@ fn try_own<L: Ledger>(
 }
 
 /// Evaluates a site by the lanes of the keys below its own, and the others, of which its own is the first.
+#[inline(always)]
 fn try_first<L: Ledger>(
     block: &Block<'_>,
     below: &[Lane],
@@ -152,6 +156,7 @@ fn try_first<L: Ledger>(
 /// Evaluates a site at the selected places of a block, of which nothing is held, over what is held of the sites below. The places
 /// that come to a value stay selected; each other one becomes a stop, with its fault or a version that has to be filled before. Only
 /// with vectors memory may be wanted: then what is held stays.
+#[inline(always)]
 pub fn try_lane<L: Ledger>(
     block: &Block<'_>,
     lanes: &mut [Lane],

@@ -58,6 +58,7 @@ fn keep_below(selection: &mut Selection, fault: Option<PlaceFault>)
 
 /// Evaluates a site once at the places of the level's group, and notes for each that stops at a version which one it waits for. Answers
 /// the fault of the least place that has one.
+#[inline(always)]
 fn attempt<L: Ledger>(
     block: &Block<'_>,
     lanes: &mut [Lane],
@@ -114,6 +115,7 @@ fn narrow(
 }
 
 /// Evaluates a site at the places of the level's group, and leaves the places open that still lack its value below the least fault.
+#[inline(never)]
 fn resume<L: Ledger>(
     block: &Block<'_>,
     lanes: &mut [Lane],
@@ -143,6 +145,7 @@ fn resume<L: Ledger>(
 }
 
 /// Evaluates a site at the places of the selection at which it isn't held.
+#[inline(always)]
 fn begin<L: Ledger>(
     block: &Block<'_>,
     lanes: &mut [Lane],

@@ -3,6 +3,7 @@
 //! `loop_keys` for the numbers of keys and for what is known of one entry.
 #![tactic(auto)]
 
+mod able;
 pub mod attempt;
 pub mod cells;
 pub mod faults;

@@ -68,20 +68,42 @@ pub empty_list : (xs : List ℕ) → length xs ≡ 0 → xs ≡ []
 empty_list [] h = refl
 empty_list (x ∷ xs) h = absurd (omega (arith, h))
 
--- none are read
-pub none_served : (j : JobView) (first count : ℕ) (u : Option ℕ) (pass : ℕ) (inputs : List ℕ) → inputs ≡ [] → (to : Kept) (lanes : List LaneView) (s : Found)
+-- what faults at no selected place lowers nothing
+pub clear_served : (j : JobView) (first count : ℕ) (u : Option ℕ) (pass : ℕ) (inputs : List ℕ) (to : Kept) (lanes : List LaneView) (s : Found)
     → AreReady j first count lanes → to.limit ≡ Some s.limit → EachPlace to.places (λ p. p < s.limit) → ((p : ℕ) → p < s.limit → IsSettledAt lanes p)
-    → IsServedTo j first count (inputs_fault j first u inputs) pass to.places to lanes s s
-none_served j first count u pass inputs e to lanes s ready made inside settled = record {
+    → EachPlace to.places (λ p. inputs_fault j first u inputs p ≡ None) → IsServedTo j first count (inputs_fault j first u inputs) pass to.places to lanes s s
+clear_served j first count u pass inputs to lanes s ready made inside settled clear = record {
   ready = ready;
   settled = settled;
-  lowers = none_lowers (where_in (inputs_fault j first u inputs) to.places) first pass s (λ p lt. selected_or_none (inputs_fault j first u inputs) to.places p (λ i. ap (λ l. inputs_fault j first u l p) e));
+  lowers = none_lowers (where_in (inputs_fault j first u inputs) to.places) first pass s (λ p lt. selected_or_none (inputs_fault j first u inputs) to.places p (clear p));
   its_limit = made;
   left = sym (kept_whole (λ p. nat_lt p s.limit) to.places (λ p i. (Decides-ltb p s.limit).1 (inside p i)));
 }
 
+-- none are read
+pub none_clear : (j : JobView) (first : ℕ) (u : Option ℕ) (inputs : List ℕ) → inputs ≡ [] → (sel : List ℕ) → EachPlace sel (λ p. inputs_fault j first u inputs p ≡ None)
+none_clear j first u inputs e sel p i = ap (λ l. inputs_fault j first u l p) e
+
+pub none_served : (j : JobView) (first count : ℕ) (u : Option ℕ) (pass : ℕ) (inputs : List ℕ) → inputs ≡ [] → (to : Kept) (lanes : List LaneView) (s : Found)
+    → AreReady j first count lanes → to.limit ≡ Some s.limit → EachPlace to.places (λ p. p < s.limit) → ((p : ℕ) → p < s.limit → IsSettledAt lanes p)
+    → IsServedTo j first count (inputs_fault j first u inputs) pass to.places to lanes s s
+none_served j first count u pass inputs e to lanes s ready made inside settled =
+    clear_served j first count u pass inputs to lanes s ready made inside settled (none_clear j first u inputs e to.places)
+
 pub none_held : (j : JobView) (lanes : List LaneView) (u : Option ℕ) (inputs : List ℕ) → inputs ≡ [] → (sel : List ℕ) → EachPlace sel (AreAtHand j lanes u inputs)
 none_held j lanes u inputs e sel p i = subst (λ (l : List ℕ). AreAtHand j lanes u l p) (sym e) tt
+
+-- one version is read, which is at hand
+module _ (j : JobView) (u : Option ℕ) (inputs cs : List ℕ) (c : ℕ) (e : inputs ≡ c ∷ cs) (none : cs ≡ []) where
+  alone : inputs ≡ c ∷ []
+  alone = e ∙ ap (λ l. c ∷ l) none
+
+  pub one_held : (lanes : List LaneView) (sel : List ℕ) → EachPlace sel (λ p. IsAtHand j lanes u p (source_at j u c)) → EachPlace sel (AreAtHand j lanes u inputs)
+  one_held lanes sel h p i = subst (λ (l : List ℕ). AreAtHand j lanes u l p) (sym alone) (h p i, tt)
+
+  pub one_clear : (first : ℕ) (sel : List ℕ) → EachPlace sel (λ p. source_fault j first u (source_at j u c) p ≡ None) → EachPlace sel (λ p. inputs_fault j first u inputs p ≡ None)
+  one_clear first sel h p i =
+      ap (λ l. inputs_fault j first u l p) alone ∙ all_fault (version_in j (first + p) u) c [] ∙ ap (λ o. or_else o (inputs_fault j first u [] p)) (h p i)
 
 -- the first of versions without vectors
 pub first_plain : (used : ℕ → Bool) (j : JobView) (u : Option ℕ) (inputs cs : List ℕ) (c : ℕ) → inputs ≡ c ∷ cs → ArePlainVersions j used u inputs → IsSourceIn used (source_at j u c)

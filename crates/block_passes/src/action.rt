@@ -14,7 +14,7 @@ ghost use Rattle.block_passes.specs.Tries.{IsPassTried, IsReadOf};
 
 use crate::inputs::serve_inputs;
 use crate::kept::Kept;
-use crate::select::select_step;
+use crate::select::select_again;
 use crate::testing::test_feeding;
 use crate::turn::{ActionRead, Turn, Work};
 use expr_eval::Steps;
@@ -49,7 +49,7 @@ pub(crate) fn try_action<L: Ledger>(
     ensures plain { IsPlainLoop (job_of at.now.job.now) → OnErr result ⊥ }
 {
     let last = at.plan.last_step(at.pass);
-    match select_step(at, work, kept, last, steps) {
+    match select_again(at, work, kept, last, steps) {
         Ok(()) => {}
         Err(Memory) => return Err(Memory),
     }

@@ -165,9 +165,9 @@ pub(crate) fn feed_passes(
 {
     let mut place = 0;
     let passes = loop_passes(at.job);
+    let mut turn = *at;
     for (pass, own) in passes.iter().enumerate() {
-        let mut turn = *at;
-        turn.pass = pass as u32;
+        turn.go_to(at, pass as u32);
         match feed_pass(&turn, lanes, kept, tally, *own, FedPass { place, cluster }) {
             Ok(next) => place = next,
             Err(Memory) => return Err(Memory),

@@ -115,6 +115,7 @@ fn weighted_pair_in_place<'a: 's, 's>(
 
 /// Takes the lanes of all versions that an action reads, at places at which they are at hand, and says whether it could: not where one
 /// of them has to be copied. They are put where they are fed from, since to move them costs as much as to feed an entry.
+#[inline(always)]
 pub(crate) fn lanes_in_place<'a: 's, 's>(
     at: &Turn<'a>,
     lanes: &'s [Lane],

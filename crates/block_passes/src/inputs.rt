@@ -69,6 +69,31 @@ fn is_at_hand(
     }
 }
 
+/// Whether all versions that are read are seen to be so. It is asked only where there is one at most, as most actions read.
+#[inline(always)]
+fn are_at_hand(
+    at: &Turn<'_>,
+    lanes: &[Lane],
+    selection: &Selection,
+    inputs: &[u32],
+    under: Option<u32>,
+) -> bool
+    requires job { Fits at.now.job.now }
+    requires rows { AreKeys (job_graph (job_of at.now.job.now)) at.now.rows.now }
+    requires ready { AreReady (job_of at.now.job.now) at.now.first at.now.count lanes.now }
+    requires can { (scratch levels : ℕ) × AllByRecursion (CanServe (job_of at.now.job.now) at.now.first under at.now.count (kinds_of lanes.now) at.now.cells.now scratch levels) inputs.now }
+    requires inside { EachPlace selection.now (λ p. p < at.now.count) }
+    ensures held { result ≡ true → EachPlace selection.now (AreAtHand (job_of at.now.job.now) lanes.now under inputs.now) }
+    ensures clear { result ≡ true → EachPlace selection.now (λ p. inputs_fault (job_of at.now.job.now) at.now.first under inputs.now p ≡ None) }
+{
+    match inputs.split_first() {
+        None => true,
+        Some((version, rest)) => {
+            rest.is_empty() && is_at_hand(at, lanes, selection, *version, under)
+        }
+    }
+}
+
 /// Fills a site at the places of a selection, up to the first at which it faults, which lowers the limit; the places below it are left.
 #[inline(never)]
 fn serve_site<L: Ledger>(
@@ -225,7 +250,7 @@ fn serve_version<L: Ledger>(
 }
 
 /// Fills what gives these versions their values, one after another.
-pub(crate) fn serve_inputs<L: Ledger>(
+fn serve_each<L: Ledger>(
     at: &Turn<'_>,
     work: &mut Work,
     to: &mut Kept,
@@ -257,7 +282,42 @@ pub(crate) fn serve_inputs<L: Ledger>(
     };
     match serve_version(at, work, to, *version, under, steps) {
         Ok(()) if rest.is_empty() => Ok(()),
-        Ok(()) => serve_inputs(at, work, to, rest, under, steps),
+        Ok(()) => serve_each(at, work, to, rest, under, steps),
         Err(Memory) => Err(Memory),
     }
+}
+
+/// Fills what gives these versions their values, likewise: nearly always they are at hand.
+#[inline(always)]
+pub(crate) fn serve_inputs<L: Ledger>(
+    at: &Turn<'_>,
+    work: &mut Work,
+    to: &mut Kept,
+    inputs: &[u32],
+    under: Option<u32>,
+    steps: &mut Steps<L>,
+) -> Result<(), Memory>
+    requires job { Fits at.now.job.now }
+    requires rows { AreKeys (job_graph (job_of at.now.job.now)) at.now.rows.now }
+    requires ready { AreReady (job_of at.now.job.now) at.now.first at.now.count work.old.lanes.items }
+    requires can { AllByRecursion (CanServe (job_of at.now.job.now) at.now.first under at.now.count (kinds_of work.old.lanes.items) at.now.cells.now (length work.old.scratch.items) (length work.old.levels.items)) inputs.now }
+    requires small { at.now.count ≤ MAX_PLACES }
+    requires few { at.now.first + at.now.count ≤ 1000000 }
+    requires limit { work.old.found.limit ≤ at.now.count }
+    requires made { to.old.limit ≡ Some work.old.found.limit }
+    requires inside { EachPlace to.old.places (λ p. p < work.old.found.limit) }
+    requires settled { (p : ℕ) → p < work.old.found.limit → IsSettledAt work.old.lanes.items p }
+    requires demanded { (p : ℕ) (T : ℕ → Bool) → is_in p to.old.places ≡ true → HasAllDemands (job_of at.now.job.now) (at.now.first + p) T
+        → DemandsInputs (job_of at.now.job.now) (at.now.first + p) under T inputs.now }
+    ensures spends { Spends (job_of at.now.job.now) at.now.first at.now.count work.old.lanes.items work.new.lanes.items steps.old steps.new }
+    ensures served { OnOk result (IsServedTo (job_of at.now.job.now) at.now.first at.now.count (inputs_fault (job_of at.now.job.now) at.now.first under inputs.now) at.now.pass to.old.places to.new work.new.lanes.items work.old.found work.new.found) }
+    ensures held { OnOk result (EachPlace to.new.places (AreAtHand (job_of at.now.job.now) work.new.lanes.items under inputs.now)) }
+    ensures scratch { length work.new.scratch.items ≡ length work.old.scratch.items }
+    ensures levels { length work.new.levels.items ≡ length work.old.levels.items }
+    ensures plain { (used : ℕ → Bool) → ArePlain (job_of at.now.job.now) used → ArePlainVersions (job_of at.now.job.now) used under inputs.now → OnErr result ⊥ }
+{
+    if are_at_hand(at, &work.lanes, &to.places, inputs, under) {
+        return Ok(());
+    }
+    serve_each(at, work, to, inputs, under, steps)
 }

@@ -30,6 +30,16 @@ impl Kept {
         true
     }
 
+    /// Whether a selection was made, of which only places below the limit are left.
+    pub(crate) fn is_made(&self, limit: u32) -> bool
+        ensures { result ≡ true → (made : ℕ) × (self.now.limit ≡ Some made) × (made ≤ limit) }
+    {
+        match self.limit {
+            Some(made) => made <= limit,
+            None => false,
+        }
+    }
+
     /// Selects the first places of a block.
     pub(crate) fn select_first(&mut self, limit: u32)
         requires { limit ≤ MAX_PLACES }

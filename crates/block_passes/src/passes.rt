@@ -100,16 +100,9 @@ pub(crate) fn try_passes<L: Ledger>(
     ensures plain { IsPlainLoop (job_of at.now.job.now) → OnErr result ⊥ }
 {
     let passes = loop_passes(at.job);
+    let mut turn = *at;
     for (pass, own) in passes.iter().enumerate() {
-        let turn = Turn {
-            job: at.job,
-            plan: at.plan,
-            rows: at.rows,
-            cells: at.cells,
-            first: at.first,
-            count: at.count,
-            pass: pass as u32,
-        };
+        turn.go_to(at, pass as u32);
         match try_pass(&turn, work, kept, *own, steps) {
             Ok(()) => {}
             Err(Memory) => return Err(Memory),

@@ -12,7 +12,7 @@ ghost use Rattle.block_passes.specs.Spends.{Spends};
 ghost use Rattle.block_passes.specs.Tries.{IsNamedMade, IsTriedTo, filter_fault, filters_fault};
 
 use crate::kept::Kept;
-use crate::select::select_step;
+use crate::select::select_again;
 use crate::turn::{Turn, Work};
 use expr_eval::Steps;
 use rdf_values::Memory;
@@ -45,8 +45,8 @@ fn try_filter<L: Ledger>(
     ensures plain { IsPlainLoop (job_of at.now.job.now) → OnErr result ⊥ }
 {
     match at.plan.named(filter) {
-        Some(named) => match select_step(at, work, kept, named.above, steps) {
-            Ok(()) => select_step(at, work, kept, named.own, steps),
+        Some(named) => match select_again(at, work, kept, named.above, steps) {
+            Ok(()) => select_again(at, work, kept, named.own, steps),
             Err(Memory) => Err(Memory),
         },
         None => unreachable!(),

@@ -177,3 +177,34 @@ pub(crate) fn select_step<L: Ledger>(
         }
     }
 }
+
+/// Selects the places of a step below the limit likewise: nearly always they are selected, as those of a pass before.
+pub(crate) fn select_again<L: Ledger>(
+    at: &Turn<'_>,
+    work: &mut Work,
+    kept: &mut [Kept],
+    step: u32,
+    steps: &mut Steps<L>,
+) -> Result<(), Memory>
+    requires job { Fits at.now.job.now }
+    requires rows { AreKeys (job_graph (job_of at.now.job.now)) at.now.rows.now }
+    requires small { at.now.count ≤ MAX_PLACES }
+    requires few { at.now.first + at.now.count ≤ 1000000 }
+    requires within { at.now.first + at.now.count ≤ length at.now.job.now.columns.now.table.rows }
+    requires plan { IsPlan (job_of at.now.job.now) at.now.plan.now }
+    requires can { CanSelect (job_of at.now.job.now) at.now.first at.now.count at.now.plan.now (kinds_of work.old.lanes.items) at.now.cells.now (length work.old.scratch.items) (length work.old.levels.items) }
+    requires step { step < length at.now.plan.now.steps }
+    requires ready { (p : IsPlan (job_of at.now.job.now) at.now.plan.now) → IsReadyBelow (job_of at.now.job.now) at.now.first at.now.count p.chains work.old.found.limit work.old.lanes.items kept.old }
+    ensures spends { Spends (job_of at.now.job.now) at.now.first at.now.count work.old.lanes.items work.new.lanes.items steps.old steps.new }
+    ensures selected { (p : IsPlan (job_of at.now.job.now) at.now.plan.now)
+        → OnOk result (IsSelectedTo (job_of at.now.job.now) at.now.first at.now.count p.chains at.now.pass step work.new.lanes.items kept.new work.old.found work.new.found) }
+    ensures remade { OnOk result (AreRemade at.now.count kept.old kept.new) }
+    ensures scratch { length work.new.scratch.items ≡ length work.old.scratch.items }
+    ensures levels { length work.new.levels.items ≡ length work.old.levels.items }
+    ensures plain { IsPlainLoop (job_of at.now.job.now) → OnErr result ⊥ }
+{
+    if kept[step as usize].is_made(work.found.limit) {
+        return Ok(());
+    }
+    select_step(at, work, kept, step, steps)
+}

@@ -1,4 +1,6 @@
 // The block whose turn it is.
+ghost use Rattle.std.specs.Prelude.{◌≡◌};
+
 use crate::found::Found;
 use crate::plan::LoopPlan;
 use block_cache::cells::CellLane;
@@ -19,6 +21,16 @@ pub(crate) struct Turn<'a> {
     pub(crate) first: u32,
     pub(crate) count: u32,
     pub(crate) pass: u32,
+}
+
+impl<'a> Turn<'a> {
+    /// Goes on to another pass over the same block.
+    pub(crate) fn go_to(&mut self, _at: &Turn<'a>, pass: u32)
+        requires { self.old ≡ record _at.now { pass = self.old.pass } }
+        ensures { self.new ≡ record _at.now { pass = pass } }
+    {
+        self.pass = pass;
+    }
 }
 
 /// What was evaluated of the block, with room for evaluations and for sites within one another, and the search for its first fault.

@@ -1,20 +1,60 @@
-use Rattle.std.proofs.Common.{◌≡◌, arith, length, refl}
+use Rattle.std.proofs.Common.{◌≡◌, None, arith, length, refl}
 use Rattle.loop_keys.specs.Jobs.{job_of, passes_in}
+use Rattle.loop_keys.proofs.EntryLaws.{read_pass}
 use Rattle.block_passes.specs.Counting.{at_pass}
 use Rattle.block_passes.proofs.FedPasses.{amid_pass, fed_all}
 use Rattle.block_passes.proofs.feed.feed_passes.Goals as goal
 
+pub feed_pass-requires-clause-job : goal.feed_pass-requires-clause-job
+feed_pass-requires-clause-job g c = rw c.go_to.ensures c.requires.job
+
+pub feed_pass-requires-clause-rows : goal.feed_pass-requires-clause-rows
+feed_pass-requires-clause-rows g c = rw c.go_to.ensures c.requires.rows
+
+pub feed_pass-requires-clause-plan : goal.feed_pass-requires-clause-plan
+feed_pass-requires-clause-plan g c = rw c.go_to.ensures c.requires.plan
+
+pub feed_pass-requires-clause-small : goal.feed_pass-requires-clause-small
+feed_pass-requires-clause-small g c = rw c.go_to.ensures c.requires.small
+
+pub feed_pass-requires-clause-serve : goal.feed_pass-requires-clause-serve
+feed_pass-requires-clause-serve g c = rw c.go_to.ensures c.requires.serve
+
+pub feed_pass-requires-clause-clear : goal.feed_pass-requires-clause-clear
+feed_pass-requires-clause-clear g c = rw c.go_to.ensures c.requires.clear
+
+pub feed_pass-requires-clause-own : goal.feed_pass-requires-clause-own
+feed_pass-requires-clause-own g c =
+    rw c.go_to.ensures
+    (read_pass (job_of c.args.at.now.job.now) c.loop_passes-passes.result.now c.loop_passes-passes.ensures.passes c.loop-pass.pass c.loop-pass-test.true (record { result = 0; variation = None }))
+
+pub feed_pass-requires-clause-few : goal.feed_pass-requires-clause-few
+feed_pass-requires-clause-few g c = rw c.go_to.ensures (omega arith)
+
+pub feed_pass-requires-clause-place : goal.feed_pass-requires-clause-place
+feed_pass-requires-clause-place g c = rw c.go_to.ensures c.loop-pass.invariant.place
+
 pub feed_pass-requires-clause-begin : goal.feed_pass-requires-clause-begin
 feed_pass-requires-clause-begin g c =
     let b = c.requires.begin in
+    rw c.go_to.ensures
     (b.0, at_pass b.1 c.loop-pass.place, amid_pass (job_of c.args.at.now.job.now) c.args.at.now.first c.args.at.now.count c.args.cluster b.1 c.loop-pass.place b.2, b.3, refl, c.loop-pass.invariant.taken b.0 b.1 b.2 b.3 b.4 b.5)
 
 pub loop-pass-preserved : goal.loop-pass-preserved
-loop-pass-preserved g c = record {
-  place = c.in-Ok.ensures.place;
-  taken = λ watched s amid its none holds.
-      c.in-Ok.ensures.holds watched (at_pass s c.loop-pass.place) (amid_pass (job_of c.args.at.now.job.now) c.args.at.now.first c.args.at.now.count c.args.cluster s c.loop-pass.place amid) its refl (c.loop-pass.invariant.taken watched s amid its none holds);
-}
+loop-pass-preserved g c =
+    let holds = rw c.go_to.ensures at c.in-Ok.ensures.holds in
+    record {
+      same = rw c.go_to.ensures refl;
+      place = rw c.go_to.ensures at c.in-Ok.ensures.place;
+      taken = λ watched s amid its none before.
+          holds watched (at_pass s c.loop-pass.place) (amid_pass (job_of c.args.at.now.job.now) c.args.at.now.first c.args.at.now.count c.args.cluster s c.loop-pass.place amid) its refl (c.loop-pass.invariant.taken watched s amid its none before);
+    }
+
+pub returns-in-Err-clause-memory : goal.returns-in-Err-clause-memory
+returns-in-Err-clause-memory g c = rw c.go_to.ensures at c.in-Err.ensures.memory
+
+pub returns-in-Err-clause-plain : goal.returns-in-Err-clause-plain
+returns-in-Err-clause-plain g c = rw c.go_to.ensures at c.in-Err.ensures.plain
 
 pub returns-clause-holds : goal.returns-clause-holds
 returns-clause-holds g c =

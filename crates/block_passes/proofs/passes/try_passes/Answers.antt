@@ -1,10 +1,11 @@
-use Rattle.std.proofs.Common.{arith, ◌≡◌, ◌+◌, below_more, ◌∙◌, List, None, length, subst, sym, ℕ}
+use Rattle.std.proofs.Common.{arith, ◌≡◌, ◌+◌, below_more, ◌∙◌, List, None, length, refl, subst, sym, ℕ}
 use Rattle.rdf_values.specs.declared.value.ColType.{ColType}
 use Rattle.block_lanes.specs.Lanes.{kinds_of}
 use Rattle.loop_keys.specs.Jobs.{job_of, passes_in}
 use Rattle.loop_keys.specs.Turns.{pass_fault}
 use Rattle.block_passes.specs.Searches.{IsSearched}
 use Rattle.loop_keys.proofs.EntryLaws.{read_pass}
+use Rattle.block_passes.specs.Selections.{CanSelect}
 use Rattle.block_passes.specs.Tries.{CanServeAll, IsPassMade}
 use Rattle.block_passes.proofs.PlanMade.{plan_made}
 use Rattle.block_passes.proofs.Remaking.{pass_stays}
@@ -12,29 +13,70 @@ use Rattle.block_passes.proofs.SearchedPasses.{first_searched, next_searched}
 use Rattle.block_passes.proofs.Spending.{spends_then}
 use Rattle.block_passes.proofs.passes.try_passes.Goals as goal
 
+pub try_pass-requires-clause-job : goal.try_pass-requires-clause-job
+try_pass-requires-clause-job g c = rw c.go_to.ensures c.requires.job
+
+pub try_pass-requires-clause-rows : goal.try_pass-requires-clause-rows
+try_pass-requires-clause-rows g c = rw c.go_to.ensures c.requires.rows
+
+pub try_pass-requires-clause-small : goal.try_pass-requires-clause-small
+try_pass-requires-clause-small g c = rw c.go_to.ensures c.requires.small
+
+pub try_pass-requires-clause-few : goal.try_pass-requires-clause-few
+try_pass-requires-clause-few g c = rw c.go_to.ensures c.requires.few
+
+pub try_pass-requires-clause-within : goal.try_pass-requires-clause-within
+try_pass-requires-clause-within g c = rw c.go_to.ensures c.requires.within
+
+pub try_pass-requires-clause-plan : goal.try_pass-requires-clause-plan
+try_pass-requires-clause-plan g c = rw c.go_to.ensures c.requires.plan
+
+pub try_pass-requires-clause-can : goal.try_pass-requires-clause-can
+try_pass-requires-clause-can g c =
+    rw c.go_to.ensures
+    (subst (λ (ks : List ColType). CanSelect (job_of c.args.at.now.job.now) c.args.at.now.first c.args.at.now.count c.args.at.now.plan.now ks c.args.at.now.cells.now (length c.loop-pass.work.scratch.items) (length c.loop-pass.work.levels.items)) (sym c.loop-pass.invariant.spends.kinds)
+    (subst (λ (n : ℕ). CanSelect (job_of c.args.at.now.job.now) c.args.at.now.first c.args.at.now.count c.args.at.now.plan.now (kinds_of c.args.work.now.lanes.items) c.args.at.now.cells.now n (length c.loop-pass.work.levels.items)) (sym c.loop-pass.invariant.scratch)
+    (subst (λ (n : ℕ). CanSelect (job_of c.args.at.now.job.now) c.args.at.now.first c.args.at.now.count c.args.at.now.plan.now (kinds_of c.args.work.now.lanes.items) c.args.at.now.cells.now (length c.args.work.now.scratch.items) n) (sym c.loop-pass.invariant.levels) c.requires.can)))
+
 pub try_pass-requires-clause-serve : goal.try_pass-requires-clause-serve
 try_pass-requires-clause-serve g c =
-    subst (λ (ks : List ColType). CanServeAll (job_of c.args.at.now.job.now) c.args.at.now.first c.args.at.now.count ks c.args.at.now.cells.now (length c.loop-pass.work.scratch.items) (length c.loop-pass.work.levels.items)) (sym c.loop-pass.invariant.spends.kinds)
+    rw c.go_to.ensures
+    (subst (λ (ks : List ColType). CanServeAll (job_of c.args.at.now.job.now) c.args.at.now.first c.args.at.now.count ks c.args.at.now.cells.now (length c.loop-pass.work.scratch.items) (length c.loop-pass.work.levels.items)) (sym c.loop-pass.invariant.spends.kinds)
     (subst (λ (n : ℕ). CanServeAll (job_of c.args.at.now.job.now) c.args.at.now.first c.args.at.now.count (kinds_of c.args.work.now.lanes.items) c.args.at.now.cells.now n (length c.loop-pass.work.levels.items)) (sym c.loop-pass.invariant.scratch)
-    (subst (λ (n : ℕ). CanServeAll (job_of c.args.at.now.job.now) c.args.at.now.first c.args.at.now.count (kinds_of c.args.work.now.lanes.items) c.args.at.now.cells.now (length c.args.work.now.scratch.items) n) (sym c.loop-pass.invariant.levels) c.requires.serve))
+    (subst (λ (n : ℕ). CanServeAll (job_of c.args.at.now.job.now) c.args.at.now.first c.args.at.now.count (kinds_of c.args.work.now.lanes.items) c.args.at.now.cells.now (length c.args.work.now.scratch.items) n) (sym c.loop-pass.invariant.levels) c.requires.serve)))
 
 pub try_pass-requires-clause-own : goal.try_pass-requires-clause-own
 try_pass-requires-clause-own g c =
-    read_pass (job_of c.args.at.now.job.now) c.loop_passes-passes.result.now c.loop_passes-passes.ensures.passes c.loop-pass.pass c.loop-pass-test.true (record { result = 0; variation = None })
+    rw c.go_to.ensures
+    (read_pass (job_of c.args.at.now.job.now) c.loop_passes-passes.result.now c.loop_passes-passes.ensures.passes c.loop-pass.pass c.loop-pass-test.true (record { result = 0; variation = None }))
+
+pub try_pass-requires-clause-ready : goal.try_pass-requires-clause-ready
+try_pass-requires-clause-ready g c = rw c.go_to.ensures (λ p. (c.loop-pass.invariant.searched p).ready)
 
 pub returns-in-Err-clause-spends : goal.returns-in-Err-clause-spends
-returns-in-Err-clause-spends g c = spends_then (job_of c.args.at.now.job.now) c.args.at.now.first c.args.at.now.count c.args.work.now.lanes.items c.loop-pass.work.lanes.items c.try_pass.new.work.lanes.items c.args.steps.now c.loop-pass.steps c.try_pass.new.steps c.loop-pass.invariant.spends c.try_pass.ensures.spends
+returns-in-Err-clause-spends g c =
+    let spends = rw c.go_to.ensures at c.try_pass.ensures.spends in
+    spends_then (job_of c.args.at.now.job.now) c.args.at.now.first c.args.at.now.count c.args.work.now.lanes.items c.loop-pass.work.lanes.items c.try_pass.new.work.lanes.items c.args.steps.now c.loop-pass.steps c.try_pass.new.steps c.loop-pass.invariant.spends spends
+
+pub returns-in-Err-clause-plain : goal.returns-in-Err-clause-plain
+returns-in-Err-clause-plain g c = rw c.go_to.ensures at c.in-Err.ensures.plain
 
 pub loop-pass-preserved : goal.loop-pass-preserved
-loop-pass-preserved g c = record {
-  spends = spends_then (job_of c.args.at.now.job.now) c.args.at.now.first c.args.at.now.count c.args.work.now.lanes.items c.loop-pass.work.lanes.items c.try_pass.new.work.lanes.items c.args.steps.now c.loop-pass.steps c.try_pass.new.steps c.loop-pass.invariant.spends c.try_pass.ensures.spends;
-  scratch = c.try_pass.ensures.scratch ∙ c.loop-pass.invariant.scratch;
-  levels = c.try_pass.ensures.levels ∙ c.loop-pass.invariant.levels;
-  searched = λ p. next_searched (job_of c.args.at.now.job.now) c.args.at.now.first c.args.at.now.count c.loop-pass.work.lanes.items c.try_pass.new.work.lanes.items c.loop-pass.steps c.try_pass.new.steps c.try_pass.ensures.spends p.chains c.loop-pass.pass c.loop-pass.kept c.try_pass.new.kept c.loop-pass.work.found c.try_pass.new.work.found
-      (c.loop-pass.invariant.searched p) (c.in-Ok.ensures.tried p);
-  made = below_more (IsPassMade (job_of c.args.at.now.job.now) c.args.at.now.count c.args.at.now.plan.now c.try_pass.new.kept) c.loop-pass.pass
-      (λ n lt. pass_stays (job_of c.args.at.now.job.now) c.args.at.now.count c.args.at.now.plan.now c.loop-pass.kept c.try_pass.new.kept n c.in-Ok.ensures.remade (c.loop-pass.invariant.made n lt)) c.in-Ok.ensures.made;
-}
+loop-pass-preserved g c =
+    let spends = rw c.go_to.ensures at c.try_pass.ensures.spends in
+    let tried = rw c.go_to.ensures at c.in-Ok.ensures.tried in
+    let made = rw c.go_to.ensures at c.in-Ok.ensures.made in
+    let remade = rw c.go_to.ensures at c.in-Ok.ensures.remade in
+    record {
+      same = rw c.go_to.ensures refl;
+      spends = spends_then (job_of c.args.at.now.job.now) c.args.at.now.first c.args.at.now.count c.args.work.now.lanes.items c.loop-pass.work.lanes.items c.try_pass.new.work.lanes.items c.args.steps.now c.loop-pass.steps c.try_pass.new.steps c.loop-pass.invariant.spends spends;
+      scratch = c.try_pass.ensures.scratch ∙ c.loop-pass.invariant.scratch;
+      levels = c.try_pass.ensures.levels ∙ c.loop-pass.invariant.levels;
+      searched = λ p. next_searched (job_of c.args.at.now.job.now) c.args.at.now.first c.args.at.now.count c.loop-pass.work.lanes.items c.try_pass.new.work.lanes.items c.loop-pass.steps c.try_pass.new.steps spends p.chains c.loop-pass.pass c.loop-pass.kept c.try_pass.new.kept c.loop-pass.work.found c.try_pass.new.work.found
+          (c.loop-pass.invariant.searched p) (tried p);
+      made = below_more (IsPassMade (job_of c.args.at.now.job.now) c.args.at.now.count c.args.at.now.plan.now c.try_pass.new.kept) c.loop-pass.pass
+          (λ n lt. pass_stays (job_of c.args.at.now.job.now) c.args.at.now.count c.args.at.now.plan.now c.loop-pass.kept c.try_pass.new.kept n remade (c.loop-pass.invariant.made n lt)) made;
+    }
 
 pub returns-clause-fault : goal.returns-clause-fault
 returns-clause-fault g c =

@@ -7,6 +7,7 @@ use Rattle.block_passes.proofs.passes.try_passes.Given as goal
 
 abbrev pub invariant-loop-pass : goal.invariant-loop-pass
 invariant-loop-pass g l = record {
+  same : l.turn ≡ record l.at { pass = l.turn.pass };
   spends : Spends (job_of l.at.job.now) l.at.first l.at.count l.fn.work.lanes.items l.work.lanes.items l.fn.steps l.steps;
   scratch : length l.work.scratch.items ≡ length l.fn.work.scratch.items;
   levels : length l.work.levels.items ≡ length l.fn.work.levels.items;

@@ -11,46 +11,46 @@ use Rattle.block_passes.proofs.reports.try_filter.Goals as goal
 pub named-requires : goal.named-requires
 named-requires g c = has_named (job_of c.args.at.now.job.now) c.requires.job.job c.args.filter c.requires.covered c.args.at.now.plan.now c.requires.plan
 
-pub select_step-requires-clause-step : goal.select_step-requires-clause-step
-select_step-requires-clause-step g c = above_there (job_of c.args.at.now.job.now) c.requires.job.job c.args.filter c.requires.covered c.args.at.now.plan.now c.requires.plan c.in-Some.named (c.named.ensures ∙ ap Some c.in-Some.is)
+pub select_again-requires-clause-step : goal.select_again-requires-clause-step
+select_again-requires-clause-step g c = above_there (job_of c.args.at.now.job.now) c.requires.job.job c.args.filter c.requires.covered c.args.at.now.plan.now c.requires.plan c.in-Some.named (c.named.ensures ∙ ap Some c.in-Some.is)
 
-pub select_step-requires-in-Ok-clause-step : goal.select_step-requires-in-Ok-clause-step
-select_step-requires-in-Ok-clause-step g c = own_there (job_of c.args.at.now.job.now) c.requires.job.job c.args.filter c.requires.covered c.args.at.now.plan.now c.requires.plan c.in-Some.named (c.named.ensures ∙ ap Some c.in-Some.is)
+pub select_again-requires-in-Ok-clause-step : goal.select_again-requires-in-Ok-clause-step
+select_again-requires-in-Ok-clause-step g c = own_there (job_of c.args.at.now.job.now) c.requires.job.job c.args.filter c.requires.covered c.args.at.now.plan.now c.requires.plan c.in-Some.named (c.named.ensures ∙ ap Some c.in-Some.is)
 
 pub unreachable-requires : goal.unreachable-requires
 unreachable-requires g c = never_none (job_of c.args.at.now.job.now) c.requires.job.job c.args.filter c.requires.covered c.args.at.now.plan.now c.requires.plan (c.named.ensures ∙ ap Some c.in-None.is)
 
 pub returns-in-Ok-clause-spends : goal.returns-in-Ok-clause-spends
 returns-in-Ok-clause-spends g c =
-    spends_then (job_of c.args.at.now.job.now) c.args.at.now.first c.args.at.now.count c.args.work.now.lanes.items c.select_step.new.work.lanes.items c.select_step-in-Ok.new.work.lanes.items c.args.steps.now c.select_step.new.steps c.select_step-in-Ok.new.steps
-    c.select_step.ensures.spends c.select_step-in-Ok.ensures.spends
+    spends_then (job_of c.args.at.now.job.now) c.args.at.now.first c.args.at.now.count c.args.work.now.lanes.items c.select_again.new.work.lanes.items c.select_again-in-Ok.new.work.lanes.items c.args.steps.now c.select_again.new.steps c.select_again-in-Ok.new.steps
+    c.select_again.ensures.spends c.select_again-in-Ok.ensures.spends
 
 pub returns-in-Ok-clause-tried : goal.returns-in-Ok-clause-tried
 returns-in-Ok-clause-tried g c = λ p.
-    on_ok_weaker c.select_step-in-Ok.result
-    (λ (k : IsSelectedTo (job_of c.args.at.now.job.now) c.args.at.now.first c.args.at.now.count p.chains c.args.at.now.pass c.in-Some.named.own c.select_step-in-Ok.new.work.lanes.items c.select_step-in-Ok.new.kept c.select_step.new.work.found c.select_step-in-Ok.new.work.found).
-    filter_tried (job_of c.args.at.now.job.now) c.requires.job.job c.args.filter c.requires.covered c.args.at.now.plan.now p c.in-Some.named (c.named.ensures ∙ ap Some c.in-Some.is) c.args.at.now.first c.args.at.now.count c.args.at.now.pass c.select_step.new.work.lanes.items c.select_step-in-Ok.new.work.lanes.items c.select_step.new.kept c.select_step-in-Ok.new.kept c.args.work.now.found c.select_step.new.work.found c.select_step-in-Ok.new.work.found
+    on_ok_weaker c.select_again-in-Ok.result
+    (λ (k : IsSelectedTo (job_of c.args.at.now.job.now) c.args.at.now.first c.args.at.now.count p.chains c.args.at.now.pass c.in-Some.named.own c.select_again-in-Ok.new.work.lanes.items c.select_again-in-Ok.new.kept c.select_again.new.work.found c.select_again-in-Ok.new.work.found).
+    filter_tried (job_of c.args.at.now.job.now) c.requires.job.job c.args.filter c.requires.covered c.args.at.now.plan.now p c.in-Some.named (c.named.ensures ∙ ap Some c.in-Some.is) c.args.at.now.first c.args.at.now.count c.args.at.now.pass c.select_again.new.work.lanes.items c.select_again-in-Ok.new.work.lanes.items c.select_again.new.kept c.select_again-in-Ok.new.kept c.args.work.now.found c.select_again.new.work.found c.select_again-in-Ok.new.work.found
     (c.in-Ok.ensures.selected p) k)
-    (c.select_step-in-Ok.ensures.selected p)
+    (c.select_again-in-Ok.ensures.selected p)
 
 pub returns-in-Ok-clause-remade : goal.returns-in-Ok-clause-remade
 returns-in-Ok-clause-remade g c =
-    on_ok_weaker c.select_step-in-Ok.result
-    (λ (k : AreRemade c.args.at.now.count c.select_step.new.kept c.select_step-in-Ok.new.kept). remade_then c.args.at.now.count c.args.kept.now c.select_step.new.kept c.select_step-in-Ok.new.kept c.in-Ok.ensures.remade k)
-    c.select_step-in-Ok.ensures.remade
+    on_ok_weaker c.select_again-in-Ok.result
+    (λ (k : AreRemade c.args.at.now.count c.select_again.new.kept c.select_again-in-Ok.new.kept). remade_then c.args.at.now.count c.args.kept.now c.select_again.new.kept c.select_again-in-Ok.new.kept c.in-Ok.ensures.remade k)
+    c.select_again-in-Ok.ensures.remade
 
 pub returns-in-Ok-clause-made : goal.returns-in-Ok-clause-made
 returns-in-Ok-clause-made g c =
     let p = c.requires.plan in
     let j = job_of c.args.at.now.job.now in
-    let above = made_selected c.args.at.now.count j c.args.at.now.first p.chains c.args.at.now.pass c.in-Some.named.above c.select_step.new.work.lanes.items c.select_step.new.kept c.args.work.now.found c.select_step.new.work.found (c.in-Ok.ensures.selected p) in
-    on_ok_weaker c.select_step-in-Ok.result
-    (λ (w : IsSelectedTo j c.args.at.now.first c.args.at.now.count p.chains c.args.at.now.pass c.in-Some.named.own c.select_step-in-Ok.new.work.lanes.items c.select_step-in-Ok.new.kept c.select_step.new.work.found c.select_step-in-Ok.new.work.found
-    × AreRemade c.args.at.now.count c.select_step.new.kept c.select_step-in-Ok.new.kept).
+    let above = made_selected c.args.at.now.count j c.args.at.now.first p.chains c.args.at.now.pass c.in-Some.named.above c.select_again.new.work.lanes.items c.select_again.new.kept c.args.work.now.found c.select_again.new.work.found (c.in-Ok.ensures.selected p) in
+    on_ok_weaker c.select_again-in-Ok.result
+    (λ (w : IsSelectedTo j c.args.at.now.first c.args.at.now.count p.chains c.args.at.now.pass c.in-Some.named.own c.select_again-in-Ok.new.work.lanes.items c.select_again-in-Ok.new.kept c.select_again.new.work.found c.select_again-in-Ok.new.work.found
+    × AreRemade c.args.at.now.count c.select_again.new.kept c.select_again-in-Ok.new.kept).
     λ s its.
     let same : c.in-Some.named ≡ s = some_named c.in-Some.named s (sym (c.named.ensures ∙ ap Some c.in-Some.is) ∙ its) in
-    subst (λ (n : NamedSteps). IsMadeAt c.args.at.now.count c.select_step-in-Ok.new.kept n.above × IsMadeAt c.args.at.now.count c.select_step-in-Ok.new.kept n.own) same (
-      made_stays c.args.at.now.count c.select_step.new.kept c.select_step-in-Ok.new.kept c.in-Some.named.above w.1 above,
-      made_selected c.args.at.now.count j c.args.at.now.first p.chains c.args.at.now.pass c.in-Some.named.own c.select_step-in-Ok.new.work.lanes.items c.select_step-in-Ok.new.kept c.select_step.new.work.found c.select_step-in-Ok.new.work.found w.0,
+    subst (λ (n : NamedSteps). IsMadeAt c.args.at.now.count c.select_again-in-Ok.new.kept n.above × IsMadeAt c.args.at.now.count c.select_again-in-Ok.new.kept n.own) same (
+      made_stays c.args.at.now.count c.select_again.new.kept c.select_again-in-Ok.new.kept c.in-Some.named.above w.1 above,
+      made_selected c.args.at.now.count j c.args.at.now.first p.chains c.args.at.now.pass c.in-Some.named.own c.select_again-in-Ok.new.work.lanes.items c.select_again-in-Ok.new.kept c.select_again.new.work.found c.select_again-in-Ok.new.work.found w.0,
     ))
-    (both_ok _ _ c.select_step-in-Ok.result (c.select_step-in-Ok.ensures.selected p) c.select_step-in-Ok.ensures.remade)
+    (both_ok _ _ c.select_again-in-Ok.result (c.select_again-in-Ok.ensures.selected p) c.select_again-in-Ok.ensures.remade)

@@ -7,7 +7,7 @@ use Rattle.loop_keys.specs.Jobs.{job_of}
 use Rattle.block_passes.specs.Inputs.{AreAtHand, IsServedTo, inputs_fault}
 use Rattle.block_passes.proofs.ServingInputs.{empty_list, first_demanded, first_plain, inputs_held, inputs_served, none_held, none_served, rest_can, rest_demanded, rest_inside}
 use Rattle.block_passes.proofs.Spending.{spends_none, spends_then}
-use Rattle.block_passes.proofs.inputs.+serve_inputs.Goals as goal
+use Rattle.block_passes.proofs.inputs.+serve_each.Goals as goal
 
 pub returns-in_default-clause-served : goal.returns-in_default-clause-served
 returns-in_default-clause-served g t c =
@@ -18,8 +18,8 @@ pub serve_version-requires-clause-demanded : goal.serve_version-requires-clause-
 serve_version-requires-clause-demanded g t c = λ p T i all.
     first_demanded (job_of c.args.at.now.job.now) c.args.at.now.first c.args.under c.args.inputs.now c.in-Some.rest.now c.in-Some.version.now c.in-Some.ensures.cases.0 _ T (c.requires.demanded p T i all)
 
-pub serve_inputs-requires : goal.serve_inputs-requires
-serve_inputs-requires g t c κs within =
+pub serve_each-requires : goal.serve_each-requires
+serve_each-requires g t c κs within =
     let j = job_of c.args.at.now.job.now in
     let h = c.in-Ok.ensures.served in
     let falls = h.lowers.falls in
@@ -53,26 +53,26 @@ returns-in-Ok-clause-held g t c =
 
 pub returns-in-Ok-2-clause-spends : goal.returns-in-Ok-2-clause-spends
 returns-in-Ok-2-clause-spends g t c =
-    spends_then (job_of c.args.at.now.job.now) c.args.at.now.first c.args.at.now.count c.args.work.now.lanes.items c.serve_version.new.work.lanes.items c.serve_inputs.new.work.lanes.items c.args.steps.now c.serve_version.new.steps c.serve_inputs.new.steps
-    c.serve_version.ensures.spends c.serve_inputs.ensures.spends
+    spends_then (job_of c.args.at.now.job.now) c.args.at.now.first c.args.at.now.count c.args.work.now.lanes.items c.serve_version.new.work.lanes.items c.serve_each.new.work.lanes.items c.args.steps.now c.serve_version.new.steps c.serve_each.new.steps
+    c.serve_version.ensures.spends c.serve_each.ensures.spends
 
 pub returns-in-Ok-2-clause-served : goal.returns-in-Ok-2-clause-served
 returns-in-Ok-2-clause-served g t c =
     let j = job_of c.args.at.now.job.now in
-    on_ok_weaker c.serve_inputs.result
-    (λ (k : IsServedTo j c.args.at.now.first c.args.at.now.count (inputs_fault j c.args.at.now.first c.args.under c.in-Some.rest.now) c.args.at.now.pass c.serve_version.new.to.places c.serve_inputs.new.to c.serve_inputs.new.work.lanes.items c.serve_version.new.work.found c.serve_inputs.new.work.found).
+    on_ok_weaker c.serve_each.result
+    (λ (k : IsServedTo j c.args.at.now.first c.args.at.now.count (inputs_fault j c.args.at.now.first c.args.under c.in-Some.rest.now) c.args.at.now.pass c.serve_version.new.to.places c.serve_each.new.to c.serve_each.new.work.lanes.items c.serve_version.new.work.found c.serve_each.new.work.found).
     inputs_served j c.args.at.now.first c.args.under c.args.inputs.now c.in-Some.rest.now c.in-Some.version.now c.in-Some.ensures.cases.0 c.args.at.now.count c.args.at.now.pass c.args.to.now.places c.serve_version.new.to c.args.work.now.lanes.items c.serve_version.new.work.lanes.items c.args.work.now.found c.serve_version.new.work.found c.in-Ok.ensures.served
-    c.serve_inputs.new.to c.serve_inputs.new.work.lanes.items c.serve_inputs.new.work.found k)
-    c.serve_inputs.ensures.served
+    c.serve_each.new.to c.serve_each.new.work.lanes.items c.serve_each.new.work.found k)
+    c.serve_each.ensures.served
 
 pub returns-in-Ok-2-clause-held : goal.returns-in-Ok-2-clause-held
 returns-in-Ok-2-clause-held g t c =
     let j = job_of c.args.at.now.job.now in
-    on_ok_weaker c.serve_inputs.result
-    (λ (w : IsServedTo j c.args.at.now.first c.args.at.now.count (inputs_fault j c.args.at.now.first c.args.under c.in-Some.rest.now) c.args.at.now.pass c.serve_version.new.to.places c.serve_inputs.new.to c.serve_inputs.new.work.lanes.items c.serve_version.new.work.found c.serve_inputs.new.work.found
-    × EachPlace c.serve_inputs.new.to.places (AreAtHand j c.serve_inputs.new.work.lanes.items c.args.under c.in-Some.rest.now)).
+    on_ok_weaker c.serve_each.result
+    (λ (w : IsServedTo j c.args.at.now.first c.args.at.now.count (inputs_fault j c.args.at.now.first c.args.under c.in-Some.rest.now) c.args.at.now.pass c.serve_version.new.to.places c.serve_each.new.to c.serve_each.new.work.lanes.items c.serve_version.new.work.found c.serve_each.new.work.found
+    × EachPlace c.serve_each.new.to.places (AreAtHand j c.serve_each.new.work.lanes.items c.args.under c.in-Some.rest.now)).
     inputs_held j c.args.at.now.first c.args.under c.args.inputs.now c.in-Some.rest.now c.in-Some.version.now c.in-Some.ensures.cases.0 c.args.at.now.count c.args.at.now.pass c.args.to.now.places c.serve_version.new.to c.args.work.now.lanes.items c.serve_version.new.work.lanes.items c.args.work.now.found c.serve_version.new.work.found c.in-Ok.ensures.served
-    c.serve_inputs.new.to c.serve_inputs.new.work.lanes.items c.serve_inputs.new.work.found w.0 c.serve_version.new.steps c.serve_inputs.new.steps c.serve_inputs.ensures.spends c.in-Ok.ensures.held w.1)
+    c.serve_each.new.to c.serve_each.new.work.lanes.items c.serve_each.new.work.found w.0 c.serve_version.new.steps c.serve_each.new.steps c.serve_each.ensures.spends c.in-Ok.ensures.held w.1)
     (search rules)
 
 pub returns-in-Err-clause-plain : goal.returns-in-Err-clause-plain

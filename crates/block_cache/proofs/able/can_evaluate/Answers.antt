@@ -1,0 +1,10 @@
+use Rattle.std.proofs.Common.{◌∙◌, sym, subst}
+use Rattle.rdf_values.specs.EachColumn.{EachColumn}
+use Rattle.rdf_values.specs.Tree.{NumTree}
+use Rattle.expr_eval.proofs.KnownColumns.{known_columns}
+use Rattle.block_cache.proofs.able.can_evaluate.Goals as goal
+
+pub is_operator_able-requires : goal.is_operator_able-requires
+is_operator_able-requires g c =
+    subst (λ (e : NumTree). EachColumn (g.I.LaneInputs.can_tell c.args.inputs.now) e) (sym (c.behind-expr.view_is ∙ c.tree.ensures.tree))
+    (known_columns c.args.expr.now c.tree.ensures.typed (g.I.LaneInputs.can_tell c.args.inputs.now) c.requires)

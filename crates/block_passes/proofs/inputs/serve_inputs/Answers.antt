@@ -1,0 +1,24 @@
+use Rattle.std.proofs.Common.{List, arith, length, subst, sym}
+use Rattle.std.specs.List.{AllByRecursion}
+use Rattle.block_lanes.specs.Lanes.{LaneView, kinds_of}
+use Rattle.loop_keys.specs.Jobs.{job_of}
+use Rattle.block_passes.specs.Inputs.{CanServe}
+use Rattle.block_passes.proofs.ServingInputs.{clear_served}
+use Rattle.block_passes.proofs.inputs.serve_inputs.Goals as goal
+
+pub are_at_hand-requires-clause-can : goal.are_at_hand-requires-clause-can
+are_at_hand-requires-clause-can g c =
+    let scratch = length c.args.work.now.scratch.items in
+    let levels = length c.args.work.now.levels.items in (
+      scratch,
+      levels,
+      subst (λ (ls : List LaneView). AllByRecursion (CanServe (job_of c.args.at.now.job.now) c.args.at.now.first c.args.under c.args.at.now.count (kinds_of ls) c.args.at.now.cells.now scratch levels) c.args.inputs.now) (sym c.deref.ensures.value) c.requires.can,
+    )
+
+pub are_at_hand-requires-clause-inside : goal.are_at_hand-requires-clause-inside
+are_at_hand-requires-clause-inside g c = λ p i. let low = c.requires.inside p i in let le = c.requires.limit in omega (arith, low, le)
+
+pub returns-then-are_at_hand-clause-served : goal.returns-then-are_at_hand-clause-served
+returns-then-are_at_hand-clause-served g c =
+    clear_served (job_of c.args.at.now.job.now) c.args.at.now.first c.args.at.now.count c.args.under c.args.at.now.pass c.args.inputs.now c.args.to.now c.args.work.now.lanes.items c.args.work.now.found
+    c.requires.ready c.requires.made c.requires.inside c.requires.settled (c.are_at_hand.ensures.clear c.if-are_at_hand.true)
