@@ -10,7 +10,7 @@ use expr_eval::Steps;
 use loop_keys::Job;
 use loop_pieces::LoopPiece;
 use rdf_values::{Fault, Memory};
-use slot_state::{Progress, SlotState, SlotStop};
+use event_loop::{Progress, SlotState, SlotStop};
 use std::alloc::Global;
 use std::marker::Brand;
 use std::sync::ledger::{Blank, Ledger};
