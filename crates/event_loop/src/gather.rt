@@ -6,11 +6,11 @@ ghost use Rattle.partial_watch.specs.Shares.{BookSeen};
 ghost use Rattle.event_loop.specs.Jobs.{JobFacts};
 ghost use Rattle.event_loop.specs.Gathered.{AreFacts, HasMemory, HasStopped, IsOutcome, done_in, done_or_none, end_faults, seat_in};
 
+use crate::SlotState;
 use crate::workers::{End, Finished, Slot};
 use cluster_claims::{Claims, SeatList};
 use partial_watch::Share;
 use rdf_values::{Fault, Memory};
-use crate::SlotState;
 use std::alloc::Global;
 
 /// A slot whose clusters are all processed: its state, and its right to note, where a result is watched.

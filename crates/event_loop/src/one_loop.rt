@@ -11,12 +11,12 @@ use crate::end::LoopEnd;
 use crate::filling::filled;
 use crate::gather::{Outcome, gathered};
 use crate::seating::{opened, seated};
+use crate::watched_in;
 use crate::workers::run_slots;
 use cluster_claims::Claims;
 use loop_keys::Job;
 use rdf_outside::Gate;
 use rdf_values::Memory;
-use crate::watched_in;
 use std::alloc::Global;
 use std::thread::Threads;
 

@@ -11,13 +11,13 @@ ghost use Rattle.event_loop.specs.Workers.{HasNoted, HasRoom, HasRun, IsFresh};
 ghost use Rattle.event_loop.specs.declared.workers.Slot.{Slot};
 ghost use Rattle.event_loop.specs.declared.workers.Finished.{Finished};
 
+use crate::{Progress, SlotState, SlotStop};
 use cluster_claims::{ClaimSeat, Claims};
 use expr_eval::Steps;
 use loop_keys::Job;
 use partial_watch::{Book, Share};
 use rdf_outside::Gate;
 use rdf_values::{Fault, Memory};
-use crate::{Progress, SlotState, SlotStop};
 use std::alloc::Global;
 use std::marker::Brand;
 use std::sync::ledger::{Blank, Ledger};
