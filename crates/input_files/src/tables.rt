@@ -43,16 +43,16 @@ fn table_of<R: Threads + Sync>(
 }
 
 /// The columns of the table that the bytes spell, over clusters of at most that size, or its refusal. The table is read and
-/// packed side by side where there are several slots.
+/// packed side by side where there are several slots; the bytes go once they are read.
 pub fn columns_of<R: Threads + Sync>(
     rt: &R,
     alloc: Global,
-    bytes: &[u8],
+    bytes: Bytes,
     size: u32,
     slots: u32,
 ) -> Result<ReadFile<Columns>, Memory>
     requires size { 1 ≤ size }
-    ensures { IfOk result (ReadsColumnsText bytes.now size) }
+    ensures { IfOk result (ReadsColumnsText bytes size) }
 {
     match read_columns(rt, alloc, bytes, size, slots) {
         Ok(columns) => Ok(ReadFile::Whole(columns)),
@@ -119,7 +119,7 @@ pub fn read_columns_file<R: Threads + Sync, S: Shelf>(
     ensures read { IfOk result (ReadsColumnsFile (S.files shelf.old) name.now size (S.faults shelf.old) (S.faults shelf.new)) }
 {
     match read_bytes(alloc, shelf, name)? {
-        ReadFile::Whole(bytes) => columns_of(rt, alloc, bytes.as_slice(), size, slots),
+        ReadFile::Whole(bytes) => columns_of(rt, alloc, bytes, size, slots),
         ReadFile::Refused(refusal) => Ok(ReadFile::Refused(refusal)),
     }
 }
