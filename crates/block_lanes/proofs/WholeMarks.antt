@@ -12,8 +12,14 @@ use Rattle.expr_lanes.proofs.Sequence.{first_in, rest_in}
 use Rattle.block_lanes.specs.BlockMarks.{AreWrittenMarks, IsBare, MarksView, marked_to, marks_of}
 use Rattle.block_lanes.specs.declared.block_marks.Extent.{Extent}
 use Rattle.block_lanes.specs.declared.block_marks.Extent.TheVariants as extent
-use Rattle.block_lanes.proofs.LaneSteps.{neither, outside}
 use Rattle.block_lanes.proofs.Marking.{IsMarkedTo, mark_one, marked_all, marked_to_none, newly_all}
+
+neither : (a b : Bool) → a ≡ false → b ≡ false → (a || b) ≡ false
+neither a b h k = ap (λ c. c || b) h ∙ k
+
+outside : (a : Bool) → (a ≡ true → ⊥) → a ≡ false
+outside true h = absurd (h refl)
+outside false h = refl
 
 -- ---- a list with its first places marked
 

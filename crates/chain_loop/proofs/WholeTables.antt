@@ -17,7 +17,7 @@ use Rattle.loop_pieces.specs.Whole.{cluster_fault}
 use Rattle.loop_pieces.specs.declared.loop_piece.LoopPiece.{LoopPiece}
 use Rattle.loop_pieces.proofs.ClusterFaults.{first_cluster_has_first_fault}
 use Rattle.loop_pieces.proofs.WholeLoops.{all_clusters_are_the_table}
-use Rattle.slot_state.specs.Jobs.{job_facts}
+use Rattle.event_loop.specs.Jobs.{job_facts}
 use Rattle.event_loop.specs.Ends.{HasEnded, IsFilled}
 use Rattle.event_loop.specs.declared.end.FilledLoop.{FilledLoop}
 use Rattle.event_loop.specs.declared.end.LoopEnd.{LoopEnd}

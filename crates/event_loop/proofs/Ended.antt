@@ -15,8 +15,8 @@ use Rattle.merge_core.proofs.Faults.{Among, Told, told_nothing, told_both, first
 use Rattle.merge_core.proofs.Holding.{only}
 use Rattle.cluster_claims.specs.Seats.{ClaimsSeen, SeatSeen, IsLeast, IsPassed, last_of}
 use Rattle.partial_watch.specs.Shares.{BookSeen}
-use Rattle.slot_state.specs.Jobs.{JobFacts}
-use Rattle.slot_state.specs.Slots.{SlotView}
+use Rattle.event_loop.specs.Jobs.{JobFacts}
+use Rattle.event_loop.specs.Slots.{SlotView}
 use Rattle.event_loop.specs.declared.workers.Finished.{Finished}
 use Rattle.event_loop.specs.declared.workers.Slot.{Slot}
 use Rattle.event_loop.specs.declared.workers.End.{End}

@@ -4,7 +4,7 @@ use Rattle.std.specs.List.{All}
 use Rattle.std.proofs.lemmas.List.Elements.{All-cons}
 use Rattle.rdf_values.specs.declared.fault.Fault.{Fault}
 use Rattle.rdf_values.specs.Machine.{least_fault, lesser_fault}
-use Rattle.slot_state.specs.Slots.{SlotView}
+use Rattle.event_loop.specs.Slots.{SlotView}
 use Rattle.event_loop.specs.declared.workers.Finished.{Finished}
 use Rattle.event_loop.specs.declared.workers.End.{End}
 use Rattle.event_loop.specs.declared.workers.End.TheVariants.{Over, Faulted}

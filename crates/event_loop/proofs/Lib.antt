@@ -1,3 +1,6 @@
+pub mod Accepting
+pub mod Adding
+pub mod Beginning
 pub mod Ended
 pub mod Fresh
 pub mod Growing
@@ -6,4 +9,5 @@ pub mod Pieces
 pub mod Rising
 pub mod Shares
 pub mod Sharing
+pub mod SlotLemmas
 pub mod Whole

@@ -20,7 +20,7 @@ use Rattle.partial_watch.specs.Chains.{AreNoted, HavePartialsOver, noted_sets}
 use Rattle.partial_watch.specs.Trails.{HasSameBody, HaveAllTrails, HaveSameBodies}
 use Rattle.partial_watch.specs.Shares.{BookSeen, ShareSeen, many_in}
 use Rattle.partial_watch.specs.Shares as book
-use Rattle.slot_state.specs.Jobs.{JobFacts}
+use Rattle.event_loop.specs.Jobs.{JobFacts}
 use Rattle.event_loop.specs.declared.gather.Done.{Done}
 use Rattle.event_loop.specs.Ends.{AreNotedPartials}
 use Rattle.event_loop.specs.Workers.{HasNoted}

@@ -14,7 +14,7 @@ use Rattle.loop_keys.specs.Jobs.{IsJob, JobView, passes_in}
 use Rattle.loop_pieces.specs.Whole.{cluster_fault}
 use Rattle.loop_pieces.proofs.ClusterFaults.{lower_clusters_fault_first}
 use Rattle.loop_keys.specs.Entries.{job_spans}
-use Rattle.slot_state.specs.Jobs.{JobFacts, job_facts}
+use Rattle.event_loop.specs.Jobs.{JobFacts, job_facts}
 use Rattle.event_loop.specs.declared.end.FilledLoop.{FilledLoop}
 use Rattle.event_loop.specs.declared.gather.Done.{Done}
 use Rattle.event_loop.specs.declared.gather.Outcome.{Outcome}

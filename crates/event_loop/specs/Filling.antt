@@ -5,9 +5,9 @@ use Rattle.loop_pieces.specs.LoopPieces.{StandsFor}
 use Rattle.loop_pieces.specs.Trails.{HaveTrails}
 use Rattle.loop_pieces.specs.declared.loop_piece.LoopPiece.{LoopPiece}
 use Rattle.partial_watch.specs.Shares.{BookSeen, ShareSeen}
-use Rattle.slot_state.specs.Jobs.{JobFacts}
-use Rattle.slot_state.specs.Slots.{IsSlotOf, SlotView}
-use Rattle.slot_state.specs.declared.progress.Phase.TheVariants as phase
+use Rattle.event_loop.specs.Jobs.{JobFacts}
+use Rattle.event_loop.specs.Slots.{IsSlotOf, SlotView}
+use Rattle.event_loop.specs.declared.progress.Phase.TheVariants as phase
 use Rattle.event_loop.specs.Ends.{AreNotedPartials}
 use Rattle.event_loop.specs.Gathered.{AreDone, AreFacts, finished_by}
 use Rattle.event_loop.specs.declared.end.FilledLoop.{FilledLoop}

@@ -6,9 +6,9 @@ use Rattle.rdf_values.specs.Machine.{AreInEntryOrder, first_in}
 use Rattle.rdf_values.specs.declared.fault.Fault.{Fault}
 use Rattle.cluster_claims.specs.Seats.{ClaimsSeen, SeatSeen}
 use Rattle.partial_watch.specs.Shares.{BookSeen, ShareSeen}
-use Rattle.slot_state.specs.Jobs.{JobFacts}
-use Rattle.slot_state.specs.Slots.{IsSlotOf}
-use Rattle.slot_state.specs.declared.progress.Phase.TheVariants as phase
+use Rattle.event_loop.specs.Jobs.{JobFacts}
+use Rattle.event_loop.specs.Slots.{IsSlotOf}
+use Rattle.event_loop.specs.declared.progress.Phase.TheVariants as phase
 use Rattle.event_loop.specs.Workers.{HasNoted, HasRun}
 use Rattle.event_loop.specs.declared.gather.Done.{Done}
 use Rattle.event_loop.specs.declared.gather.Outcome.{Outcome}

@@ -1,6 +1,9 @@
 pub mod Ends
 pub mod Filling
 pub mod Gathered
+pub mod Jobs
 pub mod Parts
+pub mod Passes
 pub mod Seated
+pub mod Slots
 pub mod Workers

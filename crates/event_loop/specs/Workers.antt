@@ -6,9 +6,9 @@ use Rattle.cluster_claims.specs.Seats.{ClaimsSeen, SeatSeen}
 use Rattle.cluster_claims.specs.Seats as claims
 use Rattle.partial_watch.specs.Shares.{BookSeen, ShareSeen}
 use Rattle.partial_watch.specs.Shares as book
-use Rattle.slot_state.specs.Jobs.{JobFacts}
-use Rattle.slot_state.specs.Slots.{IsSlotOf, SlotView}
-use Rattle.slot_state.specs.declared.progress.Phase.TheVariants as phase
+use Rattle.event_loop.specs.Jobs.{JobFacts}
+use Rattle.event_loop.specs.Slots.{IsSlotOf, SlotView}
+use Rattle.event_loop.specs.declared.progress.Phase.TheVariants as phase
 use Rattle.event_loop.specs.declared.workers.Slot.{Slot}
 use Rattle.event_loop.specs.declared.workers.End.{End}
 use Rattle.event_loop.specs.declared.workers.End.TheVariants.{Over, Faulted, NoMemory}

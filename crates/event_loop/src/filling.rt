@@ -1,7 +1,7 @@
 // What a loop without a fault is filled with.
 ghost use Rattle.std.specs.Prelude.{◌≡◌, ◌<◌, ◌≤◌, ◌++◌, List, Option, IfOk, OnOk, flat_map};
 ghost use Rattle.partial_watch.specs.Trails.{HaveSameBodies};
-ghost use Rattle.slot_state.specs.Jobs.{JobFacts};
+ghost use Rattle.event_loop.specs.Jobs.{JobFacts};
 ghost use Rattle.event_loop.specs.Ends.{AreNotedPartials};
 ghost use Rattle.event_loop.specs.Filling.{AllAreGoing, AreFilled, ArePieces, CanFill, dones_of, orders_of, share_or_none, shares_in};
 ghost use Rattle.event_loop.specs.declared.gather.Done.{Done};

@@ -4,19 +4,19 @@ ghost use Rattle.rdf_values.specs.Path.{history};
 ghost use Rattle.rdf_values.specs.Words.{StatementsHaveWords};
 ghost use Rattle.loop_keys.specs.Jobs.{Fits, job_of};
 ghost use Rattle.loop_keys.specs.Entries.{job_spans};
-ghost use Rattle.slot_state.specs.Jobs.{job_facts};
+ghost use Rattle.event_loop.specs.Jobs.{job_facts};
 ghost use Rattle.event_loop.specs.Ends.{HasEnded};
 
 use crate::end::LoopEnd;
 use crate::filling::filled;
 use crate::gather::{Outcome, gathered};
 use crate::seating::{opened, seated};
+use crate::watched_in;
 use crate::workers::run_slots;
 use cluster_claims::Claims;
 use loop_keys::Job;
 use rdf_outside::Gate;
 use rdf_values::Memory;
-use slot_state::watched_in;
 use std::alloc::Global;
 use std::thread::Threads;
 

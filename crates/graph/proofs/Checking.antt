@@ -1,9 +1,10 @@
 -- Steps of the checks of a statement.
 use Rattle.std.proofs.Common.{◌≡◌, List, [], ◌∷◌, ◌++◌, Option, Some, None, Result, Ok, Err, refl, sym, ◌∙◌, ap, subst}
+use Rattle.std.specs.Result.{IsErrAnd}
 use Rattle.rdf_values.specs.Verdict.{first_refusal, refusal_in}
 use Rattle.rdf_values.specs.declared.value.ColType.{ColType}
 use Rattle.rdf_values.specs.declared.graph_cause.GraphCause.{GraphCause}
-use Rattle.graph.specs.Checks.{Decides}
+use Rattle.graph.specs.Checks.{IsStop, Decides}
 use Rattle.graph.specs.declared.stop.Stop.{Stop}
 use Rattle.graph.specs.declared.stop.Stop.TheVariants as stop
 
@@ -37,7 +38,7 @@ passed_before xs rest x h k = go xs (sym h ∙ k)
     go (None ∷ ys) q = go ys q
     go (Some d ∷ ys) q = cc q
 
-alone : (o : Option GraphCause) → first_refusal (o ∷ []) ≡ o
+pub alone : (o : Option GraphCause) → first_refusal (o ∷ []) ≡ o
 alone None = refl
 alone (Some c) = refl
 
@@ -47,3 +48,24 @@ decided_last xs last x h k r d = subst (λ o. Decides o r) (sym (passed_before x
 
 pub four : (a b c d e f g h x : Option GraphCause) → a ≡ e → b ≡ f → c ≡ g → d ≡ h → x ≡ first_refusal (a ∷ b ∷ c ∷ d ∷ []) → x ≡ first_refusal (e ∷ f ∷ g ∷ h ∷ [])
 four a b c d e f g h x p q r s z = z ∙ λ i. first_refusal (p i ∷ q i ∷ r i ∷ s i ∷ [])
+
+-- the tests so far stop
+pub stopped_before : (xs rest : List (Option GraphCause)) (x : Option GraphCause) (s : Stop) → x ≡ first_refusal xs → IsStop x s → IsStop (first_refusal (xs ++ rest)) s
+stopped_before xs rest x (stop.Cause c) h k = refused_before xs rest x c h k
+stopped_before xs rest x stop.Memory h k = tt
+
+-- what the exit of a `?` hands on, and where memory was wanting
+pub handed_on : {A : Type 0} (wanted : Option GraphCause) (r : Result A Stop) (s : Stop) → IsErrAnd r (λ t. t ≡ s) → IsStop wanted s → Decides wanted r
+handed_on wanted (Ok a) s is h = elim is [ ]
+handed_on wanted (Err t) s is h = subst (IsStop wanted) (sym is) h
+
+pub no_memory : {A : Type 0} (wanted : Option GraphCause) (r : Result A Stop) → IsErrAnd r (λ t. t ≡ stop.Memory) → Decides wanted r
+no_memory wanted r is = handed_on wanted r stop.Memory is tt
+
+-- the last test stops
+pub stopped_last : (xs : List (Option GraphCause)) (last x : Option GraphCause) → x ≡ first_refusal xs → x ≡ None → (s : Stop) → IsStop last s → IsStop (first_refusal (xs ++ last ∷ [])) s
+stopped_last xs last x h k s d = subst (λ o. IsStop o s) (sym (passed_before xs (last ∷ []) x h k ∙ alone last)) d
+
+-- the same refusal stops
+pub stops_for : (a b : Option GraphCause) (s : Stop) → a ≡ b → IsStop a s → IsStop b s
+stops_for a b s e h = subst (λ o. IsStop o s) e h

@@ -1,5 +1,5 @@
 -- What accepted statements add to the tables.
-use Rattle.std.proofs.Common.{◌≡◌, ℕ, suc, ◌+◌, ◌≤◌, ◌||◌, false, List, [], ◌∷◌, ◌++◌, map, length, Option, None, Result, Ok, Err, OnOk, refl, sym, ◌∙◌, ap, subst, arith}
+use Rattle.std.proofs.Common.{◌≡◌, ℕ, suc, ◌+◌, ◌≤◌, ◌||◌, false, List, [], ◌∷◌, ◌++◌, map, length, Option, None, Result, Ok, Err, IfOk, OnOk, refl, sym, ◌∙◌, ap, subst, arith}
 use Rattle.std.proofs.lemmas.List.{length-append}
 use Rattle.std.proofs.lemmas.List.Elements.{All-weaker}
 use Rattle.lemmas.proofs.Places.{kept_at}
@@ -21,7 +21,7 @@ use Rattle.graph_numbers.specs.Sites.{SiteAt, site_in, list_sites, lists_sites, 
 use Rattle.graph_numbers.specs.Versions.{named_version}
 use Rattle.graph.specs.declared.var_set.VarSet.{VarSet}
 use Rattle.graph.specs.Dependence.{Numbers, AreSets, is_among_own, varied_set, own_version_sets, version_sets, site_set, site_sets, own_result_sets, result_sets}
-use Rattle.graph.specs.Gains.{IsSite, AreSites, AreRows, AreTables, IsGain, IsEmptyGain, IsSitesGain, IsColumnGain, IsReportGain, IsVaryGain}
+use Rattle.graph.specs.Gains.{IsSite, AreSites, AreRows, AreTables, IsGain, IsEmptyGain, IsSitesGain, IsColumnGain, IsMadeGain, IsRowGain, IsReportRow, IsReportGain, IsVaryGain}
 use Rattle.graph.specs.Checks.{Decides}
 use Rattle.graph.specs.declared.stop.Stop.{Stop}
 use Rattle.graph.specs.Lookups.{IsCheckedAt}
@@ -85,6 +85,12 @@ module _ (header : List Column) (names : FunctionNames) (before : List Statement
       no_rows : (bs : List Booked) (ds : List Numbers) (rs : List ResultRow) → bs ≡ [] → ds ≡ [] → rs ≡ [] → AreRows bs ds rs
       no_rows bs ds rs p q r = subst (λ xs. AreRows xs ds rs) (sym p) (subst (λ xs. AreRows [] xs rs) (sym q) (subst (AreRows [] []) (sym r) tt))
 
+  -- where it is accepted
+  pub empty_if : (s u : Statement) (r : Result Gain Stop) → s ≡ u → Decides (check names (scope_of header) before u) r → IfOk r IsEmptyGain → own_kinds header names before u ≡ [] → own_version_sets header names before (version_sets header names before) u ≡ []
+      → own_sites header names before u ≡ [] → booked_by before u ≡ [] → own_result_sets header names before u ≡ [] → IfOk r (IsGain header names before s)
+  empty_if s u (Ok g) is ok e k n x b d = empty_gained s u g is ok k n x b d e
+  empty_if s u (Err e) is ok h k n x b d = tt
+
   module _ (t : Tables) (h : AreTables header names before t) (vs : List VarSet) (are : vs ≡ t.version_sets.items) where
     read_back : (xs : List SiteAt) (cs : List CheckedExpr) (out : List VarSet) → AreSites (version_kinds header names before) names xs cs → AreSets (read_sets vs cs) out → AreSets (map (site_set header names before) xs) out
     read_back xs cs out k o = sites_read header names before vs (subst (AreSets (version_sets header names before)) (sym are) h.version_sets) (version_kinds header names before) xs cs out k o
@@ -102,7 +108,7 @@ module _ (header : List Column) (names : FunctionNames) (before : List Statement
           results = subst (AreRows [] []) (sym e.results) tt;
         }
 
-    pub define_gained : (node parent column : List ℕ) (expr : NamedTree) (c : CheckedExpr) (g : Gain) → check names (scope_of header) before (Define node parent column expr) ≡ None → IsCheckedAt header names before parent expr c
+    define_gained : (node parent column : List ℕ) (expr : NamedTree) (c : CheckedExpr) (g : Gain) → check names (scope_of header) before (Define node parent column expr) ≡ None → IsCheckedAt header names before parent expr c
         → IsColumnGain vs c g → IsGain header names before (Define node parent column expr) g
     define_gained node parent column expr c g ok k e =
         let own : AreSites (version_kinds header names before) names (site_in header names before parent (site_at node) expr ∷ []) (c ∷ []) = (site_of parent (site_at node) expr c k, tt) in
@@ -115,7 +121,7 @@ module _ (header : List Column) (names : FunctionNames) (before : List Statement
           results = subst (AreRows [] []) (sym e.results) tt;
         }
 
-    pub redefine_gained : (node parent column : List ℕ) (expr : NamedTree) (c : CheckedExpr) (g : Gain) → check names (scope_of header) before (Redefine node parent column expr) ≡ None → IsCheckedAt header names before parent expr c
+    redefine_gained : (node parent column : List ℕ) (expr : NamedTree) (c : CheckedExpr) (g : Gain) → check names (scope_of header) before (Redefine node parent column expr) ≡ None → IsCheckedAt header names before parent expr c
         → IsColumnGain vs c g → IsGain header names before (Redefine node parent column expr) g
     redefine_gained node parent column expr c g ok k e =
         let own : AreSites (version_kinds header names before) names (site_in header names before parent (site_at node) expr ∷ []) (c ∷ []) = (site_of parent (site_at node) expr c k, tt) in
@@ -127,6 +133,16 @@ module _ (header : List Column) (names : FunctionNames) (before : List Statement
           site_sets = read_back (site_in header names before parent (site_at node) expr ∷ []) (c ∷ []) g.site_sets.items own e.site_sets;
           results = subst (AreRows [] []) (sym e.results) tt;
         }
+
+    pub define_made : (node parent column : List ℕ) (expr : NamedTree) (r : Result Gain Stop) → IfOk r (IsMadeGain header names before vs parent expr) → Decides (check names (scope_of header) before (Define node parent column expr)) r
+        → IfOk r (IsGain header names before (Define node parent column expr))
+    define_made node parent column expr (Ok g) m d = define_gained node parent column expr m.site g d m.checked m.gain
+    define_made node parent column expr (Err e) m d = tt
+
+    pub redefine_made : (node parent column : List ℕ) (expr : NamedTree) (r : Result Gain Stop) → IfOk r (IsMadeGain header names before vs parent expr) → Decides (check names (scope_of header) before (Redefine node parent column expr)) r
+        → IfOk r (IsGain header names before (Redefine node parent column expr))
+    redefine_made node parent column expr (Ok g) m d = redefine_gained node parent column expr m.site g d m.checked m.gain
+    redefine_made node parent column expr (Err e) m d = tt
 
   pub vary_gained : (t : Tables) → AreTables header names before t → (node parent vary : List ℕ) (columns tags : List (List ℕ)) (values : VaryValues) (cs : List CheckedExpr) (n : ℕ) (g : Gain) → n ≡ length tags
       → check names (scope_of header) before (Vary node parent columns values tags vary) ≡ None → AllCheckedAt header names before parent (value_expressions values) cs
@@ -186,6 +202,11 @@ added_if (Err e) header names before s old new g h k a few b c d e' f = tt
 added_if (Ok u) header names before s old new g h k a few b c d e f =
     let n : length new.kinds.items ≡ length old.kinds.items + length g.kinds.items = ap length a ∙ length-append old.kinds.items g.kinds.items in
     added header names before s old new g h k a (omega (arith, n, few)) b c d e f
+
+-- a report's row alone
+pub report_alone : {E : Type 0} (x : List ℕ) (row : ResultRow) (r : Result Gain E) → IsReportRow x row → IfOk r (IsRowGain row) → IfOk r (IsReportGain x)
+report_alone x row (Ok g) is h = record { row = row; is = is; gain = h }
+report_alone x row (Err e) is h = tt
 
 -- what a Report adds
 pub report_gained : (header : List Column) (names : FunctionNames) (before : List Statement) (name parent : List ℕ) (g : Gain) → check names (scope_of header) before (Report name parent) ≡ None → IsReportGain name g

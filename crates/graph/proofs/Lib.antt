@@ -17,7 +17,7 @@ pub mod Refusing
 pub mod ResultSets
 pub mod Resulted
 pub mod Rowed
-pub mod Rows
+pub mod SeenRows
 pub mod Scoping
 pub mod SetTables
 pub mod Shared

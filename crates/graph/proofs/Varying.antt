@@ -2,7 +2,9 @@
 use Rattle.std.proofs.Common.{◌≡◌, ℕ, ◌+◌, Bool, true, false, ◌||◌, List, [], ◌∷◌, ◌++◌, Option, Some, None, Result, Ok, Err, refl, sym, ◌∙◌, ap, subst, map, nat_eq}
 use Rattle.rdf_values.specs.Path.{variations, path}
 use Rattle.rdf_values.specs.Kinds.{FunctionNames, Scope, same_kind}
-use Rattle.rdf_values.specs.Verdict.{check_target, expect_kind, first_refusal, refusal_in, refuse_unless, scope_at}
+use Rattle.rdf_values.specs.Verdict.{is_variation_name, check_list, check_lists, check_target, expect_kind, first_refusal, refusal_in, refuse_unless, scope_at}
+use Rattle.rdf_values.specs.Path.{path}
+use Rattle.rdf_values.specs.Tree.{NamedTree}
 use Rattle.rdf_values.specs.declared.value.ColType.{ColType}
 use Rattle.rdf_values.specs.declared.graph_cause.GraphCause.{GraphCause}
 use Rattle.rdf_values.specs.declared.graph_cause.GraphCause.TheVariants as cause
@@ -48,5 +50,10 @@ each_next f es e rest is r h d = subst (λ o. Decides o r) (sym (ap (λ xs. firs
 pub decides_stop : (n m : ℕ) (rest : List (Option GraphCause)) → nat_eq n m ≡ false → first_refusal (refuse_unless (nat_eq n m) cause.WrongCount ∷ rest) ≡ Some cause.WrongCount
 decides_stop n m rest h = ap (λ b. first_refusal (refuse_unless b cause.WrongCount ∷ rest)) h
 
-pub decides_next : {B : Type 0} (n m : ℕ) (rest : List (Option GraphCause)) → nat_eq n m ≡ true → (r : Result B Stop) → Decides (first_refusal rest) r → Decides (first_refusal (refuse_unless (nat_eq n m) cause.WrongCount ∷ rest)) r
-decides_next n m rest h r d = subst (λ o. Decides o r) (sym (ap (λ b. first_refusal (refuse_unless b cause.WrongCount ∷ rest)) h)) d
+pub counted : (n m : ℕ) (rest : List (Option GraphCause)) → nat_eq n m ≡ true → first_refusal (refuse_unless (nat_eq n m) cause.WrongCount ∷ rest) ≡ first_refusal rest
+counted n m rest h = ap (λ b. first_refusal (refuse_unless b cause.WrongCount ∷ rest)) h
+
+-- the first list with its column, and then the others
+pub lists_more : (names : FunctionNames) (scope : Scope) (tags : ℕ) (columns cs : List (List ℕ)) (c : List ℕ) (lists ls : List (List NamedTree)) (es : List NamedTree) → columns ≡ c ∷ cs → lists ≡ es ∷ ls
+    → first_refusal (check_lists names scope tags columns lists) ≡ first_refusal (check_list names scope tags c es ∷ check_lists names scope tags cs ls)
+lists_more names scope tags columns cs c lists ls es p q = λ i. first_refusal (check_lists names scope tags (p i) (q i))

@@ -3,6 +3,7 @@ use Rattle.std.specs.Prelude.{◌≡◌, ⊤, ℕ, List, [], ◌∷◌, length, 
 use Rattle.rdf_values.specs.Bookings.{Booked, booked_by, bookings}
 use Rattle.rdf_values.specs.Kinds.{FunctionNames, scope_of, column_kind}
 use Rattle.rdf_values.specs.Path.{variations}
+use Rattle.rdf_values.specs.Tree.{NamedTree}
 use Rattle.rdf_values.specs.Verdict.{check, cells_of, takes_of, kind_or_int, scope_at}
 use Rattle.rdf_values.specs.declared.column.Column.{Column}
 use Rattle.rdf_values.specs.declared.statement.Statement.{Statement}
@@ -12,7 +13,7 @@ use Rattle.graph_numbers.specs.Kinds.{own_kinds, version_kinds}
 use Rattle.graph_numbers.specs.Sites.{SiteAt, own_sites, sites}
 use Rattle.graph.specs.Dependence.{Numbers, IsSet, AreSets, own_version_sets, version_sets, own_site_sets, site_sets, own_result_sets, result_sets}
 use Rattle.graph.specs.declared.var_set.VarSet.{VarSet}
-use Rattle.graph.specs.Lookups.{AreKinds}
+use Rattle.graph.specs.Lookups.{AreKinds, IsCheckedAt}
 use Rattle.graph.specs.VarSets.{read_sets, changed_set}
 use Rattle.graph.specs.declared.gain.Gain.{Gain}
 use Rattle.graph.specs.declared.result_row.ResultRow.{ResultRow}
@@ -88,6 +89,12 @@ pub record IsColumnGain (versions : List VarSet) (c : CheckedExpr) (g : Gain) : 
   pub sites : g.sites.items ≡ c ∷ []
   pub site_sets : AreSets (read_sets versions (c ∷ [])) g.site_sets.items
   pub results : g.results.items ≡ []
+
+-- an expression that was checked at a node as a site, over versions with those sets, and the version that it makes
+pub record IsMadeGain (header : List Column) (names : FunctionNames) (before : List Statement) (versions : List VarSet) (parent : List ℕ) (expr : NamedTree) (g : Gain) : Type 0 where
+  pub site : CheckedExpr
+  pub checked : IsCheckedAt header names before parent expr site
+  pub gain : IsColumnGain versions site g
 
 -- a result
 pub record IsRowGain (r : ResultRow) (g : Gain) : Type 0 where

@@ -8,6 +8,7 @@ pub mod Laws
 pub mod Lookups
 pub mod LoopRows
 pub mod Names
+pub mod OneProof
 pub mod Refusals
 pub mod Rows
 pub mod Sets

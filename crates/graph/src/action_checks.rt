@@ -4,12 +4,13 @@ ghost use Rattle.rdf_values.specs.Bookings.{columns_of, weight_column};
 ghost use Rattle.rdf_values.specs.Kinds.{scope_of};
 ghost use Rattle.rdf_values.specs.Verdict.{begins, may_begin, permitted_kinds, check_columns, check_edges, scope_at};
 ghost use Rattle.rdf_values.specs.Edges.{are_edges, rises};
-ghost use Rattle.graph.specs.Lookups.{statements, AreKinds};
+ghost use Rattle.graph.specs.Lookups.{statements};
 
-use crate::columns::find_column;
+use crate::before::Before;
 use crate::parts::same_kind;
-use crate::push::{push, push_name};
-use rdf_values::{ActionKind, ColType, Column, FnNames, GraphCause, IntList, Line, Memory, Name};
+use crate::push::push_name;
+use crate::refusals::refuse_unless;
+use rdf_values::{ActionKind, ColType, GraphCause, IntList, Memory, Name};
 use std::alloc::Global;
 
 fn begins(kinds: &[ColType], permitted: &[ColType]) -> bool
@@ -68,32 +69,25 @@ fn may_begin(action: &ActionKind, kinds: &[ColType]) -> bool
 
 /// The columns of an action, whose kinds so far are these.
 fn check_columns(
-    before: &[Line],
-    header: &[Column],
-    names: &FnNames,
-    table: &[ColType],
+    before: &Before<'_>,
     node: &Name,
     action: &ActionKind,
     kinds: &mut Vec<ColType>,
     columns: &[Name],
 ) -> Result<Option<GraphCause>, Memory>
-    requires kinds { AreKinds header.now names.now (statements before.now) table.now }
-    ensures { IfOk result (λ o. o ≡ check_columns (scope_at names.now (scope_of header.now) (statements before.now) node.now) (permitted_kinds action.now) kinds.old.items columns.now) }
+    ensures { IfOk result (λ o. o ≡ check_columns (scope_at before.now.names.now (scope_of before.now.header.now) (statements before.now.lines.now) node.now) (permitted_kinds action.now) kinds.old.items columns.now) }
 {
     let Some((first, rest)) = columns.split_first() else {
         return Ok(None);
     };
-    match find_column(before, header, names, table, node, first) {
-        None => Ok(Some(GraphCause::UnknownColumn)),
-        Some((kind, _)) => {
-            push(kinds, kind)?;
-            if may_begin(action, kinds.as_slice()) {
-                check_columns(before, header, names, table, node, action, kinds, rest)
-            } else {
-                Ok(Some(GraphCause::WrongType))
-            }
-        }
+    let Some((kind, _)) = before.find_column(node, first) else {
+        return Ok(Some(GraphCause::UnknownColumn));
+    };
+    kinds.push(kind)?;
+    if !may_begin(action, kinds.as_slice()) {
+        return Ok(Some(GraphCause::WrongType));
     }
+    check_columns(before, node, action, kinds, rest)
 }
 
 fn push_weight(alloc: Global, names: &mut Vec<Name>, weight: &Option<Name>) -> Result<(), Memory>
@@ -162,36 +156,19 @@ pub(crate) fn check_edges(action: &ActionKind) -> Option<GraphCause>
         } => are_edges(x_edges) && are_edges(y_edges),
         _ => true,
     };
-    if fit {
-        None
-    } else {
-        Some(GraphCause::BadEdges)
-    }
+    refuse_unless(fit, GraphCause::BadEdges)
 }
 
 /// The columns of an action.
 pub(crate) fn action_columns(
     alloc: Global,
-    before: &[Line],
-    header: &[Column],
-    names: &FnNames,
-    kinds: &[ColType],
+    before: &Before<'_>,
     node: &Name,
     action: &ActionKind,
 ) -> Result<Option<GraphCause>, Memory>
-    requires kinds { AreKinds header.now names.now (statements before.now) kinds.now }
-    ensures { IfOk result (λ o. o ≡ check_columns (scope_at names.now (scope_of header.now) (statements before.now) node.now) (permitted_kinds action.now) [] (columns_of action.now)) }
+    ensures { IfOk result (λ o. o ≡ check_columns (scope_at before.now.names.now (scope_of before.now.header.now) (statements before.now.lines.now) node.now) (permitted_kinds action.now) [] (columns_of action.now)) }
 {
     let columns = columns_of(alloc, action)?;
     let mut seen = Vec::new(alloc);
-    check_columns(
-        before,
-        header,
-        names,
-        kinds,
-        node,
-        action,
-        &mut seen,
-        columns.as_slice(),
-    )
+    check_columns(before, node, action, &mut seen, columns.as_slice())
 }

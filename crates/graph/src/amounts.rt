@@ -27,19 +27,13 @@ pub struct Amounts {
 fn total(m: usize, n: usize) -> Result<usize, Memory>
     ensures { IfOk result (λ p. p ≡ m + n) }
 {
-    match m.checked_add(n) {
-        Some(p) => Ok(p),
-        None => Err(Memory),
-    }
+    m.checked_add(n).ok_or(Memory)
 }
 
 fn product(m: usize, n: usize) -> Result<usize, Memory>
     ensures { IfOk result (λ p. p ≡ m * n) }
 {
-    match m.checked_mul(n) {
-        Some(p) => Ok(p),
-        None => Err(Memory),
-    }
+    m.checked_mul(n).ok_or(Memory)
 }
 
 /// The cells of an action's histogram.

@@ -1,17 +1,19 @@
 // The columns of an expression at a node, with their kinds and versions, and the expression over versions.
-ghost use Rattle.std.specs.Prelude.{◌≡◌, ◌<◌, ◌≤◌, ◌++◌, ◌∷◌, [], length, Some, Err, MatchOption, IfOk, IfErr, OnOk, slice_get};
+ghost use Rattle.std.specs.Prelude.{◌≡◌, ◌<◌, ◌++◌, ◌∷◌, [], length, Some, Err, MatchOption, IfOk, IfErr, OnOk, slice_get};
 ghost use Rattle.rdf_values.specs.Depends.{columns_in, columns_in_all};
 ghost use Rattle.rdf_values.specs.ExprTree.{tree_of, trees_of};
 ghost use Rattle.rdf_values.specs.Kinds.{scope_of, column_kind, kind_of};
-ghost use Rattle.rdf_values.specs.Verdict.{scope_at};
+ghost use Rattle.rdf_values.specs.Verdict.{kind_or_int, scope_at};
 ghost use Rattle.rdf_values.specs.declared.graph_cause.GraphCause.TheVariants.{UnknownColumn};
 ghost use Rattle.expr_check.specs.CheckAnswers.{RefusedAs};
-ghost use Rattle.graph.specs.Lookups.{statements, AreKinds, IsFound, IsScopeAt, AreNoted, IsScopeOf, IsCheckedAt};
+ghost use Rattle.graph_numbers.specs.Versions.{named_version};
+ghost use Rattle.graph.specs.Lookups.{statements, IsFound, IsScopeAt, AreNoted, IsScopeOf, IsCheckedAt};
 
+use crate::before::Before;
 use crate::lookup::{is_visible, named_version, target_of};
 use crate::push::push_name;
 use expr_check::{CheckRefusal, Checked, Scope, check};
-use rdf_values::{Args, ColType, Column, Expr, ExprNode, FnNames, Line, Memory, Name};
+use rdf_values::{Args, ColType, Expr, ExprNode, Memory, Name};
 use std::alloc::Global;
 
 #[cycle(names)]
@@ -57,127 +59,93 @@ fn names_in(alloc: Global, expr: &Expr) -> Result<Vec<Name>, Memory>
     Ok(columns)
 }
 
-/// The kind of a version, and its number.
-fn numbered_kind(kinds: &[ColType], version: usize) -> (ColType, u32)
-    requires few { length kinds.now ≤ 4294967295 }
-    requires within { version < length kinds.now }
-    ensures { (slice_get kinds.now version ≡ Some result.0) × (result.1 ≡ version) }
-{
-    (kinds[version], version as u32)
-}
-
-/// The kind and the version of a column at a node, where it is visible.
-pub fn find_column(
-    before: &[Line],
-    header: &[Column],
-    names: &FnNames,
-    kinds: &[ColType],
-    node: &Name,
-    name: &Name,
-) -> Option<(ColType, u32)>
-    requires kinds { AreKinds header.now names.now (statements before.now) kinds.now }
-    ensures { MatchOption result (column_kind (scope_at names.now (scope_of header.now) (statements before.now) node.now) name.now ≡ Err UnknownColumn)
-        (λ c. IsFound header.now names.now (statements before.now) node.now kinds.now name.now c.0 c.1) }
-{
-    if !is_visible(before, header, node, name) {
-        return None;
+impl Before<'_> {
+    /// The version of a column that is no alias at a node.
+    pub(crate) fn named_version(&self, node: &Name, name: &Name) -> usize
+        ensures { result ≡ named_version self.now.header.now (statements self.now.lines.now) node.now name.now }
+    {
+        named_version(self.lines, self.header, self.tables.kinds.len(), node, name)
     }
-    let target = target_of(before, node, name);
-    let version = named_version(before, header, kinds.len(), node, target);
-    Some(numbered_kind(kinds, version))
-}
 
-/// Brings a column into a scope, unless it is there or isn't visible.
-fn note(
-    before: &[Line],
-    header: &[Column],
-    names: &FnNames,
-    kinds: &[ColType],
-    node: &Name,
-    scope: &mut Scope,
-    name: &Name,
-) -> Result<(), Memory>
-    requires kinds { AreKinds header.now names.now (statements before.now) kinds.now }
-    requires scope { IsScopeAt header.now names.now (statements before.now) node.now kinds.now scope.old }
-    ensures { OnOk result (AreNoted header.now names.now (statements before.now) node.now kinds.now scope.old scope.new (name.now ∷ [])) }
-{
-    match find_column(before, header, names, kinds, node, name) {
-        None => Ok(()),
-        Some((kind, number)) => match scope.find(name) {
-            Some(_) => Ok(()),
-            None => scope.add(name, kind, number),
-        },
+    /// The kind of a version, and its number.
+    fn numbered_kind(&self, version: usize) -> (ColType, u32)
+        requires { version < length self.now.tables.now.kinds.items }
+        ensures { (slice_get self.now.tables.now.kinds.items version ≡ Some result.0) × (result.1 ≡ version) }
+    {
+        (self.tables.kinds[version], version as u32)
     }
-}
 
-/// Brings columns into a scope.
-fn note_all(
-    before: &[Line],
-    header: &[Column],
-    names: &FnNames,
-    kinds: &[ColType],
-    node: &Name,
-    scope: &mut Scope,
-    columns: &[Name],
-) -> Result<(), Memory>
-    requires kinds { AreKinds header.now names.now (statements before.now) kinds.now }
-    requires scope { IsScopeAt header.now names.now (statements before.now) node.now kinds.now scope.old }
-    ensures { OnOk result (AreNoted header.now names.now (statements before.now) node.now kinds.now scope.old scope.new columns.now) }
-{
-    let Some((first, rest)) = columns.split_first() else {
-        return Ok(());
-    };
-    match note(before, header, names, kinds, node, scope, first) {
-        Err(_) => Err(Memory),
-        Ok(()) => note_all(before, header, names, kinds, node, scope, rest),
+    /// The kind and the version of a column at a node, where it is visible.
+    pub(crate) fn find_column(&self, node: &Name, name: &Name) -> Option<(ColType, u32)>
+        ensures { MatchOption result (column_kind (scope_at self.now.names.now (scope_of self.now.header.now) (statements self.now.lines.now) node.now) name.now ≡ Err UnknownColumn)
+            (λ c. IsFound self.now.header.now self.now.names.now (statements self.now.lines.now) node.now self.now.tables.now.kinds.items name.now c.0 c.1) }
+    {
+        if !is_visible(self.lines, self.header, node, name) {
+            return None;
+        }
+        let target = target_of(self.lines, node, name);
+        Some(self.numbered_kind(self.named_version(node, target)))
     }
-}
 
-/// The columns of an expression at a node.
-fn scope_for(
-    alloc: Global,
-    before: &[Line],
-    header: &[Column],
-    names: &FnNames,
-    kinds: &[ColType],
-    node: &Name,
-    expr: &Expr,
-) -> Result<Scope, Memory>
-    requires kinds { AreKinds header.now names.now (statements before.now) kinds.now }
-    ensures { IfOk result (λ scope. IsScopeOf header.now names.now (statements before.now) node.now kinds.now expr.now scope) }
-{
-    let columns = names_in(alloc, expr)?;
-    let mut scope = Scope::new(alloc);
-    match note_all(
-        before,
-        header,
-        names,
-        kinds,
-        node,
-        &mut scope,
-        columns.as_slice(),
-    ) {
-        Err(_) => Err(Memory),
-        Ok(()) => Ok(scope),
+    /// The kind of a column, and that of a number where there is none.
+    pub(crate) fn kind_at(&self, node: &Name, column: &Name) -> ColType
+        ensures { result ≡ kind_or_int (column_kind (scope_at self.now.names.now (scope_of self.now.header.now) (statements self.now.lines.now) node.now) column.now) }
+    {
+        match self.find_column(node, column) {
+            Some((kind, _)) => kind,
+            None => ColType::Int,
+        }
     }
-}
 
-/// The expression over the versions that its columns have at a node, or its first refusal.
-pub fn check_at(
-    alloc: Global,
-    before: &[Line],
-    header: &[Column],
-    names: &FnNames,
-    kinds: &[ColType],
-    node: &Name,
-    expr: &Expr,
-) -> Result<Checked, CheckRefusal>
-    requires kinds { AreKinds header.now names.now (statements before.now) kinds.now }
-    ensures checked { IfOk result (IsCheckedAt header.now names.now (statements before.now) node.now expr.now) }
-    ensures refused { IfErr result (λ e. RefusedAs e (kind_of (scope_at names.now (scope_of header.now) (statements before.now) node.now) names.now expr.now)) }
-{
-    match scope_for(alloc, before, header, names, kinds, node, expr) {
-        Err(_) => Err(CheckRefusal::Memory),
-        Ok(scope) => check(alloc, expr, &scope, names),
+    /// Brings a column into a scope, unless it is there or isn't visible.
+    fn note(&self, node: &Name, scope: &mut Scope, name: &Name) -> Result<(), Memory>
+        requires scope { IsScopeAt self.now.header.now self.now.names.now (statements self.now.lines.now) node.now self.now.tables.now.kinds.items scope.old }
+        ensures { OnOk result (AreNoted self.now.header.now self.now.names.now (statements self.now.lines.now) node.now self.now.tables.now.kinds.items scope.old scope.new (name.now ∷ [])) }
+    {
+        match self.find_column(node, name) {
+            None => Ok(()),
+            Some((kind, number)) => match scope.find(name) {
+                Some(_) => Ok(()),
+                None => scope.add(name, kind, number),
+            },
+        }
+    }
+
+    /// Brings columns into a scope.
+    fn note_all(&self, node: &Name, scope: &mut Scope, columns: &[Name]) -> Result<(), Memory>
+        requires scope { IsScopeAt self.now.header.now self.now.names.now (statements self.now.lines.now) node.now self.now.tables.now.kinds.items scope.old }
+        ensures { OnOk result (AreNoted self.now.header.now self.now.names.now (statements self.now.lines.now) node.now self.now.tables.now.kinds.items scope.old scope.new columns.now) }
+    {
+        let Some((first, rest)) = columns.split_first() else {
+            return Ok(());
+        };
+        self.note(node, scope, first)?;
+        self.note_all(node, scope, rest)
+    }
+
+    /// The columns of an expression at a node.
+    fn scope_for(&self, alloc: Global, node: &Name, expr: &Expr) -> Result<Scope, Memory>
+        ensures { IfOk result (λ scope. IsScopeOf self.now.header.now self.now.names.now (statements self.now.lines.now) node.now self.now.tables.now.kinds.items expr.now scope) }
+    {
+        let columns = names_in(alloc, expr)?;
+        let mut scope = Scope::new(alloc);
+        self.note_all(node, &mut scope, columns.as_slice())?;
+        Ok(scope)
+    }
+
+    /// The expression over the versions that its columns have at a node, or its first refusal.
+    pub(crate) fn check_at(
+        &self,
+        alloc: Global,
+        node: &Name,
+        expr: &Expr,
+    ) -> Result<Checked, CheckRefusal>
+        ensures checked { IfOk result (IsCheckedAt self.now.header.now self.now.names.now (statements self.now.lines.now) node.now expr.now) }
+        ensures refused { IfErr result (λ e. RefusedAs e (kind_of (scope_at self.now.names.now (scope_of self.now.header.now) (statements self.now.lines.now) node.now) self.now.names.now expr.now)) }
+    {
+        match self.scope_for(alloc, node, expr) {
+            Err(_) => Err(CheckRefusal::Memory),
+            Ok(scope) => check(alloc, expr, &scope, self.names),
+        }
     }
 }

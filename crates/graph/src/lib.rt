@@ -6,6 +6,7 @@
 mod action_checks;
 pub mod amounts;
 mod asked_checks;
+mod before;
 mod book;
 mod booking;
 pub mod check;
@@ -17,7 +18,6 @@ pub mod graph;
 pub mod laws;
 pub mod lookup;
 mod loops;
-mod node_checks;
 mod parts;
 mod push;
 pub mod refusal;

@@ -11,35 +11,17 @@ ghost use Rattle.graph_numbers.specs.Versions.{column_place, own_columns, own_ve
 use rdf_values::{Column, Line, Name, Statement};
 
 /// The parent, where the statement makes the node.
-pub fn made_from<'a>(statement: &'a Statement, node: &Name) -> Option<&'a Name>
-    ensures { MatchOption result (makes statement.now node.now ≡ false) (λ parent. (makes statement.now node.now ≡ true) × (parent_of statement.now ≡ parent.now)) }
+pub fn made_from<'a>(statement: &'a Statement, sought: &Name) -> Option<&'a Name>
+    ensures { MatchOption result (makes statement.now sought.now ≡ false) (λ parent. (makes statement.now sought.now ≡ true) × (parent_of statement.now ≡ parent.now)) }
 {
     match statement {
-        Statement::Define {
-            node: own,
-            parent,
-            ..
+        Statement::Define { node, parent, .. }
+        | Statement::Redefine { node, parent, .. }
+        | Statement::Alias { node, parent, .. }
+        | Statement::Filter { node, parent, .. }
+        | Statement::Vary { node, parent, .. } => {
+            if node.is(sought) { Some(parent) } else { None }
         }
-        | Statement::Redefine {
-            node: own,
-            parent,
-            ..
-        }
-        | Statement::Alias {
-            node: own,
-            parent,
-            ..
-        }
-        | Statement::Filter {
-            node: own,
-            parent,
-            ..
-        }
-        | Statement::Vary {
-            node: own,
-            parent,
-            ..
-        } => { if own.is(node) { Some(parent) } else { None } }
         _ => None,
     }
 }

@@ -1,5 +1,5 @@
 // Appending, where an error keeps no item.
-ghost use Rattle.std.specs.Prelude.{◌≡◌, ◌∷◌, ◌++◌, [], replicate, OnOk};
+ghost use Rattle.std.specs.Prelude.{◌≡◌, ◌∷◌, ◌++◌, [], replicate, IfOk, OnOk};
 
 use rdf_values::{Memory, Name};
 use std::alloc::Global;
@@ -29,17 +29,15 @@ pub(crate) fn push_many(items: &mut Vec<u32>, item: u32, count: usize) -> Result
 pub(crate) fn push_name(alloc: Global, names: &mut Vec<Name>, name: &Name) -> Result<(), Memory>
     ensures { OnOk result (names.new.items ≡ names.old.items ++ name.now ∷ []) }
 {
-    let name = name.copy(alloc)?;
-    push(names, name)
+    names.push(name.copy(alloc)?)?;
+    Ok(())
 }
 
-/// Appends a list.
-pub(crate) fn append<T: Drop>(items: &mut Vec<T>, more: Vec<T>) -> Result<(), Memory>
-    ensures { OnOk result (items.new.items ≡ items.old.items ++ more.items) }
+/// A list of one item.
+pub(crate) fn alone<T: Drop>(alloc: Global, item: T) -> Result<Vec<T>, Memory>
+    ensures { IfOk result (λ items. items.items ≡ item ∷ []) }
 {
-    let mut more = more;
-    match items.append(&mut more) {
-        Ok(()) => Ok(()),
-        Err(_) => Err(Memory),
-    }
+    let mut items = Vec::new(alloc);
+    items.push(item)?;
+    Ok(items)
 }

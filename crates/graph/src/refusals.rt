@@ -1,7 +1,9 @@
 // The first refusal of several checks in order.
 ghost use Rattle.std.specs.Prelude.{◌≡◌, ◌∷◌, []};
 ghost use Rattle.rdf_values.specs.Verdict.{first_refusal, refuse_if, refuse_unless};
+ghost use Rattle.graph.specs.Checks.{Decides};
 
+use crate::stop::Stop;
 use rdf_values::GraphCause;
 
 pub(crate) fn refuse_if(refused: bool, cause: GraphCause) -> Option<GraphCause>
@@ -54,17 +56,12 @@ pub(crate) fn first_of_four(
     }
 }
 
-pub(crate) fn first_of_five(
-    first: Option<GraphCause>,
-    second: Option<GraphCause>,
-    third: Option<GraphCause>,
-    fourth: Option<GraphCause>,
-    fifth: Option<GraphCause>,
-) -> Option<GraphCause>
-    ensures { result ≡ first_refusal (first ∷ second ∷ third ∷ fourth ∷ fifth ∷ []) }
+/// Stops for a refusal.
+pub(crate) fn stop_if(refusal: Option<GraphCause>) -> Result<(), Stop>
+    ensures { Decides refusal result }
 {
-    match first {
-        Some(cause) => Some(cause),
-        None => first_of_four(second, third, fourth, fifth),
+    match refusal {
+        Some(cause) => Err(Stop::Cause(cause)),
+        None => Ok(()),
     }
 }

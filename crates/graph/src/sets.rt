@@ -1,16 +1,17 @@
 // Sets of variations of versions, sites and filters.
 ghost use Rattle.std.specs.Prelude.{◌≡◌, ◌<◌, ◌≤◌, ◌+◌, ℕ, length, map};
 ghost use Rattle.std.specs.List.{list_any};
-ghost use Rattle.graph_numbers.specs.Versions.{version_count, version_at, named_version};
+ghost use Rattle.graph_numbers.specs.Versions.{version_at};
 ghost use Rattle.graph.specs.Dependence.{is_among_own};
 ghost use Rattle.graph.specs.Lookups.{statements};
 ghost use Rattle.graph.specs.SiteNumbers.{expression_total, own_site_total, site_total, is_filter, filter_numbers};
 ghost use Rattle.graph.specs.VarSets.{has_at, any_has};
 ghost use Rattle.graph.specs.Sets.{has};
 
-use crate::lookup::{made_from, named_version, target_of};
+use crate::before::Before;
+use crate::lookup::{made_from, target_of};
 use crate::var_set::VarSet;
-use rdf_values::{Column, Expr, Line, ListOf, Name, Statement, VaryValues};
+use rdf_values::{Expr, Line, ListOf, Name, Statement, VaryValues};
 
 /// The set at a place; the empty set where there is none.
 pub(crate) fn set_at(sets: &[VarSet], place: usize) -> VarSet
@@ -32,40 +33,23 @@ pub(crate) fn set_of(sets: &[VarSet], places: &[u32]) -> VarSet
     set_at(sets, *first as usize).union(set_of(sets, rest))
 }
 
-/// The numbers of the sets of a column's version at a node, of so many versions.
-pub(crate) fn column_set(
-    before: &[Line],
-    header: &[Column],
-    count: usize,
-    sets: &[VarSet],
-    node: &Name,
-    column: &Name,
-) -> VarSet
-    requires { count ≡ version_count header.now (statements before.now) }
-    ensures { (v : ℕ) → has result v ≡ has_at sets.now (version_at header.now (statements before.now) node.now column.now) v }
+/// The numbers of the set of a column's version at a node.
+fn column_set(before: &Before<'_>, node: &Name, column: &Name) -> VarSet
+    ensures { (v : ℕ) → has result v ≡ has_at before.now.tables.now.version_sets.items (version_at before.now.header.now (statements before.now.lines.now) node.now column.now) v }
 {
-    let target = target_of(before, node, column);
-    set_at(sets, named_version(before, header, count, node, target))
+    let target = target_of(before.lines, node, column);
+    let version = before.named_version(node, target);
+    set_at(before.tables.version_sets.as_slice(), version)
 }
 
-/// The numbers of the sets of the columns' versions at a node, of so many versions.
-pub(crate) fn columns_set(
-    before: &[Line],
-    header: &[Column],
-    count: usize,
-    sets: &[VarSet],
-    node: &Name,
-    columns: &[Name],
-) -> VarSet
-    requires { count ≡ version_count header.now (statements before.now) }
-    ensures { (v : ℕ) → has result v ≡ any_has sets.now (map (version_at header.now (statements before.now) node.now) columns.now) v }
+/// The numbers of the sets of the columns' versions at a node.
+pub(crate) fn columns_set(before: &Before<'_>, node: &Name, columns: &[Name]) -> VarSet
+    ensures { (v : ℕ) → has result v ≡ any_has before.now.tables.now.version_sets.items (map (version_at before.now.header.now (statements before.now.lines.now) node.now) columns.now) v }
 {
     let Some((first, rest)) = columns.split_first() else {
         return VarSet::empty();
     };
-    column_set(before, header, count, sets, node, first).union(columns_set(
-        before, header, count, sets, node, rest,
-    ))
+    column_set(before, node, first).union(columns_set(before, node, rest))
 }
 
 /// How many expressions lists have, at most so many.

@@ -8,7 +8,6 @@ ghost use Rattle.graph.specs.Lookups.{statements};
 ghost use Rattle.graph.specs.VarSets.{AppendsSets};
 
 use crate::gain::Gain;
-use crate::push::{append, push};
 use crate::result_row::ResultRow;
 use crate::var_set::VarSet;
 use crate::variations::Variations;
@@ -31,14 +30,10 @@ pub struct Tables {
 }
 
 /// The kinds of the table's columns.
-fn push_kinds(kinds: &mut Vec<ColType>, header: &[Column]) -> Result<(), Memory>
-    ensures { OnOk result (kinds.new.items ≡ kinds.old.items ++ map (λ c. c.kind) header.now) }
+fn kinds_of(alloc: Global, header: &[Column]) -> Result<Vec<ColType>, Memory>
+    ensures { IfOk result (λ kinds. kinds.items ≡ map (λ c. c.kind) header.now) }
 {
-    let Some((first, rest)) = header.split_first() else {
-        return Ok(());
-    };
-    push(kinds, first.kind)?;
-    push_kinds(kinds, rest)
+    Ok(header.iter().map(|column| column.kind).collect(alloc)?)
 }
 
 /// An empty set for each of the table's columns.
@@ -49,10 +44,8 @@ fn push_empty_sets(sets: &mut Vec<VarSet>, header: &[Column]) -> Result<(), Memo
     let Some((_, rest)) = header.split_first() else {
         return Ok(());
     };
-    match push(sets, VarSet::empty()) {
-        Err(_) => Err(Memory),
-        Ok(()) => push_empty_sets(sets, rest),
-    }
+    sets.push(VarSet::empty())?;
+    push_empty_sets(sets, rest)
 }
 
 /// Whether there is room for more versions.
@@ -97,8 +90,7 @@ impl Tables {
         requires few { length header.now ≤ 64 }
         ensures { IfOk result (λ t. (names : FunctionNames) → AreTables header.now names [] t) }
     {
-        let mut kinds = Vec::new(alloc);
-        push_kinds(&mut kinds, header)?;
+        let kinds = kinds_of(alloc, header)?;
         let mut version_sets = Vec::new(alloc);
         push_empty_sets(&mut version_sets, header)?;
         Ok(Tables {
@@ -119,7 +111,7 @@ impl Tables {
         header: &[Column],
         names: &FnNames,
         statement: &Statement,
-        gain: Gain,
+        mut gain: Gain,
     ) -> Result<(), Memory>
         requires tables { AreTables header.now names.now (statements before.now) self.old }
         requires gain { IsGain header.now names.now (statements before.now) statement.now gain }
@@ -128,11 +120,11 @@ impl Tables {
         if !has_room(self.kinds.as_slice(), gain.kinds.as_slice()) {
             return Err(Memory);
         }
-        append(&mut self.kinds, gain.kinds)?;
-        append(&mut self.version_sets, gain.version_sets)?;
-        append(&mut self.sites, gain.sites)?;
-        append(&mut self.site_sets, gain.site_sets)?;
-        append(&mut self.results, gain.results)?;
+        self.kinds.append(&mut gain.kinds)?;
+        self.version_sets.append(&mut gain.version_sets)?;
+        self.sites.append(&mut gain.sites)?;
+        self.site_sets.append(&mut gain.site_sets)?;
+        self.results.append(&mut gain.results)?;
         add_variations(
             alloc,
             &mut self.variations,

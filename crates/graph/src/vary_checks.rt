@@ -1,26 +1,26 @@
 // The check of a Vary.
 ghost use Rattle.std.specs.Prelude.{◌≡◌, ◌∷◌, ◌++◌, ◌+◌, ℕ, List, [], length, map, nat_eq, nat_lt, true, ◌||◌, IfOk, IfErr, OnOk};
-ghost use Rattle.rdf_values.specs.Kinds.{FunctionNames, scope_of, column_kind, kind_of};
+ghost use Rattle.rdf_values.specs.Kinds.{scope_of, kind_of};
 ghost use Rattle.rdf_values.specs.Path.{variations};
-ghost use Rattle.rdf_values.specs.Verdict.{check, check_list, check_lists, check_tags, check_values, check_vector_column, expect_kind, first_refusal, kind_or_int, refuse_unless, repeats, scope_at};
+ghost use Rattle.rdf_values.specs.Verdict.{check, check_list, check_lists, check_tags, check_values, check_vector_column, expect_kind, first_refusal, refuse_unless, repeats, scope_at};
 ghost use Rattle.rdf_values.specs.declared.graph_cause.GraphCause.TheVariants as cause_of;
 ghost use Rattle.rdf_values.specs.declared.statement.Statement.{Statement};
 ghost use Rattle.rdf_values.specs.declared.statement.Statement.TheVariants.{Vary};
 ghost use Rattle.rdf_values.specs.declared.value.ColType.TheVariants as a_kind;
 ghost use Rattle.rdf_values.specs.declared.vary_values.VaryValues.TheVariants.{Lists, Vector};
 ghost use Rattle.graph.specs.Checks.{Decides, targets_at};
-ghost use Rattle.graph.specs.Lookups.{statements, AreKinds, IsCheckedAt};
+ghost use Rattle.graph.specs.Lookups.{statements};
 ghost use Rattle.graph.specs.VaryChecks.{all_expressions, value_expressions, Appends, AllCheckedAt};
 
-use crate::columns::find_column;
-use crate::parts::{check_node, check_target, expected, same_kind};
-use crate::push::push;
-use crate::refusals::{first_of, first_of_four, first_of_three, refuse_if};
+use crate::before::Before;
+use crate::parts::same_kind;
+use crate::push::alone;
+use crate::refusals::{first_of, first_of_four, first_of_three, refuse_if, refuse_unless, stop_if};
 use crate::results::is_among;
 use crate::stop::Stop;
 use crate::variations::Variations;
 use expr_check::Checked;
-use rdf_values::{ColType, Column, Expr, FnNames, GraphCause, Line, ListOf, Name, VaryValues};
+use rdf_values::{ColType, Expr, GraphCause, ListOf, Name, VaryValues};
 use std::alloc::Global;
 
 const MOST_TAGS: usize = 16;
@@ -56,63 +56,34 @@ fn are_too_many(known: &Variations, tags: &[Name]) -> bool
 }
 
 /// The columns that a Vary changes.
-fn check_targets(
-    before: &[Line],
-    header: &[Column],
-    parent: &Name,
-    columns: &[Name],
-) -> Option<GraphCause>
-    ensures { (names : FunctionNames) → result ≡ targets_at names (scope_of header.now) (statements before.now) parent.now columns.now }
+fn check_targets(before: &Before<'_>, parent: &Name, columns: &[Name]) -> Option<GraphCause>
+    ensures { result ≡ targets_at before.now.names.now (scope_of before.now.header.now) (statements before.now.lines.now) parent.now columns.now }
 {
     let Some((first, rest)) = columns.split_first() else {
         return None;
     };
     first_of(
-        check_target(before, header, parent, first),
-        check_targets(before, header, parent, rest),
+        before.check_target(parent, first),
+        check_targets(before, parent, rest),
     )
-}
-
-/// The kind of a column, and that of a number where there is none.
-pub(crate) fn kind_at(
-    before: &[Line],
-    header: &[Column],
-    names: &FnNames,
-    kinds: &[ColType],
-    node: &Name,
-    column: &Name,
-) -> ColType
-    requires kinds { AreKinds header.now names.now (statements before.now) kinds.now }
-    ensures { result ≡ kind_or_int (column_kind (scope_at names.now (scope_of header.now) (statements before.now) node.now) column.now) }
-{
-    match find_column(before, header, names, kinds, node, column) {
-        Some((kind, _)) => kind,
-        None => ColType::Int,
-    }
 }
 
 /// An expression of a given kind, appended.
 fn push_expected(
     alloc: Global,
-    before: &[Line],
-    header: &[Column],
-    names: &FnNames,
-    kinds: &[ColType],
+    before: &Before<'_>,
     node: &Name,
     kind: ColType,
     expr: &Expr,
     found: &mut Vec<Checked>,
 ) -> Result<(), Stop>
-    requires kinds { AreKinds header.now names.now (statements before.now) kinds.now }
-    ensures checked { OnOk result (Appends header.now names.now (statements before.now) node.now (expr.now ∷ []) found.old.items found.new.items) }
-    ensures decided { Decides (expect_kind kind (kind_of (scope_at names.now (scope_of header.now) (statements before.now) node.now) names.now expr.now)) result }
+    ensures checked { OnOk result (Appends before.now.header.now before.now.names.now (statements before.now.lines.now) node.now (expr.now ∷ []) found.old.items found.new.items) }
+    ensures decided { Decides (expect_kind kind (kind_of (scope_at before.now.names.now (scope_of before.now.header.now) (statements before.now.lines.now) node.now) before.now.names.now expr.now)) result }
 {
-    match expected(alloc, before, header, names, kinds, node, kind, expr) {
-        Err(stop) => Err(stop),
-        Ok(checked) => match push(found, checked) {
-            Ok(()) => Ok(()),
-            Err(_) => Err(Stop::Memory),
-        },
+    let checked = before.expected(alloc, node, kind, expr)?;
+    match found.push(checked) {
+        Ok(()) => Ok(()),
+        Err(_) => Err(Stop::Memory),
     }
 }
 
@@ -120,28 +91,20 @@ fn push_expected(
 #[tactic(auto, using(crate::proofs::Varying::each_stop, crate::proofs::Varying::each_next))]
 fn check_exprs(
     alloc: Global,
-    before: &[Line],
-    header: &[Column],
-    names: &FnNames,
-    kinds: &[ColType],
+    before: &Before<'_>,
     node: &Name,
     kind: ColType,
     exprs: &[Expr],
     found: &mut Vec<Checked>,
 ) -> Result<(), Stop>
-    requires kinds { AreKinds header.now names.now (statements before.now) kinds.now }
-    ensures checked { OnOk result (Appends header.now names.now (statements before.now) node.now exprs.now found.old.items found.new.items) }
-    ensures decided { Decides (first_refusal (map (λ e. expect_kind kind (kind_of (scope_at names.now (scope_of header.now) (statements before.now) node.now) names.now e)) exprs.now)) result }
+    ensures checked { OnOk result (Appends before.now.header.now before.now.names.now (statements before.now.lines.now) node.now exprs.now found.old.items found.new.items) }
+    ensures decided { Decides (first_refusal (map (λ e. expect_kind kind (kind_of (scope_at before.now.names.now (scope_of before.now.header.now) (statements before.now.lines.now) node.now) before.now.names.now e)) exprs.now)) result }
 {
     let Some((first, rest)) = exprs.split_first() else {
         return Ok(());
     };
-    match push_expected(
-        alloc, before, header, names, kinds, node, kind, first, found,
-    ) {
-        Err(stop) => Err(stop),
-        Ok(()) => check_exprs(alloc, before, header, names, kinds, node, kind, rest, found),
-    }
+    push_expected(alloc, before, node, kind, first, found)?;
+    check_exprs(alloc, before, node, kind, rest, found)
 }
 
 /// Whether there are so many expressions.
@@ -152,98 +115,66 @@ fn has_count(exprs: &[Expr], count: usize) -> bool
 }
 
 /// The list of a column: an expression of the column's kind for each tag.
-#[tactic(auto, using(crate::proofs::Varying::decides_stop, crate::proofs::Varying::decides_next))]
+#[tactic(auto, using(crate::proofs::Varying::decides_stop, crate::proofs::Varying::counted))]
 fn check_list(
     alloc: Global,
-    before: &[Line],
-    header: &[Column],
-    names: &FnNames,
-    kinds: &[ColType],
+    before: &Before<'_>,
     node: &Name,
     tags: usize,
     column: &Name,
     exprs: &[Expr],
-    found: &mut Vec<Checked>,
-) -> Result<(), Stop>
-    requires kinds { AreKinds header.now names.now (statements before.now) kinds.now }
-    ensures checked { OnOk result (Appends header.now names.now (statements before.now) node.now exprs.now found.old.items found.new.items) }
-    ensures decided { Decides (check_list names.now (scope_at names.now (scope_of header.now) (statements before.now) node.now) tags column.now exprs.now) result }
+) -> Result<Vec<Checked>, Stop>
+    ensures checked { IfOk result (λ found. AllCheckedAt before.now.header.now before.now.names.now (statements before.now.lines.now) node.now exprs.now found.items) }
+    ensures decided { Decides (check_list before.now.names.now (scope_at before.now.names.now (scope_of before.now.header.now) (statements before.now.lines.now) node.now) tags column.now exprs.now) result }
 {
     if !has_count(exprs, tags) {
         return Err(Stop::Cause(GraphCause::WrongCount));
     }
-    let kind = kind_at(before, header, names, kinds, node, column);
-    check_exprs(
-        alloc, before, header, names, kinds, node, kind, exprs, found,
-    )
+    let kind = before.kind_at(node, column);
+    let mut found = Vec::new(alloc);
+    check_exprs(alloc, before, node, kind, exprs, &mut found)?;
+    Ok(found)
 }
 
 /// A list for each column, as many lists as columns.
 fn check_lists(
     alloc: Global,
-    before: &[Line],
-    header: &[Column],
-    names: &FnNames,
-    kinds: &[ColType],
+    before: &Before<'_>,
     node: &Name,
     tags: usize,
     columns: &[Name],
     lists: &[ListOf<Expr>],
-    found: &mut Vec<Checked>,
-) -> Result<(), Stop>
-    requires kinds { AreKinds header.now names.now (statements before.now) kinds.now }
+) -> Result<Vec<Checked>, Stop>
     requires paired { length lists.now ≡ length columns.now }
-    ensures checked { OnOk result (Appends header.now names.now (statements before.now) node.now (all_expressions lists.now) found.old.items found.new.items) }
-    ensures decided { Decides (first_refusal (check_lists names.now (scope_at names.now (scope_of header.now) (statements before.now) node.now) tags columns.now lists.now)) result }
+    ensures checked { IfOk result (λ found. AllCheckedAt before.now.header.now before.now.names.now (statements before.now.lines.now) node.now (all_expressions lists.now) found.items) }
+    ensures decided { Decides (first_refusal (check_lists before.now.names.now (scope_at before.now.names.now (scope_of before.now.header.now) (statements before.now.lines.now) node.now) tags columns.now lists.now)) result }
 {
     let Some((exprs, lists)) = lists.split_first() else {
-        return Ok(());
+        return Ok(Vec::new(alloc));
     };
     let Some((column, columns)) = columns.split_first() else {
-        return Ok(());
+        return Ok(Vec::new(alloc));
     };
-    match check_list(
-        alloc,
-        before,
-        header,
-        names,
-        kinds,
-        node,
-        tags,
-        column,
-        exprs.as_slice(),
-        found,
-    ) {
-        Err(stop) => Err(stop),
-        Ok(()) => check_lists(
-            alloc, before, header, names, kinds, node, tags, columns, lists, found,
-        ),
+    let mut found = check_list(alloc, before, node, tags, column, exprs.as_slice())?;
+    let mut more = check_lists(alloc, before, node, tags, columns, lists)?;
+    match found.append(&mut more) {
+        Ok(()) => Ok(found),
+        Err(_) => Err(Stop::Memory),
     }
 }
 
 /// The one column of a vector: it holds numbers.
-fn check_vector_column(
-    before: &[Line],
-    header: &[Column],
-    names: &FnNames,
-    kinds: &[ColType],
-    node: &Name,
-    columns: &[Name],
-) -> Option<GraphCause>
-    requires kinds { AreKinds header.now names.now (statements before.now) kinds.now }
-    ensures { result ≡ check_vector_column (scope_at names.now (scope_of header.now) (statements before.now) node.now) columns.now }
+fn check_vector_column(before: &Before<'_>, node: &Name, columns: &[Name]) -> Option<GraphCause>
+    ensures { result ≡ check_vector_column (scope_at before.now.names.now (scope_of before.now.header.now) (statements before.now.lines.now) node.now) columns.now }
 {
     let [column] = columns else {
         return Some(GraphCause::WrongCount);
     };
-    match find_column(before, header, names, kinds, node, column) {
+    match before.find_column(node, column) {
         None => Some(GraphCause::UnknownColumn),
         Some((kind, _)) => {
-            if same_kind(kind, ColType::Int) {
-                None
-            } else {
-                Some(GraphCause::WrongType)
-            }
+            let fits = same_kind(kind, ColType::Int);
+            refuse_unless(fits, GraphCause::WrongType)
         }
     }
 }
@@ -251,29 +182,19 @@ fn check_vector_column(
 /// A list for each column.
 fn list_values(
     alloc: Global,
-    before: &[Line],
-    header: &[Column],
-    names: &FnNames,
-    kinds: &[ColType],
+    before: &Before<'_>,
     node: &Name,
     tags: usize,
     columns: &[Name],
     lists: &[ListOf<Expr>],
 ) -> Result<Vec<Checked>, Stop>
-    requires kinds { AreKinds header.now names.now (statements before.now) kinds.now }
-    ensures checked { IfOk result (λ found. AllCheckedAt header.now names.now (statements before.now) node.now (all_expressions lists.now) found.items) }
-    ensures decided { Decides (check_values names.now (scope_at names.now (scope_of header.now) (statements before.now) node.now) tags columns.now (Lists lists.now)) result }
+    ensures checked { IfOk result (λ found. AllCheckedAt before.now.header.now before.now.names.now (statements before.now.lines.now) node.now (all_expressions lists.now) found.items) }
+    ensures decided { Decides (check_values before.now.names.now (scope_at before.now.names.now (scope_of before.now.header.now) (statements before.now.lines.now) node.now) tags columns.now (Lists lists.now)) result }
 {
     if !are_paired(lists, columns) {
         return Err(Stop::Cause(GraphCause::WrongCount));
     }
-    let mut found = Vec::new(alloc);
-    match check_lists(
-        alloc, before, header, names, kinds, node, tags, columns, lists, &mut found,
-    ) {
-        Err(stop) => Err(stop),
-        Ok(()) => Ok(found),
-    }
+    check_lists(alloc, before, node, tags, columns, lists)
 }
 
 /// Whether there are as many lists as columns.
@@ -291,118 +212,73 @@ fn is_one(columns: &[Name]) -> bool
     columns.len() == 1
 }
 
-fn alone(alloc: Global, checked: Checked) -> Result<Vec<Checked>, Stop>
-    ensures checked { IfOk result (λ found. found.items ≡ checked ∷ []) }
-    ensures memory { IfErr result (λ stop. stop ≡ Stop.Memory) }
-{
-    let mut found = Vec::new(alloc);
-    match push(&mut found, checked) {
-        Ok(()) => Ok(found),
-        Err(_) => Err(Stop::Memory),
-    }
-}
-
 /// A vector for the only column.
 fn vector_value(
     alloc: Global,
-    before: &[Line],
-    header: &[Column],
-    names: &FnNames,
-    kinds: &[ColType],
+    before: &Before<'_>,
     node: &Name,
     columns: &[Name],
     expr: &Expr,
 ) -> Result<Vec<Checked>, Stop>
-    requires kinds { AreKinds header.now names.now (statements before.now) kinds.now }
-    ensures checked { IfOk result (λ found. AllCheckedAt header.now names.now (statements before.now) node.now (expr.now ∷ []) found.items) }
-    ensures decided { (tags : ℕ) → Decides (check_values names.now (scope_at names.now (scope_of header.now) (statements before.now) node.now) tags columns.now (Vector expr.now)) result }
+    ensures checked { IfOk result (λ found. AllCheckedAt before.now.header.now before.now.names.now (statements before.now.lines.now) node.now (expr.now ∷ []) found.items) }
+    ensures decided { (tags : ℕ) → Decides (check_values before.now.names.now (scope_at before.now.names.now (scope_of before.now.header.now) (statements before.now.lines.now) node.now) tags columns.now (Vector expr.now)) result }
 {
     if !is_one(columns) {
         return Err(Stop::Cause(GraphCause::WrongCount));
     }
-    let vector = ColType::Vect;
-    match expected(alloc, before, header, names, kinds, node, vector, expr) {
-        Err(stop) => Err(stop),
-        Ok(checked) => {
-            match check_vector_column(before, header, names, kinds, node, columns) {
-                Some(cause) => Err(Stop::Cause(cause)),
-                None => alone(alloc, checked),
-            }
-        }
-    }
+    let checked = before.expected(alloc, node, ColType::Vect, expr)?;
+    stop_if(check_vector_column(before, node, columns))?;
+    let found = alone(alloc, checked)?;
+    Ok(found)
 }
 
 /// The values of a Vary.
 fn check_values(
     alloc: Global,
-    before: &[Line],
-    header: &[Column],
-    names: &FnNames,
-    kinds: &[ColType],
+    before: &Before<'_>,
     node: &Name,
     tags: usize,
     columns: &[Name],
     values: &VaryValues,
 ) -> Result<Vec<Checked>, Stop>
-    requires kinds { AreKinds header.now names.now (statements before.now) kinds.now }
-    ensures checked { IfOk result (λ found. AllCheckedAt header.now names.now (statements before.now) node.now (value_expressions values.now) found.items) }
-    ensures decided { Decides (check_values names.now (scope_at names.now (scope_of header.now) (statements before.now) node.now) tags columns.now values.now) result }
+    ensures checked { IfOk result (λ found. AllCheckedAt before.now.header.now before.now.names.now (statements before.now.lines.now) node.now (value_expressions values.now) found.items) }
+    ensures decided { Decides (check_values before.now.names.now (scope_at before.now.names.now (scope_of before.now.header.now) (statements before.now.lines.now) node.now) tags columns.now values.now) result }
 {
     match values {
-        VaryValues::Lists(lists) => list_values(
-            alloc,
-            before,
-            header,
-            names,
-            kinds,
-            node,
-            tags,
-            columns,
-            lists.as_slice(),
-        ),
-        VaryValues::Vector(expr) => vector_value(
-            alloc, before, header, names, kinds, node, columns, expr,
-        ),
+        VaryValues::Lists(lists) => {
+            list_values(alloc, before, node, tags, columns, lists.as_slice())
+        }
+        VaryValues::Vector(expr) => vector_value(alloc, before, node, columns, expr),
     }
+}
+
+/// What a Vary changes, how, and by which tags under which name.
+#[derive(Clone, Copy)]
+pub(crate) struct Change<'a> {
+    pub(crate) columns: &'a [Name],
+    pub(crate) values: &'a VaryValues,
+    pub(crate) tags: &'a [Name],
+    pub(crate) name: &'a Name,
 }
 
 /// A Vary.
 pub(crate) fn check_vary(
     alloc: Global,
-    before: &[Line],
-    header: &[Column],
-    names: &FnNames,
-    kinds: &[ColType],
-    known: &Variations,
+    before: &Before<'_>,
     node: &Name,
     parent: &Name,
-    columns: &[Name],
-    values: &VaryValues,
-    tags: &[Name],
-    name: &Name,
+    change: &Change<'_>,
 ) -> Result<Vec<Checked>, Stop>
-    requires kinds { AreKinds header.now names.now (statements before.now) kinds.now }
-    requires variations { known.now ≡ variations (statements before.now) }
-    ensures checked { IfOk result (λ found. AllCheckedAt header.now names.now (statements before.now) parent.now (value_expressions values.now) found.items) }
-    ensures decided { Decides (check names.now (scope_of header.now) (statements before.now) (Vary node.now parent.now columns.now values.now tags.now name.now)) result }
+    ensures checked { IfOk result (λ found. AllCheckedAt before.now.header.now before.now.names.now (statements before.now.lines.now) parent.now (value_expressions change.now.values.now) found.items) }
+    ensures decided { Decides (check before.now.names.now (scope_of before.now.header.now) (statements before.now.lines.now) (Vary node.now parent.now change.now.columns.now change.now.values.now change.now.tags.now change.now.name.now)) result }
 {
-    match first_of_four(
-        check_node(before, node, parent),
+    let columns = change.columns;
+    stop_if(first_of_four(
+        before.check_node(node, parent),
         refuse_if(repeats(columns), GraphCause::NameTaken),
-        check_targets(before, header, parent, columns),
-        check_tags(known, tags, name),
-    ) {
-        Some(cause) => Err(Stop::Cause(cause)),
-        None => check_values(
-            alloc,
-            before,
-            header,
-            names,
-            kinds,
-            parent,
-            tags.len(),
-            columns,
-            values,
-        ),
-    }
+        check_targets(before, parent, columns),
+        check_tags(&before.tables.variations, change.tags, change.name),
+    ))?;
+    let tags = change.tags.len();
+    check_values(alloc, before, parent, tags, columns, change.values)
 }

@@ -1,5 +1,6 @@
 -- What reading a script's file, or a table's, comes to.
 use Rattle.std.specs.Prelude.{◌≡◌, ◌<◌, ◌≤◌, ℕ, List, All, Option, Some, None, Ok, MatchResult, length}
+use Rattle.columns.specs.ColumnsView.{ColumnsView}
 use Rattle.rdf_outside.specs.Outside.{Rose}
 use Rattle.rdf_values.specs.Bookable.{IsBookable}
 use Rattle.rdf_values.specs.Path.{history}
@@ -9,6 +10,7 @@ use Rattle.rdf_values.specs.TableText.{MarkedTable, table_of}
 use Rattle.rdf_values.specs.Words.{StatementsHaveWords}
 use Rattle.rdf_values.specs.declared.script.Script.{Script}
 use Rattle.rdf_values.specs.declared.script_cause.ScriptCause.{ScriptCause}
+use Rattle.table_csv.specs.ColumnsOver.{columns_over, marked_in}
 use Rattle.table_csv.specs.Csv.{csv_records}
 use Rattle.table_csv.specs.declared.marked_pieces.MarkedPieces.{MarkedPieces}
 use Rattle.input_files.specs.Due.{Due, FileStatuses, WithScriptFile, WithTableFile, due_of, max_script, max_table}
@@ -75,6 +77,11 @@ HoldsTheTable table (Some bytes) = (length bytes ≤ max_table) × (table_of (cs
 abbrev pub RefusesTableFile : List ℕ → Option (List ℕ) → Due FileCause → Type 0
 RefusesTableFile name file due = WithTableFile causes name file (λ table d. ⊥) due
 
+-- the whole file, if it has no more bytes than a table may have, or what is due to it
+abbrev pub ReadsTableBytes : Option (List ℕ → Option (List ℕ)) → List ℕ → ℕ → ℕ → ReadFile (List ℕ) → Type 0
+ReadsTableBytes files name before now (Whole bytes) = Tells files name (λ file. file ≡ Some bytes) × (length bytes ≤ max_table)
+ReadsTableBytes files name before now (Refused r) = Refuses (RefusesTableFile name) files name before now r.cause r.line
+
 -- a table whose marks are entries of it
 pub record IsTableRead (files : Option (List ℕ → Option (List ℕ))) (name : List ℕ) (m : MarkedPieces) : Type 0 where
   pub holds : Tells files name (HoldsTheTable (marked_table m))
@@ -89,3 +96,20 @@ ReadsTableFile files name before now (Refused r) = Refuses (RefusesTableFile nam
 abbrev pub ReadsTableText : List ℕ → ReadFile MarkedPieces → Type 0
 ReadsTableText bytes (Whole m) = (table_of (csv_records bytes) ≡ Ok (marked_table m)) × All (λ e. e < length m.table.rows) m.marks
 ReadsTableText bytes (Refused r) = (r.cause ≡ TableRefused) × MatchResult (table_of (csv_records bytes)) (λ table. ⊥) (λ cause. r.line ≡ table_cause_line cause)
+
+-- ---- columns
+
+-- the columns, over clusters of at most that size, of the table that the file holds
+pub record AreColumnsRead (files : Option (List ℕ → Option (List ℕ))) (name : List ℕ) (size : ℕ) (columns : ColumnsView) : Type 0 where
+  pub holds : Tells files name (HoldsTheTable (marked_in columns))
+  pub over : columns ≡ columns_over (marked_in columns) size
+
+-- the columns of the table that the file holds, or why it holds none
+abbrev pub ReadsColumnsFile : Option (List ℕ → Option (List ℕ)) → List ℕ → ℕ → ℕ → ℕ → ReadFile ColumnsView → Type 0
+ReadsColumnsFile files name size before now (Whole columns) = AreColumnsRead files name size columns
+ReadsColumnsFile files name size before now (Refused r) = Refuses (RefusesTableFile name) files name before now r.cause r.line
+
+-- the columns of the table that the bytes spell, or the line of their refusal
+abbrev pub ReadsColumnsText : List ℕ → ℕ → ReadFile ColumnsView → Type 0
+ReadsColumnsText bytes size (Whole columns) = (table_of (csv_records bytes) ≡ Ok (marked_in columns)) × (columns ≡ columns_over (marked_in columns) size)
+ReadsColumnsText bytes size (Refused r) = (r.cause ≡ TableRefused) × MatchResult (table_of (csv_records bytes)) (λ table. ⊥) (λ cause. r.line ≡ table_cause_line cause)

@@ -15,5 +15,5 @@ pub use crate::file_cause::FileCause;
 pub use crate::read_file::{FileRefusal, ReadFile};
 pub use crate::refuse::{absent, unread};
 pub use crate::scripts::{MAX_SCRIPT, read_script_file, script_of};
-pub use crate::tables::{MAX_TABLE, read_table_file, table_of};
+pub use crate::tables::{MAX_TABLE, columns_of, read_columns_file, read_table_file};
 pub use crate::whole_file::{Fetched, fetch};

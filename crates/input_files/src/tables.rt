@@ -1,38 +1,86 @@
 // Tables in files.
-ghost use Rattle.std.specs.Prelude.{◌≡◌, ◌≤◌, ◌++◌, ◌∷◌, [], IfOk, length};
-ghost use Rattle.input_files.specs.Reading.{ReadsTableFile, ReadsTableText};
+ghost use Rattle.std.specs.Prelude.{◌≡◌, ◌≤◌, ◌++◌, ◌∷◌, [], IfOk};
+ghost use Rattle.rdf_values.specs.RefusalLines.{table_cause_line};
+ghost use Rattle.input_files.specs.Reading.{ReadsColumnsFile, ReadsColumnsText, ReadsTableBytes, ReadsTableFile, ReadsTableText};
+ghost use Rattle.input_files.specs.declared.file_cause.FileCause.TheVariants.{TableRefused};
 
 use crate::file_cause::FileCause;
-use crate::read_file::ReadFile;
+use crate::read_file::{FileRefusal, ReadFile};
 use crate::refuse::{absent, refused, unread};
 use crate::whole_file::{Fetched, fetch};
+use columns::Columns;
 use rdf_outside::Shelf;
-use rdf_values::Memory;
+use rdf_values::{Bytes, Memory, TableCause};
 use result_text::Refusal;
 use std::alloc::Global;
 use std::thread::Threads;
-use table_csv::{MarkedPieces, TableRefusal, read_table_in_slots};
+use table_csv::{MarkedPieces, TableRefusal, read_columns, read_table_in_slots};
 
 /// The most bytes of a table.
 pub const MAX_TABLE: usize = 67_108_864;
 
-/// The table that at most `MAX_TABLE` bytes spell, read in pieces side by side where there are several slots, or its refusal.
-pub fn table_of<R: Threads + Sync>(
+// The refusal of bytes that spell no table.
+fn no_table(alloc: Global, cause: TableCause) -> Result<FileRefusal, Memory>
+    ensures { IfOk result (λ r. (r.cause ≡ TableRefused) × (r.line ≡ table_cause_line cause)) }
+{
+    refused(alloc, FileCause::TableRefused, &Refusal::Table(cause))
+}
+
+// The table that the bytes spell, read in pieces side by side where there are several slots, or its refusal.
+fn table_of<R: Threads + Sync>(
     rt: &R,
     alloc: Global,
     bytes: &[u8],
     slots: u32,
 ) -> Result<ReadFile<MarkedPieces>, Memory>
-    requires { length bytes.now ≤ 67108864 }
     ensures { IfOk result (ReadsTableText bytes.now) }
 {
     match read_table_in_slots(rt, alloc, bytes, slots) {
         Ok(marked) => Ok(ReadFile::Whole(marked)),
         Err(TableRefusal::Memory) => Err(Memory),
-        Err(TableRefusal::At(cause)) => {
-            let refusal = refused(alloc, FileCause::TableRefused, &Refusal::Table(cause))?;
-            Ok(ReadFile::Refused(refusal))
-        }
+        Err(TableRefusal::At(cause)) => Ok(ReadFile::Refused(no_table(alloc, cause)?)),
+    }
+}
+
+/// The columns of the table that the bytes spell, over clusters of at most that size, or its refusal. The table is read and
+/// packed side by side where there are several slots; the bytes go once they are read.
+pub fn columns_of<R: Threads + Sync>(
+    rt: &R,
+    alloc: Global,
+    bytes: Bytes,
+    size: u32,
+    slots: u32,
+) -> Result<ReadFile<Columns>, Memory>
+    requires size { 1 ≤ size }
+    ensures { IfOk result (ReadsColumnsText bytes size) }
+{
+    match read_columns(rt, alloc, bytes, size, slots) {
+        Ok(columns) => Ok(ReadFile::Whole(columns)),
+        Err(TableRefusal::Memory) => Err(Memory),
+        Err(TableRefusal::At(cause)) => Ok(ReadFile::Refused(no_table(alloc, cause)?)),
+    }
+}
+
+// The bytes of the file that a shelf has under a name, where they are no more than a table may have.
+fn read_bytes<S: Shelf>(
+    alloc: Global,
+    shelf: &mut S,
+    name: &str,
+) -> Result<ReadFile<Bytes>, Memory>
+    ensures same { S.files shelf.new ≡ S.files shelf.old }
+    ensures turns { S.turns shelf.new ≡ S.turns shelf.old ++ name.now ∷ [] }
+    ensures later { S.faults shelf.old ≤ S.faults shelf.new }
+    ensures read { IfOk result (ReadsTableBytes (S.files shelf.old) name.now (S.faults shelf.old) (S.faults shelf.new)) }
+{
+    match fetch(alloc, shelf, name, MAX_TABLE)? {
+        Fetched::Whole(bytes) => Ok(ReadFile::Whole(bytes)),
+        Fetched::Absent => Ok(ReadFile::Refused(absent(alloc, name)?)),
+        Fetched::TooLong => Ok(ReadFile::Refused(refused(
+            alloc,
+            FileCause::TableRefused,
+            &Refusal::TableLong,
+        )?)),
+        Fetched::Failed => Ok(ReadFile::Refused(unread(alloc, name)?)),
     }
 }
 
@@ -49,14 +97,29 @@ pub fn read_table_file<R: Threads + Sync, S: Shelf>(
     ensures later { S.faults shelf.old ≤ S.faults shelf.new }
     ensures read { IfOk result (ReadsTableFile (S.files shelf.old) name.now (S.faults shelf.old) (S.faults shelf.new)) }
 {
-    match fetch(alloc, shelf, name, MAX_TABLE)? {
-        Fetched::Whole(bytes) => table_of(rt, alloc, bytes.as_slice(), slots),
-        Fetched::Absent => Ok(ReadFile::Refused(absent(alloc, name)?)),
-        Fetched::TooLong => Ok(ReadFile::Refused(refused(
-            alloc,
-            FileCause::TableRefused,
-            &Refusal::TableLong,
-        )?)),
-        Fetched::Failed => Ok(ReadFile::Refused(unread(alloc, name)?)),
+    match read_bytes(alloc, shelf, name)? {
+        ReadFile::Whole(bytes) => table_of(rt, alloc, bytes.as_slice(), slots),
+        ReadFile::Refused(refusal) => Ok(ReadFile::Refused(refusal)),
+    }
+}
+
+/// Reads the table of the file that a shelf has under a name, and packs its columns over clusters of at most that size.
+pub fn read_columns_file<R: Threads + Sync, S: Shelf>(
+    rt: &R,
+    alloc: Global,
+    shelf: &mut S,
+    name: &str,
+    size: u32,
+    slots: u32,
+) -> Result<ReadFile<Columns>, Memory>
+    requires size { 1 ≤ size }
+    ensures same { S.files shelf.new ≡ S.files shelf.old }
+    ensures turns { S.turns shelf.new ≡ S.turns shelf.old ++ name.now ∷ [] }
+    ensures later { S.faults shelf.old ≤ S.faults shelf.new }
+    ensures read { IfOk result (ReadsColumnsFile (S.files shelf.old) name.now size (S.faults shelf.old) (S.faults shelf.new)) }
+{
+    match read_bytes(alloc, shelf, name)? {
+        ReadFile::Whole(bytes) => columns_of(rt, alloc, bytes, size, slots),
+        ReadFile::Refused(refusal) => Ok(ReadFile::Refused(refusal)),
     }
 }

@@ -21,7 +21,7 @@ use Rattle.graph_numbers.specs.Graphs.{graph_prints}
 use Rattle.graph_numbers.proofs.Listed.{of_joined}
 use Rattle.loop_keys.specs.Jobs.{passes_in}
 use Rattle.loop_pieces.proofs.ClusterFaults.{first_cluster_has_first_fault}
-use Rattle.slot_state.specs.Jobs.{job_facts}
+use Rattle.event_loop.specs.Jobs.{job_facts}
 use Rattle.event_loop.specs.Ends.{IsFilled}
 use Rattle.event_loop.specs.declared.end.FilledLoop.{FilledLoop}
 use Rattle.lazy_loop.specs.Places.{loop_filling}

@@ -16,7 +16,7 @@ use Rattle.graph_numbers.specs.Graphs.{GraphView, graph_prints}
 use Rattle.graph_numbers.specs.Results.{result_number}
 use Rattle.loop_pieces.specs.PartialLines.{ArePartialLines}
 use Rattle.loop_pieces.specs.declared.filled_result.PartialLine.{PartialLine}
-use Rattle.slot_state.specs.Jobs.{job_facts}
+use Rattle.event_loop.specs.Jobs.{job_facts}
 use Rattle.event_loop.specs.declared.end.FilledLoop.{FilledLoop}
 use Rattle.lazy_loop.specs.Sessions.{HasSameParts, IsSession, SessionView, session_job}
 use Rattle.lazy_loop.specs.Transcripts.{IsTranscript}

@@ -32,7 +32,7 @@ use Rattle.loop_pieces.specs.declared.filled_result.PartialLine.{PartialLine}
 use Rattle.loop_pieces.proofs.WholeLoops.{all_clusters_are_the_table}
 use Rattle.result_text.specs.FilledLines.{FitsBooking, FitsResult, booking_text, filled_text}
 use Rattle.result_text.specs.PartialText.{AreRuns, watch_lines}
-use Rattle.slot_state.specs.Jobs.{job_facts}
+use Rattle.event_loop.specs.Jobs.{job_facts}
 use Rattle.lazy_loop.specs.Places.{IsPlaced, loop_filling}
 use Rattle.lazy_loop.specs.Sessions.{ArePartials, HasNoPartials, IsFilledIn, IsResult, IsSession, IsUnfilled, SessionView, session_job}
 use Rattle.lazy_loop.proofs.Accesses.{job_fault}

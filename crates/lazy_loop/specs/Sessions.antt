@@ -19,7 +19,7 @@ use Rattle.loop_keys.specs.Jobs.{JobView, passes_in}
 use Rattle.loop_pieces.specs.Trails.{place_if_watched}
 use Rattle.loop_pieces.specs.declared.filled_result.FilledResult.{FilledResult}
 use Rattle.loop_pieces.specs.declared.filled_result.PartialLine.{PartialLine}
-use Rattle.slot_state.specs.Jobs.{job_facts}
+use Rattle.event_loop.specs.Jobs.{job_facts}
 use Rattle.event_loop.specs.Ends.{IsFilled}
 use Rattle.event_loop.specs.declared.end.FilledLoop.{FilledLoop}
 use Rattle.lazy_loop.specs.Places.{IsPlaced, loop_filling}

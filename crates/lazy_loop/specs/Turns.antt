@@ -8,7 +8,7 @@ use Rattle.rdf_model.specs.Results.{first_fault}
 use Rattle.rdf_model.specs.Transcript.{Printed, access_passes, access_printed, in_front_of}
 use Rattle.loop_pieces.specs.PartialLines.{ArePartialLines}
 use Rattle.loop_pieces.specs.declared.filled_result.PartialLine.{PartialLine}
-use Rattle.slot_state.specs.Jobs.{job_facts}
+use Rattle.event_loop.specs.Jobs.{job_facts}
 use Rattle.event_loop.specs.declared.end.FilledLoop.{FilledLoop}
 use Rattle.lazy_loop.specs.Sessions.{SessionView, session_job}
 

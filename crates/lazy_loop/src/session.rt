@@ -8,7 +8,7 @@ ghost use Rattle.rdf_values.specs.declared.fault.Fault.{Fault};
 ghost use Rattle.rdf_model.specs.Loops.{accesses, loop_results};
 ghost use Rattle.graph_numbers.specs.Graphs.{graph_results};
 ghost use Rattle.graph_numbers.specs.Results.{ResultAt};
-ghost use Rattle.slot_state.specs.Jobs.{job_facts};
+ghost use Rattle.event_loop.specs.Jobs.{job_facts};
 ghost use Rattle.event_loop.specs.Ends.{HasEnded};
 ghost use Rattle.event_loop.specs.declared.end.FilledLoop.{FilledLoop};
 ghost use Rattle.lazy_loop.specs.Sessions.{ArePartials, HasNoPartials, HasSameParts, IsAccessed, IsFaulted, IsFoundAt, IsRefused, IsResult, IsSession, IsUnfilled, fresh_session, session_job, session_of};

@@ -20,7 +20,7 @@ use Rattle.loop_keys.specs.Caches.{numbered_in}
 use Rattle.loop_keys.specs.Jobs.{JobView, job_graph, passes_in}
 use Rattle.loop_keys.specs.Entries.{job_spans}
 use Rattle.loop_pieces.specs.declared.loop_piece.LoopPiece.{LoopPiece}
-use Rattle.slot_state.proofs.Adding.{its_pass, its_result, of_action, of_report, result_is}
+use Rattle.event_loop.proofs.Adding.{its_pass, its_result, of_action, of_report, result_is}
 use Rattle.shard_spans.specs.Spans.{clusters_in, pass_line}
 use Rattle.shard_loop.specs.LoopSpans.{IsSpanPiece, span_rows_of}
 use Rattle.shard_loop.proofs.PassLines.{AreNumbered, none_over}

@@ -12,9 +12,9 @@ use Rattle.rdf_model.specs.Results.{first_of}
 use Rattle.loop_keys.specs.Jobs.{IsJob, JobView, passes_in}
 use Rattle.loop_keys.specs.Entries.{job_spans}
 use Rattle.loop_pieces.specs.Whole.{cluster_fault}
-use Rattle.slot_state.specs.Jobs.{job_facts}
-use Rattle.slot_state.specs.Slots.{IsFreshSlot, IsSlotOf, SlotView}
-use Rattle.slot_state.specs.declared.progress.Phase.TheVariants as phase
+use Rattle.event_loop.specs.Jobs.{job_facts}
+use Rattle.event_loop.specs.Slots.{IsFreshSlot, IsSlotOf, SlotView}
+use Rattle.event_loop.specs.declared.progress.Phase.TheVariants as phase
 use Rattle.shard_spans.specs.Spans.{clusters_in}
 use Rattle.shard_spans.proofs.SpanFaults.{below_end, clusters_more, clusters_none, first_faulty_cluster_has_the_fault, first_next, first_stays}
 use Rattle.shard_loop.specs.LoopSpans.{loop_fault}

@@ -1,5 +1,5 @@
 //! The loops of a booked graph over a span of clusters: each as the lines of its passes, or with its first fault.
-//! It stands on `slot_state` for the clusters, and on `shard_spans` for what a span comes to.
+//! It stands on `event_loop` for the clusters, and on `shard_spans` for what a span comes to.
 //!
 //! One slot processes the clusters of the span in order.
 #![tactic(auto)]

@@ -6,11 +6,11 @@ ghost use Rattle.loop_keys.specs.Jobs.{Fits, job_of};
 ghost use Rattle.loop_keys.specs.Entries.{job_spans};
 ghost use Rattle.shard_loop.specs.LoopSpans.{IsSpanned};
 
+use event_loop::{Progress, SlotState, SlotStop};
 use expr_eval::Steps;
 use loop_keys::Job;
 use loop_pieces::LoopPiece;
 use rdf_values::{Fault, Memory};
-use slot_state::{Progress, SlotState, SlotStop};
 use std::alloc::Global;
 use std::marker::Brand;
 use std::sync::ledger::{Blank, Ledger};

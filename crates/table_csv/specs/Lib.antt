@@ -1,3 +1,4 @@
+pub mod ColumnsOver
 pub mod Csv
 pub mod Entries
 pub mod Filled

@@ -8,6 +8,7 @@ mod header;
 mod lines;
 mod marked;
 mod marked_pieces;
+mod packed;
 mod pieces;
 mod reading;
 mod records;
@@ -16,6 +17,7 @@ mod slots;
 
 pub use crate::marked::Marked;
 pub use crate::marked_pieces::MarkedPieces;
+pub use crate::packed::read_columns;
 pub use crate::reading::read_table;
 pub use crate::refusal::TableRefusal;
 pub use crate::slots::read_table_in_slots;

@@ -1,7 +1,7 @@
 use Rattle.std.proofs.Common.{ℕ, sym, ◌∙◌, subst, arith}
 use Rattle.std.specs.List.{All}
 use Rattle.loop_keys.specs.Jobs.{job_of}
-use Rattle.slot_state.specs.Jobs.{job_facts}
+use Rattle.event_loop.specs.Jobs.{job_facts}
 use Rattle.event_loop.specs.Gathered.{AreFacts, HasStopped}
 use Rattle.event_loop.specs.Seated.{AreBlank}
 use Rattle.event_loop.proofs.Whole.{few_clusters, facts_of, seats_ready, seats_many, can_fill, first_is, is_filled}

@@ -1,7 +1,7 @@
 use Rattle.std.proofs.Common.{◌≡◌, ◌+◌, ◌∷◌, ◌++◌, List, [], ℕ, Ok, length, sym, ap, ◌∙◌, subst, length-append}
 use Rattle.cluster_claims.specs.Seats.{IsOf, SeatSeen}
 use Rattle.loop_keys.specs.Jobs.{job_of}
-use Rattle.slot_state.specs.Jobs.{job_facts}
+use Rattle.event_loop.specs.Jobs.{job_facts}
 use Rattle.event_loop.specs.Workers.{AreSound, HasNoted}
 use Rattle.event_loop.proofs.Growing.{sound_more}
 use Rattle.event_loop.proofs.Rising.{below_drawn}

@@ -1,9 +1,9 @@
 use Rattle.std.proofs.Common.{◌≡◌, ◌-◌, None, length}
 use Rattle.cluster_claims.specs.Seats as claims
 use Rattle.loop_keys.specs.Jobs.{job_of}
-use Rattle.slot_state.specs.Jobs.{job_facts}
-use Rattle.slot_state.specs.Slots.{IsSlotOf}
-use Rattle.slot_state.specs.declared.progress.Phase.TheVariants as phase
+use Rattle.event_loop.specs.Jobs.{job_facts}
+use Rattle.event_loop.specs.Slots.{IsSlotOf}
+use Rattle.event_loop.specs.declared.progress.Phase.TheVariants as phase
 use Rattle.event_loop.specs.Workers.{AreSound, HasNoted}
 use Rattle.event_loop.proofs.workers.work.Given as goal
 

@@ -5,12 +5,12 @@ use Rattle.rdf_values.specs.Path.{variations}
 use Rattle.rdf_values.specs.declared.statement.Statement.TheVariants.{VariationsFor}
 use Rattle.graph.specs.Lookups.{statements}
 use Rattle.graph.proofs.Counting.{AllPassed, passes_checked}
-use Rattle.graph.proofs.Rows.{rows_passed}
+use Rattle.graph.proofs.SeenRows.{rows_passed}
 use Rattle.graph.proofs.asked_checks.passes_asked.Goals as goal
 
 pub returns : goal.returns
 returns c =
-    passes_checked (VariationsFor c.args.name.now ∷ statements c.args.before.now) (bookings (statements c.args.before.now)) c.as_slice.result.now
-    (subst (AllPassed (VariationsFor c.args.name.now ∷ statements c.args.before.now) (bookings (statements c.args.before.now))) (sym c.as_slice.ensures.value)
-    (rows_passed c.args.header.now c.args.names.now (VariationsFor c.args.name.now ∷ statements c.args.before.now) (statements c.args.before.now) (append-nil (variations (statements c.args.before.now))) c.requires.tables.versions.accepted
-    c.args.tables.now.results.items c.requires.tables.results)) c.in_ok-amounts.amounts c.in_ok-amounts.ensures c.too_many.result c.too_many.ensures
+    passes_checked (VariationsFor c.args.name.now ∷ statements c.args.before.now.lines.now) (bookings (statements c.args.before.now.lines.now)) c.as_slice-rows.result.now
+    (subst (AllPassed (VariationsFor c.args.name.now ∷ statements c.args.before.now.lines.now) (bookings (statements c.args.before.now.lines.now))) (sym c.as_slice-rows.ensures.value)
+    (rows_passed c.args.before.now.header.now c.args.before.now.names.now (VariationsFor c.args.name.now ∷ statements c.args.before.now.lines.now) (statements c.args.before.now.lines.now) (append-nil (variations (statements c.args.before.now.lines.now))) c.args.before.now.are.versions.accepted
+    c.args.before.now.tables.now.results.items c.args.before.now.are.results)) c.in_ok-amounts.amounts c.in_ok-amounts.ensures c.too_many.result c.too_many.ensures

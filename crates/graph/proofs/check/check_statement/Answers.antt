@@ -1,7 +1,7 @@
-use Rattle.std.proofs.Common.{sym, ◌∙◌}
+use Rattle.std.proofs.Common.{refl, sym, ◌∙◌}
 use Rattle.rdf_values.specs.declared.statement.Statement.TheVariants.{Vary}
 use Rattle.graph.specs.Lookups.{statements}
-use Rattle.graph.proofs.Gaining.{decided_at}
+use Rattle.graph.proofs.Gaining.{decided_at, empty_if}
 use Rattle.graph.proofs.check.check_statement.Goals as goal
 
 pub returns-in-Define-clause-decided : goal.returns-in-Define-clause-decided
@@ -22,3 +22,24 @@ returns-in-Action-clause-decided c = decided_at c.args.header.now c.args.names.n
 
 pub returns-in-Alias-clause-decided : goal.returns-in-Alias-clause-decided
 returns-in-Alias-clause-decided c = decided_at c.args.header.now c.args.names.now (statements c.args.before.now) c.args.statement.now _ c.alias_gain.result c.in-Alias.is c.alias_gain.ensures.decided
+
+pub returns-in-VariationsFor-clause-gained : goal.returns-in-VariationsFor-clause-gained
+returns-in-VariationsFor-clause-gained c =
+    empty_if c.args.header.now c.args.names.now (statements c.args.before.now) c.args.statement.now _ c.nothing.result c.in-VariationsFor.is (c.nothing.ensures.decided _ c.check_variations_for.ensures) c.nothing.ensures.empty refl refl refl refl refl
+
+pub returns-in-VariationsFor-clause-decided : goal.returns-in-VariationsFor-clause-decided
+returns-in-VariationsFor-clause-decided c = decided_at c.args.header.now c.args.names.now (statements c.args.before.now) c.args.statement.now _ c.nothing.result c.in-VariationsFor.is (c.nothing.ensures.decided _ c.check_variations_for.ensures)
+
+pub returns-in-Watch-clause-gained : goal.returns-in-Watch-clause-gained
+returns-in-Watch-clause-gained c =
+    empty_if c.args.header.now c.args.names.now (statements c.args.before.now) c.args.statement.now _ c.nothing-in-Watch.result c.in-Watch.is (c.nothing-in-Watch.ensures.decided _ c.check_watch.ensures) c.nothing-in-Watch.ensures.empty refl refl refl refl refl
+
+pub returns-in-Watch-clause-decided : goal.returns-in-Watch-clause-decided
+returns-in-Watch-clause-decided c = decided_at c.args.header.now c.args.names.now (statements c.args.before.now) c.args.statement.now _ c.nothing-in-Watch.result c.in-Watch.is (c.nothing-in-Watch.ensures.decided _ c.check_watch.ensures)
+
+pub returns-in-Print-clause-gained : goal.returns-in-Print-clause-gained
+returns-in-Print-clause-gained c =
+    empty_if c.args.header.now c.args.names.now (statements c.args.before.now) c.args.statement.now _ c.nothing-in-Print.result c.in-Print.is (c.nothing-in-Print.ensures.decided _ c.check_print.ensures) c.nothing-in-Print.ensures.empty refl refl refl refl refl
+
+pub returns-in-Print-clause-decided : goal.returns-in-Print-clause-decided
+returns-in-Print-clause-decided c = decided_at c.args.header.now c.args.names.now (statements c.args.before.now) c.args.statement.now _ c.nothing-in-Print.result c.in-Print.is (c.nothing-in-Print.ensures.decided _ c.check_print.ensures)

@@ -1,8 +1,25 @@
+use Rattle.std.proofs.Common.{[], ◌∷◌, refl}
+use Rattle.rdf_values.specs.Kinds.{scope_of, kind_of}
+use Rattle.rdf_values.specs.Verdict.{check_node, refuse_if, is_visible, refusal_in, scope_at}
+use Rattle.rdf_values.specs.declared.graph_cause.GraphCause.TheVariants as cause
 use Rattle.graph.specs.Lookups.{statements}
-use Rattle.graph.proofs.Gaining.{define_gained}
+use Rattle.graph.proofs.Checking.{two, stopped_before, decided_last, handed_on}
+use Rattle.graph.proofs.Gaining.{define_made}
 use Rattle.graph.proofs.gains.define_gain.Goals as goal
 
-pub returns-in-Ok-column_gain-clause-gained : goal.returns-in-Ok-column_gain-clause-gained
-returns-in-Ok-column_gain-clause-gained c =
-    define_gained c.args.header.now c.args.names.now (statements c.args.before.now) c.args.tables.now c.requires.tables c.as_slice.result.now c.as_slice.ensures.value c.args.node.now c.args.parent.now c.args.column.now c.args.expr.now c.in-Ok.site
-    c.in-Ok-column_gain.gain c.in-Ok.ensures.decided c.in-Ok.ensures.checked c.in-Ok-column_gain.ensures
+pub returns-in_err-stop_if-clause-decided : goal.returns-in_err-stop_if-clause-decided
+returns-in_err-stop_if-clause-decided c =
+    handed_on _ _ _ c.from_residual.ensures.1
+    (stopped_before (check_node (statements c.args.before.now.lines.now) c.args.node.now c.args.parent.now ∷ refuse_if (is_visible (scope_at c.args.before.now.names.now (scope_of c.args.before.now.header.now) (statements c.args.before.now.lines.now) c.args.parent.now) c.args.column.now) cause.NameTaken ∷ []) (refusal_in (kind_of (scope_at c.args.before.now.names.now (scope_of c.args.before.now.header.now) (statements c.args.before.now.lines.now) c.args.parent.now) c.args.before.now.names.now c.args.expr.now) ∷ []) c.first_of.result _
+    (two c.check_node.result c.new_column-taken.result _ _ c.first_of.result c.check_node.ensures c.new_column-taken.ensures c.first_of.ensures) c.in_err-stop_if.ensures)
+
+pub returns-clause-gained : goal.returns-clause-gained
+returns-clause-gained c =
+    define_made c.args.before.now.header.now c.args.before.now.names.now (statements c.args.before.now.lines.now) c.args.before.now.tables.now c.args.before.now.are c.args.before.now.tables.now.version_sets.items refl c.args.node.now c.args.parent.now c.args.column.now c.args.expr.now c.made_gain.result c.made_gain.ensures.made
+    (decided_last (check_node (statements c.args.before.now.lines.now) c.args.node.now c.args.parent.now ∷ refuse_if (is_visible (scope_at c.args.before.now.names.now (scope_of c.args.before.now.header.now) (statements c.args.before.now.lines.now) c.args.parent.now) c.args.column.now) cause.NameTaken ∷ []) (refusal_in (kind_of (scope_at c.args.before.now.names.now (scope_of c.args.before.now.header.now) (statements c.args.before.now.lines.now) c.args.parent.now) c.args.before.now.names.now c.args.expr.now)) c.first_of.result
+    (two c.check_node.result c.new_column-taken.result _ _ c.first_of.result c.check_node.ensures c.new_column-taken.ensures c.first_of.ensures) c.in_ok-stop_if.ensures c.made_gain.result c.made_gain.ensures.decided)
+
+pub returns-clause-decided : goal.returns-clause-decided
+returns-clause-decided c =
+    decided_last (check_node (statements c.args.before.now.lines.now) c.args.node.now c.args.parent.now ∷ refuse_if (is_visible (scope_at c.args.before.now.names.now (scope_of c.args.before.now.header.now) (statements c.args.before.now.lines.now) c.args.parent.now) c.args.column.now) cause.NameTaken ∷ []) (refusal_in (kind_of (scope_at c.args.before.now.names.now (scope_of c.args.before.now.header.now) (statements c.args.before.now.lines.now) c.args.parent.now) c.args.before.now.names.now c.args.expr.now)) c.first_of.result
+    (two c.check_node.result c.new_column-taken.result _ _ c.first_of.result c.check_node.ensures c.new_column-taken.ensures c.first_of.ensures) c.in_ok-stop_if.ensures c.made_gain.result c.made_gain.ensures.decided

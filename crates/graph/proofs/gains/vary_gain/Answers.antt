@@ -1,18 +1,25 @@
 use Rattle.std.proofs.Common.{refl, arith}
 use Rattle.graph.specs.Lookups.{statements}
+use Rattle.graph.proofs.Checking.{handed_on, no_memory}
 use Rattle.graph.proofs.Gaining.{vary_gained}
-use Rattle.graph.proofs.Rows.{few_with}
+use Rattle.graph.proofs.SeenRows.{few_with}
 use Rattle.graph.proofs.gains.vary_gain.Goals as goal
 
 pub overflow_cast-count : goal.overflow_cast-count
 overflow_cast-count c =
-    let f = few_with c.args.header.now c.args.names.now (statements c.args.before.now) c.args.node.now c.args.parent.now c.args.name.now c.args.columns.now c.args.tags.now c.args.values.now c.in-Ok.ensures.decided in omega (arith, f)
+    let f = few_with c.args.before.now.header.now c.args.before.now.names.now (statements c.args.before.now.lines.now) c.args.node.now c.args.parent.now c.args.change.now.name.now c.args.change.now.columns.now c.args.change.now.tags.now c.args.change.now.values.now c.in_ok-sites.ensures.decided in omega (arith, f)
 
-pub varied_gain-requires-clause-few : goal.varied_gain-requires-clause-few
-varied_gain-requires-clause-few c =
-    let f = few_with c.args.header.now c.args.names.now (statements c.args.before.now) c.args.node.now c.args.parent.now c.args.name.now c.args.columns.now c.args.tags.now c.args.values.now c.in-Ok.ensures.decided in omega (arith, f)
+pub varied_gain-requires : goal.varied_gain-requires
+varied_gain-requires c =
+    let f = few_with c.args.before.now.header.now c.args.before.now.names.now (statements c.args.before.now.lines.now) c.args.node.now c.args.parent.now c.args.change.now.name.now c.args.change.now.columns.now c.args.change.now.tags.now c.args.change.now.values.now c.in_ok-sites.ensures.decided in omega (arith, f)
 
-pub returns-in-Ok-varied_gain-clause-gained : goal.returns-in-Ok-varied_gain-clause-gained
-returns-in-Ok-varied_gain-clause-gained c =
-    vary_gained c.args.header.now c.args.names.now (statements c.args.before.now) c.args.tables.now c.requires.tables c.args.node.now c.args.parent.now c.args.name.now c.args.columns.now c.args.tags.now c.args.values.now c.in-Ok.sites.items _
-    c.in-Ok-varied_gain.gain refl c.in-Ok.ensures.decided c.in-Ok.ensures.checked c.in-Ok-varied_gain.ensures
+pub returns-clause-gained : goal.returns-clause-gained
+returns-clause-gained c =
+    vary_gained c.args.before.now.header.now c.args.before.now.names.now (statements c.args.before.now.lines.now) c.args.before.now.tables.now c.args.before.now.are c.args.node.now c.args.parent.now c.args.change.now.name.now c.args.change.now.columns.now c.args.change.now.tags.now c.args.change.now.values.now c.in_ok-sites.sites.items _
+    c.in_ok-gain.gain refl c.in_ok-sites.ensures.decided c.in_ok-sites.ensures.checked c.in_ok-gain.ensures
+
+pub returns-in_err-sites-clause-decided : goal.returns-in_err-sites-clause-decided
+returns-in_err-sites-clause-decided c = handed_on _ _ _ c.from_residual.ensures.1 c.in_err-sites.ensures.decided
+
+pub returns-in_err-gain-clause-decided : goal.returns-in_err-gain-clause-decided
+returns-in_err-gain-clause-decided c = no_memory _ _ c.from_residual-in_err-gain.ensures.1

@@ -5,33 +5,39 @@ use Rattle.rdf_values.specs.Verdict.{check_node, check_columns, check_edges, che
 use Rattle.rdf_values.specs.declared.statement.Statement.TheVariants.{Action}
 use Rattle.rdf_model.proofs.Accepted.{both_none}
 use Rattle.graph.specs.Lookups.{statements}
-use Rattle.graph.proofs.Checking.{four, refused_before, decided_last}
+use Rattle.graph.proofs.Checking.{four, stopped_before, decided_last, handed_on, no_memory}
 use Rattle.graph.proofs.result_checks.check_action.Goals as goal
 
-pub counted_action-requires-clause-known : goal.counted_action-requires-clause-known
-counted_action-requires-clause-known c =
-    (both_none _ _ (both_none (check_node (statements c.args.before.now) c.args.name.now c.args.parent.now)
-    (check_columns (scope_at c.args.names.now (scope_of c.args.header.now) (statements c.args.before.now) c.args.parent.now) (permitted_kinds c.args.action.now) [] (columns_of c.args.action.now) ∷ check_edges c.args.action.now
-    ∷ check_results (Action c.args.name.now c.args.parent.now c.args.action.now ∷ statements c.args.before.now) ∷ [])
-    (sym (four c.check_node.result c.in-Ok.wrong c.check_edges.result c.one_result_more.result _ _ _ _ c.first_of_four.result c.check_node.ensures
-    c.in-Ok.ensures c.check_edges.ensures (c.one_result_more.ensures.action c.args.name.now c.args.parent.now c.args.action.now) c.first_of_four.ensures) ∙ c.in-None.is)).1).0
+pub returns-in_err-wrong-clause-decided : goal.returns-in_err-wrong-clause-decided
+returns-in_err-wrong-clause-decided c = no_memory _ _ c.from_residual.ensures.1
 
-pub returns-in-Some-clause-decided : goal.returns-in-Some-clause-decided
-returns-in-Some-clause-decided c =
-    refused_before
-    (check_node (statements c.args.before.now) c.args.name.now c.args.parent.now
-    ∷ check_columns (scope_at c.args.names.now (scope_of c.args.header.now) (statements c.args.before.now) c.args.parent.now) (permitted_kinds c.args.action.now) [] (columns_of c.args.action.now) ∷ check_edges c.args.action.now
-    ∷ check_results (Action c.args.name.now c.args.parent.now c.args.action.now ∷ statements c.args.before.now) ∷ [])
-    (check_passes (statements c.args.before.now) (bookings (Action c.args.name.now c.args.parent.now c.args.action.now ∷ statements c.args.before.now)) ∷ []) c.first_of_four.result c.in-Some.cause
-    (four c.check_node.result c.in-Ok.wrong c.check_edges.result c.one_result_more.result _ _ _ _ c.first_of_four.result c.check_node.ensures
-    c.in-Ok.ensures c.check_edges.ensures (c.one_result_more.ensures.action c.args.name.now c.args.parent.now c.args.action.now) c.first_of_four.ensures) c.in-Some.is
+pub returns-in_err-stop_if-clause-decided : goal.returns-in_err-stop_if-clause-decided
+returns-in_err-stop_if-clause-decided c =
+    handed_on _ _ _ c.from_residual-in_err-stop_if.ensures.1
+    (stopped_before
+    (check_node (statements c.args.before.now.lines.now) c.args.name.now c.args.parent.now
+    ∷ check_columns (scope_at c.args.before.now.names.now (scope_of c.args.before.now.header.now) (statements c.args.before.now.lines.now) c.args.parent.now) (permitted_kinds c.args.action.now) [] (columns_of c.args.action.now) ∷ check_edges c.args.action.now
+    ∷ check_results (Action c.args.name.now c.args.parent.now c.args.action.now ∷ statements c.args.before.now.lines.now) ∷ [])
+    (check_passes (statements c.args.before.now.lines.now) (bookings (Action c.args.name.now c.args.parent.now c.args.action.now ∷ statements c.args.before.now.lines.now)) ∷ []) c.first_of_four.result _
+    (four c.check_node.result c.in_ok-wrong.wrong c.check_edges.result c.one_result_more.result _ _ _ _ c.first_of_four.result c.check_node.ensures
+    c.in_ok-wrong.ensures c.check_edges.ensures (c.one_result_more.ensures.action c.args.name.now c.args.parent.now c.args.action.now) c.first_of_four.ensures) c.in_err-stop_if.ensures)
 
-pub returns-in-None-clause-decided : goal.returns-in-None-clause-decided
-returns-in-None-clause-decided c =
+pub counted_action-requires : goal.counted_action-requires
+counted_action-requires c = record {
+  known =
+      (both_none _ _ (both_none (check_node (statements c.args.before.now.lines.now) c.args.name.now c.args.parent.now)
+      (check_columns (scope_at c.args.before.now.names.now (scope_of c.args.before.now.header.now) (statements c.args.before.now.lines.now) c.args.parent.now) (permitted_kinds c.args.action.now) [] (columns_of c.args.action.now) ∷ check_edges c.args.action.now
+      ∷ check_results (Action c.args.name.now c.args.parent.now c.args.action.now ∷ statements c.args.before.now.lines.now) ∷ [])
+      (sym (four c.check_node.result c.in_ok-wrong.wrong c.check_edges.result c.one_result_more.result _ _ _ _ c.first_of_four.result c.check_node.ensures
+      c.in_ok-wrong.ensures c.check_edges.ensures (c.one_result_more.ensures.action c.args.name.now c.args.parent.now c.args.action.now) c.first_of_four.ensures) ∙ c.in_ok-stop_if.ensures)).1).0;
+}
+
+pub returns-clause-decided : goal.returns-clause-decided
+returns-clause-decided c =
     decided_last
-    (check_node (statements c.args.before.now) c.args.name.now c.args.parent.now
-    ∷ check_columns (scope_at c.args.names.now (scope_of c.args.header.now) (statements c.args.before.now) c.args.parent.now) (permitted_kinds c.args.action.now) [] (columns_of c.args.action.now) ∷ check_edges c.args.action.now
-    ∷ check_results (Action c.args.name.now c.args.parent.now c.args.action.now ∷ statements c.args.before.now) ∷ [])
-    (check_passes (statements c.args.before.now) (bookings (Action c.args.name.now c.args.parent.now c.args.action.now ∷ statements c.args.before.now))) c.first_of_four.result
-    (four c.check_node.result c.in-Ok.wrong c.check_edges.result c.one_result_more.result _ _ _ _ c.first_of_four.result c.check_node.ensures
-    c.in-Ok.ensures c.check_edges.ensures (c.one_result_more.ensures.action c.args.name.now c.args.parent.now c.args.action.now) c.first_of_four.ensures) c.in-None.is c.counted_action.result c.counted_action.ensures.decided
+    (check_node (statements c.args.before.now.lines.now) c.args.name.now c.args.parent.now
+    ∷ check_columns (scope_at c.args.before.now.names.now (scope_of c.args.before.now.header.now) (statements c.args.before.now.lines.now) c.args.parent.now) (permitted_kinds c.args.action.now) [] (columns_of c.args.action.now) ∷ check_edges c.args.action.now
+    ∷ check_results (Action c.args.name.now c.args.parent.now c.args.action.now ∷ statements c.args.before.now.lines.now) ∷ [])
+    (check_passes (statements c.args.before.now.lines.now) (bookings (Action c.args.name.now c.args.parent.now c.args.action.now ∷ statements c.args.before.now.lines.now))) c.first_of_four.result
+    (four c.check_node.result c.in_ok-wrong.wrong c.check_edges.result c.one_result_more.result _ _ _ _ c.first_of_four.result c.check_node.ensures
+    c.in_ok-wrong.ensures c.check_edges.ensures (c.one_result_more.ensures.action c.args.name.now c.args.parent.now c.args.action.now) c.first_of_four.ensures) c.in_ok-stop_if.ensures c.counted_action.result c.counted_action.ensures.decided

@@ -7,5 +7,5 @@ use Rattle.graph.proofs.vary_checks.check_values.Goals as goal
 
 pub returns-in-Vector-clause-decided : goal.returns-in-Vector-clause-decided
 returns-in-Vector-clause-decided c =
-    subst (λ values. Decides (check_values c.args.names.now (scope_at c.args.names.now (scope_of c.args.header.now) (statements c.args.before.now) c.args.node.now) c.args.tags c.args.columns.now values) c.vector_value.result) (sym c.in-Vector.is)
+    subst (λ values. Decides (check_values c.args.before.now.names.now (scope_at c.args.before.now.names.now (scope_of c.args.before.now.header.now) (statements c.args.before.now.lines.now) c.args.node.now) c.args.tags c.args.columns.now values) c.vector_value.result) (sym c.in-Vector.is)
     (c.vector_value.ensures.decided c.args.tags)

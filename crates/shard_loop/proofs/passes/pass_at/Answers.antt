@@ -1,6 +1,6 @@
 use Rattle.std.proofs.Common.{arith}
 use Rattle.loop_keys.specs.Jobs.{job_of}
-use Rattle.slot_state.proofs.Adding.{counted, numbered_at, read}
+use Rattle.event_loop.proofs.Adding.{counted, numbered_at, read}
 use Rattle.shard_loop.proofs.passes.pass_at.Goals as goal
 
 pub bounds-passes-number : goal.bounds-passes-number

@@ -8,7 +8,7 @@ use Rattle.rdf_model.specs.LoopFacts.{kinds_in}
 use Rattle.actions.specs.Accumulators.{Accumulator}
 use Rattle.loop_keys.specs.Jobs.{job_of, passes_in}
 use Rattle.loop_keys.specs.Entries.{job_spans}
-use Rattle.slot_state.proofs.Adding.{of_action, result_within}
+use Rattle.event_loop.proofs.Adding.{of_action, result_within}
 use Rattle.loop_pieces.specs.Flows.{nothing}
 use Rattle.shard_lines.specs.declared.shard_line.ShardLine.{ShardLine}
 use Rattle.shard_lines.specs.declared.shard_line.ShardLine.TheVariants as line

@@ -1,0 +1,2 @@
+mod Booked
+pub mod Fitting

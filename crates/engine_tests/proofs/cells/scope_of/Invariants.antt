@@ -1,0 +1,5 @@
+use Rattle.engine_tests.specs.Scopes.{AreBefore}
+use Rattle.engine_tests.proofs.cells.scope_of.Given as goal
+
+abbrev pub invariant-loop-place : goal.invariant-loop-place
+invariant-loop-place l = AreBefore l.cells l.place l.scope

@@ -1,0 +1,33 @@
+-- The columns of a test.
+use Rattle.std.specs.Prelude.{ℕ, Bool, true, false, List, length, Option, Some, None, slice_get, nat_le, if◌then◌else◌, All}
+use Rattle.rdf_values.specs.declared.value.ColType.{ColType}
+use Rattle.rdf_values.specs.declared.value.ColType.TheVariants as kind
+use Rattle.rdf_values.specs.declared.value.Value.{Value}
+use Rattle.rdf_model.specs.Evaluation.{Outcome, Needs}
+use Rattle.rdf_model.specs.Laws.{FitsOutcome}
+use Rattle.expr_eval.specs.declared.inputs.Input.{Input}
+use Rattle.expr_eval.specs.declared.inputs.Input.TheVariants as told
+use Rattle.expr_eval.specs.Inputs.{input_outcome}
+use Rattle.engine_tests.specs.declared.cells.Cell.{Cell}
+
+-- what is known is of the kind, and a vector has at most 4,096 elements
+abbrev pub fits : ColType → Input → Bool
+fits k (told.Faulted fault) = true
+fits k told.Missing = true
+fits kind.Int (told.Int z) = true
+fits kind.Bool (told.Bool b) = true
+fits kind.Vect (told.Vect zs) = nat_le (length zs.now) 4096
+fits k input = false
+
+-- what is told of a column; one whose value isn't of its kind counts as missing
+abbrev pub cell_outcome : ℕ → Option Cell → Outcome ℕ Value
+cell_outcome c None = Needs c
+cell_outcome c (Some cell) = if fits cell.kind cell.input then input_outcome c cell.input else Needs c
+
+-- what is told of the column of that number
+abbrev pub look_in : List Cell → ℕ → Outcome ℕ Value
+look_in cells c = cell_outcome c (slice_get cells c)
+
+-- each column of the expression comes to a value of its kind, or to none
+abbrev pub AllFit : List Cell → List (ℕ × ColType) → Type 0
+AllFit cells kinds = All (λ (k : ℕ × ColType). FitsOutcome k.1 (look_in cells k.0)) kinds

@@ -1,0 +1,299 @@
+-- One more pass.
+use Rattle.std.proofs.Common.{◌≡◌, inl, inr, ℕ, zero, suc, ◌+◌, ◌<◌, ◌≤◌, ◌^◌, Bool, true, false, not, ◌&&◌, List, [], ◌∷◌, ◌++◌, length, map, take, get_or, Option, None, Some, refl, sym, ◌∙◌, ap, ap₂, subst, arith, slice_get, unwrap_or, option_map, if◌then◌else◌, append-nil, append_assoc, length-append}
+use mir.Val.{bool_byte}
+use Rattle.std.specs.Prelude.{⊤, MatchOption, is_none}
+use Rattle.std.proofs.lemmas.List.Concat.{flat_map-append}
+use Rattle.std.proofs.lemmas.List.{length-map, length-take}
+use Rattle.std.proofs.lemmas.Option.{same_Some}
+use Rattle.lemmas.proofs.Parts.{take_next}
+use Rattle.lemmas.proofs.Places.{mapped_at}
+use Rattle.rdf_values.specs.Bookings.{ActionAt, Booked, Booking, Pass, ReportOn, bookings, filled, has_variations, is_watched, named_before, result_depends}
+use Rattle.rdf_values.specs.Functions.{fn_names}
+use Rattle.rdf_values.specs.Kinds.{scope_of}
+use Rattle.rdf_values.specs.Names.{among}
+use Rattle.rdf_values.specs.Path.{Path, Variation, history, variations}
+use Rattle.rdf_values.specs.declared.action.ActionKind.{ActionKind}
+use Rattle.rdf_values.specs.declared.statement.Statement.{Statement}
+use Rattle.rdf_values.specs.declared.statement.Statement.TheVariants.{Print}
+use Rattle.rdf_model.specs.LoopFacts.{is_covered, kind_in, kinds_in}
+use Rattle.graph_numbers.specs.Graphs.{GraphView, graph_filters, graph_loops, graph_results, graph_under, graph_variations}
+use Rattle.graph_numbers.specs.Results.{ResultAt, kind_of_booking, loops, numbered_pass, own_loop, passes_from, places_from, result_passes, under_at}
+use Rattle.graph_numbers.specs.declared.pass.Pass.{Pass as NumberedPass}
+use Rattle.graph_numbers.specs.declared.result_kind.ResultKind.{ResultKind}
+use Rattle.graph_numbers.specs.declared.result_kind.ResultKind.TheVariants as what
+use Rattle.graph_numbers.proofs.Listed.{of_joined}
+use Rattle.graph_numbers.proofs.Resulting.{booked_are}
+use Rattle.loop_keys.specs.Caches.{numbered_in}
+use Rattle.loop_keys.specs.Jobs.{IsJob, JobView, job_graph, passes_in}
+use Rattle.loop_keys.proofs.EvaluateLaws.{accepted_of}
+use Rattle.loop_keys.proofs.PassNumbers.{result_inside, result_there}
+use Rattle.loop_keys.proofs.PassTies.{of_chosen, of_mapped, pass_of}
+use Rattle.loop_keys.specs.Turns.{numbered_passes}
+use Rattle.loop_keys.proofs.Covered.{covered_count, passes_count}
+use Rattle.loop_keys.proofs.EntryLaws.{read_pass}
+use Rattle.loop_keys.proofs.PassCounts.{few_passes}
+use Rattle.actions.specs.Holding.{HasEdges}
+use Rattle.cluster_tally.specs.Feedings.{IsFresh, place_if}
+use Rattle.cluster_tally.specs.Tallies.{CanWatch, TallyView}
+use Rattle.loop_pieces.specs.Trails.{place_if_watched, watched_from, watched_places}
+use Rattle.event_loop.specs.Passes.{IsOfPasses, is_watched_pass, places_before, watched_before}
+use Rattle.event_loop.proofs.Accepting.{all_short, can_be_watched, has_edges}
+
+-- ---- the variation of a pass is one of the script
+
+module _ (script : List Statement) where
+  abbrev IsInside : NumberedPass → Type 0
+  IsInside m = MatchOption m.variation ⊤ (λ v. v < length (variations script))
+
+  places_within : (test : Variation → Bool) (n : ℕ) (vs : List Variation) (i v : ℕ) → slice_get (places_from test n vs) i ≡ Some v → v < n + length vs
+  places_within test n [] i v is = cc is
+  places_within test n (x ∷ xs) i v is = step (test x) i is (λ k q. places_within test (suc n) xs k v q)
+    where
+      step : (b : Bool) (k : ℕ) → slice_get (if b then n ∷ places_from test (suc n) xs else places_from test (suc n) xs) k ≡ Some v
+          → ((l : ℕ) → slice_get (places_from test (suc n) xs) l ≡ Some v → v < suc n + length xs) → v < n + suc (length xs)
+      step true zero q next = let e : n ≡ v = cc q in omega (arith, e)
+      step true (suc k) q next = let lt = next k q in omega (arith, lt)
+      step false k q next = let lt = next k q in omega (arith, lt)
+
+  of_result : (n : ℕ) (b : Booked) (i : ℕ) (m : NumberedPass) → slice_get (result_passes script n b) i ≡ Some m → IsInside m
+  of_result n b zero m is = let e : numbered_pass n None ≡ m = cc is in subst IsInside e tt
+  of_result n b (suc i) m is = step (has_variations script b.name) is
+    where
+      places : List ℕ
+      places = places_from (λ v. result_depends v b.booking) 0 (variations script)
+
+      step : (t : Bool) → slice_get (if t then map (λ v. numbered_pass n (Some v)) (places_from (λ v. result_depends v b.booking) 0 (variations script)) else []) i ≡ Some m → IsInside m
+      step true q =
+          let v = of_mapped (λ v. numbered_pass n (Some v)) (places_from (λ v. result_depends v b.booking) 0 (variations script)) i m q in
+          let lt = places_within (λ v. result_depends v b.booking) 0 (variations script) i v.0 v.1 in
+          subst IsInside v.2 (omega (arith, lt))
+      step false q = cc q
+
+  of_passes : (test : Booked → Bool) (n : ℕ) (bs : List Booked) (i : ℕ) (m : NumberedPass) → slice_get (passes_from script test n bs) i ≡ Some m → IsInside m
+  of_passes test n [] i m is = cc is
+  of_passes test n (b ∷ bs) i m is = step (test b) is (of_passes test (suc n) bs)
+    where
+      step : (t : Bool) → slice_get ((if t then result_passes script n b else []) ++ passes_from script test (suc n) bs) i ≡ Some m
+          → ((k : ℕ) (o : NumberedPass) → slice_get (passes_from script test (suc n) bs) k ≡ Some o → IsInside o) → IsInside m
+      step true q next = elim (of_joined (result_passes script n b) (passes_from script test (suc n) bs) i m q) [
+        | inl p ↦ of_result n b i m p
+        | inr p ↦ next p.0 m p.2
+      ]
+      step false q next = next i m q
+
+  of_loops : (before : List Statement) (k : ℕ) (ps : List NumberedPass) → slice_get (loops script before) k ≡ Some ps → (i : ℕ) (m : NumberedPass) → slice_get ps i ≡ Some m → IsInside m
+  of_loops [] k ps is i m there = cc is
+  of_loops (s ∷ before) k ps is i m there = elim (of_joined (loops script before) (own_loop script before s) k ps is) [
+    | inl q ↦ of_loops before k ps q i m there
+    | inr q ↦ own s q.0 q.2
+  ]
+    where
+      printed : (b : Bool) (n : ℕ) → slice_get (if b then [] else passes_from script (λ (b : Booked). not (among b.name (filled before))) 0 (bookings before) ∷ []) n ≡ Some ps → IsInside m
+      printed true n q = cc q
+      printed false (suc n) q = cc q
+      printed false zero q =
+          let e : passes_from script (λ (b : Booked). not (among b.name (filled before))) 0 (bookings before) ≡ ps = cc q in
+          of_passes (λ (b : Booked). not (among b.name (filled before))) 0 (bookings before) i m (ap (λ l. slice_get l i) e ∙ there)
+
+      own : (s : Statement) (n : ℕ) → slice_get (own_loop script before s) n ≡ Some ps → IsInside m
+      own (Print result) n q = printed (among result (filled before)) n q
+      own s n q = cc q
+
+  under_there : (u : Option ℕ) → MatchOption u ⊤ (λ v. v < length (variations script)) → is_none (under_at script u) ≡ is_none u
+  under_there None h = refl
+  under_there (Some v) h = step (variations script) v h
+    where
+      step : (vs : List Variation) (k : ℕ) → k < length vs → is_none (slice_get vs k) ≡ false
+      step [] k lt = absurd (omega arith)
+      step (x ∷ xs) zero lt = refl
+      step (x ∷ xs) (suc k) lt = step xs k (omega arith)
+
+-- ---- the passes of a job by numbers
+
+pub read : (j : JobView) (g : GraphView) (ps : List NumberedPass) → g ≡ job_graph j → slice_get (graph_loops g) j.number ≡ Some ps → ps ≡ numbered_passes j
+read j g ps e q = sym (ap (λ (h : GraphView). unwrap_or (slice_get (graph_loops h) j.number) []) (sym e) ∙ ap (λ o. unwrap_or o []) q)
+
+pub counted : (j : JobView) (ps : List NumberedPass) → ps ≡ numbered_passes j → length ps ≡ length (passes_in j)
+counted j ps e = ap length e ∙ passes_count j
+
+pub fewer : (j : JobView) → IsJob j → (g : GraphView) → g ≡ job_graph j → (n : ℕ) → n ≡ length (graph_variations g) → n ≤ 128 → (ps : List NumberedPass) → ps ≡ numbered_passes j → length ps < 2 ^ 32
+fewer j job g e n q le ps is =
+    let l : length (graph_variations g) ≡ length (graph_variations (job_graph j)) = ap (λ (h : GraphView). length (graph_variations h)) e in
+    let h = few_passes j job (omega (arith, l, q, le)) in
+    omega (arith, ap length is, h)
+
+pub numbered_at : (j : JobView) (g : GraphView) (ps : List NumberedPass) → g ≡ job_graph j → slice_get (graph_loops g) j.number ≡ Some ps → (n : ℕ) → n < length (passes_in j) → (d : NumberedPass) → numbered_in j n ≡ Some (get_or ps n d)
+numbered_at j g ps e q n lt d = let is = read j g ps e q in read_pass j ps is n (omega (arith, lt, counted j ps is)) d
+
+-- ---- a pass by its number
+
+module _ (j : JobView) (n : ℕ) (m : NumberedPass) (its : numbered_in j n ≡ Some m) where
+  pub under_same : is_none (graph_under (job_graph j) m.variation) ≡ is_none m.variation
+  under_same =
+      let ps = of_chosen (slice_get (graph_loops (job_graph j)) j.number) n m its in
+      under_there (history j.script) m.variation (of_loops (history j.script) (history j.script) j.number ps.0 ps.1 n m ps.2)
+
+  abbrev pub its_result : ResultAt
+  its_result = (result_there j n m its).0
+
+  pub result_is : slice_get (graph_results (job_graph j)) m.result ≡ Some its_result
+  result_is = (result_there j n m its).1
+
+  pub its_pass : slice_get (passes_in j) n ≡ Some (record { result = its_result.booked; under = graph_under (job_graph j) m.variation })
+  its_pass = pass_of j n m its its_result result_is
+
+  pub result_within : (g : GraphView) → g ≡ job_graph j → m.result < length (graph_results g)
+  result_within g same = let lt = result_inside j n m its in let e = ap (λ (h : GraphView). length (graph_results h)) same in omega (arith, lt, e)
+
+  booked_is : slice_get (bookings (history j.script)) m.result ≡ Some its_result.booked
+  booked_is =
+      ap (λ bs. slice_get bs m.result) (sym (booked_are j.dataset.columns (fn_names j.dataset.fns) (history j.script)))
+      ∙ mapped_at (λ (x : ResultAt). x.booked) (graph_results (job_graph j)) m.result its_result result_is
+
+  -- the pass is the nominal one of a watched result
+  pub flag_is : (p : Pass) → slice_get (passes_in j) n ≡ Some p → m.variation ≡ None → (w : Bool) (g : GraphView) → g ≡ job_graph j
+      → option_map (λ (x : ResultAt). is_watched (history g.script) x.booked.name) (slice_get (graph_results g) m.result) ≡ Some w → w ≡ is_watched_pass (history j.script) p
+  flag_is p here nominal w g of at =
+      let is = ap (λ (h : GraphView). option_map (λ (x : ResultAt). is_watched (history h.script) x.booked.name) (slice_get (graph_results h) m.result)) (sym of) ∙ at in
+      let on : is_none m.variation ≡ true = ap is_none nominal in
+      let same : record { result = its_result.booked; under = graph_under (job_graph j) m.variation } ≡ p = same_Some _ p (sym its_pass ∙ here) in
+      let told : is_watched (history j.script) its_result.booked.name ≡ w = same_Some _ w (sym (ap (option_map (λ (x : ResultAt). is_watched (history j.script) x.booked.name)) result_is) ∙ is) in
+      ap (λ b. b && w) (sym on) ∙ ap₂ (λ a b. a && b) (sym under_same) (sym told) ∙ ap (is_watched_pass (history j.script)) same
+
+  pub not_nominal : (p : Pass) (v : ℕ) → slice_get (passes_in j) n ≡ Some p → m.variation ≡ Some v → is_watched_pass (history j.script) p ≡ false
+  not_nominal p v here under =
+      let same : record { result = its_result.booked; under = graph_under (job_graph j) m.variation } ≡ p = same_Some _ p (sym its_pass ∙ here) in
+      sym (ap (is_watched_pass (history j.script)) same) ∙ ap (λ b. b && is_watched (history j.script) its_result.booked.name) (under_same ∙ ap is_none under)
+
+  -- ---- what it is
+
+  module _ (kind : ResultKind) (g : GraphView) (same : g ≡ job_graph j) (is : option_map (λ (x : ResultAt). kind_of_booking x.booked.booking) (slice_get (graph_results g) m.result) ≡ Some kind) where
+    kind_is : kind_of_booking its_result.booked.booking ≡ kind
+    kind_is = same_Some _ kind (sym (ap (option_map (λ (x : ResultAt). kind_of_booking x.booked.booking)) result_is)
+        ∙ ap (λ (h : GraphView). option_map (λ (x : ResultAt). kind_of_booking x.booked.booking) (slice_get (graph_results h) m.result)) (sym same) ∙ is)
+
+    pub of_action : (k : ActionKind) → kind ≡ what.Action k → (at : Path) × (its_result.booked.booking ≡ ActionAt k at)
+    of_action k e = go its_result.booked.booking refl (kind_is ∙ e)
+      where
+        go : (b : Booking) → its_result.booked.booking ≡ b → kind_of_booking b ≡ what.Action k → (at : Path) × (its_result.booked.booking ≡ ActionAt k at)
+        go (ActionAt l at) q h = (at, q ∙ ap (λ x. ActionAt x at) (cc h))
+        go (ReportOn fs) q h = cc h
+
+    pub of_report : kind ≡ what.Report → kind_in its_result.booked.booking ≡ []
+    of_report e = go its_result.booked.booking (kind_is ∙ e)
+      where
+        go : (b : Booking) → kind_of_booking b ≡ what.Report → kind_in b ≡ []
+        go (ActionAt l at) h = cc h
+        go (ReportOn fs) h = refl
+
+    pub edges : (job : IsJob j) (k : ActionKind) → kind ≡ what.Action k → HasEdges k
+    edges job k e =
+        let b = of_action k e in
+        has_edges (fn_names j.dataset.fns) (scope_of j.dataset.columns) (history j.script) (accepted_of j job) (all_short j.script job.graph.bookable) m.result its_result.booked k b.0 booked_is b.1
+
+    pub can_watch : (job : IsJob j) (k : ActionKind) → kind ≡ what.Action k → is_watched_pass (history j.script) (record { result = its_result.booked; under = graph_under (job_graph j) m.variation }) ≡ true → CanWatch k
+    can_watch job k e on =
+        let b = of_action k e in
+        can_be_watched (fn_names j.dataset.fns) (scope_of j.dataset.columns) (history j.script) (accepted_of j job) m.result its_result.booked k b.0 booked_is b.1
+        (second (is_none (graph_under (job_graph j) m.variation)) (is_watched (history j.script) its_result.booked.name) on)
+      where
+        second : (a b : Bool) → (a && b) ≡ true → b ≡ true
+        second true b h = h
+        second false b h = cc h
+
+-- ---- one more
+
+watched_more : (script : List Statement) (n : ℕ) (ps : List Pass) (p : Pass) → watched_from script n (ps ++ p ∷ []) ≡ watched_from script n ps ++ place_if_watched script (n + length (kinds_in ps)) p
+watched_more script n [] p = append-nil (place_if_watched script n p) ∙ (let e : n ≡ n + 0 = omega arith in ap (λ k. place_if_watched script k p) e)
+watched_more script n (q ∷ qs) p =
+    let more = length (kind_in q.result.booking) in
+    ap (λ l. place_if_watched script n q ++ l) (watched_more script (n + more) qs p)
+    ∙ sym (append_assoc (place_if_watched script n q) (watched_from script (n + more) qs) (place_if_watched script (n + more + length (kinds_in qs)) p))
+    ∙ (let e : n + more + length (kinds_in qs) ≡ n + length (kinds_in (q ∷ qs)) = omega (arith, length-append (kind_in q.result.booking) (kinds_in qs)) in
+    ap (λ k. watched_from script n (q ∷ qs) ++ place_if_watched script k p) e)
+
+module _ (j : JobView) (n : ℕ) (p : Pass) (here : slice_get (passes_in j) n ≡ Some p) where
+  kinds_next : kinds_in (take (n + 1) (passes_in j)) ≡ kinds_in (take n (passes_in j)) ++ kind_in p.result.booking
+  kinds_next =
+      ap kinds_in (take_next (passes_in j) n p here)
+      ∙ flat_map-append (λ (q : Pass). kind_in q.result.booking) (take n (passes_in j)) (p ∷ [])
+      ∙ ap (λ l. kinds_in (take n (passes_in j)) ++ l) (append-nil (kind_in p.result.booking))
+
+  places_next : places_before j (n + 1) ≡ places_before j n ++ place_if_watched (history j.script) (length (kinds_in (take n (passes_in j)))) p
+  places_next =
+      ap (watched_places (history j.script)) (take_next (passes_in j) n p here)
+      ∙ watched_more (history j.script) 0 (take n (passes_in j)) p
+      ∙ (let e : (k : ℕ) → 0 + k ≡ k = λ k. omega arith in ap (λ k. places_before j n ++ place_if_watched (history j.script) k p) (e (length (kinds_in (take n (passes_in j))))))
+
+  -- a report's pass adds nothing
+  module _ (none : kind_in p.result.booking ≡ []) where
+    no_place : place_if_watched (history j.script) (length (kinds_in (take n (passes_in j)))) p ≡ []
+    no_place = go (is_watched_pass (history j.script) p)
+      where
+        go : (b : Bool) → (if b then map (λ k. length (kinds_in (take n (passes_in j)))) (kind_in p.result.booking) else []) ≡ []
+        go true = ap (map (λ k. length (kinds_in (take n (passes_in j))))) none
+        go false = refl
+
+    same_kinds : kinds_in (take (n + 1) (passes_in j)) ≡ kinds_in (take n (passes_in j))
+    same_kinds = kinds_next ∙ ap (λ l. kinds_in (take n (passes_in j)) ++ l) none ∙ append-nil (kinds_in (take n (passes_in j)))
+
+    same_places : places_before j (n + 1) ≡ places_before j n
+    same_places = places_next ∙ ap (λ l. places_before j n ++ l) no_place ∙ append-nil (places_before j n)
+
+    pub kept : (t : TallyView) → IsOfPasses j n t → IsOfPasses j (n + 1) t
+    kept t h = subst (λ ks. IsFresh ks (places_before j (n + 1)) t) (sym same_kinds) (subst (λ ws. IsFresh (kinds_in (take n (passes_in j))) ws t) (sym same_places) h)
+
+    pub none_more : watched_before j (n + 1) ≡ watched_before j n + 0
+    none_more = omega (arith, ap length same_places)
+
+  -- an action's pass adds its kind, and its place where it is watched
+  module _ (k : ActionKind) (at : Path) (of : p.result.booking ≡ ActionAt k at) where
+    more_kinds : kinds_in (take (n + 1) (passes_in j)) ≡ kinds_in (take n (passes_in j)) ++ k ∷ []
+    more_kinds = kinds_next ∙ ap (λ b. kinds_in (take n (passes_in j)) ++ kind_in b) of
+
+    one_place : place_if_watched (history j.script) (length (kinds_in (take n (passes_in j)))) p ≡ place_if (is_watched_pass (history j.script) p) (kinds_in (take n (passes_in j)))
+    one_place = ap (λ b. if is_watched_pass (history j.script) p then map (λ k. length (kinds_in (take n (passes_in j)))) (kind_in b) else []) of
+
+    more_places : places_before j (n + 1) ≡ places_before j n ++ place_if (is_watched_pass (history j.script) p) (kinds_in (take n (passes_in j)))
+    more_places = places_next ∙ ap (λ l. places_before j n ++ l) one_place
+
+    pub added : (t : TallyView) → IsFresh (kinds_in (take n (passes_in j)) ++ k ∷ []) (places_before j n ++ place_if (is_watched_pass (history j.script) p) (kinds_in (take n (passes_in j)))) t → IsOfPasses j (n + 1) t
+    added t h =
+        subst (λ ks. IsFresh ks (places_before j (n + 1)) t) (sym more_kinds)
+        (subst (λ ws. IsFresh (kinds_in (take n (passes_in j)) ++ k ∷ []) ws t) (sym more_places) h)
+
+    pub one_more : (b : Bool) → b ≡ is_watched_pass (history j.script) p → watched_before j (n + 1) ≡ watched_before j n + bool_byte b
+    one_more b is =
+        ap length more_places ∙ length-append (places_before j n) (place_if (is_watched_pass (history j.script) p) (kinds_in (take n (passes_in j))))
+        ∙ ap (λ c. watched_before j n + length (place_if c (kinds_in (take n (passes_in j))))) (sym is)
+        ∙ ap (λ l. watched_before j n + l) (go b)
+      where
+        go : (c : Bool) → length (place_if c (kinds_in (take n (passes_in j)))) ≡ bool_byte c
+        go true = refl
+        go false = refl
+
+-- ---- how many are watched
+
+few_if : (script : List Statement) (n : ℕ) (p : Pass) → length (place_if_watched script n p) ≤ 1
+few_if script n p = go (is_watched_pass script p) p.result.booking
+  where
+    go : (b : Bool) (k : Booking) → length (if b then map (λ _. n) (kind_in k) else []) ≤ 1
+    go true (ActionAt k at) = omega arith
+    go true (ReportOn fs) = omega arith
+    go false k = omega arith
+
+few_watched : (script : List Statement) (n : ℕ) (ps : List Pass) → length (watched_from script n ps) ≤ length ps
+few_watched script n [] = omega arith
+few_watched script n (p ∷ ps) =
+    let one = few_if script n p in
+    let rest = few_watched script (n + length (kind_in p.result.booking)) ps in
+    omega (arith, length-append (place_if_watched script n p) (watched_from script (n + length (kind_in p.result.booking)) ps))
+
+pub watched_few : (j : JobView) (n : ℕ) → watched_before j n ≤ n
+watched_few j n = let few = few_watched (history j.script) 0 (take n (passes_in j)) in omega (arith, length-take n (passes_in j))
+
+-- ---- named filters
+
+pub filters_same : (j : JobView) (g : GraphView) → g ≡ job_graph j → length (graph_filters g) ≡ length (named_before (history j.script))
+filters_same j g e =
+    ap (λ (h : GraphView). length (graph_filters h)) e ∙ sym (covered_count j) ∙ length-map (named_before (history j.script)) (is_covered (passes_in j))

@@ -1,0 +1,43 @@
+-- What a contract sees of a slot.
+use Rattle.std.specs.Prelude.{◌≡◌, ◌≤◌, ◌<◌, ℕ, List, [], All, length}
+use Rattle.rdf_model.specs.LoopFacts.{kinds_in}
+use Rattle.loop_keys.specs.Caches.{IsPlainLoop}
+use Rattle.loop_keys.specs.Jobs.{JobView, job_graph, passes_in}
+use Rattle.loop_keys.specs.Entries.{IsNoTake}
+use Rattle.block_passes.specs.States.{CountsVectors, IsStateOf, StateView}
+use Rattle.cluster_tally.specs.Stages.{at_begin}
+use Rattle.cluster_tally.specs.Tallies.{Holds, TallyView}
+use Rattle.event_loop.specs.Jobs.{JobFacts, job_facts}
+use Rattle.event_loop.specs.declared.progress.Phase.{Phase}
+use Rattle.event_loop.specs.declared.progress.Phase.TheVariants.{Going}
+
+-- what it reserves for blocks, how many keys of the graph have vectors for values, what the clusters gave, room for so many clusters, those that the slot finished, and whether it goes on
+pub record SlotView : Type 0 where
+  pub blocks : StateView
+  pub vectors : ℕ
+  pub tally : TallyView
+  pub room : ℕ
+  pub done : List ℕ
+  pub phase : Phase
+
+-- the slot is one of the loop that is to give that; while it goes on, its tally holds what the finished clusters give
+pub record IsSlotOf (job : JobFacts) (s : SlotView) : Type 0 where
+  pub blocks : IsStateOf job.job s.blocks
+  pub vectors : CountsVectors (job_graph job.job) s.vectors
+  pub few : s.vectors < 1099511627776
+  pub room : length job.faults ≤ s.room
+  pub holds : s.phase ≡ Going → (c : ℕ) → All (λ d. d < c) s.done → Holds job.facts job.watched (at_begin s.done c) s.tally
+
+-- and it finished no cluster
+pub record IsFreshSlot (job : JobFacts) (s : SlotView) : Type 0 where
+  pub slot : IsSlotOf job s
+  pub none : s.done ≡ []
+  pub going : s.phase ≡ Going
+
+-- ---- memory
+
+-- no site and no column in use is a vector, nothing is taken and nothing is watched
+pub record IsPlainSlot (j : JobView) : Type 0 where
+  pub plain : IsPlainLoop j
+  pub no_take : All IsNoTake (kinds_in (passes_in j))
+  pub unwatched : (job_facts j).watched ≡ []

@@ -1,0 +1,71 @@
+// The passes of a loop.
+ghost use Rattle.std.specs.Prelude.{◌≡◌, ◌<◌, ◌+◌, ℕ, Some, length, slice_get};
+ghost use Rattle.rdf_values.specs.Bookings as bookings;
+ghost use Rattle.rdf_values.specs.Path.{history};
+ghost use Rattle.loop_keys.specs.Caches.{numbered_in};
+ghost use Rattle.loop_keys.specs.Jobs.{Fits, job_of, passes_in};
+ghost use Rattle.event_loop.specs.Jobs.{job_facts};
+ghost use Rattle.event_loop.specs.Passes.{is_watched_pass, watched_before};
+
+use graph_numbers::{Pass, ResultKind};
+use loop_keys::Job;
+
+/// How many passes the loop has.
+pub(crate) fn pass_count(job: &Job<'_>) -> u32
+    requires { Fits job.now }
+    ensures { result ≡ length (passes_in (job_of job.now)) }
+{
+    job.graph.is_booked();
+    let _few = job.graph.variations().len();
+    job.graph.passes(job.loop_index).len() as u32
+}
+
+/// Whether a pass of the loop is the nominal one of a result that is watched.
+pub(crate) fn is_watched(job: &Job<'_>, pass: Pass) -> bool
+    requires job { Fits job.now }
+    requires pass { (n : ℕ) × (numbered_in (job_of job.now) n ≡ Some pass) }
+    ensures { (n : ℕ) (p : bookings.Pass) → numbered_in (job_of job.now) n ≡ Some pass → slice_get (passes_in (job_of job.now)) n ≡ Some p
+        → result ≡ is_watched_pass (history (job_of job.now).script) p }
+{
+    match pass.variation {
+        None => job.graph.watched(pass.result),
+        Some(_) => false,
+    }
+}
+
+/// The pass of that number in the loop.
+pub(crate) fn pass_at(job: &Job<'_>, number: u32) -> Pass
+    requires job { Fits job.now }
+    requires number { number < length (passes_in (job_of job.now)) }
+    ensures { numbered_in (job_of job.now) number ≡ Some result }
+{
+    job.graph.passes(job.loop_index)[number as usize]
+}
+
+// How many watched results the pass of that number adds: one or none.
+fn watched_at(job: &Job<'_>, number: u32) -> u32
+    requires job { Fits job.now }
+    requires number { number < length (passes_in (job_of job.now)) }
+    ensures { watched_before (job_of job.now) (number + 1) ≡ watched_before (job_of job.now) number + result }
+{
+    let pass = pass_at(job, number);
+    match job.graph.kind(pass.result) {
+        ResultKind::Report => 0,
+        ResultKind::Action(_) => {
+            let is_watched = is_watched(job, pass);
+            u32::from(is_watched)
+        }
+    }
+}
+
+/// How many results of the loop are watched.
+pub fn watched_in(job: &Job<'_>) -> u32
+    requires { Fits job.now }
+    ensures { result ≡ length (job_facts (job_of job.now)).watched }
+{
+    let mut watched = 0;
+    for number in 0..pass_count(job) {
+        watched += watched_at(job, number);
+    }
+    watched
+}

@@ -1,5 +1,0 @@
-use Rattle.expression_tests.specs.Scopes.{AreBefore}
-use Rattle.expression_tests.proofs.cells.scope_of.Given as goal
-
-abbrev pub invariant-loop-place : goal.invariant-loop-place
-invariant-loop-place l = AreBefore l.cells l.place l.scope

@@ -1,0 +1,14 @@
+use Rattle.graph.specs.Lookups.{statements}
+use Rattle.graph.proofs.Scoping.{found_as, found_none, found_within}
+use Rattle.graph.proofs.before.Before.find_column.Goals as goal
+
+pub returns-then-not-is_visible : goal.returns-then-not-is_visible
+returns-then-not-is_visible c = found_none c.args.self.now.header.now c.args.self.now.names.now (statements c.args.self.now.lines.now) c.args.node.now c.args.self.now.tables.now.kinds.items c.args.name.now _ (c.is_visible.ensures c.args.self.now.names.now) c.if-not-is_visible.true
+
+pub numbered_kind-requires : goal.numbered_kind-requires
+numbered_kind-requires c =
+    found_within c.args.self.now.header.now c.args.self.now.names.now (statements c.args.self.now.lines.now) c.args.node.now c.args.self.now.tables.now.kinds.items c.args.self.now.are.versions c.args.name.now _ c.target_of-target.ensures _ (c.is_visible.ensures c.args.self.now.names.now) c.if-not-is_visible.false _ c.named_version.ensures
+
+pub returns : goal.returns
+returns c =
+    found_as c.args.self.now.header.now c.args.self.now.names.now (statements c.args.self.now.lines.now) c.args.node.now c.args.self.now.tables.now.kinds.items c.args.self.now.are.versions c.args.name.now _ c.target_of-target.ensures _ (c.is_visible.ensures c.args.self.now.names.now) c.if-not-is_visible.false _ c.named_version.ensures _ _ c.numbered_kind.ensures

@@ -1,5 +1,0 @@
-use Rattle.std.proofs.Common.{length}
-use Rattle.graph.proofs.tables.+push_kinds.Given as goal
-
-abbrev pub decreases-push_kinds : goal.decreases-push_kinds
-decreases-push_kinds l = length l.header.now

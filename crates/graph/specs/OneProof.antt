@@ -1,0 +1,86 @@
+-- That tables are those of the statements has one proof at most.
+use Rattle.std.specs.Prelude.{ℕ, List, [], ◌∷◌, Option}
+use Rattle.std.specs.Coded.{Coded-set, coded_list, coded_option}
+use Rattle.std.proofs.Props.{props}
+use Rattle.rdf_values.specs.Bookings.{Booked}
+use Rattle.rdf_values.specs.Kinds.{FunctionNames, scope_of, args_count}
+use Rattle.rdf_values.specs.Tree.{Trees, NumTree, Lit, Truth, Col, Neg, Not, Bin, Cond, Pick, Call, End, More}
+use Rattle.rdf_values.specs.TreeCode.{num_code}
+use Rattle.rdf_values.specs.Verdict.{AreAccepted}
+use Rattle.rdf_values.specs.contracts.graph_cause.GraphCause.{the_row as cause_row}
+use Rattle.rdf_values.specs.contracts.value.ColType.{the_row as kind_row}
+use Rattle.rdf_values.specs.declared.column.Column.{Column}
+use Rattle.rdf_values.specs.declared.graph_cause.GraphCause.{GraphCause}
+use Rattle.rdf_values.specs.declared.num_expr.Callee.{Callee}
+use Rattle.rdf_values.specs.declared.num_expr.Callee.TheVariants as fn
+use Rattle.rdf_values.specs.declared.statement.Statement.{Statement}
+use Rattle.rdf_values.specs.declared.value.ColType.{ColType}
+use Rattle.expr_check.specs.NumKinds.{CheckedExpr, IsCallOf, CallsFit, AllCallsFit}
+use Rattle.graph_numbers.specs.Sites.{SiteAt}
+use Rattle.graph.specs.declared.var_set.VarSet.{VarSet}
+use Rattle.graph.specs.Dependence.{Numbers, AreSets}
+use Rattle.graph.specs.Gains.{AreSites, AreRows, AreTables}
+use Rattle.graph.specs.declared.result_row.ResultRow.{ResultRow}
+use Rattle.graph.specs.declared.tables.Tables.{Tables}
+
+refusal-set : IsSet (Option GraphCause)
+refusal-set = Coded-set (coded_option cause_row.coded)
+
+kind-set : IsSet ColType
+kind-set = Coded-set kind_row.coded
+
+cause-set : IsSet GraphCause
+cause-set = Coded-set cause_row.coded
+
+kinds-set : IsSet (List ColType)
+kinds-set = Coded-set (coded_list kind_row.coded)
+
+tree-set : IsSet NumTree
+tree-set = Coded-set num_code
+
+ruleset known = (props, refusal-set, kind-set, cause-set, kinds-set, tree-set)
+
+accepted-prop : (names : FunctionNames) (header : List Column) (before : List Statement) → IsProp (AreAccepted names (scope_of header) before)
+accepted-prop names header [] = hlevel known
+accepted-prop names header (s ∷ before) = hlevel (known, accepted-prop names header before)
+
+sets-prop : (ds : List Numbers) (ss : List VarSet) → IsProp (AreSets ds ss)
+sets-prop [] [] = hlevel known
+sets-prop [] (s ∷ ss) = hlevel known
+sets-prop (d ∷ ds) [] = hlevel known
+sets-prop (d ∷ ds) (s ∷ ss) = hlevel (known, sets-prop ds ss)
+
+module _ (names : FunctionNames) where
+  call-prop : (f : Callee) (count : ℕ) → IsProp (IsCallOf names f count)
+  call-prop (fn.Given i) count = hlevel known
+  call-prop f count = hlevel known
+
+  mutual
+    calls-prop : (e : NumTree) → IsProp (CallsFit names e)
+    calls-prop (Lit z) = hlevel known
+    calls-prop (Truth b) = hlevel known
+    calls-prop (Col c) = hlevel known
+    calls-prop (Neg a) = calls-prop a
+    calls-prop (Not a) = calls-prop a
+    calls-prop (Bin o a b) = hlevel (calls-prop a, calls-prop b)
+    calls-prop (Cond c a b) = hlevel (calls-prop c, calls-prop a, calls-prop b)
+    calls-prop (Pick v i) = hlevel (calls-prop v, calls-prop i)
+    calls-prop (Call f args) = hlevel (call-prop f (args_count args), all_calls-prop args)
+
+    all_calls-prop : (args : Trees ℕ Callee) → IsProp (AllCallsFit names args)
+    all_calls-prop End = hlevel known
+    all_calls-prop (More a rest) = hlevel (calls-prop a, all_calls-prop rest)
+
+  sites-prop : (kinds : List ColType) (xs : List SiteAt) (cs : List CheckedExpr) → IsProp (AreSites kinds names xs cs)
+  sites-prop kinds [] [] = hlevel known
+  sites-prop kinds [] (c ∷ cs) = hlevel known
+  sites-prop kinds (x ∷ xs) [] = hlevel known
+  sites-prop kinds (x ∷ xs) (c ∷ cs) = hlevel (known, calls-prop c.tree, sites-prop kinds xs cs)
+
+rows-prop : (bs : List Booked) (ds : List Numbers) (rs : List ResultRow) → IsProp (AreRows bs ds rs)
+rows-prop [] [] [] = hlevel known
+rows-prop (b ∷ bs) (d ∷ ds) (r ∷ rs) = hlevel (known, rows-prop bs ds rs)
+rows-prop bs ds rs = hlevel known
+
+pub tables-prop : (header : List Column) (names : FunctionNames) (before : List Statement) (t : Tables) → IsProp (AreTables header names before t)
+tables-prop header names before t = hlevel (known, accepted-prop names header before, sets-prop, sites-prop names, rows-prop)

@@ -1,4 +1,0 @@
-pub mod Accepting
-pub mod Adding
-pub mod Beginning
-pub mod SlotLemmas

@@ -1,9 +1,0 @@
-use Rattle.std.proofs.Common.{◌≡◌, length}
-use Rattle.loop_keys.specs.Jobs.{job_of, passes_in}
-use Rattle.slot_state.specs.Passes.{watched_before}
-use Rattle.slot_state.proofs.passes.watched_in.Given as goal
-
-abbrev pub invariant-loop-number : goal.invariant-loop-number
-invariant-loop-number g l =
-    (l.watched ≡ watched_before (job_of l.job) l.number)
-    × (l.number-end ≡ length (passes_in (job_of l.job)))
