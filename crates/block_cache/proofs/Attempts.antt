@@ -156,7 +156,7 @@ module _
         let told : IsTelling j (first + p) u (cells_at keys (take own_key before) p) s (Needs c) = subst (λ (o : Outcome ℕ Value). IsTelling j (first + p) u (cells_at keys (take own_key before) p) s o) is (t.telling p near) in
         let m = missing_site j u s (take own_key before) p (source_at j u c) told.0.1 in
         record {
-          something_at = told.0.0;
+          there = told.0.0;
           site = m.0;
           source = m.1;
           lower = m.2;
@@ -242,7 +242,7 @@ place_inside j first u count s group left before new old more none t low x insid
     let joined = subst (λ (l : List Stopped). IsJoined l (stops_in t.told group) more) none t.evaluated.joined in
     low x.place (stop_told t.told group more joined x inside).0
 
--- with the stops that something_at were, none
+-- with the stops that there were, none
 pub attempted_from : (j : JobView) (first : ℕ) (u : Option ℕ) (count s : ℕ) (inside : s < length (graph_sites (job_graph j))) (group left : List ℕ) (before new : List LaneView) (old more seen : List Stopped) → old ≡ [] → seen ≡ more → IsTriedOver j first u count s group left before new old more
     → EachPlace group (λ p. p < count) → EachPlace group (λ p. holds_at before (key (job_graph j) s u) p ≡ false) → (found : Option PlaceFault) → IsLeastFault seen found → (needs noted : List ℕ)
     → ((p c : ℕ) → Contains seen (stopped p (Need c)) → ((x : Stopped) → Contains seen x → x.place ≡ p → x.stop ≡ Need c) → need_at noted p ≡ c) → ((p : ℕ) → ((x : Stopped) → Contains seen x → x.place ≡ p → ⊥) → need_at noted p ≡ need_at needs p)
