@@ -62,11 +62,7 @@ pub fn columns_of<R: Threads + Sync>(
 }
 
 // The bytes of the file that a shelf has under a name, where they are no more than a table may have.
-fn read_bytes<S: Shelf>(
-    alloc: Global,
-    shelf: &mut S,
-    name: &str,
-) -> Result<ReadFile<Bytes>, Memory>
+fn read_bytes<S: Shelf>(alloc: Global, shelf: &mut S, name: &str) -> Result<ReadFile<Bytes>, Memory>
     ensures same { S.files shelf.new ≡ S.files shelf.old }
     ensures turns { S.turns shelf.new ≡ S.turns shelf.old ++ name.now ∷ [] }
     ensures later { S.faults shelf.old ≤ S.faults shelf.new }
