@@ -1,6 +1,6 @@
 // One reader's happy path: what it takes and refuses is shown by the cases of tables, and its limits by `tools/outside_test.sh`.
 use crate::{read_columns, read_table};
-use rdf_values::Cell;
+use rdf_values::{Bytes, Cell};
 use std::test::Fail;
 
 #[test]
@@ -14,7 +14,9 @@ fn reads_columns_and_rows(rt: HostRuntime) -> Result<(), Fail> {
         panic!(rt; "no vector");
     };
     assert_eq!(rt; jets, [3, 4].as_slice());
-    let columns = read_columns(&rt, rt.alloc(), text, 3, 2)?;
+    let mut bytes = Bytes::new(rt.alloc());
+    bytes.extend(text)?;
+    let columns = read_columns(&rt, rt.alloc(), bytes, 3, 2)?;
     assert_eq!(rt; columns.entries(), 4);
     assert_eq!(rt; columns.cuts().count(), 2);
     Ok(())
