@@ -182,7 +182,7 @@ module _ (rows : List (List Value)) (keys size most hi : ℕ) where
         ap (λ b. if b then suc (more_fit size most (suc n) (s + x) xs) else 0)
         (let e : one_more_fits size most n s x ≡ false = ap (λ b. b && nat_le (s + x) most) (le-ltb n size le) in e)
 
-    -- the block is as long as any, or something_at are no more entries
+    -- the block is as long as any, or there are no more entries
     pub at_last : (end ≡ lo + size) ⊎ (end ≡ hi) → end ≡ lo + first_length size most (costs_from lo)
     at_last (inl e) =
         let a = full (end - lo) elements (costs_from end) (omega (arith, e)) in

@@ -223,7 +223,7 @@ uncovered_step j chains steps f b h e are = record { more = []; steps_of = none_
 pub covered_step : (j : JobView) (chains : List Chain) (steps : List Step) (f : ℕ) (b : Bool) (s : NamedSteps) → slice_get (covered_in j) f ≡ Some b → b ≡ true → IsFilterLed j chains steps f s → IsFilterStepped j chains steps f (Some s)
 covered_step j chains steps f b s h e led = record { more = led.more; steps_of = led.steps_of; each = λ x q. (h ∙ ap Some e, led.each x q) }
 
--- the last step of a path is something_at
+-- the last step of a path is there
 pub led_there : (chains : List Chain) (path : List ℕ) (u : Option ℕ) (steps : List Step) (k : ℕ) → IsLed chains path u steps k → k < length steps
 led_there chains path u steps k led = let l = slice_get_within (chains ++ led.more) k led.last led.its in let m = led.are.many in omega (arith, l, m)
 

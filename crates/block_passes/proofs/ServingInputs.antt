@@ -112,6 +112,9 @@ first_plain used j u inputs cs c e all = (subst (λ (l : List ℕ). ArePlainVers
 module _ (j : JobView) (first : ℕ) (u : Option ℕ) (inputs cs : List ℕ) (c : ℕ) (e : inputs ≡ c ∷ cs) where
   -- ---- what is asked
 
+  pub first_can : (P : ℕ → Type 0) → AllByRecursion P inputs → P c
+  first_can P h = (subst (λ (l : List ℕ). AllByRecursion P l) e h).0
+
   pub rest_can : (count : ℕ) (kinds more : List ColType) (cells : List (List ℤ)) (scratch levels scratch2 levels2 : ℕ) → more ≡ kinds → scratch2 ≡ scratch → levels2 ≡ levels
       → AllByRecursion (CanServe j first u count kinds cells scratch levels) inputs → AllByRecursion (CanServe j first u count more cells scratch2 levels2) cs
   rest_can count kinds more cells scratch levels scratch2 levels2 same_kinds same_scratch same_levels h =

@@ -65,7 +65,7 @@ module _ (lanes : List LaneView) (k : ℕ) (r : LaneView) (its : slice_get lanes
   )
 
 pub vector_kind : (lanes : List LaneView) (k : ℕ) (r : LaneView) → slice_get lanes k ≡ Some r → r.kind ≡ kind.Vect → slice_get (kinds_of lanes) k ≡ Some kind.Vect
-vector_kind lanes k r something_at is = got_kind lanes k r something_at ∙ ap Some is
+vector_kind lanes k r there is = got_kind lanes k r there ∙ ap Some is
 
 -- ---- where a version stands
 
@@ -104,7 +104,7 @@ module _ (j : JobView) (first count : ℕ) (u : Option ℕ) (kinds : List ColTyp
       let at : slice_get lanes (key (job_graph j) site_is.0 u) ≡ Some l = ap (slice_get lanes) site_is.2 ∙ got.1 in
       let holds : holds_at lanes (key (job_graph j) site_is.0 u) p ≡ true = subst (IsAtHand j lanes u p) site_is.1 hand in
       record {
-        something_at = has_p.0;
+        there = has_p.0;
         value = ap (source_value {M = ⊥} (row_of j (first + p)) (site_in j (first + p) u)) site_is.1 ∙ gives_value j first count u site_is.0 site_inside lanes ready l at p low holds ∙ ap Gives (sym has_p.1);
       }
 

@@ -86,12 +86,13 @@ fn are_at_hand(
     ensures held { result ≡ true → EachPlace selection.now (AreAtHand (job_of at.now.job.now) lanes.now under inputs.now) }
     ensures clear { result ≡ true → EachPlace selection.now (λ p. inputs_fault (job_of at.now.job.now) at.now.first under inputs.now p ≡ None) }
 {
-    match inputs.split_first() {
-        None => true,
-        Some((version, rest)) => {
-            rest.is_empty() && is_at_hand(at, lanes, selection, *version, under)
-        }
+    let Some((version, rest)) = inputs.split_first() else {
+        return true;
+    };
+    if !rest.is_empty() {
+        return false;
     }
+    is_at_hand(at, lanes, selection, *version, under)
 }
 
 /// Fills a site at the places of a selection, up to the first at which it faults, which lowers the limit; the places below it are left.
