@@ -1,5 +1,5 @@
 -- What the stages of a command's tables come to.
-use Rattle.std.specs.Prelude.{◌≡◌, ◌<◌, ℕ, true, All, List, [], ◌∷◌, drop, length, Option, None, IfSome}
+use Rattle.std.specs.Prelude.{◌≡◌, ℕ, true, List, [], ◌∷◌, drop, length, Option, None, IfSome}
 use Rattle.std.specs.Bool.{MatchBool}
 use Rattle.std.specs.List.{AllByRecursion, list_all}
 use Rattle.rdf_values.specs.Functions.{Function, fn_names}
@@ -9,14 +9,14 @@ use Rattle.rdf_values.specs.Tables.{IsTable}
 use Rattle.rdf_values.specs.Verdict.{verdict}
 use Rattle.rdf_values.specs.declared.column.Column.{Column}
 use Rattle.rdf_values.specs.declared.script.Script.{Script}
-use Rattle.table_csv.specs.declared.marked_pieces.MarkedPieces.{MarkedPieces}
+use Rattle.table_csv.specs.ColumnsOver.{columns_over, marked_in}
 use Rattle.columns.specs.ColumnsView.{ColumnsView}
 use Rattle.shard_files.specs.Merging.{same_columns}
 use Rattle.shard_loop.specs.LoopSpans.{table_of}
 use Rattle.shard_spans.specs.Spans.{loops_of}
 use Rattle.input_files.specs.Due.{due_of}
 use Rattle.input_files.specs.Fetching.{Tells}
-use Rattle.input_files.specs.Reading.{HoldsTheTable, marked_table}
+use Rattle.input_files.specs.Reading.{HoldsTheTable}
 use Rattle.chain_files.specs.declared.part_loop.PartLoop.{PartLoop}
 use Rattle.chain_runs.specs.Chains.{alone, chain_loops}
 use Rattle.chain_due.specs.Due.{ChainDue, Files, IsRunOver, WithAccepted, WithTableFile, WithTables, chain_of, graph_over, printed_over}
@@ -31,19 +31,15 @@ use Rattle.chain_program.specs.declared.first_table.FirstTable.{FirstTable}
 
 -- ---- a table's file
 
--- a table whose marks are entries of it
-pub record IsRead (told : Option Files) (name : List ℕ) (m : MarkedPieces) : Type 0 where
-  pub holds : Tells told name (HoldsTheTable (marked_table m))
-  pub within : All (λ e. e < length m.table.rows) m.marks
+-- the columns, over clusters of at most that size, of the table that the file holds
+pub record IsRead (told : Option Files) (name : List ℕ) (size : ℕ) (columns : ColumnsView) : Type 0 where
+  pub holds : Tells told name (HoldsTheTable (marked_in columns))
+  pub over : columns ≡ columns_over (marked_in columns) size
 
--- the table that the file holds, or why it holds none
-abbrev pub ReadsTable : Option Files → List ℕ → List (List ℕ) → ℕ → ℕ → Read MarkedPieces → Type 0
-ReadsTable told name turns before now (Whole m) = IsRead told name m
-ReadsTable told name turns before now (Refused a) = IsAnswer (λ files d. WithTableFile files name (λ t e. ⊥) d) told turns before now a
-
--- the columns of a table, cut at the marks into clusters of at most that size
-abbrev pub columns_over : MarkedPieces → ℕ → ColumnsView
-columns_over m size = record { table = m.table; cuts = record { entries = length m.table.rows; size = size; marks = m.marks } }
+-- the columns of the table that the file holds, or why it holds none
+abbrev pub ReadsTable : Option Files → List ℕ → ℕ → List (List ℕ) → ℕ → ℕ → Read ColumnsView → Type 0
+ReadsTable told name size turns before now (Whole columns) = IsRead told name size columns
+ReadsTable told name size turns before now (Refused a) = IsAnswer (λ files d. WithTableFile files name (λ t e. ⊥) d) told turns before now a
 
 -- ---- the first table
 

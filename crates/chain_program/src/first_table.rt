@@ -99,11 +99,11 @@ pub(crate) fn first_table<R: Threads + Sync, S: Shelf, G: Gate>(
     ensures later { S.faults shelf.old ≤ S.faults shelf.new }
     ensures read { IfOk result (ReadsFirst (functions_in means.now.functions.now) script file (S.files shelf.old) name.now (S.turns shelf.new) (S.faults shelf.old) (S.faults shelf.new)) }
 {
-    let marked = match read_table(means.rt, means.alloc, shelf, name, settings.slots)? {
-        Read::Whole(marked) => marked,
+    let columns = match read_table(means.rt, means.alloc, shelf, name, settings)? {
+        Read::Whole(columns) => columns,
         Read::Refused(answer) => return Ok(Read::Refused(answer)),
     };
-    match book_over(means, script, marked, settings)? {
+    match book_over(means, script, columns)? {
         Read::Whole(booked) => Ok(Read::Whole(first_loops(means, booked, file, settings)?)),
         Read::Refused(answer) => Ok(Read::Refused(answer)),
     }

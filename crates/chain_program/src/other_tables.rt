@@ -13,7 +13,6 @@ use crate::answer::Read;
 use crate::first_table::loops_over;
 use crate::lines::differs;
 use crate::means::Means;
-use crate::table_columns::columns_of;
 use crate::tables::read_table;
 use chain_files::{PartLoop, joined_loops};
 use chain_words::Settings;
@@ -50,11 +49,10 @@ fn next_table<R: Threads + Sync, S: Shelf, G: Gate>(
     ensures read { IfOk result (ReadsNext (functions_in means.now.functions.now) chaining.now.graph.now.script chaining.now.graph.now.header file (S.files shelf.old) name.now (S.turns shelf.new) (S.faults shelf.old) (S.faults shelf.new)) }
 {
     let settings = chaining.settings;
-    let marked = match read_table(means.rt, means.alloc, shelf, name, settings.slots)? {
-        Read::Whole(marked) => marked,
+    let columns = match read_table(means.rt, means.alloc, shelf, name, settings)? {
+        Read::Whole(columns) => columns,
         Read::Refused(answer) => return Ok(Read::Refused(answer)),
     };
-    let columns = columns_of(means.rt, means.alloc, marked, settings)?;
     if !same_columns(chaining.graph.header(), columns.columns()) {
         return Ok(Read::Refused(differs(means.alloc, name)?));
     }

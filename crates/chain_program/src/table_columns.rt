@@ -1,36 +1,11 @@
-// The columns of a table.
-ghost use Rattle.std.specs.Prelude.{◌≡◌, ◌≤◌, ◌<◌, ◌+◌, true, All, IfOk, length};
+// Copies of columns.
+ghost use Rattle.std.specs.Prelude.{◌≡◌, ◌+◌, true, IfOk};
 ghost use Rattle.std.specs.List.{list_all};
 ghost use Rattle.rdf_values.specs.Names.{is_name};
 ghost use Rattle.rdf_values.specs.declared.column.Column.{Column};
-ghost use Rattle.chain_program.specs.TableFiles.{columns_over};
 
-use chain_words::Settings;
-use columns::{Columns, cut};
 use rdf_values::{Column, ListOf, Memory, Name};
 use std::alloc::Global;
-use std::thread::Threads;
-use table_csv::MarkedPieces;
-
-/// The columns of a table over its clusters.
-pub(crate) fn columns_of<R: Threads + Sync>(
-    rt: &R,
-    alloc: Global,
-    marked: MarkedPieces,
-    settings: Settings,
-) -> Result<Columns, Memory>
-    requires within { All (λ e. e < length marked.table.rows) marked.marks }
-    requires size { 1 ≤ settings.cluster }
-    ensures { IfOk result (λ columns. columns ≡ columns_over marked settings.cluster) }
-{
-    let cuts = cut(
-        alloc,
-        marked.table.entries(),
-        settings.cluster,
-        &marked.marks,
-    )?;
-    Columns::build_in_slots(rt, alloc, marked.table, cuts, settings.slots)
-}
 
 // A copy of a column; its name is one, so nothing but memory can be wanting.
 fn copied_column(alloc: Global, column: &Column) -> Result<Column, Memory>

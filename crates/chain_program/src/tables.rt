@@ -4,25 +4,27 @@ ghost use Rattle.chain_program.specs.TableFiles.{ReadsTable};
 
 use crate::answer::{Answer, Read};
 use crate::lines::{long_table, refused_table};
-use input_files::{Fetched, MAX_TABLE, ReadFile, absent, fetch, table_of, unread};
+use chain_words::Settings;
+use columns::Columns;
+use input_files::{Fetched, MAX_TABLE, ReadFile, absent, columns_of, fetch, unread};
 use rdf_outside::Shelf;
 use rdf_values::Memory;
 use std::alloc::Global;
 use std::thread::Threads;
-use table_csv::MarkedPieces;
 
-/// Reads the table of the file of that name, in pieces side by side where there are several slots.
+/// Reads the table of the file of that name and packs its columns, side by side where there are several slots.
 pub(crate) fn read_table<R: Threads + Sync, S: Shelf>(
     rt: &R,
     alloc: Global,
     shelf: &mut S,
     name: &str,
-    slots: u32,
-) -> Result<Read<MarkedPieces>, Memory>
+    settings: Settings,
+) -> Result<Read<Columns>, Memory>
+    requires size { 1 ≤ settings.cluster }
     ensures same { S.files shelf.new ≡ S.files shelf.old }
     ensures turns { S.turns shelf.new ≡ S.turns shelf.old ++ name.now ∷ [] }
     ensures later { S.faults shelf.old ≤ S.faults shelf.new }
-    ensures read { IfOk result (ReadsTable (S.files shelf.old) name.now (S.turns shelf.new) (S.faults shelf.old) (S.faults shelf.new)) }
+    ensures read { IfOk result (ReadsTable (S.files shelf.old) name.now settings.cluster (S.turns shelf.new) (S.faults shelf.old) (S.faults shelf.new)) }
 {
     let bytes = match fetch(alloc, shelf, name, MAX_TABLE)? {
         Fetched::Whole(bytes) => bytes,
@@ -30,8 +32,9 @@ pub(crate) fn read_table<R: Threads + Sync, S: Shelf>(
         Fetched::TooLong => return Ok(Read::Refused(long_table(alloc, name)?)),
         Fetched::Failed => return Ok(Read::Refused(Answer::of(unread(alloc, name)?))),
     };
-    match table_of(rt, alloc, bytes.as_slice(), slots)? {
-        ReadFile::Whole(marked) => Ok(Read::Whole(marked)),
+    let bytes = bytes.as_slice();
+    match columns_of(rt, alloc, bytes, settings.cluster, settings.slots)? {
+        ReadFile::Whole(columns) => Ok(Read::Whole(columns)),
         ReadFile::Refused(refusal) => {
             let answer = refused_table(alloc, name, refusal.line.as_bytes())?;
             Ok(Read::Refused(answer))

@@ -1,7 +1,9 @@
 -- What reading a friend, or the generator's table, comes to.
-use Rattle.std.specs.Prelude.{◌≡◌, ◌<◌, ℕ, List, [], All, Option, Some, Ok, length}
+use Rattle.std.specs.Prelude.{◌≡◌, ℕ, List, [], Option, Some, Ok}
+use Rattle.columns.specs.ColumnsView.{ColumnsView}
 use Rattle.rdf_values.specs.Generator.{generated_table}
 use Rattle.rdf_values.specs.TableText.{table_of}
+use Rattle.table_csv.specs.ColumnsOver.{columns_over, marked_in}
 use Rattle.table_csv.specs.Csv.{csv_records}
 use Rattle.table_csv.specs.declared.marked_pieces.MarkedPieces.{MarkedPieces}
 use Rattle.input_files.specs.Answers.{Files}
@@ -26,7 +28,7 @@ abbrev pub ReadsFriendFile : Option Files → List ℕ → ℕ → ℕ → Read 
 ReadsFriendFile told name before now (Whole m) = Tells told name (HoldsTheTable (marked_table m))
 ReadsFriendFile told name before now (Refused a) = IsAnswer (λ files d. WithFriendFile name (files name) (λ other e. ⊥) d) (λ unread. unread ≡ name) told before now a
 
--- the generator's table, as a file would hold it
-abbrev pub ReadsMade : ℕ → ℕ → ReadFile MarkedPieces → Type 0
-ReadsMade entries seed (file.Whole m) = HoldsTheTable (marked_table m) (Some (generated_table entries seed)) × All (λ e. e < length m.table.rows) m.marks
-ReadsMade entries seed (file.Refused r) = (r.cause ≡ TableRefused) × RefusesTableFile [] (Some (generated_table entries seed)) (due_of r.cause r.line)
+-- the columns of the generator's table, as a file would hold it, over clusters of at most that size
+abbrev pub ReadsMade : ℕ → ℕ → ℕ → ReadFile ColumnsView → Type 0
+ReadsMade entries seed size (file.Whole columns) = HoldsTheTable (marked_in columns) (Some (generated_table entries seed)) × (columns ≡ columns_over (marked_in columns) size)
+ReadsMade entries seed size (file.Refused r) = (r.cause ≡ TableRefused) × RefusesTableFile [] (Some (generated_table entries seed)) (due_of r.cause r.line)

@@ -93,7 +93,9 @@ pub(crate) fn answer_with_friend<R: Threads + Sync, S: Shelf, G: Gate>(
     ) {
         Ok(table) => {
             let marks = marked.marks;
-            answer_script(means, script, MarkedPieces { table, marks })
+            let (size, slots) = (means.settings.cluster, means.settings.slots);
+            let columns = MarkedPieces { table, marks }.into_columns(means.rt, alloc, size, slots)?;
+            answer_script(means, script, columns)
         }
         Err(JoinRefusal::Memory) => Err(Memory),
         Err(JoinRefusal::At(cause)) => {

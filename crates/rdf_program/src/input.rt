@@ -10,17 +10,17 @@ use crate::answer::Answer;
 use crate::friend::answer_with_friend;
 use crate::means::Means;
 use crate::over_table::answer_script;
+use columns::Columns;
 use command_words::Friend;
 use input_files::{
-    FileCause, FileRefusal, MAX_TABLE, ReadFile, read_script_file, read_table_file, script_of,
-    table_of,
+    FileCause, FileRefusal, MAX_TABLE, ReadFile, columns_of, read_columns_file, read_script_file,
+    read_table_file, script_of,
 };
 use rdf_make::{make_script, make_table};
 use rdf_outside::{Gate, Shelf};
 use rdf_values::Memory;
 use result_text::{Refusal, refusal_line};
 use std::thread::Threads;
-use table_csv::MarkedPieces;
 
 /// The answer to two names of files, and maybe a friend. Of each file only what was read of it is kept.
 pub(crate) fn answer_files<R: Threads + Sync, S: Shelf, G: Gate>(
@@ -38,25 +38,29 @@ pub(crate) fn answer_files<R: Threads + Sync, S: Shelf, G: Gate>(
         ReadFile::Whole(script) => script,
         ReadFile::Refused(refusal) => return Ok(Answer::of_file(refusal)),
     };
-    let slots = means.settings.slots;
-    let marked = match read_table_file(means.rt, means.alloc, shelf, table_name, slots)? {
-        ReadFile::Whole(marked) => marked,
-        ReadFile::Refused(refusal) => return Ok(Answer::of_file(refusal)),
-    };
+    let (rt, alloc) = (means.rt, means.alloc);
+    let (size, slots) = (means.settings.cluster, means.settings.slots);
     match friend {
-        None => answer_script(means, script, marked),
-        Some(friend) => answer_with_friend(means, shelf, script, marked, friend),
+        None => match read_columns_file(rt, alloc, shelf, table_name, size, slots)? {
+            ReadFile::Whole(columns) => answer_script(means, script, columns),
+            ReadFile::Refused(refusal) => Ok(Answer::of_file(refusal)),
+        },
+        Some(friend) => match read_table_file(rt, alloc, shelf, table_name, slots)? {
+            ReadFile::Whole(marked) => answer_with_friend(means, shelf, script, marked, friend),
+            ReadFile::Refused(refusal) => Ok(Answer::of_file(refusal)),
+        },
     }
 }
 
-// The generator's table, whose text goes once it is read.
-fn made_table<R: Threads + Sync, G>(
+// The columns of the generator's table, whose text goes once they are packed.
+fn made_columns<R: Threads + Sync, G>(
     means: &Means<'_, R, G>,
     entries: u32,
     seed: u32,
-) -> Result<ReadFile<MarkedPieces>, Memory>
+) -> Result<ReadFile<Columns>, Memory>
     requires entries { (1 ≤ entries) × (entries ≤ 1000000) }
-    ensures { IfOk result (ReadsMade entries seed) }
+    requires settings { AreSettings means.now.settings }
+    ensures { IfOk result (ReadsMade entries seed means.now.settings.cluster) }
 {
     let alloc = means.alloc;
     let text = make_table(alloc, entries, seed)?;
@@ -67,7 +71,8 @@ fn made_table<R: Threads + Sync, G>(
             line: refusal_line(alloc, &Refusal::TableLong)?,
         }));
     }
-    table_of(means.rt, alloc, bytes, means.settings.slots)
+    let (size, slots) = (means.settings.cluster, means.settings.slots);
+    columns_of(means.rt, alloc, bytes, size, slots)
 }
 
 /// The answer to the generator's script over its table.
@@ -85,8 +90,8 @@ pub(crate) fn answer_made<R: Threads + Sync, G: Gate>(
         ReadFile::Whole(script) => script,
         ReadFile::Refused(refusal) => return Ok(Answer::of_file(refusal)),
     };
-    match made_table(means, entries, seed)? {
-        ReadFile::Whole(marked) => answer_script(means, script, marked),
+    match made_columns(means, entries, seed)? {
+        ReadFile::Whole(columns) => answer_script(means, script, columns),
         ReadFile::Refused(refusal) => Ok(Answer::of_file(refusal)),
     }
 }

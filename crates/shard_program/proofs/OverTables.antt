@@ -30,7 +30,8 @@ use Rattle.shard_due.specs.Due.{IsDueToTable, IsSpanDue, ShardDue, WithAccepted,
 use Rattle.shard_due.specs.Statuses.{IsFinal}
 use Rattle.shard_due.specs.declared.status.ShardStatus.TheVariants.{ScriptRefused}
 use Rattle.shard_program.specs.Answers.{Answers, IsOfFiles, due_in}
-use Rattle.shard_program.specs.Running.{AreNamed, columns_over, marked_in}
+use Rattle.shard_program.specs.NamedColumns.{AreNamed}
+use Rattle.table_csv.specs.ColumnsOver.{columns_over, marked_in}
 use Rattle.shard_program.specs.declared.answer.Answer.{Answer}
 use Rattle.shard_program.proofs.FileReading.{if_ok}
 

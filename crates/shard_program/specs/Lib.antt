@@ -1,4 +1,4 @@
 pub mod Answers
-pub mod Running
+pub mod NamedColumns
 pub mod Shards
 pub mod Turns

@@ -15,7 +15,7 @@ ghost use Rattle.shard_words.specs.declared.command.ShardCommand.TheVariants.{Ru
 use crate::answer::Answer;
 use crate::over_table::answer_over;
 use entry_fns::FnList;
-use input_files::{ReadFile, read_script_file, read_table_file};
+use input_files::{ReadFile, read_columns_file, read_script_file};
 use rdf_outside::Shelf;
 use rdf_values::{Memory, Script};
 use shard_words::SpanRun;
@@ -40,8 +40,8 @@ fn answer_script<R: Threads + Sync, S: Shelf>(
     ensures answer { IfOk result (IsAnswer (λ files d. WithTableFile statuses run.now.table (files run.now.table) (λ table e. IsDueToTable (functions_in functions.now) run.now.size run.now.clusters script table e) d)
         (S.files shelf.old) (S.turns shelf.new) (S.faults shelf.old) (S.faults shelf.new)) }
 {
-    match read_table_file(rt, alloc, shelf, run.table.as_str(), 1)? {
-        ReadFile::Whole(marked) => answer_over(rt, alloc, script, marked, run, functions),
+    match read_columns_file(rt, alloc, shelf, run.table.as_str(), run.size, 1)? {
+        ReadFile::Whole(columns) => answer_over(alloc, script, &columns, run, functions),
         ReadFile::Refused(refusal) => Ok(Answer::of_file(refusal)),
     }
 }

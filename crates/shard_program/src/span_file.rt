@@ -7,9 +7,10 @@ ghost use Rattle.rdf_values.specs.Words.{StatementsHaveWords};
 ghost use Rattle.shard_files.specs.Shards.{shard_text};
 ghost use Rattle.shard_loop.specs.LoopSpans.{cuts_of, table_of};
 ghost use Rattle.shard_spans.specs.Spans.{span_shard};
+ghost use Rattle.table_csv.specs.ColumnsOver.{marked_in};
 ghost use Rattle.shard_due.specs.Due.{IsFile, IsSpanDue, is_span};
 ghost use Rattle.shard_program.specs.Answers.{Answers};
-ghost use Rattle.shard_program.specs.Running.{AreNamed, marked_in};
+ghost use Rattle.shard_program.specs.NamedColumns.{AreNamed};
 
 use crate::answer::Answer;
 use crate::lines::{long_files_line, span_line};

@@ -7,8 +7,9 @@ use Rattle.rdf_values.specs.declared.script.Script.{Script}
 use Rattle.input_files.specs.Answers.{AreTurnedTo, Files}
 use Rattle.input_files.specs.Due.{WithTableFile, due_of}
 use Rattle.input_files.specs.Fetching.{Tells}
-use Rattle.input_files.specs.Reading.{HoldsTheScript, HoldsTheTable, marked_table}
+use Rattle.input_files.specs.Reading.{HoldsTheScript, HoldsTheTable}
 use Rattle.input_files.proofs.Staging.{script_read_due, table_read_due}
+use Rattle.table_csv.specs.ColumnsOver.{marked_in}
 use Rattle.snapshot_words.specs.Asked.{asked_of}
 use Rattle.snapshot_words.specs.declared.command.SnapCommand.{SnapCommand}
 use Rattle.snapshot_due.specs.Due.{IsDue, IsDueOver, IsDueToFiles, IsRunDue, SnapshotDue, dataset_of}
@@ -62,7 +63,7 @@ module _ (fns : List Function) (words : List (List ℕ)) (c : SnapCommand) (aske
           (λ script. more_of_table statuses c.table d (f c.table) (λ t g. ⊥) (λ t g. IsDueOver fns c script t.table g) (λ t none. absurd none)) h)
 
   -- both files were read
-  pub inputs_answer : (told : Told) (turns : List (List ℕ)) (first now : ℕ) (inputs : Inputs) (a : Answer) → AreInputs c told inputs → Answers (IsDueOver fns c inputs.script inputs.table.table) a → IsAnswer fns words told turns first now a
+  pub inputs_answer : (told : Told) (turns : List (List ℕ)) (first now : ℕ) (inputs : Inputs) (a : Answer) → AreInputs c told inputs → Answers (IsDueOver fns c inputs.script inputs.columns.table) a → IsAnswer fns words told turns first now a
   inputs_answer told turns first now inputs a i h = record {
     untaken = λ e. absurd (of_table a.status Words h.0 (λ x. x) e);
     taken = λ e. not_untaken e;
@@ -75,13 +76,13 @@ module _ (fns : List Function) (words : List (List ℕ)) (c : SnapCommand) (aske
     };
   }
     where
-      step : (told : Told) → Tells told c.script (HoldsTheScript inputs.script) → Tells told c.table (HoldsTheTable (marked_table inputs.table)) → IfSome told (λ f. IsDue fns words f (due_of a.status a.text))
+      step : (told : Told) → Tells told c.script (HoldsTheScript inputs.script) → Tells told c.table (HoldsTheTable (marked_in inputs.columns)) → IfSome told (λ f. IsDue fns words f (due_of a.status a.text))
       step None s t = tt
       step (Some f) s t =
           let d : SnapshotDue = due_of a.status a.text in
           as_due f d
           (script_read_due statuses c.script (f c.script) inputs.script (λ script e. WithTableFile statuses c.table (f c.table) (λ t g. IsDueOver fns c script t.table g) e) d s
-          (table_read_due statuses c.table (f c.table) (marked_table inputs.table) (λ t g. IsDueOver fns c inputs.script t.table g) d t h.1))
+          (table_read_due statuses c.table (f c.table) (marked_in inputs.columns) (λ t g. IsDueOver fns c inputs.script t.table g) d t h.1))
 
   pub turned : (told : Told) (before after : List (List ℕ)) → AreTurnedTo (c.script ∷ c.table ∷ []) (IsScriptFile told c.script) before after → TurnsBesides words told before after
   turned told before after h = subst (λ o. MatchOption o (after ≡ before) (λ c. AreTurnedTo (c.script ∷ c.table ∷ []) (IsScriptFile told c.script) before after)) (sym asked) h

@@ -146,10 +146,10 @@ module _ (fns : List Function) (c : SnapCommand) (script : Script) (columns head
 
 -- ---- a run is due over the table
 
-pub run_answer : {E : Type 0} (fns : List Function) (c : SnapCommand) (script : Script) (t own : TableView) (p : PlanView) (r : Result Answer E) → IsPlanned fns c script t.columns (planning.Plan p) → t ≡ own
-    → IfOk r (Answers (IsRunDue p (dataset_of fns c t))) → IfOk r (Answers (IsDueOver fns c script own))
-run_answer fns c script t own p (Err e) h same run = tt
-run_answer fns c script t own p (Ok a) h same run =
+pub run_answer : {E : Type 0} (fns : List Function) (c : SnapCommand) (script : Script) (t : TableView) (p : PlanView) (r : Result Answer E) → IsPlanned fns c script t.columns (planning.Plan p)
+    → IfOk r (Answers (IsRunDue p (dataset_of fns c t))) → IfOk r (Answers (IsDueOver fns c script t))
+run_answer fns c script t p (Err e) h run = tt
+run_answer fns c script t p (Ok a) h run =
     let due : SnapshotDue = due_of a.status a.text in
     let next : IsRunDue (plan_over fns c script t.columns) (dataset_of fns c t) due = subst (λ (x : PlanView). IsRunDue x (dataset_of fns c t) due) h.2 run.1 in
     let by : MatchOption (cause_over fns c script t.columns) (IsRunDue (plan_over fns c script t.columns) (dataset_of fns c t) due) (λ why. due ≡ due_of (status_of why) (cause_line c why)) =
@@ -157,4 +157,4 @@ run_answer fns c script t own p (Ok a) h same run =
     let over : IsDueOver fns c script t due =
     subst (λ o. MatchOption o (MatchOption (cause_over fns c script t.columns) (IsRunDue (plan_over fns c script t.columns) (dataset_of fns c t) due) (λ why. due ≡ due_of (status_of why) (cause_line c why))) (λ refused. due ≡ due_of ScriptRefused (graph_cause_line refused.0 refused.1)))
     (sym h.0) by in
-    (run.0, subst (λ (x : TableView). IsDueOver fns c script x due) same over)
+    (run.0, over)

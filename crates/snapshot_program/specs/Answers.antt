@@ -1,6 +1,5 @@
 -- What the program answers before anything is written.
-use Rattle.std.specs.Prelude.{◌≡◌, ◌<◌, ℕ, List, All, Option, None, IfSome, length}
-use Rattle.columns.specs.ColumnsView.{ColumnsView}
+use Rattle.std.specs.Prelude.{◌≡◌, ◌<◌, ℕ, List, Option, None, IfSome}
 use Rattle.rdf_outside.specs.Outside.{Rose}
 use Rattle.rdf_values.specs.Bookable.{IsBookable}
 use Rattle.rdf_values.specs.Functions.{Function, fn_names}
@@ -8,11 +7,11 @@ use Rattle.rdf_values.specs.RefusalLines.{read_failed_line}
 use Rattle.rdf_values.specs.Verdict.{verdict}
 use Rattle.rdf_values.specs.declared.column.Column.{Column}
 use Rattle.rdf_values.specs.declared.script.Script.{Script}
-use Rattle.table_csv.specs.declared.marked_pieces.MarkedPieces.{MarkedPieces}
+use Rattle.table_csv.specs.ColumnsOver.{columns_over, marked_in}
 use Rattle.input_files.specs.Answers.{Files, IsLast}
 use Rattle.input_files.specs.Due.{WithScriptFile, WithTableFile, due_of}
 use Rattle.input_files.specs.Fetching.{Tells}
-use Rattle.input_files.specs.Reading.{HoldsTheScript, HoldsTheTable, marked_table}
+use Rattle.input_files.specs.Reading.{HoldsTheScript, HoldsTheTable}
 use Rattle.snapshot_plan.specs.declared.cause.SnapCause.{SnapCause}
 use Rattle.snapshot_plan.specs.declared.cause.SnapCause.TheVariants as cause
 use Rattle.snapshot_words.specs.Asked.{asked_of}
@@ -30,10 +29,6 @@ use Rattle.snapshot_program.specs.declared.planning.Planned.{Planned}
 use Rattle.snapshot_program.specs.declared.planning.Planned.TheVariants as planned
 
 -- ---- over a table
-
--- the columns of a table, cut at its marks into clusters of at most that size
-abbrev pub columns_over : MarkedPieces → ℕ → ColumnsView
-columns_over m size = record { table = m.table; cuts = record { entries = length m.table.rows; size = size; marks = m.marks } }
 
 -- a column that a cause names is one of so many
 abbrev pub IsWithin : ℕ → SnapCause → Type 0
@@ -78,12 +73,12 @@ RefusesFiles c files due = WithScriptFile statuses c.script (files c.script) (λ
 abbrev pub IsScriptFile : Option Files → List ℕ → ℕ → Type 0
 IsScriptFile files name i = IfSome files (λ f. (s : Script) × HoldsTheScript s (f name))
 
--- the script and the table of the files
+-- the script of its file, and the columns of the table of its file over the clusters that are asked for
 pub record AreInputs (c : SnapCommand) (files : Option Files) (inputs : Inputs) : Type 0 where
   pub script : Tells files c.script (HoldsTheScript inputs.script)
-  pub table : Tells files c.table (HoldsTheTable (marked_table inputs.table))
+  pub table : Tells files c.table (HoldsTheTable (marked_in inputs.columns))
   pub bookable : IsBookable inputs.script
-  pub within : All (λ e. e < length inputs.table.table.rows) inputs.table.marks
+  pub over : inputs.columns ≡ columns_over (marked_in inputs.columns) c.cluster
 
 -- the answer where a file gives nothing
 pub record IsRefusal (c : SnapCommand) (files : Option Files) (turns : List (List ℕ)) (before now : ℕ) (a : Answer) : Type 0 where

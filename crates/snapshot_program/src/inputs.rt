@@ -1,22 +1,23 @@
 // The script and the table from their files.
 ghost use Rattle.std.specs.Prelude.{◌≡◌, ◌≤◌, [], ◌∷◌, IfOk, OnOk};
 ghost use Rattle.input_files.specs.Answers.{AreTurnedTo};
+ghost use Rattle.snapshot_words.specs.Limits.{IsAsked};
 ghost use Rattle.snapshot_program.specs.Answers.{IsScriptFile, ReadsInputs};
 
 use crate::answer::Answer;
-use input_files::{ReadFile, read_script_file, read_table_file};
+use columns::Columns;
+use input_files::{ReadFile, read_columns_file, read_script_file};
 use rdf_outside::Shelf;
 use rdf_values::{Memory, Script};
 use snapshot_words::SnapCommand;
 use std::alloc::Global;
 use std::thread::Threads;
-use table_csv::MarkedPieces;
 
-/// A script and a table.
+/// A script, and a table's columns.
 #[derive(Drop)]
 pub(crate) struct Inputs {
     pub(crate) script: Script,
-    pub(crate) table: MarkedPieces,
+    pub(crate) columns: Columns,
 }
 
 /// Both that the command names, or the answer where one isn't there or is refused.
@@ -33,6 +34,7 @@ pub(crate) fn read_inputs<R: Threads + Sync, S: Shelf>(
     shelf: &mut S,
     command: &SnapCommand,
 ) -> Result<ReadInputs, Memory>
+    requires { IsAsked command.now }
     ensures turns { OnOk result (AreTurnedTo (command.now.script ∷ command.now.table ∷ []) (IsScriptFile (S.files shelf.old) command.now.script) (S.turns shelf.old) (S.turns shelf.new)) }
     ensures later { S.faults shelf.old ≤ S.faults shelf.new }
     ensures read { IfOk result (ReadsInputs command.now (S.files shelf.old) (S.turns shelf.new) (S.faults shelf.old) (S.faults shelf.new)) }
@@ -41,8 +43,9 @@ pub(crate) fn read_inputs<R: Threads + Sync, S: Shelf>(
         ReadFile::Whole(script) => script,
         ReadFile::Refused(refusal) => return Ok(ReadInputs::Refused(Answer::of(refusal))),
     };
-    match read_table_file(rt, alloc, shelf, command.table.as_str(), command.slots)? {
-        ReadFile::Whole(table) => Ok(ReadInputs::Both(Inputs { script, table })),
+    let (size, slots) = (command.cluster, command.slots);
+    match read_columns_file(rt, alloc, shelf, command.table.as_str(), size, slots)? {
+        ReadFile::Whole(columns) => Ok(ReadInputs::Both(Inputs { script, columns })),
         ReadFile::Refused(refusal) => Ok(ReadInputs::Refused(Answer::of(refusal))),
     }
 }

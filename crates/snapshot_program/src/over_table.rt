@@ -1,5 +1,5 @@
 // What is due to a script over a table.
-ghost use Rattle.std.specs.Prelude.{◌≡◌, ◌≤◌, ◌<◌, All, IfOk, length};
+ghost use Rattle.std.specs.Prelude.{◌≡◌, ◌≤◌, ◌<◌, IfOk};
 ghost use Rattle.entry_fns.specs.Lists.{functions_in};
 ghost use Rattle.rdf_values.specs.Bookable.{IsBookable};
 ghost use Rattle.rdf_values.specs.Functions.{fn_names};
@@ -7,13 +7,12 @@ ghost use Rattle.snapshot_due.specs.Due.{IsDueOver, IsRunDue};
 ghost use Rattle.snapshot_due.specs.Lines.{fault_line, long_line};
 ghost use Rattle.snapshot_entries.specs.Jobs.{data_of, plan_of};
 ghost use Rattle.snapshot_words.specs.Limits.{IsAsked};
-ghost use Rattle.snapshot_program.specs.Answers.{Answers, columns_over};
+ghost use Rattle.snapshot_program.specs.Answers.{Answers};
 
 use crate::answer::Answer;
 use crate::inputs::Inputs;
 use crate::lines::{fault_line, long_line};
 use crate::planning::{Planned, plan_for};
-use columns::{Columns, cut};
 use entry_fns::FnList;
 use rdf_outside::Gate;
 use rdf_values::{EntryFault, Memory, Name};
@@ -23,23 +22,6 @@ use snapshot_run::{SnapStop, run};
 use snapshot_words::SnapCommand;
 use std::alloc::Global;
 use std::thread::Threads;
-use table_csv::MarkedPieces;
-
-// The columns of a table over its clusters.
-fn columns_of<R: Threads + Sync>(
-    rt: &R,
-    alloc: Global,
-    marked: MarkedPieces,
-    command: &SnapCommand,
-) -> Result<Columns, Memory>
-    requires within { All (λ e. e < length marked.table.rows) marked.marks }
-    requires size { 1 ≤ command.now.cluster }
-    ensures { IfOk result (λ columns. columns ≡ columns_over marked command.now.cluster) }
-{
-    let entries = marked.table.entries();
-    let cuts = cut(alloc, entries, command.cluster, &marked.marks)?;
-    Columns::build_in_slots(rt, alloc, marked.table, cuts, command.slots)
-}
 
 // The answer where an entry faults.
 fn faulted(alloc: Global, node: &Name, entry: u32, kind: EntryFault) -> Result<Answer, Memory>
@@ -97,12 +79,11 @@ pub(crate) fn answer_over<R: Threads + Sync, G: Gate>(
     gate: &G,
 ) -> Result<Answer, Memory>
     requires bookable { IsBookable inputs.script }
-    requires within { All (λ e. e < length inputs.table.table.rows) inputs.table.marks }
     requires asked { IsAsked command.now }
-    ensures { IfOk result (Answers (IsDueOver (functions_in functions.now) command.now inputs.script inputs.table.table)) }
+    ensures { IfOk result (Answers (IsDueOver (functions_in functions.now) command.now inputs.script inputs.columns.table)) }
 {
-    let columns = columns_of(rt, alloc, inputs.table, command)?;
-    let plan = match plan_for(alloc, inputs.script, &columns, functions, command)? {
+    let Inputs { script, columns } = inputs;
+    let plan = match plan_for(alloc, script, &columns, functions, command)? {
         Planned::Plan(plan) => plan,
         Planned::Refused(answer) => return Ok(answer),
     };

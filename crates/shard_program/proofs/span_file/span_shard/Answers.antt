@@ -3,7 +3,7 @@ use Rattle.entry_fns.specs.Lists.{functions_in}
 use Rattle.rdf_values.specs.Cuts.{cut}
 use Rattle.columns.specs.CutsView.{CutsView}
 use Rattle.shard_files.specs.Shards.{IsShard}
-use Rattle.shard_program.specs.Running.{AreNamed}
+use Rattle.shard_program.specs.NamedColumns.{AreNamed}
 use Rattle.shard_program.proofs.OverTables.{found_is_shard, parts_are}
 use Rattle.shard_program.proofs.span_file.span_shard.Goals as goal
 
