@@ -13,7 +13,7 @@ use Rattle.expr_lanes.specs.Places.{EachPlace, at_place, given_in, is_given, is_
 use Rattle.expr_lanes.specs.declared.stopped.Stopped.{Stopped}
 use Rattle.expr_lanes.proofs.Sequence.{filtered_in, filtered_out}
 use Rattle.block_lanes.specs.Lanes.{LaneView, IsBegun, IsEvaluated, IsLane}
-use Rattle.block_lanes.specs.Turns.{HaveCome}
+use Rattle.block_lanes.specs.EachPlace.{HaveCome}
 use Rattle.block_lanes.specs.Values.{AreWritten, HasNumber, HasNumbered, value_for}
 use Rattle.block_lanes.proofs.EachPlaces.{is_there, number_read, read_back, there_more, times_append, value_more}
 

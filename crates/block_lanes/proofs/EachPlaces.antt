@@ -15,7 +15,7 @@ use Rattle.expr_eval.specs.declared.stop.ScalarStop.TheVariants.{Fault, Need}
 use Rattle.expr_lanes.specs.declared.stopped.Stopped.{Stopped}
 use Rattle.expr_lanes.proofs.Selected.{in_more, is_in_at}
 use Rattle.expr_lanes.proofs.Sequence.{first_in, rest_in}
-use Rattle.block_lanes.specs.Turns.{HaveCome, IsTurned, IsWritten}
+use Rattle.block_lanes.specs.EachPlace.{HaveCome, IsTurned, IsWritten}
 use Rattle.block_lanes.specs.Values.{AreKept, AreWritten, HasNumber, HasNumbered, IsNumberOf, value_for}
 use Rattle.block_lanes.proofs.VectorLists.{kept_on}
 

@@ -1,5 +1,5 @@
 pub mod BlockMarks
 pub mod Lanes
 pub mod Sizes
-pub mod Turns
+pub mod EachPlace
 pub mod Values

@@ -7,7 +7,7 @@ ghost use Rattle.rdf_model.specs.Evaluation.{Outcome};
 ghost use Rattle.expr_eval.specs.EvalAnswers.{AnswersAs};
 ghost use Rattle.expr_lanes.specs.Places.{stopped as stopped_at, EachPlace};
 ghost use Rattle.block_lanes.specs.Values.{AreWritten, IsScalarAnswer};
-ghost use Rattle.block_lanes.specs.Turns.{HaveCome, IsTurned, IsWritten};
+ghost use Rattle.block_lanes.specs.EachPlace.{HaveCome, IsTurned, IsWritten};
 
 use crate::place_values::PlaceValues;
 use crate::values::Values;
