@@ -17,7 +17,7 @@ use Rattle.expr_lanes.proofs.Sequence.{filtered_out}
 use Rattle.graph_numbers.specs.Graphs.{GraphView, graph_sites, graph_variations}
 use Rattle.graph_numbers.specs.declared.source.Source.{Source}
 use Rattle.graph_numbers.specs.declared.source.Source.TheVariants as from
-use Rattle.block_lanes.specs.Lanes.{LaneView, is_held, is_tried}
+use Rattle.block_cache.specs.Lanes.{LaneView, is_held, is_tried}
 use Rattle.loop_keys.specs.Jobs.{JobView, job_graph}
 use Rattle.loop_keys.specs.Keys.{key, key_count, keys_before, slot_at}
 use Rattle.loop_keys.specs.Store.{IsMissingSource, IsSiteOf, held_in, is_held as has_held, source_at}

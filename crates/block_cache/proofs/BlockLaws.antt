@@ -7,7 +7,7 @@ use Rattle.rdf_model.specs.Evaluation.{Outcome, Gives, Faults, Needs, evaluate, 
 use Rattle.rdf_values.specs.Tree.{NumTree}
 use Rattle.expr_check.specs.NumKinds.{CheckedExpr}
 use Rattle.graph_numbers.specs.Graphs.{IsSiteExpr}
-use Rattle.block_lanes.specs.Lanes.{LaneView}
+use Rattle.block_cache.specs.Lanes.{LaneView}
 use Rattle.loop_keys.specs.Jobs.{JobView, IsJob, job_graph}
 use Rattle.loop_keys.specs.Keys.{key}
 use Rattle.loop_keys.specs.Store.{IsRight, IsSound, held_in, held_or_need, is_held as has_held, look_at, site_in}

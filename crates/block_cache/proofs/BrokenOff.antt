@@ -4,7 +4,7 @@ use Rattle.std.specs.Prelude.{count_by}
 use Rattle.std.proofs.lemmas.Bool.{cases_eq}
 use Rattle.std.proofs.lemmas.Option.{slice_get_within}
 use Rattle.expr_lanes.specs.Places.{EachPlace, is_in}
-use Rattle.block_lanes.specs.Lanes.{LaneView, is_held, is_tried}
+use Rattle.block_cache.specs.Lanes.{LaneView, is_held, is_tried}
 use Rattle.loop_keys.specs.Jobs.{JobView, job_graph}
 use Rattle.loop_keys.specs.Keys.{key, key_count}
 use Rattle.loop_keys.specs.Store.{held_in}

@@ -18,7 +18,7 @@ use Rattle.graph_numbers.specs.declared.source.Source.TheVariants as from
 use Rattle.graph_numbers.proofs.Closing.{each_at}
 use Rattle.graph_numbers.proofs.Equations.{columns_below}
 use Rattle.graph_numbers.proofs.Meeting.{In, here, there as further}
-use Rattle.block_lanes.specs.Lanes.{LaneView, kinds_of}
+use Rattle.block_cache.specs.Lanes.{LaneView, kinds_of}
 use Rattle.loop_keys.specs.Jobs.{JobView, IsJob, job_graph}
 use Rattle.loop_keys.specs.Keys.{key, key_count}
 use Rattle.loop_keys.specs.Store.{source_at}

@@ -6,7 +6,7 @@ use Rattle.std.proofs.lemmas.Option.{slice_get-get_or}
 use Rattle.expr_lanes.specs.Places.{EachPlace, IsSelected}
 use Rattle.expr_lanes.proofs.Sequence.{first_in, rest_in}
 use Rattle.graph_numbers.specs.Graphs.{graph_sites}
-use Rattle.block_lanes.specs.Lanes.{LaneView, is_held}
+use Rattle.block_cache.specs.Lanes.{LaneView, is_held}
 use Rattle.loop_keys.specs.Jobs.{JobView, job_graph}
 use Rattle.loop_keys.specs.Keys.{key}
 use Rattle.block_cache.specs.Blocks.{AreReady}

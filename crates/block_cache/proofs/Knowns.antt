@@ -7,7 +7,7 @@ use Rattle.rdf_values.specs.declared.value.Value.{Value}
 use Rattle.rdf_model.specs.Evaluation.{Gives}
 use Rattle.rdf_model.specs.Results.{fault_in}
 use Rattle.graph_numbers.specs.Graphs.{graph_sites}
-use Rattle.block_lanes.specs.Lanes.{LaneView, is_held, is_tried, kinds_of, room_of, rooms_of, tried_count, value_of}
+use Rattle.block_cache.specs.Lanes.{LaneView, is_held, is_tried, kinds_of, room_of, rooms_of, tried_count, value_of}
 use Rattle.loop_keys.specs.Jobs.{JobView, job_graph}
 use Rattle.loop_keys.specs.Keys.{key, key_count}
 use Rattle.loop_keys.specs.Store.{Grows, IsRight, held_in, is_held as has_held, site_in}

@@ -6,7 +6,7 @@ use Rattle.std.proofs.lemmas.Bool.Decides.{Decides-eqb}
 use Rattle.std.proofs.lemmas.List.Sums.{sum_by-cons}
 use Rattle.expr_lanes.specs.Places.{is_in}
 use Rattle.expr_lanes.proofs.Dense.{first_in_range}
-use Rattle.block_lanes.specs.Lanes.{LaneView, is_tried}
+use Rattle.block_cache.specs.Lanes.{LaneView, is_tried}
 use Rattle.block_cache.specs.Fills.{begun_at}
 use Rattle.block_cache.specs.Turns.{lane_left, left_to_begin}
 

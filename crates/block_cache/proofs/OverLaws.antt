@@ -13,13 +13,13 @@ use Rattle.expr_check.specs.NumKinds.{CheckedExpr}
 use Rattle.expr_lanes.specs.Places.{EachPlace, is_in}
 use Rattle.expr_lanes.specs.declared.stopped.Stopped.{Stopped}
 use Rattle.graph_numbers.specs.Graphs.{IsSiteExpr, graph_sites}
-use Rattle.block_lanes.specs.Lanes.{IsBegun, IsEvaluated, LaneView, is_held, value_of}
+use Rattle.block_cache.specs.Lanes.{IsBegun, IsEvaluated, LaneView, is_held, value_of}
 use Rattle.loop_keys.specs.Jobs.{JobView, IsJob, job_graph}
 use Rattle.loop_keys.specs.Keys.{key, key_count}
 use Rattle.loop_keys.specs.Store.{CanEvaluate, CanLook, IsFilled, IsRight, IsSound, held_count, held_in, look_at, site_in, source_at}
 use Rattle.loop_keys.specs.declared.held.Held.{Held}
 use Rattle.loop_keys.specs.declared.held.Held.TheVariants as held
-use Rattle.block_lanes.proofs.LaneSteps.{in_given}
+use Rattle.block_cache.proofs.LaneSteps.{in_given}
 use Rattle.loop_keys.proofs.ColumnLaws.{can_evaluate}
 use Rattle.loop_keys.proofs.FillLaws.{written}
 use Rattle.loop_keys.proofs.RowLaws.{key_small}

@@ -10,8 +10,8 @@ use Rattle.rdf_model.specs.Results.{is_true}
 use Rattle.expr_check.specs.NumKinds.{is_vector}
 use Rattle.expr_lanes.specs.Places.{EachPlace, IsSelected, at_place, is_in}
 use Rattle.graph_numbers.specs.Graphs.{graph_sites}
-use Rattle.block_lanes.specs.Lanes.{LaneView, is_held, kinds_of, value_of}
-use Rattle.block_lanes.specs.Values.{value_for}
+use Rattle.block_cache.specs.Lanes.{LaneView, is_held, kinds_of, value_of}
+use Rattle.block_cache.specs.Values.{value_for}
 use Rattle.loop_keys.specs.Jobs.{JobView, job_graph}
 use Rattle.loop_keys.specs.Keys.{key, key_count}
 use Rattle.loop_keys.specs.Known.{truth_in}

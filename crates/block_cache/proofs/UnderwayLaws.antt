@@ -16,8 +16,8 @@ use Rattle.expr_lanes.proofs.Sequence.{filtered_in, first_in, rest_in}
 use Rattle.graph_numbers.specs.Graphs.{graph_sites}
 use Rattle.graph_numbers.specs.declared.source.Source.{Source}
 use Rattle.graph_numbers.specs.declared.source.Source.TheVariants as from
-use Rattle.block_lanes.specs.Lanes.{LaneView}
-use Rattle.block_lanes.proofs.LaneSteps.{filter_none}
+use Rattle.block_cache.specs.Lanes.{LaneView}
+use Rattle.block_cache.proofs.LaneSteps.{filter_none}
 use Rattle.loop_keys.specs.Jobs.{JobView, IsJob, job_graph}
 use Rattle.loop_keys.specs.Keys.{key, key_count}
 use Rattle.loop_keys.specs.Store.{IsSiteOf, MeetsAt, site_in, source_at}

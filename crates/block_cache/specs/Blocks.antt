@@ -14,7 +14,7 @@ use Rattle.graph_numbers.specs.Graphs.{IsSiteExpr}
 use Rattle.graph_numbers.specs.declared.source.Source.{Source}
 use Rattle.graph_numbers.specs.declared.source.Source.TheVariants as from
 use Rattle.expr_lanes.specs.Places.{at_place}
-use Rattle.block_lanes.specs.Lanes.{IsBegun, IsEvaluated, LaneView, is_held, value_of}
+use Rattle.block_cache.specs.Lanes.{IsBegun, IsEvaluated, LaneView, is_held, value_of}
 use Rattle.loop_keys.specs.Jobs.{JobView, job_graph}
 use Rattle.loop_keys.specs.Keys.{key, key_count}
 use Rattle.loop_keys.specs.Store.{IsMissing, IsReadable, IsSound, MeetsAt, row_in, site_in, source_at}

@@ -14,7 +14,7 @@ use Rattle.graph_numbers.specs.Graphs.{GraphView, IsSiteExpr, graph_sites}
 use Rattle.graph_numbers.specs.Sites.{SiteAt}
 use Rattle.graph_numbers.specs.declared.source.Source.{Source}
 use Rattle.graph_numbers.specs.declared.source.Source.TheVariants as from
-use Rattle.block_lanes.specs.Lanes.{LaneView, is_held, is_tried, kinds_of, rooms_of, tried_count}
+use Rattle.block_cache.specs.Lanes.{LaneView, is_held, is_tried, kinds_of, rooms_of, tried_count}
 use Rattle.loop_keys.specs.Jobs.{JobView, job_graph}
 use Rattle.loop_keys.specs.Keys.{key, key_count}
 use Rattle.loop_keys.specs.Known.{truth_in}

@@ -2,7 +2,7 @@
 use Rattle.std.specs.Prelude.{◌≡◌, ℕ, true, List, Option, None, Some}
 use Rattle.rdf_values.specs.Tree.{Tree, Trees, Lit, Truth, Col, Neg, Not, Bin, Cond, Pick, Call, End, More}
 use Rattle.expr_lanes.specs.Places.{EachPlace}
-use Rattle.block_lanes.specs.Lanes.{LaneView}
+use Rattle.block_cache.specs.Lanes.{LaneView}
 use Rattle.loop_keys.specs.Jobs.{JobView, job_graph}
 use Rattle.loop_keys.specs.Keys.{key}
 use Rattle.loop_keys.specs.Store.{IsSiteOf, MeetsAt, source_at}

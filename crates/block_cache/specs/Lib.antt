@@ -1,5 +1,10 @@
+pub mod BlockMarks
 pub mod Blocks
+pub mod EachPlace
 pub mod Faults
 pub mod Fills
+pub mod Lanes
 pub mod Leads
+pub mod Sizes
 pub mod Turns
+pub mod Values

@@ -5,7 +5,7 @@ use Rattle.rdf_values.specs.declared.fault.EntryFault.{EntryFault}
 use Rattle.expr_lanes.specs.Places.{EachPlace, is_in}
 use Rattle.expr_lanes.specs.declared.TheConstants.{MAX_PLACES}
 use Rattle.graph_numbers.specs.Graphs.{graph_versions}
-use Rattle.block_lanes.specs.Lanes.{LaneView, is_tried}
+use Rattle.block_cache.specs.Lanes.{LaneView, is_tried}
 use Rattle.loop_keys.specs.Jobs.{JobView, job_graph}
 use Rattle.loop_keys.specs.Keys.{key, key_count}
 use Rattle.loop_keys.specs.Store.{IsSiteOf, MeetsAt, source_at}

@@ -12,15 +12,15 @@ ghost use Rattle.loop_keys.specs.Keys.{IsRow, key as key_of, key_count};
 ghost use Rattle.loop_keys.specs.Plain.{ArePlain};
 ghost use Rattle.loop_keys.specs.Store.{look_at};
 ghost use Rattle.expr_lanes.specs.Places.{EachPlace, IsSelected};
-ghost use Rattle.block_lanes.specs.Lanes.{IsBegun, IsEvaluated, LaneView, is_held};
+ghost use Rattle.block_cache.specs.Lanes.{IsBegun, IsEvaluated, LaneView, is_held};
 ghost use Rattle.block_cache.specs.Blocks.{AreReady, CanRead, CanTry, IsBegunOver, IsTriedOver, cells_at};
 
+use crate::Lane;
 use crate::able::can_evaluate;
 use crate::cells::CellLane;
 use crate::site_values::SiteValues;
 use crate::view::BlockView;
 use arrayvec::ArrayVec;
-use block_lanes::Lane;
 use expr_check::Checked;
 use expr_eval::Steps;
 use expr_lanes::{MAX_PLACES, Scratch, Selection, Stopped};

@@ -3,7 +3,7 @@ ghost use Rattle.std.specs.Prelude.{◌≡◌, ◌+◌, ◌<◌, ◌≤◌, ℕ,
 ghost use Rattle.std.specs.List.{filter};
 ghost use Rattle.graph_numbers.specs.Graphs.{graph_sites, graph_versions};
 ghost use Rattle.expr_lanes.specs.Places.{AreRising, EachPlace, IsSelected};
-ghost use Rattle.block_lanes.specs.Lanes.{kinds_of};
+ghost use Rattle.block_cache.specs.Lanes.{kinds_of};
 ghost use Rattle.loop_keys.specs.Jobs.{Fits, job_graph, job_of};
 ghost use Rattle.loop_keys.specs.Keys.{IsRow, key as key_of};
 ghost use Rattle.loop_keys.specs.Plain.{ArePlain};
@@ -12,10 +12,10 @@ ghost use Rattle.block_cache.specs.Blocks.{AreReady, CanTry};
 ghost use Rattle.block_cache.specs.Fills.{CanFill, IsFilledOver, IsSettled, IsSpentOver, begun_at, below_fault, holds_at};
 ghost use Rattle.block_cache.specs.Turns.{IsAttemptedOver, IsBrokenOff, IsResumedOver, IsSettledTo, IsUnderway, found_or};
 
+use crate::Lane;
 use crate::attempt::{Block, try_lane};
 use crate::faults::{PlaceFault, least_fault};
 use crate::level::{Level, note_needs};
-use block_lanes::Lane;
 use expr_eval::Steps;
 use expr_lanes::{Scratch, Selection};
 use graph_numbers::Source;

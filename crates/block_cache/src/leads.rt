@@ -3,7 +3,7 @@ ghost use Rattle.std.specs.Prelude.{◌≡◌, ◌<◌, ℕ, Bool, true, [], len
 ghost use Rattle.rdf_values.specs.NumExprTree.{num_tree, num_trees};
 ghost use Rattle.graph_numbers.specs.Graphs.{graph_sites, graph_versions};
 ghost use Rattle.expr_lanes.specs.Places.{EachPlace, IsSelected};
-ghost use Rattle.block_lanes.specs.Lanes.{kinds_of};
+ghost use Rattle.block_cache.specs.Lanes.{kinds_of};
 ghost use Rattle.loop_keys.specs.Jobs.{Fits, job_graph, job_of};
 ghost use Rattle.loop_keys.specs.Keys.{IsRow, key as key_of};
 ghost use Rattle.loop_keys.specs.Plain.{ArePlain};
@@ -12,11 +12,11 @@ ghost use Rattle.block_cache.specs.Blocks.{AreReady};
 ghost use Rattle.block_cache.specs.Fills.{CanFill, IsSettled, IsSpentOver, holds_at};
 ghost use Rattle.block_cache.specs.Leads.{IsFilledTo, IsLead, first_read, first_read_in};
 
+use crate::Lane;
 use crate::attempt::Block;
 use crate::faults::PlaceFault;
 use crate::fill::{fill, lowered};
 use crate::level::Level;
-use block_lanes::Lane;
 use expr_eval::Steps;
 use expr_lanes::{Scratch, Selection};
 use graph_numbers::Source;

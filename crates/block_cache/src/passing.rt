@@ -3,18 +3,18 @@ ghost use Rattle.std.specs.Prelude.{◌≡◌, ◌<◌, ℕ, Bool, true, [], Som
 ghost use Rattle.rdf_values.specs.declared.value.ColType.TheVariants as kind;
 ghost use Rattle.graph_numbers.specs.Graphs.{graph_sites};
 ghost use Rattle.expr_lanes.specs.Places.{IsSelected};
-ghost use Rattle.block_lanes.specs.Lanes.{kinds_of};
+ghost use Rattle.block_cache.specs.Lanes.{kinds_of};
 ghost use Rattle.loop_keys.specs.Jobs.{Fits, job_graph, job_of};
 ghost use Rattle.loop_keys.specs.Keys.{IsRow, key as key_of};
 ghost use Rattle.loop_keys.specs.Plain.{ArePlain};
 ghost use Rattle.block_cache.specs.Blocks.{AreReady};
 ghost use Rattle.block_cache.specs.Fills.{CanFill, IsPassedOver, IsSettled, IsSpentOver};
 
+use crate::Lane;
 use crate::attempt::Block;
 use crate::faults::PlaceFault;
 use crate::leads::fill_led;
 use crate::level::Level;
-use block_lanes::Lane;
 use expr_eval::Steps;
 use expr_lanes::{Scratch, Selection};
 use loop_keys::reading::key;

@@ -7,15 +7,15 @@ ghost use Rattle.rdf_values.specs.declared.value.Value.{Value};
 ghost use Rattle.rdf_model.specs.ColumnValues.{tag_element};
 ghost use Rattle.expr_eval.specs.Inputs.{input_outcome};
 ghost use Rattle.graph_numbers.specs.Sources.{cell_value};
-ghost use Rattle.block_lanes.specs.Lanes.{LaneView};
+ghost use Rattle.block_cache.specs.Lanes.{LaneView};
 ghost use Rattle.loop_keys.specs.Jobs.{Fits, job_graph, job_of};
 ghost use Rattle.loop_keys.specs.Keys.{IsRow, key_count};
 ghost use Rattle.loop_keys.specs.Store.{held_in, held_or_need, look_at, row_in};
 ghost use Rattle.block_cache.specs.Blocks.{CanRead, HasColumn, cells_at, element_of};
 
+use crate::Lane;
 use crate::attempt::Block;
 use crate::cells::CellLane;
-use block_lanes::Lane;
 use expr_eval::{Input, Inputs};
 use loop_keys::reading::place as place_of;
 use loop_keys::rows::Place;

@@ -10,7 +10,7 @@ ghost use Rattle.entry_fns.specs.Lists.{functions_in};
 ghost use Rattle.expr_check.specs.NumKinds.{CallsFit, is_plain};
 ghost use Rattle.expr_eval.specs.Answers.{scalar_outcome, scalar_value};
 ghost use Rattle.expr_eval.specs.EvalAnswers.{AnswersAs};
-ghost use Rattle.block_lanes.specs.Values.{IsScalarAnswer};
+ghost use Rattle.block_cache.specs.Values.{IsScalarAnswer};
 ghost use Rattle.loop_keys.specs.Jobs.{Fits, job_graph, job_of};
 ghost use Rattle.loop_keys.specs.Keys.{IsRow, key_count};
 ghost use Rattle.loop_keys.specs.Store.{look_at};
@@ -18,7 +18,7 @@ ghost use Rattle.block_cache.specs.Blocks.{CanRead, cells_at};
 
 use crate::attempt::Block;
 use crate::place_view::PlaceView;
-use block_lanes::{Lane, PlaceValues};
+use crate::{Lane, PlaceValues};
 use expr_check::Checked;
 use expr_eval::{EvalStop, ScalarStop, Steps, eval, eval_int};
 use rdf_values::{Scalar, Value};

@@ -7,10 +7,10 @@ ghost use Rattle.loop_keys.specs.Keys.{IsRow, key_count};
 ghost use Rattle.loop_keys.specs.Store.{look_at, row_in};
 ghost use Rattle.block_cache.specs.Blocks.{CanRead, CanReadWhole, cells_at};
 
+use crate::Lane;
 use crate::attempt::Block;
 use crate::place_view::look;
 use crate::whole::is_read_whole;
-use block_lanes::Lane;
 use expr_eval::{Input, ScalarStop};
 use expr_lanes::{Known, LaneColumn, LaneInputs, LaneVectors};
 use loop_keys::reading::place;

@@ -3,13 +3,13 @@ ghost use Rattle.std.specs.Prelude.{◌≡◌, ◌<◌, true, not, Some, length,
 ghost use Rattle.rdf_values.specs.Tables.{kind_at};
 ghost use Rattle.rdf_values.specs.declared.value.ColType.TheVariants as kind;
 ghost use Rattle.expr_check.specs.NumKinds.{is_vector};
-ghost use Rattle.block_lanes.specs.Lanes.{LaneView};
+ghost use Rattle.block_cache.specs.Lanes.{LaneView};
 ghost use Rattle.loop_keys.specs.Jobs.{Fits, job_graph, job_of};
 ghost use Rattle.loop_keys.specs.Keys.{IsRow};
 ghost use Rattle.block_cache.specs.Blocks.{CanRead, CanReadWhole};
 
+use crate::Lane;
 use crate::attempt::Block;
-use block_lanes::Lane;
 use columns::Columns;
 use loop_keys::reading::place;
 use loop_keys::rows::Place;

@@ -8,8 +8,8 @@ use Rattle.rdf_values.specs.EachColumn.{EachColumn}
 use Rattle.rdf_values.specs.Path.{history}
 use Rattle.rdf_values.specs.declared.value.ColType.{ColType}
 use Rattle.rdf_model.proofs.KnownColumns.{each_weaker}
-use Rattle.block_lanes.specs.Lanes.{AreUnknown, HaveRoom, IsUnknown, LaneView, is_tried, kinds_of, room_of, rooms_of, value_of}
-use Rattle.block_lanes.specs.Sizes.{size_for}
+use Rattle.block_cache.specs.Lanes.{AreUnknown, HaveRoom, IsUnknown, LaneView, is_tried, kinds_of, room_of, rooms_of, value_of}
+use Rattle.block_cache.specs.Sizes.{size_for}
 use Rattle.expr_lanes.specs.declared.TheConstants.{MAX_PLACES}
 use Rattle.graph_numbers.specs.Graphs.{GraphView, graph_sites, graph_under}
 use Rattle.graph_numbers.specs.Sites.{SiteAt}

@@ -8,7 +8,7 @@ use Rattle.std.proofs.lemmas.Option.{slice_get_within}
 use Rattle.lemmas.proofs.Parts.{range_length}
 use Rattle.rdf_values.specs.declared.value.Value.{Value}
 use Rattle.expr_lanes.specs.Places.{is_marked}
-use Rattle.block_lanes.specs.Lanes.{AreUnknown, IsUnknown, LaneView, tried_count}
+use Rattle.block_cache.specs.Lanes.{AreUnknown, IsUnknown, LaneView, tried_count}
 use Rattle.block_laws.specs.Counts.{marked_at, marked_in, row_demands}
 use Rattle.block_laws.proofs.Lanes.{marked_within}
 use Rattle.loop_keys.specs.Jobs.{JobView, passes_in}

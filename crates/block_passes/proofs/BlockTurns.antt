@@ -1,5 +1,5 @@
 -- A block of a cluster, by the entries that it has.
-use Rattle.std.proofs.Common.{◌≡◌, ◌<◌, ◌≤◌, ◌+◌, ◌-◌, ℕ, Result, ◌∙◌, ap, subst, arith, List, map}
+use Rattle.std.proofs.Common.{◌≡◌, ◌<◌, ◌+◌, ◌-◌, ℕ, Result, ◌∙◌, ap, subst, arith, List, map}
 use Rattle.std.specs.Prelude.{slice_range}
 use Rattle.rdf_values.specs.declared.span.Span.{Span}
 use Rattle.rdf_values.specs.declared.value.Value.{Value}

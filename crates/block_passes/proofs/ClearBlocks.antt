@@ -5,7 +5,7 @@ use Rattle.lemmas.proofs.Places.{something_at}
 use Rattle.rdf_model.specs.LoopFacts.{kinds_in}
 use Rattle.rdf_model.specs.Results.{first_fault_from}
 use Rattle.graph_numbers.specs.Graphs.{graph_filters}
-use Rattle.block_lanes.specs.Lanes.{LaneView}
+use Rattle.block_cache.specs.Lanes.{LaneView}
 use Rattle.cluster_tally.specs.Blocks.{BlockStage, HoldsIn, block_begin}
 use Rattle.cluster_tally.specs.Stages.{Stage}
 use Rattle.cluster_tally.specs.Tallies.{Holds, TallyView}

@@ -1,5 +1,5 @@
 -- How many levels the sites take, one after another.
-use Rattle.std.proofs.Common.{◌≡◌, ◌⊎◌, ℕ, ◌+◌, ◌<◌, ◌≤◌, Some, ◌∙◌, slice_get}
+use Rattle.std.proofs.Common.{◌≡◌, ℕ, ◌<◌, ◌≤◌, Some, slice_get}
 use Rattle.expr_lanes.specs.Depths.{depth}
 use Rattle.graph_numbers.specs.Graphs.{GraphView, graph_sites}
 use Rattle.graph_numbers.specs.Sites.{SiteAt}

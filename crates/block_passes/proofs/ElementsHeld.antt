@@ -24,9 +24,9 @@ use Rattle.expr_eval.specs.declared.inputs.Input.TheVariants as told
 use Rattle.graph_numbers.specs.Graphs.{graph_sites}
 use Rattle.graph_numbers.specs.declared.source.Source.TheVariants as from
 use Rattle.expr_lanes.specs.Places.{EachPlace, at_place, is_in}
-use Rattle.block_lanes.specs.Values.{value_for}
+use Rattle.block_cache.specs.Values.{value_for}
 use Rattle.loop_keys.proofs.RowLaws.{key_small}
-use Rattle.block_lanes.specs.Lanes.{LaneView, is_held, kinds_of, value_of}
+use Rattle.block_cache.specs.Lanes.{LaneView, is_held, kinds_of, value_of}
 use Rattle.loop_keys.specs.Jobs.{JobView, job_graph}
 use Rattle.loop_keys.specs.Keys.{key, key_count}
 use Rattle.loop_keys.specs.Store.{IsRight, held_element, held_in, site_in}

@@ -14,7 +14,7 @@ use Rattle.actions.specs.Holding.{IsTake}
 use Rattle.actions.specs.declared.batch.Batch.{Batch}
 use Rattle.expr_lanes.specs.Places.{EachPlace, is_in}
 use Rattle.graph_numbers.specs.Outcomes.{through_sites}
-use Rattle.block_lanes.specs.Lanes.{LaneView}
+use Rattle.block_cache.specs.Lanes.{LaneView}
 use Rattle.cluster_tally.specs.Blocks.{BlockStage, CanFeedBatch, HoldsIn, block_items}
 use Rattle.cluster_tally.specs.Tallies.{TallyView}
 use Rattle.loop_keys.specs.Jobs.{IsJob, JobView}

@@ -8,7 +8,7 @@ use Rattle.rdf_values.specs.declared.action.ActionKind.{ActionKind}
 use Rattle.rdf_values.specs.declared.action.ActionKind.TheVariants as kind
 use Rattle.rdf_model.specs.LoopFacts.{kinds_in}
 use Rattle.actions.specs.Holding.{IsTake}
-use Rattle.block_lanes.specs.Lanes.{LaneView}
+use Rattle.block_cache.specs.Lanes.{LaneView}
 use Rattle.cluster_tally.specs.Blocks.{BlockStage, HoldsIn, pass_done}
 use Rattle.cluster_tally.specs.Tallies.{TallyView}
 use Rattle.loop_keys.specs.Caches.{IsActionBooking, IsActionPass}

@@ -4,7 +4,7 @@ use Rattle.std.specs.Prelude.{slice_set}
 use Rattle.lemmas.proofs.Places.{kept_at}
 use Rattle.rdf_model.specs.Results.{fault_in, is_true}
 use Rattle.expr_lanes.specs.Places.{EachPlace, is_in}
-use Rattle.block_lanes.specs.Lanes.{LaneView}
+use Rattle.block_cache.specs.Lanes.{LaneView}
 use Rattle.loop_keys.specs.Jobs.{IsJob, JobView}
 use Rattle.loop_keys.specs.Known.{truth_in}
 use Rattle.block_cache.specs.Fills.{IsSpentOver}

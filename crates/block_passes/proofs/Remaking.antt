@@ -3,7 +3,7 @@ use Rattle.std.proofs.Common.{◌≡◌, ◌⊎◌, inl, inr, ℕ, ◌<◌, List
 use Rattle.std.specs.Prelude.{OnOk, slice_set}
 use Rattle.std.specs.List.{AllByRecursion}
 use Rattle.lemmas.proofs.Places.{set_at}
-use Rattle.block_lanes.specs.Lanes.{LaneView}
+use Rattle.block_cache.specs.Lanes.{LaneView}
 use Rattle.loop_keys.specs.Jobs.{JobView}
 use Rattle.block_passes.specs.Selections.{AreRemade, IsMadeAt, IsMadeBelow, IsSelectedTo}
 use Rattle.block_passes.specs.Plans.{PlanView}

@@ -7,7 +7,7 @@ use Rattle.rdf_values.specs.Bookings.{Pass}
 use Rattle.rdf_values.specs.declared.fault.EntryFault.{EntryFault}
 use Rattle.rdf_values.specs.declared.value.Value.{Value}
 use Rattle.rdf_model.specs.Results.{fault_in, first_fault_from}
-use Rattle.block_lanes.specs.Lanes.{LaneView}
+use Rattle.block_cache.specs.Lanes.{LaneView}
 use Rattle.loop_keys.specs.Jobs.{JobView, outcome_of, passes_in}
 use Rattle.loop_keys.specs.Store.{source_at}
 use Rattle.loop_keys.specs.Turns.{pass_fault}

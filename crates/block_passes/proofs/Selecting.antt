@@ -5,7 +5,7 @@ use Rattle.std.proofs.lemmas.Bool.Decides.{Decides-ltb}
 use Rattle.rdf_model.specs.Results.{fault_in, is_true}
 use Rattle.expr_lanes.specs.Places.{AreRising, EachPlace, IsSelected, is_in}
 use Rattle.expr_lanes.specs.declared.TheConstants.{MAX_PLACES}
-use Rattle.block_lanes.specs.Lanes.{LaneView}
+use Rattle.block_cache.specs.Lanes.{LaneView}
 use Rattle.loop_keys.specs.Jobs.{JobView}
 use Rattle.loop_keys.specs.Known.{truth_in}
 use Rattle.loop_keys.specs.Store.{site_in}

@@ -7,7 +7,7 @@ use Rattle.graph_numbers.specs.Sources.{cell_value}
 use Rattle.graph_numbers.specs.declared.source.Source.{Source}
 use Rattle.graph_numbers.specs.declared.source.Source.TheVariants as from
 use Rattle.expr_lanes.specs.Places.{AreRising, EachPlace, is_in}
-use Rattle.block_lanes.specs.Lanes.{LaneView}
+use Rattle.block_cache.specs.Lanes.{LaneView}
 use Rattle.loop_keys.specs.Jobs.{JobView}
 use Rattle.loop_keys.specs.Store.{row_of}
 use Rattle.rdf_values.specs.declared.value.Value.{Value}

@@ -6,7 +6,7 @@ use Rattle.rdf_values.specs.declared.value.ColType.{ColType}
 use Rattle.rdf_values.specs.declared.value.ColType.TheVariants as kind
 use Rattle.rdf_values.specs.declared.value.Value.TheVariants as val
 use Rattle.rdf_model.specs.Evaluation.{Gives, is_set}
-use Rattle.block_lanes.specs.Values.{value_for}
+use Rattle.block_cache.specs.Values.{value_for}
 use Rattle.expr_lanes.specs.Places.{EachPlace, at_place}
 use Rattle.graph_numbers.specs.Graphs.{graph_sites}
 use Rattle.graph_numbers.specs.Sources.{source_value}
@@ -14,7 +14,7 @@ use Rattle.graph_numbers.specs.declared.source.Source.{Source}
 use Rattle.graph_numbers.specs.declared.source.Source.TheVariants as from
 use Rattle.actions.specs.Batches.{truth_of}
 use Rattle.actions.specs.declared.lane.Lane.{Lane}
-use Rattle.block_lanes.specs.Lanes.{LaneView, is_held, kinds_of, value_of}
+use Rattle.block_cache.specs.Lanes.{LaneView, is_held, kinds_of, value_of}
 use Rattle.loop_keys.specs.Jobs.{JobView, job_graph}
 use Rattle.loop_keys.specs.Keys.{key, key_count, key_under, place_of}
 use Rattle.loop_keys.specs.Store.{IsRight, held_in, row_of, site_in}

@@ -1,6 +1,6 @@
 -- What filling sites spends.
 use Rattle.std.proofs.Common.{◌≡◌, ◌⊎◌, inl, inr, ℕ, zero, suc, ◌+◌, ◌-◌, ◌<◌, ◌≤◌, Bool, true, false, List, [], ◌∷◌, ◌++◌, length, map, replicate, Option, refl, sym, ◌∙◌, ap, arith, slice_get, if◌then◌else◌}
-use Rattle.block_lanes.specs.Lanes.{LaneView, is_held, value_of}
+use Rattle.block_cache.specs.Lanes.{LaneView, is_held, value_of}
 use Rattle.loop_keys.specs.Jobs.{JobView, job_graph}
 use Rattle.loop_keys.specs.Keys.{key, key_count}
 use Rattle.loop_keys.specs.Store.{IsClosed, IsSourceIn, held_in, source_at, is_held as is_known}

@@ -4,7 +4,7 @@ use Rattle.std.specs.List.{AllByRecursion}
 use Rattle.std.proofs.lemmas.List.{length-map}
 use Rattle.std.proofs.lemmas.List.Elements.{All-from_recursion, recursion_from_All}
 use Rattle.rdf_values.specs.declared.value.ColType.{ColType}
-use Rattle.block_lanes.specs.Lanes.{HaveRoom, LaneView, kinds_of, room_of, rooms_of}
+use Rattle.block_cache.specs.Lanes.{HaveRoom, LaneView, kinds_of, room_of, rooms_of}
 use Rattle.loop_keys.specs.Jobs.{JobView, job_graph}
 use Rattle.graph_numbers.specs.Graphs.{graph_sites}
 use Rattle.block_passes.specs.States.{AreDeepEnough, HaveKinds, IsStateOf, StateView}

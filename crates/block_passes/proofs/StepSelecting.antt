@@ -5,7 +5,7 @@ use Rattle.rdf_model.specs.Evaluation.{Outcome}
 use Rattle.rdf_model.specs.Results.{fault_in, is_true}
 use Rattle.graph_numbers.specs.Outcomes.{through_sites}
 use Rattle.expr_lanes.specs.Places.{is_in}
-use Rattle.block_lanes.specs.Lanes.{LaneView}
+use Rattle.block_cache.specs.Lanes.{LaneView}
 use Rattle.loop_keys.specs.Jobs.{IsJob, JobView}
 use Rattle.loop_keys.specs.Known.{truth_in}
 use Rattle.loop_keys.specs.Store.{site_in}

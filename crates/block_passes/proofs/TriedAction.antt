@@ -14,7 +14,7 @@ use Rattle.graph_numbers.specs.Outcomes.{booking_numbers, through_sites}
 use Rattle.graph_numbers.specs.Results.{ResultAt}
 use Rattle.graph_numbers.specs.declared.pass.Pass.{Pass as NumberedPass}
 use Rattle.expr_lanes.specs.Places.{EachPlace, is_in}
-use Rattle.block_lanes.specs.Lanes.{LaneView}
+use Rattle.block_cache.specs.Lanes.{LaneView}
 use Rattle.loop_keys.specs.Jobs.{IsJob, JobView, job_graph}
 use Rattle.loop_keys.specs.Store.{site_in, version_in}
 use Rattle.std.proofs.lemmas.List.Elements.{recursion_from_All}

@@ -15,7 +15,7 @@ use Rattle.actions.specs.Batches.{HasValues, SuitsAt, fault_or_later, first_faul
 use Rattle.actions.specs.declared.batch.PlaceFault.{PlaceFault as BatchFault}
 use Rattle.actions.specs.declared.batch.Sources.{Sources}
 use Rattle.expr_lanes.specs.Places.{AreRising, EachPlace, is_in}
-use Rattle.block_lanes.specs.Lanes.{LaneView}
+use Rattle.block_cache.specs.Lanes.{LaneView}
 use Rattle.loop_keys.specs.Jobs.{JobView}
 use Rattle.block_cache.specs.Blocks.{AreReady}
 use Rattle.block_cache.specs.Fills.{fault_before, fault_over}

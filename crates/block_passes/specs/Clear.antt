@@ -1,7 +1,7 @@
 -- What stands after a search over a block in which no pass faults.
 use Rattle.std.specs.Prelude.{◌≡◌, ◌<◌, ◌+◌, ℕ, List, Option, None, Some, length, slice_get}
 use Rattle.rdf_values.specs.declared.action.ActionKind.{ActionKind}
-use Rattle.block_lanes.specs.Lanes.{LaneView}
+use Rattle.block_cache.specs.Lanes.{LaneView}
 use Rattle.loop_keys.specs.Jobs.{JobView, passes_in}
 use Rattle.loop_keys.specs.Turns.{pass_fault}
 use Rattle.block_cache.specs.Blocks.{AreReady}

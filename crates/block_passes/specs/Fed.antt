@@ -6,7 +6,7 @@ use Rattle.rdf_model.specs.declared.loop_facts.LoopFacts.{LoopFacts}
 use Rattle.actions.specs.Batches.{places_of}
 use Rattle.actions.specs.declared.batch.Batch.{Batch}
 use Rattle.expr_lanes.specs.Places.{EachPlace, is_in}
-use Rattle.block_lanes.specs.Lanes.{LaneView}
+use Rattle.block_cache.specs.Lanes.{LaneView}
 use Rattle.cluster_tally.specs.Blocks.{BlockStage, CanFeedBatch}
 use Rattle.cluster_tally.specs.Tallies.{TallyView}
 use Rattle.loop_keys.specs.Jobs.{JobView}

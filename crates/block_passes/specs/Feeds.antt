@@ -12,7 +12,7 @@ use Rattle.actions.specs.Batches.{HasPlace, HasValues, SuitsAt, lane_value, valu
 use Rattle.actions.specs.declared.batch.PlaceFault.{PlaceFault as BatchFault}
 use Rattle.actions.specs.declared.batch.Sources.{Sources}
 use Rattle.actions.specs.declared.lane.Lane.{Lane}
-use Rattle.block_lanes.specs.Lanes.{LaneView, value_of}
+use Rattle.block_cache.specs.Lanes.{LaneView, value_of}
 use Rattle.loop_keys.specs.Jobs.{JobView}
 use Rattle.loop_keys.specs.Store.{version_in}
 use Rattle.block_cache.specs.declared.faults.PlaceFault.{PlaceFault}

@@ -13,7 +13,7 @@ use Rattle.graph_numbers.specs.Meets.{HasInputs}
 use Rattle.graph_numbers.specs.Sources.{source_value}
 use Rattle.graph_numbers.specs.declared.source.Source.{Source}
 use Rattle.graph_numbers.specs.declared.source.Source.TheVariants as from
-use Rattle.block_lanes.specs.Lanes.{LaneView}
+use Rattle.block_cache.specs.Lanes.{LaneView}
 use Rattle.loop_keys.specs.Jobs.{JobView, job_graph}
 use Rattle.loop_keys.specs.Keys.{key, key_count}
 use Rattle.loop_keys.specs.Store.{IsSourceIn, held_element, held_in, row_of, site_in, source_at, version_in}

@@ -4,7 +4,7 @@ use Rattle.std.specs.List.{filter, range_with_len}
 use Rattle.rdf_values.specs.declared.value.ColType.{ColType}
 use Rattle.rdf_values.specs.declared.value.ColType.TheVariants as kind
 use Rattle.rdf_model.specs.Results.{fault_in, is_true}
-use Rattle.block_lanes.specs.Lanes.{LaneView}
+use Rattle.block_cache.specs.Lanes.{LaneView}
 use Rattle.loop_keys.specs.Jobs.{JobView, job_graph}
 use Rattle.loop_keys.specs.Keys.{key}
 use Rattle.loop_keys.specs.Known.{truth_in}

@@ -1,6 +1,6 @@
 -- What evaluations over a block do to what is known of it.
 use Rattle.std.specs.Prelude.{◌≡◌, ◌⊎◌, ◌<◌, ◌≤◌, ◌+◌, ◌*◌, ℕ, Bool, true, List}
-use Rattle.block_lanes.specs.Lanes.{LaneView, kinds_of, rooms_of}
+use Rattle.block_cache.specs.Lanes.{LaneView, kinds_of, rooms_of}
 use Rattle.loop_keys.specs.Jobs.{JobView, job_graph}
 use Rattle.loop_keys.specs.Keys.{key_count}
 use Rattle.loop_keys.specs.Store.{Grows}

@@ -6,8 +6,8 @@ use Rattle.rdf_values.specs.declared.value.ColType.TheVariants as kind
 use Rattle.expr_check.specs.NumKinds.{CheckedExpr, is_vector}
 use Rattle.expr_lanes.specs.Depths.{depth}
 use Rattle.expr_lanes.specs.declared.TheConstants.{MAX_PLACES}
-use Rattle.block_lanes.specs.Lanes.{AreUnknown, HaveRoom, LaneView, kinds_of}
-use Rattle.block_lanes.specs.Sizes.{size_for}
+use Rattle.block_cache.specs.Lanes.{AreUnknown, HaveRoom, LaneView, kinds_of}
+use Rattle.block_cache.specs.Sizes.{size_for}
 use Rattle.graph_numbers.specs.Graphs.{GraphView, IsSiteExpr, graph_sites}
 use Rattle.graph_numbers.specs.Sites.{SiteAt}
 use Rattle.loop_keys.specs.Jobs.{JobView, job_graph}

@@ -10,7 +10,7 @@ ghost use Rattle.expr_check.specs.NumKinds.{CheckedExpr};
 ghost use Rattle.graph_numbers.specs.Graphs.{IsSiteExpr, graph_sites};
 ghost use Rattle.graph_numbers.specs.Sources.{source_value};
 ghost use Rattle.expr_lanes.specs.Places.{EachPlace};
-ghost use Rattle.block_lanes.specs.Lanes.{kinds_of};
+ghost use Rattle.block_cache.specs.Lanes.{kinds_of};
 ghost use Rattle.loop_keys.specs.Plain.{ArePlain};
 ghost use Rattle.loop_keys.specs.Jobs.{Fits, job_graph, job_of};
 ghost use Rattle.loop_keys.specs.Keys.{AreKeys, key as key_of};
@@ -24,7 +24,7 @@ ghost use Rattle.block_passes.specs.Inputs.{AreAtHand, ArePlainSources, AreWhole
 use crate::elements::{SiteElement, element_at};
 use crate::inputs::source_under;
 use crate::turn::{ActionRead, Turn};
-use block_lanes::Lane;
+use block_cache::Lane;
 use expr_eval::Input;
 use expr_lanes::Selection;
 use graph_numbers::Source;

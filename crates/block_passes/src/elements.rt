@@ -17,8 +17,8 @@ ghost use Rattle.block_passes.specs.Spends.{IsSettledAt};
 
 use crate::kept::Kept;
 use crate::turn::{Turn, Work};
+use block_cache::Lane;
 use block_cache::faults::PlaceFault;
-use block_lanes::Lane;
 use expr_eval::Input;
 use expr_lanes::Selection;
 use loop_keys::reading::{Reading, key};

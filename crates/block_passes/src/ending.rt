@@ -2,7 +2,7 @@
 ghost use Rattle.std.specs.Prelude.{◌≡◌, ◌≢◌, ◌<◌, ◌≤◌, ◌+◌, ℕ, All, Err, List, OnErr, OnOk, None, length};
 ghost use Rattle.rdf_model.specs.LoopFacts.{kinds_in};
 ghost use Rattle.expr_lanes.specs.declared.TheConstants.{MAX_PLACES};
-ghost use Rattle.block_lanes.specs.Lanes.{AreUnknown, kinds_of, rooms_of};
+ghost use Rattle.block_cache.specs.Lanes.{AreUnknown, kinds_of, rooms_of};
 ghost use Rattle.cluster_tally.specs.Stages.{Stage};
 ghost use Rattle.cluster_tally.specs.Tallies.{Holds};
 ghost use Rattle.loop_keys.specs.Caches.{IsPlainLoop};
@@ -21,7 +21,7 @@ use crate::noting::note_filters;
 use crate::passes::try_passes;
 use crate::stop::BlockStop;
 use crate::turn::{Turn, Work};
-use block_lanes::Lane;
+use block_cache::Lane;
 use cluster_tally::Tally;
 use expr_eval::Steps;
 use rdf_values::Memory;

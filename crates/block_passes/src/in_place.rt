@@ -1,7 +1,7 @@
 // The lanes that an action reads, where all of them are read in place: nearly always.
 ghost use Rattle.std.specs.Prelude.{◌≡◌, ℤ, ℕ, List, None, Some, length, true};
 ghost use Rattle.rdf_values.specs.declared.action.ActionKind.TheVariants as action;
-ghost use Rattle.block_lanes.specs.Lanes.{kinds_of};
+ghost use Rattle.block_cache.specs.Lanes.{kinds_of};
 ghost use Rattle.loop_keys.specs.Jobs.{Fits, job_graph, job_of};
 ghost use Rattle.loop_keys.specs.Keys.{AreKeys};
 ghost use Rattle.block_cache.specs.Blocks.{AreReady};
@@ -10,7 +10,7 @@ ghost use Rattle.block_passes.specs.Feeds.{AreInPlace, CanGather};
 use crate::sources::lane_in_place;
 use crate::turn::{ActionRead, Turn};
 use actions::Sources;
-use block_lanes::Lane;
+use block_cache::Lane;
 use rdf_values::ActionKind;
 
 /// Takes the lane of the only version that an action reads, and says whether it could: not where it has to be copied.

@@ -2,7 +2,7 @@
 ghost use Rattle.std.specs.Prelude.{◌≡◌, ◌<◌, ◌≤◌, ℕ, ◌+◌, IfSome, None, OnOk, Some, length, slice_range, OnErr};
 ghost use Rattle.rdf_model.specs.Results.{first_fault_from};
 ghost use Rattle.expr_lanes.specs.declared.TheConstants.{MAX_PLACES};
-ghost use Rattle.block_lanes.specs.Lanes.{kinds_of};
+ghost use Rattle.block_cache.specs.Lanes.{kinds_of};
 ghost use Rattle.loop_keys.specs.Caches.{IsPlainLoop, numbered_in};
 ghost use Rattle.loop_keys.specs.Jobs.{Fits, job_graph, job_of, passes_in};
 ghost use Rattle.loop_keys.specs.Keys.{AreKeys};

@@ -2,7 +2,7 @@
 ghost use Rattle.std.specs.Prelude.{◌≡◌, ◌<◌, ◌≤◌, ◌+◌, OnOk, Some, length, slice_get, OnErr};
 ghost use Rattle.std.specs.List.{AllByRecursion};
 ghost use Rattle.expr_lanes.specs.declared.TheConstants.{MAX_PLACES};
-ghost use Rattle.block_lanes.specs.Lanes.{kinds_of};
+ghost use Rattle.block_cache.specs.Lanes.{kinds_of};
 ghost use Rattle.loop_keys.specs.Caches.{IsCovered, IsPlainLoop};
 ghost use Rattle.loop_keys.specs.Jobs.{Fits, job_graph, job_of};
 ghost use Rattle.loop_keys.specs.Keys.{AreKeys};

@@ -4,7 +4,7 @@ ghost use Rattle.rdf_values.specs.declared.value.ColType.TheVariants as kind;
 ghost use Rattle.graph_numbers.specs.Graphs.{graph_sites};
 ghost use Rattle.expr_lanes.specs.Places.{EachPlace};
 ghost use Rattle.expr_lanes.specs.declared.TheConstants.{MAX_PLACES};
-ghost use Rattle.block_lanes.specs.Lanes.{kinds_of};
+ghost use Rattle.block_cache.specs.Lanes.{kinds_of};
 ghost use Rattle.loop_keys.specs.Caches.{IsPlainLoop};
 ghost use Rattle.loop_keys.specs.Plain.{ArePlain};
 ghost use Rattle.loop_keys.specs.Jobs.{Fits, job_graph, job_of};

@@ -9,7 +9,7 @@ ghost use Rattle.rdf_model.specs.Evaluation.{Gives, for_all};
 ghost use Rattle.rdf_model.specs.Laws.{FitsFeed};
 ghost use Rattle.graph_numbers.specs.Sources.{source_value};
 ghost use Rattle.graph_numbers.specs.declared.source.Source.TheVariants as source;
-ghost use Rattle.block_lanes.specs.Lanes.{LaneView, kinds_of};
+ghost use Rattle.block_cache.specs.Lanes.{LaneView, kinds_of};
 ghost use Rattle.expr_lanes.specs.Places.{is_in};
 ghost use Rattle.loop_keys.specs.Jobs.{Fits, job_graph, job_of};
 ghost use Rattle.loop_keys.specs.Keys.{AreKeys};
@@ -22,7 +22,7 @@ ghost use Rattle.block_passes.specs.Inputs.{AreAtHand, CanServe, IsAtHand, IsWho
 use crate::copies::{Copied, Copies};
 use crate::turn::{ActionRead, Turn};
 use actions::{Lane as FedLane, Sources};
-use block_lanes::Lane;
+use block_cache::Lane;
 use expr_lanes::Selection;
 use loop_keys::reading::{Reading, place};
 use loop_keys::rows::{Place, row_at};

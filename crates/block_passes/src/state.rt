@@ -11,7 +11,7 @@ use crate::plan::LoopPlan;
 use crate::reserve::{forget, load_columns, new_cells, new_kept, new_levels, new_scratch};
 use crate::turn::Work;
 use block_cache::cells::CellLane;
-use block_lanes::{begin_block, block_size, new_lanes};
+use block_cache::{begin_block, block_size, new_lanes};
 use columns::Over;
 use loop_keys::Job;
 use loop_keys::rows::{Row, rows_of};

@@ -8,7 +8,7 @@ ghost use Rattle.loop_keys.specs.Jobs.{Fits, job_graph, job_of};
 ghost use Rattle.loop_keys.specs.Keys.{AreKeys};
 ghost use Rattle.block_cache.specs.Blocks.{AreReady};
 ghost use Rattle.block_cache.specs.Fills.{fault_over};
-ghost use Rattle.block_lanes.specs.Lanes.{kinds_of};
+ghost use Rattle.block_cache.specs.Lanes.{kinds_of};
 ghost use Rattle.block_passes.specs.Feeds.{CanGather, of_batch, unfed};
 ghost use Rattle.block_passes.specs.Inputs.{AreAtHand, ArePlainSources, IsServedTo};
 ghost use Rattle.block_passes.specs.Spends.{IsSettledAt};
@@ -19,8 +19,8 @@ use crate::kept::Kept;
 use crate::sources::gather;
 use crate::turn::{ActionRead, Turn, Work};
 use actions::{Batch, PlaceFault as BatchFault, Places, Sources};
+use block_cache::Lane;
 use block_cache::faults::PlaceFault;
-use block_lanes::Lane;
 use expr_lanes::Selection;
 use rdf_values::Memory;
 

@@ -3,9 +3,9 @@ ghost use Rattle.std.specs.Prelude.{◌≡◌};
 
 use crate::found::Found;
 use crate::plan::LoopPlan;
+use block_cache::Lane;
 use block_cache::cells::CellLane;
 use block_cache::level::Level;
-use block_lanes::Lane;
 use expr_lanes::Scratch;
 use loop_keys::Job;
 use loop_keys::rows::Row;

@@ -5,7 +5,7 @@ ghost use Rattle.rdf_values.specs.Words.{StatementsHaveWords};
 ghost use Rattle.rdf_values.specs.declared.fault.Fault.{Fault};
 ghost use Rattle.loop_keys.specs.Jobs.{Fits, job_graph, job_of};
 ghost use Rattle.loop_keys.specs.Keys.{key_count};
-ghost use Rattle.block_lanes.specs.Sizes.{size_for};
+ghost use Rattle.block_cache.specs.Sizes.{size_for};
 ghost use Rattle.block_passes.specs.Clusters.{span_demands};
 ghost use Rattle.loop_pieces.specs.LoopPieces.{StandsFor};
 ghost use Rattle.loop_pieces.specs.Trails.{HaveTrails};

@@ -1,5 +1,5 @@
 use Rattle.std.proofs.Common.{◌≡◌, ◌<◌, ◌+◌, ◌∙◌, arith, length, refl, rules}
-use Rattle.block_lanes.specs.Lanes.{kinds_of}
+use Rattle.block_cache.specs.Lanes.{kinds_of}
 use Rattle.graph_numbers.specs.Graphs.{graph_sites}
 use Rattle.loop_keys.specs.Jobs.{job_graph, job_of}
 use Rattle.block_cache.proofs.CanFills.{can_below, can_moved, met_used, some_level}

@@ -1,5 +1,5 @@
 use Rattle.std.proofs.Common.{◌≡◌, ◌<◌, arith, length, rules, subst, true}
-use Rattle.block_lanes.specs.Lanes.{kinds_of}
+use Rattle.block_cache.specs.Lanes.{kinds_of}
 use Rattle.graph_numbers.specs.Graphs.{graph_sites}
 use Rattle.expr_lanes.specs.Places.{EachPlace}
 use Rattle.loop_keys.specs.Jobs.{job_graph, job_of}

@@ -3,7 +3,7 @@ use Rattle.std.specs.Prelude.{slice_set}
 use Rattle.std.specs.List.{AllByRecursion}
 use Rattle.std.proofs.lemmas.Option.{slice_get-get_or}
 use Rattle.rdf_values.specs.declared.value.ColType.{ColType}
-use Rattle.block_lanes.specs.Lanes.{LaneView, kinds_of}
+use Rattle.block_cache.specs.Lanes.{LaneView, kinds_of}
 use Rattle.loop_keys.specs.Jobs.{job_of}
 use Rattle.block_passes.specs.Inputs.{CanServe}
 use Rattle.block_passes.specs.Selections.{IsMadeAt}

@@ -1,7 +1,7 @@
 use Rattle.std.proofs.Common.{◌∙◌, Some, ap, subst, sym}
 use Rattle.rdf_values.specs.declared.value.ColType.TheVariants as kind
 use Rattle.graph_numbers.specs.declared.source.Source.{Source}
-use Rattle.block_lanes.specs.Lanes.{kinds_of}
+use Rattle.block_cache.specs.Lanes.{kinds_of}
 use Rattle.loop_keys.specs.Jobs.{job_graph, job_of}
 use Rattle.loop_keys.specs.Keys.{key}
 use Rattle.block_cache.proofs.CanTries.{got_kind}

@@ -1,6 +1,6 @@
 use Rattle.std.proofs.Common.{◌∙◌, length, subst, sym, List}
 use Rattle.rdf_values.specs.declared.value.ColType.{ColType}
-use Rattle.block_lanes.specs.Lanes.{LaneView, kinds_of}
+use Rattle.block_cache.specs.Lanes.{LaneView, kinds_of}
 use Rattle.loop_keys.specs.Jobs.{job_of}
 use Rattle.block_passes.specs.Clear.{IsClear}
 use Rattle.block_passes.specs.Tries.{CanServeAll}

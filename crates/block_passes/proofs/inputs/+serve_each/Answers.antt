@@ -2,7 +2,7 @@ use Rattle.std.proofs.Common.{arith, length, rules}
 use Rattle.std.proofs.lemmas.Result.{on_ok_weaker}
 use Rattle.std.proofs.lemmas.Bool.Decides.{nat_tests}
 use Rattle.expr_lanes.specs.Places.{EachPlace}
-use Rattle.block_lanes.specs.Lanes.{kinds_of}
+use Rattle.block_cache.specs.Lanes.{kinds_of}
 use Rattle.loop_keys.specs.Jobs.{job_of}
 use Rattle.block_passes.specs.Inputs.{AreAtHand, IsServedTo, inputs_fault}
 use Rattle.block_passes.proofs.ServingInputs.{empty_list, first_demanded, first_plain, inputs_held, inputs_served, none_held, none_served, rest_can, rest_demanded, rest_inside}

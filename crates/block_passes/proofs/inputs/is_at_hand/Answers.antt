@@ -1,5 +1,5 @@
 use Rattle.std.proofs.Common.{◌∙◌}
-use Rattle.block_lanes.specs.Lanes.{kinds_of}
+use Rattle.block_cache.specs.Lanes.{kinds_of}
 use Rattle.loop_keys.specs.Jobs.{job_graph, job_of}
 use Rattle.loop_keys.specs.Keys.{key_under}
 use Rattle.block_passes.proofs.Serving.{column_clear, column_held}

@@ -1,6 +1,6 @@
 use Rattle.std.proofs.Common.{List, arith, length, subst, sym}
 use Rattle.std.specs.List.{AllByRecursion}
-use Rattle.block_lanes.specs.Lanes.{LaneView, kinds_of}
+use Rattle.block_cache.specs.Lanes.{LaneView, kinds_of}
 use Rattle.loop_keys.specs.Jobs.{job_of}
 use Rattle.block_passes.specs.Inputs.{CanServe}
 use Rattle.block_passes.proofs.ServingInputs.{clear_served}

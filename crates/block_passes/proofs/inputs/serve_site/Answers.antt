@@ -1,6 +1,6 @@
 use Rattle.std.proofs.Common.{List, Some, arith, refl, subst, sym}
 use Rattle.std.proofs.lemmas.List.{with_items_is}
-use Rattle.block_lanes.specs.Lanes.{LaneView}
+use Rattle.block_cache.specs.Lanes.{LaneView}
 use Rattle.loop_keys.specs.Jobs.{job_of}
 use Rattle.block_cache.specs.Fills.{site_fault}
 use Rattle.block_passes.specs.Inputs.{IsServedTo}

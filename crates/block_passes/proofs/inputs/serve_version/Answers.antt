@@ -1,5 +1,5 @@
 use Rattle.std.proofs.Common.{◌∙◌, List, arith, length, subst, sym}
-use Rattle.block_lanes.specs.Lanes.{LaneView, kinds_of}
+use Rattle.block_cache.specs.Lanes.{LaneView, kinds_of}
 use Rattle.loop_keys.specs.Jobs.{job_of}
 use Rattle.loop_keys.specs.Store.{IsSourceIn, source_at}
 use Rattle.block_passes.specs.Inputs.{CanServe}

@@ -1,6 +1,6 @@
 use Rattle.std.proofs.Common.{arith, ◌≡◌, ◌+◌, below_more, ◌∙◌, List, None, length, refl, subst, sym, ℕ}
 use Rattle.rdf_values.specs.declared.value.ColType.{ColType}
-use Rattle.block_lanes.specs.Lanes.{kinds_of}
+use Rattle.block_cache.specs.Lanes.{kinds_of}
 use Rattle.loop_keys.specs.Jobs.{job_of, passes_in}
 use Rattle.loop_keys.specs.Turns.{pass_fault}
 use Rattle.block_passes.specs.Searches.{IsSearched}

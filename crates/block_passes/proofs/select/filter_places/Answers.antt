@@ -1,7 +1,7 @@
 use Rattle.std.proofs.Common.{◌∙◌, List, ℕ, ap, arith, refl, subst, sym, Some}
 use Rattle.std.proofs.lemmas.List.{with_items_is}
 use Rattle.expr_lanes.specs.Places.{is_in}
-use Rattle.block_lanes.specs.Lanes.{LaneView}
+use Rattle.block_cache.specs.Lanes.{LaneView}
 use Rattle.loop_keys.specs.Jobs.{job_of}
 use Rattle.block_cache.specs.Fills.{site_fault}
 use Rattle.block_passes.specs.Selections.{IsFilteredTo}

@@ -1,4 +1,4 @@
-use Rattle.std.proofs.Common.{arith, get_or, inl, refl, sym, ◌≡◌, ◌∙◌}
+use Rattle.std.proofs.Common.{get_or, inl, refl, sym}
 use Rattle.std.proofs.lemmas.Option.{slice_get-get_or}
 use Rattle.loop_keys.specs.Jobs.{job_of}
 use Rattle.block_passes.proofs.StepCases.{chain_at, kept_inside, narrowed_selected, set_same}

@@ -1,5 +1,5 @@
 use Rattle.std.proofs.Common.{◌+◌, subst, sym, ◌∙◌}
-use Rattle.block_lanes.specs.Lanes.{kinds_of}
+use Rattle.block_cache.specs.Lanes.{kinds_of}
 use Rattle.graph_numbers.specs.Sources.{source_value}
 use Rattle.graph_numbers.specs.declared.source.Source.{Source}
 use Rattle.loop_keys.specs.Jobs.{job_graph, job_of}

@@ -1,6 +1,6 @@
 use Rattle.std.proofs.Common.{◌-◌, ◌∙◌, ap, arith, length, subst, sym}
 use Rattle.std.proofs.lemmas.List.{with_items_is}
-use Rattle.block_lanes.specs.Lanes.{kinds_of, rooms_of}
+use Rattle.block_cache.specs.Lanes.{kinds_of, rooms_of}
 use Rattle.loop_keys.specs.Jobs.{job_of}
 use Rattle.block_passes.specs.States.{IsStateOf, StateView}
 use Rattle.block_passes.specs.contracts.state.BlockState.{the_view}

@@ -1,7 +1,7 @@
 use Rattle.std.proofs.Common.{arith, List, ◌-◌, ◌∙◌, ap, length, subst, sym, ℤ}
 use Rattle.std.specs.Vec.{with_items}
 use Rattle.std.proofs.lemmas.List.{with_items_is}
-use Rattle.block_lanes.specs.Lanes.{kinds_of}
+use Rattle.block_cache.specs.Lanes.{kinds_of}
 use Rattle.loop_keys.specs.Jobs.{job_of}
 use Rattle.block_passes.specs.Blocks.{entries_from}
 use Rattle.block_passes.specs.Plans.{IsPlan}

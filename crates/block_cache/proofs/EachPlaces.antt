@@ -1,0 +1,160 @@
+-- One place after another.
+use Rattle.std.proofs.Common.{◌≡◌, ◌<◌, ◌≤◌, ◌+◌, ◌++◌, ◌⊎◌, inl, inr, not, ℕ, ℤ, Bool, true, false, List, [], ◌∷◌, length, get_or, take, ◌∙◌, refl, ap, sym, subst, arith, append_assoc, cond}
+use Rattle.std.specs.List.{filter}
+use Rattle.std.proofs.lemmas.List.{take_more, length-append}
+use Rattle.rdf_values.specs.Tables.{FitsKind}
+use Rattle.rdf_values.specs.declared.value.ColType.{ColType}
+use Rattle.rdf_values.specs.declared.value.ColType.TheVariants as kind
+use Rattle.rdf_values.specs.declared.value.Value.{Value}
+use Rattle.rdf_values.specs.declared.value.Value.TheVariants as val
+use Rattle.rdf_model.specs.Evaluation.{Outcome, Gives, Faults, Needs, is_set, mark}
+use Rattle.expr_check.specs.NumKinds.{is_vector}
+use Rattle.expr_lanes.specs.Marks.{lane_number}
+use Rattle.expr_lanes.specs.Places.{EachPlace, at_place, given_in, is_given, is_in, is_marked, stopped, stops_in, times, with_stop}
+use Rattle.expr_eval.specs.declared.stop.ScalarStop.TheVariants.{Fault, Need}
+use Rattle.expr_lanes.specs.declared.stopped.Stopped.{Stopped}
+use Rattle.expr_lanes.proofs.Selected.{in_more, is_in_at}
+use Rattle.expr_lanes.proofs.Sequence.{first_in, rest_in}
+use Rattle.block_cache.specs.EachPlace.{HaveCome, IsTurned, IsWritten}
+use Rattle.block_cache.specs.Values.{AreKept, AreWritten, HasNumber, HasNumbered, IsNumberOf, value_for}
+use Rattle.block_cache.proofs.VectorLists.{kept_on}
+
+-- ---- the number of a value
+
+set_mark : (b : Bool) → is_set (mark b) ≡ b
+set_mark true = refl
+set_mark false = refl
+
+-- is read back as the value
+pub read_back : (k : ColType) (vectors : List (List ℤ)) (v : Value) (z : ℤ) → FitsKind k v → IsNumberOf vectors v z → value_for k vectors z ≡ v
+read_back kind.Int vectors (val.Int x) z fits is = ap val.Int is
+read_back kind.Int vectors (val.Bool b) z fits is = elim fits [ ]
+read_back kind.Int vectors (val.Vect xs) z fits is = elim fits [ ]
+read_back kind.Bool vectors (val.Int x) z fits is = elim fits [ ]
+read_back kind.Bool vectors (val.Bool b) z fits is = ap (λ y. val.Bool (is_set y)) is ∙ ap val.Bool (set_mark b)
+read_back kind.Bool vectors (val.Vect xs) z fits is = elim fits [ ]
+read_back kind.Vect vectors (val.Int x) z fits is = elim fits [ ]
+read_back kind.Vect vectors (val.Bool b) z fits is = elim fits [ ]
+read_back kind.Vect vectors (val.Vect xs) z fits is = ap val.Vect is.1
+
+pub is_there : (k : ColType) (vectors : List (List ℤ)) (v : Value) (z : ℤ) → FitsKind k v → IsNumberOf vectors v z → HasNumbered k vectors z
+is_there kind.Int vectors v z fits is = tt
+is_there kind.Bool vectors v z fits is = tt
+is_there kind.Vect vectors (val.Int x) z fits is = elim fits [ ]
+is_there kind.Vect vectors (val.Bool b) z fits is = elim fits [ ]
+is_there kind.Vect vectors (val.Vect xs) z fits is = is.0
+
+pub number_read : (k : ColType) (vectors : List (List ℤ)) (v : Value) (z : ℤ) → is_vector k ≡ false → FitsKind k v → IsNumberOf vectors v z → lane_number v ≡ z
+number_read k vectors (val.Int x) z scalar fits is = sym is
+number_read k vectors (val.Bool b) z scalar fits is = sym is
+number_read kind.Int vectors (val.Vect xs) z scalar fits is = elim fits [ ]
+number_read kind.Bool vectors (val.Vect xs) z scalar fits is = elim fits [ ]
+number_read kind.Vect vectors (val.Vect xs) z scalar fits is = cc scalar
+
+-- among more vectors it is the same
+number_more : (vectors more : List (List ℤ)) (v : Value) (z : ℤ) → AreKept vectors more → IsNumberOf vectors v z → IsNumberOf more v z
+number_more vectors more (val.Int x) z kept is = is
+number_more vectors more (val.Bool b) z kept is = is
+number_more vectors more (val.Vect xs) z kept is = let k = kept _ is.0 in (k.0, k.1 ∙ is.1)
+
+pub value_more : (k : ColType) (vectors more : List (List ℤ)) (z : ℤ) → AreKept vectors more → HasNumbered k vectors z → value_for k more z ≡ value_for k vectors z
+value_more kind.Int vectors more z kept there = refl
+value_more kind.Bool vectors more z kept there = refl
+value_more kind.Vect vectors more z kept there = ap val.Vect (kept _ there).1
+
+pub there_more : (k : ColType) (vectors more : List (List ℤ)) (z : ℤ) → AreKept vectors more → HasNumbered k vectors z → HasNumbered k more z
+there_more kind.Int vectors more z kept there = tt
+there_more kind.Bool vectors more z kept there = tt
+there_more kind.Vect vectors more z kept there = (kept _ there).0
+
+number_moved : (k : ColType) (o : Outcome ℕ Value) (vectors more : List (List ℤ)) (a b : ℤ) → AreKept vectors more → b ≡ a → HasNumber k o vectors a → HasNumber k o more b
+number_moved k o vectors more a b kept same h = record { value = h.value; gives = h.gives; fits = h.fits; numbered = number_more vectors more h.value b kept (subst (λ (z : ℤ). IsNumberOf vectors h.value z) (sym same) h.numbered) }
+
+-- ---- stops
+
+module _ (f : ℕ → Outcome ℕ Value) where
+  with_push : (o : Outcome ℕ Value) (x : ℕ) (whole one two : List Stopped) → whole ≡ one ++ two → with_stop x o whole ≡ with_stop x o one ++ two
+  with_push (Gives z) x whole one two e = e
+  with_push (Faults k) x whole one two e = ap (λ l. stopped x (Fault k) ∷ l) e
+  with_push (Needs c) x whole one two e = ap (λ l. stopped x (Need c) ∷ l) e
+
+  stops_push : (xs : List ℕ) (p : ℕ) → stops_in f (xs ++ p ∷ []) ≡ stops_in f xs ++ with_stop p (f p) []
+  stops_push [] p = refl
+  stops_push (x ∷ xs) p = with_push (f x) x (stops_in f (xs ++ p ∷ [])) (stops_in f xs) (with_stop p (f p) []) (stops_push xs p)
+
+one_stop : (o : Outcome ℕ Value) (q : ℕ) → length (with_stop q o []) ≤ 1
+one_stop (Gives v) q = omega arith
+one_stop (Faults k) q = omega arith
+one_stop (Needs c) q = omega arith
+
+pub times_append : (t : Stopped → Bool) (xs ys : List Stopped) → times t (xs ++ ys) ≡ times t xs + times t ys
+times_append t [] ys = omega arith
+times_append t (x ∷ xs) ys = omega (arith, times_append t xs ys)
+
+-- ---- the loop
+
+-- the first so many places were seen to
+pub record AreTurnedTo (k : ColType) (f : ℕ → Outcome ℕ Value) (places : List ℕ) (numbers0 numbers : List ℤ) (vectors0 vectors : List (List ℤ)) (marks0 marks : List Bool) (stops0 stops : List Stopped) (i : ℕ) : Type 0 where
+  pub long : length numbers ≡ length numbers0
+  pub others : (p : ℕ) → is_in p places ≡ false → at_place numbers p ≡ at_place numbers0 p
+  pub kept : AreKept vectors0 vectors
+  pub many : length marks ≡ length marks0
+  pub come : HaveCome k f (take i places) numbers vectors marks stops0 stops
+
+-- what was written at one of the places
+pub written_on : (places : List ℕ) (numbers0 numbers after : List ℤ) (vectors0 vectors more : List (List ℤ)) (q : ℕ) → is_in q places ≡ true → AreWritten places numbers0 numbers vectors0 vectors → IsWritten q numbers after vectors more → AreWritten places numbers0 after vectors0 more
+written_on places numbers0 numbers after vectors0 vectors more q among so_far w = record {
+  long = w.long ∙ so_far.long;
+  others = λ p out. w.others p (λ e. cc (among, sym (ap (λ n. is_in n places) e) ∙ out)) ∙ so_far.others p out;
+  kept = kept_on vectors0 vectors more so_far.kept w.kept;
+}
+
+pub written_of : (k : ColType) (f : ℕ → Outcome ℕ Value) (places : List ℕ) (numbers0 numbers : List ℤ) (vectors0 vectors : List (List ℤ)) (marks0 marks : List Bool) (stops0 stops : List Stopped) (i : ℕ) → AreTurnedTo k f places numbers0 numbers vectors0 vectors marks0 marks stops0 stops i
+    → AreWritten places numbers0 numbers vectors0 vectors
+written_of k f places numbers0 numbers vectors0 vectors marks0 marks stops0 stops i so_far = record { long = so_far.long; others = so_far.others; kept = so_far.kept }
+
+-- one more
+pub turned_more : (k : ColType) (f : ℕ → Outcome ℕ Value) (places : List ℕ) (numbers0 numbers after : List ℤ) (vectors0 vectors more : List (List ℤ)) (marks0 marks marked : List Bool) (stops0 stops stops1 : List Stopped) (i q : ℕ)
+    → AreTurnedTo k f places numbers0 numbers vectors0 vectors marks0 marks stops0 stops i → i < length places → q ≡ get_or places i q → IsWritten q numbers after vectors more → IsTurned k (f q) q after more marks marked stops stops1
+    → AreTurnedTo k f places numbers0 after vectors0 more marks0 marked stops0 stops1 (i + 1)
+turned_more k f places numbers0 numbers after vectors0 vectors more marks0 marks marked stops0 stops stops1 i q so_far inside read w t = record {
+  long = w.long ∙ so_far.long;
+  others = written.others;
+  kept = written.kept;
+  many = t.long ∙ so_far.many;
+  come = record {
+    values = λ p h. values p (in_more p q (take i places) (seen p h));
+    marked = λ p h. marks_at p (in_more p q (take i places) (seen p h));
+    stopped = t.stopped ∙ ap (λ l. l ++ with_stop q (f q) []) so_far.come.stopped ∙ append_assoc stops0 (stops_in f (take i places)) (with_stop q (f q) []) ∙ ap (λ l. stops0 ++ l) (sym (ap (stops_in f) one ∙ stops_push f (take i places) q));
+    few = omega (arith, so_far.come.few, ap length t.stopped, length-append stops (with_stop q (f q) []), one_stop (f q) q, ap length one, length-append (take i places) (q ∷ []));
+  };
+}
+  where
+    written : AreWritten places numbers0 after vectors0 more
+    written = written_on places numbers0 numbers after vectors0 vectors more q (subst (λ (n : ℕ). is_in n places ≡ true) (sym read) (is_in_at places i q inside)) (written_of k f places numbers0 numbers vectors0 vectors marks0 marks stops0 stops i so_far) w
+
+    one : take (i + 1) places ≡ take i places ++ q ∷ []
+    one = take_more places i q inside ∙ ap (λ n. take i places ++ n ∷ []) (sym read)
+
+    seen : (p : ℕ) → is_in p (take (i + 1) places) ≡ true → is_in p (take i places ++ q ∷ []) ≡ true
+    seen p h = subst (λ (l : List ℕ). is_in p l ≡ true) one h
+
+    values : (p : ℕ) → (p ≡ q) ⊎ ((p ≡ q → ⊥) × (is_in p (take i places) ≡ true)) → is_given (f p) ≡ true → HasNumber k (f p) more (at_place after p)
+    values p (inl e) g = subst (λ (n : ℕ). is_given (f n) ≡ true → HasNumber k (f n) more (at_place after n)) (sym e) t.value g
+    values p (inr n) g = number_moved k (f p) vectors more (at_place numbers p) (at_place after p) w.kept (w.others p n.0) (so_far.come.values p n.1 g)
+
+    marks_at : (p : ℕ) → (p ≡ q) ⊎ ((p ≡ q → ⊥) × (is_in p (take i places) ≡ true)) → is_marked marked p ≡ not (is_given (f p))
+    marks_at p (inl e) = subst (λ (n : ℕ). is_marked marked n ≡ not (is_given (f n))) (sym e) t.mark
+    marks_at p (inr n) = t.others p n.0 ∙ so_far.come.marked p n.1
+
+-- ---- what is left of a selection
+
+not_not : (a b : Bool) → a ≡ not b → not a ≡ b
+not_not a true h = ap not h
+not_not a false h = ap not h
+
+pub left_given : (f : ℕ → Outcome ℕ Value) (marks : List Bool) (sel : List ℕ) → EachPlace sel (λ p. is_marked marks p ≡ not (is_given (f p))) → filter (λ p. not (is_marked marks p)) sel ≡ given_in f sel
+left_given f marks [] each = refl
+left_given f marks (p ∷ sel) each =
+    ap (λ b. cond b (p ∷ filter (λ q. not (is_marked marks q)) sel) (filter (λ q. not (is_marked marks q)) sel)) (not_not (is_marked marks p) (is_given (f p)) (each p (first_in p sel)))
+    ∙ ap (λ l. cond (is_given (f p)) (p ∷ l) l) (left_given f marks sel (λ q i. each q (rest_in q p sel i)))

@@ -1,0 +1,16 @@
+use Rattle.std.proofs.Common.{◌≡◌, ◌<◌, arith, get_or, length}
+use Rattle.std.proofs.lemmas.List.{get_or_default}
+use Rattle.expr_lanes.proofs.Selected.{is_in_at}
+use Rattle.block_cache.proofs.EachPlaces.{turned_more, written_of, written_on}
+use Rattle.block_cache.proofs.each_place.each_place.Goals as goal
+
+pub returns-in_err-turn-clause-written : goal.returns-in_err-turn-clause-written
+returns-in_err-turn-clause-written g c = written_on c.args.places.now _ _ _ _ _ _ _ (is_in_at c.args.places.now c.loop-i.i 0 (omega arith)) (written_of _ _ _ _ _ _ _ _ _ _ _ _ c.loop-i.invariant.0) c.turn.ensures.written
+
+pub loop-i-preserved : goal.loop-i-preserved
+loop-i-preserved g c =
+    let inside : c.loop-i.i < length c.args.places.now = omega arith in
+    let read : get_or c.args.places.now c.loop-i.i 0 ≡ get_or c.args.places.now c.loop-i.i (get_or c.args.places.now c.loop-i.i 0) = get_or_default c.args.places.now c.loop-i.i 0 (get_or c.args.places.now c.loop-i.i 0) inside in (
+      turned_more _ _ c.args.places.now _ _ _ _ _ _ _ _ _ _ _ _ c.loop-i.i (get_or c.args.places.now c.loop-i.i 0) c.loop-i.invariant.0 inside read c.turn.ensures.written (c.in_ok-turn.ensures.turned _ _ c.at-answer.ensures.value c.at-answer.ensures.kind),
+      omega (arith, c.loop-i.invariant.1, c.at-answer.ensures.step),
+    )

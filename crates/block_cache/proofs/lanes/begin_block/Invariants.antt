@@ -1,0 +1,5 @@
+use Rattle.block_cache.proofs.LaneLists.{AreBegunTo}
+use Rattle.block_cache.proofs.lanes.begin_block.Given as goal
+
+abbrev pub invariant-loop-i : goal.invariant-loop-i
+invariant-loop-i l = AreBegunTo l.count l.initial.lanes l.i l.lanes

@@ -1,0 +1,170 @@
+// Marks of the places of a block.
+ghost use Rattle.std.specs.Prelude.{◌≡◌, ◌<◌, ◌≤◌, ◌+◌, ℕ, ◌||◌, not, true, false, length, count_by, IfOk};
+ghost use Rattle.std.specs.List.{filter, range_with_len};
+ghost use Rattle.expr_lanes.specs.LaneInputs.{is_known, HasMarks};
+ghost use Rattle.expr_lanes.specs.Places.{is_in, is_marked, EachPlace};
+ghost use Rattle.block_cache.specs.BlockMarks.{AreWrittenMarks};
+
+use crate::marks::{are_marked, clear_first, mark};
+use expr_lanes::{Known, Selection};
+use rdf_values::Memory;
+use std::alloc::Global;
+use std::marker::Model;
+
+/// How much of a block is marked: nothing, some places or any, or all of them.
+#[derive(Clone, Copy, Debug)]
+pub enum Extent {
+    Nothing,
+    Some,
+    All,
+}
+
+/// A mark for each place of a block. They are written only where some places are marked and others may not be: nearly always nothing
+/// or all of a block is, and to write a mark costs as much as to evaluate a place.
+#[derive(Drop)]
+pub(crate) struct BlockMarks {
+    count: usize,
+    written: Vec<bool>,
+    extent: Extent,
+}
+
+impl Model for BlockMarks {
+    ghost use Rattle.block_cache.specs.BlockMarks.{AreWrittenMarks, MarksView, marks_of};
+
+    ghost Value = { MarksView };
+
+    ghost view = { λ m. record { count = m.count; marks = marks_of m.extent m.count m.written.items } };
+
+    ghost invariant = { λ m. AreWrittenMarks m.extent m.count m.written.items };
+}
+
+impl BlockMarks {
+    /// The marks of a block of no places, with room for so many.
+    pub(crate) fn new(alloc: Global, room: usize) -> Result<BlockMarks, Memory>
+        ensures count { IfOk result (λ m. m.count ≡ 0) }
+        ensures long { IfOk result (λ m. length m.marks ≡ room) }
+        ensures none { IfOk result (λ m. (p : ℕ) → is_marked m.marks p ≡ false) }
+    {
+        let written = vec![in alloc; false; room]?;
+        Ok(BlockMarks {
+            count: 0,
+            written,
+            extent: Extent::Nothing,
+        })
+    }
+
+    /// Begins a block of so many places, none of which is marked.
+    pub(crate) fn begin(&mut self, count: usize)
+        requires { count ≤ length self.old.marks }
+        ensures count { self.new.count ≡ count }
+        ensures long { length self.new.marks ≡ length self.old.marks }
+        ensures none { (p : ℕ) → is_marked self.new.marks p ≡ false }
+    {
+        clear(self.extent, self.count, &mut self.written);
+        self.count = count;
+        self.extent = Extent::Nothing;
+    }
+
+    /// Marks the selected places.
+    pub(crate) fn mark(&mut self, selection: &Selection)
+        requires { EachPlace selection.now (λ p. p < self.old.count) }
+        ensures count { self.new.count ≡ self.old.count }
+        ensures long { length self.new.marks ≡ length self.old.marks }
+        ensures marked { (p : ℕ) → is_marked self.new.marks p ≡ (is_in p selection.now || is_marked self.old.marks p) }
+        ensures newly { count_by (λ b. b) self.new.marks ≡ count_by (λ b. b) self.old.marks + count_by (λ p. not (is_marked self.old.marks p)) selection.now }
+    {
+        if let Extent::All = self.extent {
+            return;
+        }
+        if let Extent::Nothing = self.extent {
+            if selection.len() == 0 {
+                return;
+            }
+            if is_whole(selection, self.count) {
+                self.extent = Extent::All;
+                return;
+            }
+        }
+        mark(selection, &mut self.written);
+        self.extent = Extent::Some;
+    }
+
+    /// How many places the block has.
+    pub(crate) fn count(&self) -> usize
+        ensures { result ≡ self.now.count }
+    {
+        self.count
+    }
+
+    /// Leaves the places selected that aren't marked.
+    pub(crate) fn keep_unmarked(&self, selection: &mut Selection)
+        requires { EachPlace selection.old (λ p. p < self.now.count) }
+        ensures { selection.new ≡ filter (λ p. not (is_marked self.now.marks p)) selection.old }
+    {
+        match self.extent {
+            Extent::Nothing => {}
+            Extent::Some => selection.keep_unmarked(&self.written),
+            Extent::All => selection.select_first(0),
+        }
+    }
+
+    /// Whether each place of the block is known to be marked.
+    pub(crate) fn is_full(&self) -> bool
+        ensures { result ≡ true → (p : ℕ) → p < self.now.count → is_marked self.now.marks p ≡ true }
+    {
+        matches!(self.extent, Extent::All)
+    }
+
+    /// Whether each selected place is known to be marked.
+    pub(crate) fn has_all(&self, selection: &Selection) -> bool
+        requires { EachPlace selection.now (λ p. p < self.now.count) }
+        ensures { result ≡ true → EachPlace selection.now (λ p. is_marked self.now.marks p ≡ true) }
+    {
+        match self.extent {
+            Extent::All => true,
+            Extent::Nothing | Extent::Some => are_marked(selection, &self.written),
+        }
+    }
+
+    /// Whether a place is marked.
+    pub(crate) fn has(&self, place: u32) -> bool
+        requires { place < self.now.count }
+        ensures { result ≡ is_marked self.now.marks place }
+    {
+        match self.extent {
+            Extent::All => true,
+            Extent::Nothing | Extent::Some => self.written[place as usize],
+        }
+    }
+
+    /// The places, as those at which a column is known.
+    pub(crate) fn known(&self) -> Known<'_>
+        ensures marks { HasMarks self.now.count result }
+        ensures known { (p : ℕ) → p < self.now.count → is_known result p ≡ is_marked self.now.marks p }
+    {
+        match self.extent {
+            Extent::All => Known::Everywhere,
+            Extent::Nothing | Extent::Some => Known::Marked(self.written.as_slice()),
+        }
+    }
+}
+
+/// Takes away what marks are written of a block.
+fn clear(extent: Extent, count: usize, written: &mut [bool])
+    requires { AreWrittenMarks extent count written.old }
+    ensures { (p : ℕ) → is_marked written.new p ≡ false }
+{
+    if let Extent::Some = extent {
+        clear_first(written, count);
+    }
+}
+
+/// Whether all places of a block are selected.
+fn is_whole(selection: &Selection, count: usize) -> bool
+    ensures { result ≡ true → selection.now ≡ range_with_len 0 count }
+{
+    match selection.first_count() {
+        Some(first) => first == count,
+        None => false,
+    }
+}

@@ -1,0 +1,94 @@
+// Evaluation at one place after another.
+ghost use Rattle.std.specs.Prelude.{◌≡◌, ◌<◌, ◌≤◌, ◌+◌, ◌++◌, [], ◌∷◌, ℕ, true, length, slice_set, IfOk, OnOk, OnErr};
+ghost use Rattle.rdf_values.specs.Tables.{FitsKind};
+ghost use Rattle.rdf_values.specs.declared.value.Value.{Value as ValueOf};
+ghost use Rattle.rdf_values.specs.declared.value.ColType.{ColType as KindOf};
+ghost use Rattle.rdf_model.specs.Evaluation.{Outcome};
+ghost use Rattle.expr_eval.specs.EvalAnswers.{AnswersAs};
+ghost use Rattle.expr_lanes.specs.Places.{stopped as stopped_at, EachPlace};
+ghost use Rattle.block_cache.specs.Values.{AreWritten, IsScalarAnswer};
+ghost use Rattle.block_cache.specs.EachPlace.{HaveCome, IsTurned, IsWritten};
+
+use crate::place_values::PlaceValues;
+use crate::values::Values;
+use arrayvec::ArrayVec;
+use expr_eval::{EvalStop, ScalarStop, Steps};
+use expr_lanes::{MAX_PLACES, Stopped};
+use rdf_values::{Memory, Value};
+use std::sync::ledger::Ledger;
+
+/// Marks a place as stopped.
+fn stop_at(
+    place: u32,
+    stop: ScalarStop,
+    stopped: &mut [bool],
+    stops: &mut ArrayVec<Stopped, MAX_PLACES>,
+)
+    requires inside { place < length stopped.old }
+    requires room { length stops.old.items < MAX_PLACES }
+    ensures stopped { stopped.new ≡ slice_set stopped.old place true }
+    ensures stops { stops.new.items ≡ stops.old.items ++ stopped_at place stop ∷ [] }
+{
+    stopped[place as usize] = true;
+    stops.push(Stopped { place, stop });
+}
+
+/// Writes the value of a place, or marks it as stopped.
+fn turn(
+    place: u32,
+    answer: &Result<Value, EvalStop>,
+    values: &mut Values,
+    stopped: &mut [bool],
+    stops: &mut ArrayVec<Stopped, MAX_PLACES>,
+) -> Result<(), Memory>
+    requires inside { place < length values.old.numbers.items }
+    requires marks { place < length stopped.old }
+    requires room { length stops.old.items < MAX_PLACES }
+    ensures written { IsWritten place values.old.numbers.items values.new.numbers.items values.old.vectors values.new.vectors }
+    ensures turned { (kind : KindOf) (o : Outcome ℕ ValueOf) → AnswersAs (λ v. v) o answer.now → IfOk answer.now (FitsKind kind)
+        → OnOk result (IsTurned kind o place values.new.numbers.items values.new.vectors stopped.old stopped.new stops.old.items stops.new.items) }
+    ensures scalar { IsScalarAnswer answer.now → OnErr result ⊥ }
+{
+    match answer {
+        Ok(value) => {
+            stopped[place as usize] = false;
+            values.write(place, value)
+        }
+        Err(EvalStop::Fault(kind)) => {
+            stop_at(place, ScalarStop::Fault(*kind), stopped, stops);
+            Ok(())
+        }
+        Err(EvalStop::Need(column)) => {
+            stop_at(place, ScalarStop::Need(*column), stopped, stops);
+            Ok(())
+        }
+        Err(EvalStop::Memory) => Err(Memory),
+    }
+}
+
+/// Evaluates at the places of a list, in a step each: writes the value of each that comes to one, and marks the others.
+pub(crate) fn each_place<E: PlaceValues, L: Ledger>(
+    evaluation: &E,
+    places: &[u32],
+    values: &mut Values,
+    stopped: &mut [bool],
+    stops: &mut ArrayVec<Stopped, MAX_PLACES>,
+    steps: &mut Steps<L>,
+) -> Result<(), Memory>
+    requires can { EachPlace places.now (λ p. E.can evaluation.now p) }
+    requires inside { EachPlace places.now (λ p. p < length values.old.numbers.items) }
+    requires marks { EachPlace places.now (λ p. p < length stopped.old) }
+    requires room { length stops.old.items + length places.now ≤ MAX_PLACES }
+    ensures written { AreWritten places.now values.old.numbers.items values.new.numbers.items values.old.vectors values.new.vectors }
+    ensures come { OnOk result (HaveCome (E.kind evaluation.now) (E.gives evaluation.now) places.now values.new.numbers.items values.new.vectors stopped.new stops.old.items stops.new.items) }
+    ensures steps { OnOk result (steps.new ≡ steps.old + length places.now) }
+    ensures few { steps.new ≤ steps.old + length places.now }
+    ensures plain { E.plain evaluation.now → OnErr result ⊥ }
+{
+    for i in 0..places.len() {
+        let place = places[i];
+        let answer = evaluation.at(place, steps);
+        turn(place, &answer, values, stopped, stops)?;
+    }
+    Ok(())
+}

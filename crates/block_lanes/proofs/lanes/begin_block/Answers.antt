@@ -1,6 +1,0 @@
-use Rattle.std.proofs.Common.{arith}
-use Rattle.block_lanes.proofs.LaneLists.{begun_more}
-use Rattle.block_lanes.proofs.lanes.begin_block.Goals as goal
-
-pub loop-i-preserved : goal.loop-i-preserved
-loop-i-preserved c = begun_more _ _ _ _ _ c.index-lanes-i.result c.loop-i.invariant (omega (arith, c.loop-i.invariant.many)) c.begin.ensures.same c.begin.ensures.unknown

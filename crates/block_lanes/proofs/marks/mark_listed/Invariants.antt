@@ -1,5 +1,0 @@
-use Rattle.block_lanes.proofs.Marking.{IsMarkedTo}
-use Rattle.block_lanes.proofs.marks.mark_listed.Given as goal
-
-abbrev pub invariant-loop-i : goal.invariant-loop-i
-invariant-loop-i l = IsMarkedTo l.places l.initial.marks l.marks l.i
