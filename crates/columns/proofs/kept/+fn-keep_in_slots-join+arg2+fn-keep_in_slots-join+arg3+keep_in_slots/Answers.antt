@@ -1,4 +1,4 @@
-use Rattle.std.proofs.Common.{◌/◌, map, rules}
+use Rattle.std.proofs.Common.{map, rules}
 use Rattle.rdf_values.specs.Kept.{Keep}
 use Rattle.columns.specs.Wholes.{whole}
 use Rattle.columns.proofs.Keeping.{halves_by_cluster, halves_joined, keep_back, keep_front}
@@ -6,8 +6,8 @@ use Rattle.columns.proofs.kept.+fn-keep_in_slots-join+arg2+fn-keep_in_slots-join
 
 pub join-first-requires-after_bounds : goal.join-first-requires-after_bounds
 join-first-requires-after_bounds g t c κs within =
-    let front : Keep c.args.cuts.now.entries (map whole c.split_off.new.self.items) = rw c.in_ok-back.ensures.items (keep_front c.args.cuts.now.entries (c.len-2.result / 2) c.args.pieces.items c.requires.keep) in
-    let back : Keep c.args.cuts.now.entries (map whole c.in_ok-back.back.items) = rw c.in_ok-back.ensures.tail (keep_back c.args.cuts.now.entries (c.len-2.result / 2) c.args.pieces.items c.requires.keep) in (
+    let front : Keep c.args.cuts.now.entries (map whole c.split_off.new.self.items) = rw c.in_ok-back.ensures.items (keep_front c.args.cuts.now.entries c.half_of.result c.args.pieces.items c.requires.keep) in
+    let back : Keep c.args.cuts.now.entries (map whole c.in_ok-back.back.items) = rw c.in_ok-back.ensures.tail (keep_back c.args.cuts.now.entries c.half_of.result c.args.pieces.items c.requires.keep) in (
       (search rules, ((λ a m. m), ((search rules, front, c.requires.few), search rules))),
       (search rules, ((λ a m. m), ((search rules, back, c.requires.few), search rules))),
     )
@@ -16,7 +16,7 @@ pub returns-clause-same : goal.returns-clause-same
 returns-clause-same g t c =
     let first = rw c.in_ok-kept.was at c.join-first.ensures.first.0 in
     let second = rw c.in_ok-second.was at c.join-first.ensures.second.0 in
-    halves_joined (c.len-2.result / 2) c.args.pieces.items _ _ _ _ _ c.in_ok-back.ensures.items c.in_ok-back.ensures.tail first second c.in_ok-append.ensures.items
+    halves_joined c.half_of.result c.args.pieces.items _ _ _ _ _ c.in_ok-back.ensures.items c.in_ok-back.ensures.tail first second c.in_ok-append.ensures.items
 
 pub returns-clause-clusters : goal.returns-clause-clusters
 returns-clause-clusters g t c =
