@@ -5,8 +5,8 @@ use Rattle.std.specs.List.{All, range_with_len}
 use Rattle.std.proofs.lemmas.List.{length-map}
 use Rattle.std.proofs.lemmas.List.FromFn.{length-range_with_len}
 use Rattle.std.proofs.lemmas.List.Elements.{All-map, All-nil, All-push, All-pop}
-use Rattle.cluster_claims.specs.Seats.{ClaimsSeen, SeatSeen, fresh_seat, fresh_seats}
-use Rattle.partial_watch.specs.Shares.{BookSeen, ShareSeen, fresh_share, fresh_shares}
+use Rattle.slot_words.specs.Seats.{ClaimsSeen, SeatSeen, fresh_seat, fresh_seats}
+use Rattle.slot_words.specs.Shares.{BookSeen, ShareSeen, fresh_share, fresh_shares}
 use Rattle.event_loop.specs.declared.workers.Slot.{Slot}
 use Rattle.event_loop.specs.Seated.{AreBlank, IsBlank}
 use Rattle.event_loop.specs.Workers.{HasNoted, IsFresh, IsReady}

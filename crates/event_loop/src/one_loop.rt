@@ -13,7 +13,7 @@ use crate::gather::{Outcome, gathered};
 use crate::seating::{opened, seated};
 use crate::watched_in;
 use crate::workers::run_slots;
-use cluster_claims::Claims;
+use slot_words::Claims;
 use loop_keys::Job;
 use rdf_outside::Gate;
 use rdf_values::Memory;

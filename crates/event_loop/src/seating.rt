@@ -1,13 +1,13 @@
 // What the slots of a loop begin with.
 ghost use Rattle.std.specs.Prelude.{◌≡◌, ◌<◌, ◌≤◌, All, IfOk, Option, length, vec_len};
-ghost use Rattle.cluster_claims.specs.Seats.{ClaimsSeen};
-ghost use Rattle.partial_watch.specs.Shares.{BookSeen};
+ghost use Rattle.slot_words.specs.Seats.{ClaimsSeen};
+ghost use Rattle.slot_words.specs.Shares.{BookSeen};
 ghost use Rattle.event_loop.specs.Seated.{AreBlank, IsOpened};
 ghost use Rattle.event_loop.specs.Workers.{IsFresh, IsReady};
 
 use crate::workers::Slot;
-use cluster_claims::SeatList;
-use partial_watch::{Book, ShareList};
+use slot_words::SeatList;
+use slot_words::{Book, ShareList};
 use rdf_values::Memory;
 use std::alloc::Global;
 

@@ -12,10 +12,10 @@ ghost use Rattle.event_loop.specs.declared.workers.Slot.{Slot};
 ghost use Rattle.event_loop.specs.declared.workers.Finished.{Finished};
 
 use crate::{Progress, SlotState, SlotStop};
-use cluster_claims::{ClaimSeat, Claims};
+use slot_words::{ClaimSeat, Claims};
 use expr_eval::Steps;
 use loop_keys::Job;
-use partial_watch::{Book, Share};
+use slot_words::{Book, Share};
 use rdf_outside::Gate;
 use rdf_values::{Fault, Memory};
 use std::alloc::Global;

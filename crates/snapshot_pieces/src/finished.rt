@@ -1,6 +1,6 @@
 // How a slot stopped.
 use crate::piece::Piece;
-use cluster_claims::ClaimSeat;
+use slot_words::ClaimSeat;
 use rdf_values::{Fault, ListOf};
 
 /// Why a slot stopped: no cluster is left for it, and it made these pieces; it met its first fault; or it had no memory.

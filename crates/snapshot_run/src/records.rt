@@ -6,7 +6,7 @@ ghost use Rattle.snapshot_run.specs.Texts.{AreRecords};
 use crate::seating::seated;
 use crate::stop::SnapStop;
 use crate::workers::run_slots;
-use cluster_claims::Claims;
+use slot_words::Claims;
 use rdf_outside::Gate;
 use rdf_values::{ListOf, Text};
 use snapshot_entries::SnapJob;

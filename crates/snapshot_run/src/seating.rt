@@ -1,9 +1,9 @@
 // The seats of slots.
 ghost use Rattle.std.specs.Prelude.{◌≡◌, ◌++◌, IfOk, All, length, vec_len};
-ghost use Rattle.cluster_claims.specs.Seats.{ClaimsSeen};
+ghost use Rattle.slot_words.specs.Seats.{ClaimsSeen};
 ghost use Rattle.snapshot_pieces.specs.Stopping.{IsReady};
 
-use cluster_claims::{ClaimSeat, SeatList};
+use slot_words::{ClaimSeat, SeatList};
 use rdf_values::Memory;
 use std::alloc::Global;
 

@@ -1,7 +1,7 @@
 use Rattle.std.proofs.Common.{◌≡◌, ◌+◌, Option, length, vec_len}
 use Rattle.std.specs.List.{All}
-use Rattle.cluster_claims.specs.Seats.{ClaimsSeen}
-use Rattle.partial_watch.specs.Shares.{BookSeen}
+use Rattle.slot_words.specs.Seats.{ClaimsSeen}
+use Rattle.slot_words.specs.Shares.{BookSeen}
 use Rattle.event_loop.specs.Seated.{AreBlank}
 use Rattle.event_loop.specs.Workers.{IsReady}
 use Rattle.event_loop.proofs.Fresh.{AreSeated}

@@ -1,6 +1,6 @@
 use Rattle.std.proofs.Common.{◌≡◌, ◌+◌, length, vec_len}
 use Rattle.std.specs.List.{All}
-use Rattle.cluster_claims.specs.Seats.{ClaimsSeen}
+use Rattle.slot_words.specs.Seats.{ClaimsSeen}
 use Rattle.snapshot_pieces.specs.Stopping.{IsReady}
 use Rattle.snapshot_run.proofs.seating.seated.Given as goal
 

@@ -1,0 +1,17 @@
+pub mod Alone
+pub mod Bars
+pub mod Chaining
+pub mod Dealt
+pub mod Draws
+pub mod Hands
+pub mod Joining
+pub mod Noted
+pub mod Notes
+pub mod Noting
+pub mod Places
+pub mod Steps
+pub mod Stretches
+pub mod Taking
+pub mod Totals
+pub mod Turns
+pub mod Watched

@@ -1,0 +1,98 @@
+// Results over the first clusters that were noted.
+ghost use Rattle.std.specs.Prelude.{◌≡◌, ◌≤◌, ◌<◌, ◌++◌, ℕ, List, IfOk, IsPermutation, length, map};
+ghost use Rattle.std.specs.List.Sorted.{IsStrictlyIncreasing};
+ghost use Rattle.rdf_values.specs.Times.{times};
+ghost use Rattle.merge_core.specs.declared.noted.Noted.{Noted};
+ghost use Rattle.slot_words.specs.Chosen.{AreAlone, AreOf, HaveNumbers, chosen, chosen_in, cluster_in, if_kept, piece_in};
+
+use crate::orders::Orders;
+use merge_core::{Noted, Piece, TrailList, merge_all};
+use rdf_values::{ListOf, Memory};
+use std::alloc::Global;
+
+/// What some clusters came to, which rise.
+#[derive(Drop)]
+pub struct PartialPiece<P> {
+    pub clusters: ListOf<u32>,
+    pub piece: P,
+}
+
+// Appends an entry, where it is kept.
+fn keep<P: Copy>(
+    clusters: &mut Vec<u32>,
+    pieces: &mut Vec<P>,
+    noted: &Noted<P>,
+    kept: bool,
+) -> Result<(), Memory>
+    ensures clusters { IfOk result (λ _. clusters.new.items ≡ clusters.old.items ++ map cluster_in (if_kept kept noted.now)) }
+    ensures pieces { IfOk result (λ _. pieces.new.items ≡ pieces.old.items ++ map piece_in (if_kept kept noted.now)) }
+{
+    if kept {
+        clusters.push(noted.cluster)?;
+        pieces.push(noted.piece)?;
+    }
+    Ok(())
+}
+
+// Appends the entries of one trail whose number is less than a bound.
+pub(crate) fn choose<P: Copy>(
+    clusters: &mut Vec<u32>,
+    pieces: &mut Vec<P>,
+    numbers: &[u64],
+    below: u64,
+    trail: &[Noted<P>],
+) -> Result<(), Memory>
+    requires { length numbers.now ≡ length trail.now }
+    ensures clusters { IfOk result (λ _. clusters.new.items ≡ clusters.old.items ++ map cluster_in (chosen_in numbers.now below trail.now)) }
+    ensures pieces { IfOk result (λ _. pieces.new.items ≡ pieces.old.items ++ map piece_in (chosen_in numbers.now below trail.now)) }
+{
+    for i in 0..numbers.len() {
+        keep(clusters, pieces, &trail[i], numbers[i] < below)?;
+    }
+    Ok(())
+}
+
+/// The clusters of entries, rising, and the join of the entries' pieces.
+pub(crate) fn joined<P: Piece + Copy>(
+    mut clusters: Vec<u32>,
+    pieces: Vec<P>,
+) -> Result<PartialPiece<P>, Memory>
+    requires entries { (job : P.Job) × (entries : List (Noted P)) × AreOf clusters.items pieces.items entries × (0 < length entries) × AreAlone (P.stands job) entries × ((x : ℕ) → times x clusters.items ≤ 1) }
+    ensures named { IfOk result (λ p. IsStrictlyIncreasing p.clusters × IsPermutation clusters.items p.clusters) }
+    ensures stands { (job : P.Job) (entries : List (Noted P)) → AreOf clusters.items pieces.items entries → AreAlone (P.stands job) entries → IfOk result (λ p. P.stands job p.clusters p.piece) }
+{
+    clusters.sort_unstable();
+    let piece = merge_all(ListOf::from_vec(pieces))?;
+    Ok(PartialPiece {
+        clusters: ListOf::from_vec(clusters),
+        piece,
+    })
+}
+
+/// The clusters whose number is less than a bound, rising, and the join of their pieces.
+/// The number of a trail's entry stands at the same place of its slot's list.
+pub fn partial<P: Piece + Copy>(
+    alloc: Global,
+    orders: &Orders,
+    below: u64,
+    trails: &TrailList<P>,
+) -> Result<PartialPiece<P>, Memory>
+    requires numbers { HaveNumbers orders.now.slots trails.now }
+    requires some { 0 < length (chosen orders.now.slots below trails.now) }
+    requires apart { (job : P.Job) × AreAlone (P.stands job) (chosen orders.now.slots below trails.now) × ((x : ℕ) → times x (map cluster_in (chosen orders.now.slots below trails.now)) ≤ 1) }
+    ensures named { IfOk result (λ p. IsStrictlyIncreasing p.clusters × IsPermutation (map cluster_in (chosen orders.now.slots below trails.now)) p.clusters) }
+    ensures stands { (job : P.Job) → AreAlone (P.stands job) (chosen orders.now.slots below trails.now) → IfOk result (λ p. P.stands job p.clusters p.piece) }
+{
+    let mut clusters = Vec::new(alloc);
+    let mut pieces = Vec::new(alloc);
+    for i in 0..orders.slots.len() {
+        choose(
+            &mut clusters,
+            &mut pieces,
+            orders.slots.at(i).as_slice(),
+            below,
+            trails.at(i).as_slice(),
+        )?;
+    }
+    joined(clusters, pieces)
+}
