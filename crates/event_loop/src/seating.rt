@@ -34,8 +34,8 @@ pub fn seated(alloc: Global, seats: SeatList, shares: ShareList) -> Result<Vec<S
     ensures many { IfOk result (λ v. vec_len v ≡ length seats) }
     ensures fresh { (c : ClaimsSeen) (b : Option BookSeen) → All (IsReady c) seats → AreBlank b (length seats) shares → IfOk result (λ v. All (IsFresh c b) v.items) }
 {
-    let mut seats = seats;
-    let mut shares = shares;
+    let mut seats = seats.into_vec();
+    let mut shares = shares.into_vec();
     let mut slots = Vec::new(alloc);
     while let Some(seat) = seats.pop() {
         let share = shares.pop();

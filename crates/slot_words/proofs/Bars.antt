@@ -84,12 +84,12 @@ module _ (clusters b id : ℕ) (views : List (List ClaimHand)) (h : ClaimHand) (
           let kept : 0 < total (λ u. lowers_to b u.lowered) (set views id (lower h n ∷ [])) = omega arith in
           subst (λ m. 0 < total (λ u. lowers_to m u.lowered) (set views id (lower h n ∷ []))) is kept
 
--- views that add up to the same, whose hands are as the rule says
-pub barred_again : (clusters b : ℕ) (views now : List (List ClaimHand)) → IsBarred clusters b views → ((f : ClaimHand → ℕ) → total f now ≡ total f views) → Each (IsOver b) now → IsBarred clusters b now
+-- views that add up to the same, and have the same hands
+pub barred_again : (clusters b : ℕ) (views now : List (List ClaimHand)) → IsBarred clusters b views → ((f : ClaimHand → ℕ) → total f now ≡ total f views) → ((P : ClaimHand → Type 0) → Each P views → Each P now) → IsBarred clusters b now
 barred_again clusters b views now c same each = record {
   most = c.most;
   least = λ lt. let l = c.least lt in let e = same (λ u. lowers_to b u.lowered) in omega arith;
-  each = each;
+  each = each (IsOver b) c.each;
 }
 
 one_lowered : (b : ℕ) (o : Option ℕ) → 0 < lowers_to b o → o ≡ Some b

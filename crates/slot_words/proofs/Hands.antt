@@ -55,6 +55,14 @@ module _ {H : Type 0} where
   first_replicate zero h some_hand = absurd (omega arith)
   first_replicate (suc n) h some_hand = refl
 
+  -- ---- a view comes that has no hand
+
+  pub entered_total : (views : List (List H)) (f : H → ℕ) → total f (views ++ [] ∷ []) ≡ total f views
+  entered_total views f = omega (arith, total_push f views [])
+
+  pub entered_each : (views : List (List H)) (P : H → Type 0) → Each P views → Each P (views ++ [] ∷ [])
+  entered_each views P each j u e = ⊎_elim (λ was. each j u was) (λ (is : [] ≡ u). subst (All P) is (All-nil P)) (at_snoc views [] u j e)
+
   -- ---- a view takes in another
 
   module _ (views : List (List H)) (id other : ℕ) (v w : List H) (at : get_elem? views id ≡ some v) (apart : other ≢ id) (there : get_elem? (set views id (w ++ v)) other ≡ some w) where

@@ -1,7 +1,6 @@
 pub mod Alone
 pub mod Bars
 pub mod Chaining
-pub mod Dealt
 pub mod Draws
 pub mod Hands
 pub mod Joining
@@ -9,9 +8,11 @@ pub mod Noted
 pub mod Notes
 pub mod Noting
 pub mod Places
+pub mod Sharing
 pub mod Steps
 pub mod Stretches
 pub mod Taking
+pub mod Tokens
 pub mod Totals
 pub mod Turns
 pub mod Watched

@@ -5,16 +5,17 @@ use Rattle.std.specs.List.{All, Contains, sum_by}
 use Rattle.std.specs.List.Sorted.{IsStrictlyIncreasing}
 use Rattle.std.proofs.lemmas.Bool.{lt-ltb, cond-true}
 use Rattle.std.proofs.lemmas.Grind.{common_steps}
+use Rattle.std.proofs.lemmas.List.Elements.{All-weaker}
 use mathlib.Core.Option.{some, none, some-injective}
 use lib.ListN.{get_elem?}
-use Rattle.atomic_table.specs.Table.{Me, step, keeps, Final, Seen, Allows, Splits, Joins}
+use Rattle.atomic_table.specs.Table.{Me, step, keeps, Final, Seen, Allows}
 use Rattle.slot_words.specs.declared.hand.ClaimHand.{ClaimHand}
 use Rattle.rdf_values.specs.Draws.{DrawnBy}
 use Rattle.slot_words.specs.Seats.{hand_of, draw, look, lower, kept_count, lowers_to}
-use Rattle.slot_words.specs.Hands.{others, first_alone}
-use Rattle.slot_words.proofs.Hands.{dealt_each, dealt_total, taken_each, taken_total}
-use Rattle.slot_words.specs.Claiming.{IsHand, IsClaimed, IsOver, IsBarred, Claimed, Drew, Looked, Lowered}
-use Rattle.slot_words.proofs.Draws.{drawn_hand, drawn_rises, same_claimed, drawn_keeps, word_fits, claimed_again, whole_total, shared_out, kept_below, word_counted}
+use Rattle.slot_words.specs.Totals.{total, Each}
+use Rattle.slot_words.specs.Claiming.{IsHand, IsClaimed, IsOver, IsBarred, AreClaimed, Claimed, Drew, Looked, Lowered}
+use Rattle.slot_words.proofs.Sharing.{shared_out, whole_total}
+use Rattle.slot_words.proofs.Draws.{drawn_by, drawn_hand, drawn_rises, same_claimed, drawn_keeps, word_fits, claimed_again}
 use Rattle.slot_words.proofs.Bars.{draw_barred, look_barred, lower_barred, barred_again, lowered_by}
 
 -- a seat with one hand
@@ -74,27 +75,10 @@ pub lowers : (key : ℕ × ℕ) (places id to : ℕ) (me : Me ℕ (List ClaimHan
     → Allows (Claimed key) places id me 1 (λ n. min n to) (Lowered (step places 1 to 0 none) me)
 lowers key places id to me is unlowered = subst (λ (m : Me ℕ (List ClaimHand)). Allows (Claimed key) places id m 1 (λ n. min n to) (Lowered (step places 1 to 0 none) m)) (sym is) (lowers_one key places id to (hand_of me.0) unlowered)
 
--- a view is cut in two
-deals : (key : ℕ × ℕ) (id : ℕ) (h : ClaimHand) (hs : List ClaimHand) → Splits (Claimed key) id (h ∷ hs) hs (h ∷ [])
-deals key id h hs s claimed at =
-    let w = claimed.0 in
-    let b = claimed.1 in
-    let same = dealt_total s.views id h hs at in
-    let each = dealt_each s.views id h hs at in
-    (w, b, claimed.2, claimed_again key.0 key.1 w s.views _ claimed.3 same (each (IsHand key.0 w) claimed.3.each), barred_again key.0 b s.views _ claimed.4 same (each (IsOver b) claimed.4.each))
-
-pub deals_as : (key : ℕ × ℕ) (id : ℕ) (v : List ClaimHand) → 0 < length v → Splits (Claimed key) id v (others v) (first_alone v)
-deals_as key id [] some_hand = absurd (omega arith)
-deals_as key id (h ∷ hs) some_hand = deals key id h hs
-
--- a view takes in another
-pub gathers : (key : ℕ × ℕ) (id : ℕ) (v : List ClaimHand) (other : ℕ) (w : List ClaimHand) → Joins (Claimed key) id v other w (w ++ v) []
-gathers key id v other w s claimed at apart there =
-    let n = claimed.0 in
-    let b = claimed.1 in
-    let same = taken_total s.views id other v w at apart there in
-    let each = taken_each s.views id other v w at apart there in
-    (n, b, claimed.2, claimed_again key.0 key.1 n s.views _ claimed.3 same (each (IsHand key.0 n) claimed.3.each), barred_again key.0 b s.views _ claimed.4 same (each (IsOver b) claimed.4.each))
+-- the rule says no more of hands than their sums and what each is
+pub again : (key : ℕ × ℕ) (words : List ℕ) (views now : List (List ClaimHand)) → AreClaimed key words views → ((f : ClaimHand → ℕ) → total f now ≡ total f views) → ((P : ClaimHand → Type 0) → Each P views → Each P now) → AreClaimed key words now
+again key words views now claimed same each =
+    (claimed.0, claimed.1, claimed.2, claimed_again key.0 key.1 claimed.0 views now claimed.3 same each, barred_again key.0 claimed.1 views now claimed.4 same each)
 
 -- what the last state of the table says of the hands of a view that has all
 pub record IsFinished (clusters word bar : ℕ) (v : List ClaimHand) : Type 0 where
@@ -115,13 +99,14 @@ finished key id v words xs word bar final read read' whole =
     let is' : claimed.1 ≡ bar = some-injective claimed.1 bar (ap (λ ws. get_elem? ws 1) (sym claimed.2 ∙ final.2) ∙ read') in
     let c : IsClaimed key.0 key.1 word s.views = subst (λ n. IsClaimed key.0 key.1 n s.views) is claimed.3 in
     let b : IsBarred key.0 bar s.views = subst (λ n. IsBarred key.0 n s.views) is' claimed.4 in
+    let sum = whole_total drawn_by key.1 (min word key.0) id v s.views at whole c.shared in
     record {
-      drawn = shared_out key.0 key.1 word id v s.views at whole c;
-      kept = kept_below key.0 key.1 word id v s.views at whole c;
-      counted = word_counted key.0 key.1 word id v s.views at whole c;
+      drawn = shared_out drawn_by key.1 (min word key.0) id v s.views at whole c.shared;
+      kept = All-weaker (IsHand key.0 word) (λ h. IfSome h.kept (λ k. (key.0 ≤ k) × (k < word))) (λ h i. i.past) v (c.each id v at);
+      counted = c.room ∙ ap (λ n. min word key.0 + n) (sum (λ h. kept_count h.kept));
       most = b.most;
       over = b.each id v at;
-      reached = λ lt. lowered_by bar v (subst (λ n. 0 < n) (whole_total key.0 key.1 word id v s.views at whole c (λ h. lowers_to bar h.lowered)) (b.least lt));
+      reached = λ lt. lowered_by bar v (subst (λ n. 0 < n) (sum (λ h. lowers_to bar h.lowered)) (b.least lt));
     }
 
 -- a seat that drew a cluster may look

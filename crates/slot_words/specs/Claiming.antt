@@ -1,25 +1,20 @@
 -- The rule of the two words, and what each step does to a view.
 use Rattle.std.specs.Prelude.{◌≡◌, ℕ, ◌+◌, ◌<◌, ◌≤◌, ◌^◌, min, List, [], ◌∷◌, IfSome, replicate, length}
-use Rattle.std.specs.List.{All}
 use Rattle.std.specs.List.Sorted.{IsStrictlyIncreasing}
 use Rattle.atomic_table.specs.Table.{State, Me, Step}
 use Rattle.slot_words.specs.declared.hand.ClaimHand.{ClaimHand}
-use Rattle.rdf_values.specs.Times.{times, once_below}
-use Rattle.slot_words.specs.Totals.{total, one, Each}
+use Rattle.slot_words.specs.Totals.{total, Each, AreShared}
 use Rattle.slot_words.specs.Seats.{empty_hand, hand_of, draw, look, lower, last_of, kept_count, lowers_to}
 
 -- what the rule says of one hand, where the claim word is w
 pub record IsHand (clusters w : ℕ) (h : ClaimHand) : Type 0 where
   pub same : h.clusters ≡ clusters
-  pub rises : IsStrictlyIncreasing h.drawn
-  pub below : All (λ y. y < w) h.drawn
   pub past : IfSome h.kept (λ k. (clusters ≤ k) × (k < w))
 
 -- what the rule says of the claim word, which is w: the hands share out the clusters below it, each once
 pub record IsClaimed (clusters slots w : ℕ) (views : List (List ClaimHand)) : Type 0 where
   pub small : (clusters < 2 ^ 32) × (slots < 2 ^ 32)
-  pub all : total one views ≡ slots
-  pub once : (x : ℕ) → total (λ h. times x h.drawn) views ≡ once_below x (min w clusters)
+  pub shared : AreShared (λ h. h.drawn) slots (min w clusters) views
   pub room : w ≡ min w clusters + total (λ h. kept_count h.kept) views
   pub each : Each (IsHand clusters w) views
 
@@ -36,8 +31,12 @@ pub record IsBarred (clusters b : ℕ) (views : List (List ClaimHand)) : Type 0 
   pub each : Each (IsOver b) views
 
 -- there are two words: the claim word, with which the hands share out the clusters, and the bar
+abbrev pub AreClaimed : ℕ × ℕ → List ℕ → List (List ClaimHand) → Type 0
+AreClaimed key words views = (w : ℕ) × (b : ℕ) × (words ≡ w ∷ b ∷ []) × IsClaimed key.0 key.1 w views × IsBarred key.0 b views
+
+-- so it is at a table
 abbrev pub Claimed : ℕ × ℕ → State ℕ (List ClaimHand) → Type 0
-Claimed key s = (w : ℕ) × (b : ℕ) × (s.words ≡ w ∷ b ∷ []) × IsClaimed key.0 key.1 w s.views × IsBarred key.0 b s.views
+Claimed key s = AreClaimed key s.words s.views
 
 -- as many hands as seats, which did nothing
 abbrev pub opening_hands : ℕ × ℕ → List ClaimHand

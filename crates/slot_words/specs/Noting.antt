@@ -1,30 +1,25 @@
 -- The rule of the book's word, and what each step does to a view.
 use Rattle.std.specs.Prelude.{◌≡◌, ℕ, ◌<◌, ◌≤◌, ◌^◌, List, [], ◌∷◌, ◌++◌, replicate, length}
-use Rattle.std.specs.List.{All}
 use Rattle.std.specs.List.Sorted.{IsStrictlyIncreasing}
 use Rattle.atomic_table.specs.Table.{State, Me, Step}
 use Rattle.slot_words.specs.declared.hand.NoteHand.{NoteHand}
-use Rattle.slot_words.specs.Totals.{total, one, Each}
-use Rattle.rdf_values.specs.Times.{times, once_below}
+use Rattle.slot_words.specs.Totals.{total, Each, AreShared}
 use Rattle.slot_words.specs.Shares.{hand_with}
 
--- what the rule says of one hand, where the word is w
-pub record IsHand (clusters w : ℕ) (h : NoteHand) : Type 0 where
-  pub rises : IsStrictlyIncreasing h.drawn
-  pub below : All (λ y. y < w) h.drawn
-  pub fits : length h.drawn ≤ clusters
-
--- the hands share out the numbers below w, each once
+-- the hands share out the numbers below w, each once, and none has more than there are clusters
 pub record IsNoted (clusters slots w : ℕ) (views : List (List NoteHand)) : Type 0 where
   pub small : (clusters < 2 ^ 32) × (slots ≤ 16)
-  pub all : total one views ≡ slots
-  pub once : (x : ℕ) → total (λ h. times x h.drawn) views ≡ once_below x w
+  pub shared : AreShared (λ h. h.drawn) slots w views
   pub many : total (λ h. length h.drawn) views ≡ w
-  pub each : Each (IsHand clusters w) views
+  pub fits : Each (λ h. length h.drawn ≤ clusters) views
 
 -- there is one word, and the hands share out the numbers below it
+abbrev pub AreNotings : ℕ × ℕ → List ℕ → List (List NoteHand) → Type 0
+AreNotings key words views = (w : ℕ) × (words ≡ w ∷ []) × IsNoted key.0 key.1 w views
+
+-- so it is at a table
 abbrev pub Noted : ℕ × ℕ → State ℕ (List NoteHand) → Type 0
-Noted key s = (w : ℕ) × (s.words ≡ w ∷ []) × IsNoted key.0 key.1 w s.views
+Noted key s = AreNotings key s.words s.views
 
 -- as many hands as shares, which did nothing
 abbrev pub opening_hands : ℕ × ℕ → List NoteHand

@@ -7,9 +7,8 @@ ghost use Rattle.slot_words.specs.Shares.{IsOf, fresh_shares, hand_with, with_nu
 
 use crate::hand::NoteHands;
 use crate::orders::Orders;
-use crate::rule::{Deal, Gather, NoteDraw, NoteRule};
-use crate::share::Share;
-use crate::share_list::ShareList;
+use crate::rule::{Deal, Enter, Gather, NoteDraw, NoteRule};
+use crate::share::{Share, ShareList};
 use atomic_table::{Seat, Table};
 use rdf_values::{ListOf, Memory};
 use std::alloc::Global;
@@ -24,14 +23,14 @@ pub struct Book {
 }
 
 impl Model for Book {
-    ghost use Rattle.std.specs.Prelude.{◌≡◌, ◌<◌};
+    ghost use Rattle.std.specs.Prelude.{◌≡◌};
     ghost use Rattle.slot_words.specs.Shares.{BookSeen};
 
     ghost Value = { BookSeen };
 
     ghost view = { λ b. record { table = b.table.shared.table_id; clusters = b.clusters; slots = b.slots } };
 
-    ghost invariant = { λ b. (b.table.shared.key ≡ (b.clusters, b.slots)) × (b.table.shared.table_id.words ≡ 1) × (b.table.shared.table_id.slots ≡ 0) × (0 < b.slots) };
+    ghost invariant = { λ b. (b.table.shared.key ≡ (b.clusters, b.slots)) × (b.table.shared.table_id.words ≡ 1) × (b.table.shared.table_id.slots ≡ 0) };
 }
 
 // A share with room for all numbers.
@@ -56,17 +55,16 @@ fn fresh(
 impl Book {
     /// Nothing is noted. The share at place i has the number i. It takes the memory for all numbers at once.
     pub fn new(alloc: Global, slots: u32, clusters: u32) -> Result<(Book, ShareList), Memory>
-        requires slots { (0 < slots) × (slots ≤ 16) }
+        requires slots { slots ≤ 16 }
         requires clusters { clusters ≤ 1000000 }
         ensures { IfOk result (λ r. (r.0.clusters ≡ clusters) × (r.0.slots ≡ slots) × (r.1 ≡ fresh_shares r.0 slots)) }
     {
         let (table, mut first) = Table::of_words(alloc, &[0], &(clusters, slots))?;
-        let mut shares = ShareList::new(alloc);
-        for slot in 0..slots - 1 {
+        let mut shares = ListOf::new(alloc);
+        for slot in 0..slots {
             let seat = table.shared.split_seat::<Deal>(&mut first);
             shares.push(fresh(alloc, slot, clusters, seat)?)?;
         }
-        shares.push(fresh(alloc, slots - 1, clusters, first)?)?;
         let book = Book {
             table,
             clusters,
@@ -92,7 +90,7 @@ impl Book {
     }
 
     /// The numbers of the shares, which are all that `new` gave, in the order in which they are handed in.
-    pub fn close(self, alloc: Global, mut shares: ShareList) -> Result<Orders, Memory>
+    pub fn close(self, alloc: Global, shares: ShareList) -> Result<Orders, Memory>
         requires all { length shares ≡ self.slots }
         requires of { All (IsOf self) shares }
         ensures orders { IfOk result (λ orders. orders.slots ≡ map (λ s. s.numbers) shares) }
@@ -103,18 +101,10 @@ impl Book {
             clusters: _,
             slots: _,
         } = self;
+        let (_, mut all) = table.shared.load_new_seat::<Enter>(0);
         let mut lists = Vec::new(alloc);
-        let Some(last) = shares.pop() else {
-            unreachable!()
-        };
-        let Share {
-            slot: _,
-            clusters: _,
-            numbers,
-            seat: mut all,
-        } = last;
-        lists.push(ListOf::from_vec(numbers))?;
-        while let Some(next) = shares.pop() {
+        let mut left = shares.into_vec();
+        while let Some(next) = left.pop() {
             let Share {
                 slot: _,
                 clusters: _,

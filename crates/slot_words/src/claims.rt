@@ -8,11 +8,10 @@ ghost use Rattle.slot_words.specs.Seats.{IsOf, fresh_seats, last_of, with_lowere
 
 use crate::drawn::Drawn;
 use crate::hand::ClaimHands;
-use crate::rule::{ClaimRule, Deal, Draw, Gather, Look, Lower};
-use crate::seat::ClaimSeat;
-use crate::seat_list::SeatList;
+use crate::rule::{ClaimRule, Deal, Draw, Enter, Gather, Look, Lower};
+use crate::seat::{ClaimSeat, SeatList};
 use atomic_table::Table;
-use rdf_values::Memory;
+use rdf_values::{ListOf, Memory};
 use std::alloc::Global;
 use std::marker::Model;
 
@@ -25,32 +24,27 @@ pub struct Claims {
 }
 
 impl Model for Claims {
-    ghost use Rattle.std.specs.Prelude.{◌≡◌, ◌<◌};
+    ghost use Rattle.std.specs.Prelude.{◌≡◌};
     ghost use Rattle.slot_words.specs.Seats.{ClaimsSeen};
 
     ghost Value = { ClaimsSeen };
 
     ghost view = { λ c. record { table = c.table.shared.table_id; clusters = c.clusters; slots = c.slots } };
 
-    ghost invariant = { λ c. (c.table.shared.key ≡ (c.clusters, c.slots)) × (c.table.shared.table_id.words ≡ 2) × (c.table.shared.table_id.slots ≡ 0) × (0 < c.slots) };
+    ghost invariant = { λ c. (c.table.shared.key ≡ (c.clusters, c.slots)) × (c.table.shared.table_id.words ≡ 2) × (c.table.shared.table_id.slots ≡ 0) };
 }
 
 impl Claims {
     /// No cluster is drawn, and the bar is at the number of clusters. The seat at place i has the number i.
     pub fn new(alloc: Global, clusters: u32, slots: u32) -> Result<(Claims, SeatList), Memory>
-        requires { 0 < slots }
         ensures { IfOk result (λ r. (r.0.clusters ≡ clusters) × (r.0.slots ≡ slots) × (r.1 ≡ fresh_seats r.0 slots)) }
     {
         let (table, mut first) = Table::of_words(alloc, &[0, clusters as u64], &(clusters, slots))?;
-        let mut seats = SeatList::new(alloc);
-        for slot in 0..slots - 1 {
+        let mut seats = ListOf::new(alloc);
+        for slot in 0..slots {
             let seat = table.shared.split_seat::<Deal>(&mut first);
             seats.push(ClaimSeat { slot, seat })?;
         }
-        seats.push(ClaimSeat {
-            slot: slots - 1,
-            seat: first,
-        })?;
         let claims = Claims {
             table,
             clusters,
@@ -95,7 +89,7 @@ impl Claims {
     }
 
     /// The last values of the two words. The seats are all that `new` gave, in any order.
-    pub fn finish(self, mut seats: SeatList) -> Drawn
+    pub fn finish(self, seats: SeatList) -> Drawn
         requires all { length seats ≡ self.slots }
         requires of { All (IsOf self) seats }
         ensures drawn { DrawnBy (map (λ s. s.drawn) seats) (min result.word self.clusters) }
@@ -109,14 +103,9 @@ impl Claims {
             clusters: _,
             slots: _,
         } = self;
-        let Some(last) = seats.pop() else {
-            unreachable!()
-        };
-        let ClaimSeat {
-            slot: _,
-            seat: mut all,
-        } = last;
-        while let Some(next) = seats.pop() {
+        let (_, mut all) = table.shared.load_new_seat::<Enter>(0);
+        let mut left = seats.into_vec();
+        while let Some(next) = left.pop() {
             let ClaimSeat { slot: _, seat } = next;
             table.shared.join_seat::<Gather>(&mut all, seat);
         }

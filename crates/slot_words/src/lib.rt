@@ -16,9 +16,7 @@ pub mod partials;
 mod rule;
 mod runs;
 pub mod seat;
-pub mod seat_list;
 pub mod share;
-pub mod share_list;
 mod trails;
 
 pub use crate::between::partial_between;
@@ -29,10 +27,8 @@ pub use crate::interval::stride;
 pub use crate::lines::partial_lines;
 pub use crate::orders::Orders;
 pub use crate::partials::{PartialPiece, partial};
-pub use crate::seat::ClaimSeat;
-pub use crate::seat_list::SeatList;
-pub use crate::share::Share;
-pub use crate::share_list::ShareList;
+pub use crate::seat::{ClaimSeat, SeatList};
+pub use crate::share::{Share, ShareList};
 
 #[cfg(test)]
 mod tests;

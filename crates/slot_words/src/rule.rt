@@ -72,6 +72,15 @@ impl<H> Split<LinkedList<H>> for Deal {
     ghost right = { first_alone };
 }
 
+/// A new holder comes, which has no hand.
+pub struct Enter;
+
+impl<H> Play<u8, LinkedList<H>> for Enter {
+    ghost use Rattle.std.specs.Prelude.{◌≡◌, []};
+
+    ghost then = { λ s v n w. w ≡ ([], []) };
+}
+
 /// One holder has the hands of both.
 pub struct Gather;
 

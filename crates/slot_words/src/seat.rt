@@ -3,6 +3,7 @@ ghost use Rattle.std.specs.Prelude.{◌≡◌};
 
 use crate::hand::ClaimHands;
 use atomic_table::Seat;
+use rdf_values::ListOf;
 use std::marker::Model;
 
 /// It draws clusters. Contracts see its table, its number, and what it did.
@@ -11,6 +12,9 @@ pub struct ClaimSeat {
     pub(crate) slot: u32,
     pub(crate) seat: Seat<u8, ClaimHands>,
 }
+
+/// Seats in order.
+pub type SeatList = ListOf<ClaimSeat>;
 
 impl Model for ClaimSeat {
     ghost use Rattle.std.specs.Prelude.{◌≡◌, [], ◌∷◌};

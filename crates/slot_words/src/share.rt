@@ -3,6 +3,7 @@ ghost use Rattle.std.specs.Prelude.{◌≡◌};
 
 use crate::hand::NoteHands;
 use atomic_table::Seat;
+use rdf_values::ListOf;
 use std::marker::Model;
 
 /// It notes clusters. Contracts see its table, its number, and the numbers that it drew.
@@ -13,6 +14,9 @@ pub struct Share {
     pub(crate) numbers: Vec<u64>,
     pub(crate) seat: Seat<u8, NoteHands>,
 }
+
+/// Shares in order.
+pub type ShareList = ListOf<Share>;
 
 impl Model for Share {
     ghost use Rattle.std.specs.Prelude.{◌≡◌, ◌≤◌, [], ◌∷◌, vec_capacity};

@@ -7,7 +7,6 @@ mod joining;
 mod piece;
 mod records;
 pub mod running;
-mod seating;
 pub mod stop;
 mod workers;
 
