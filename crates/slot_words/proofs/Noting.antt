@@ -4,7 +4,7 @@ use Rattle.std.specs.Prelude.{nat_le, nat_lt, ◌&&◌, IsPermutation, Contains}
 use Rattle.std.specs.List.{sum_by, All as Every}
 use Rattle.std.specs.List.Sorted.{IsStrictlyIncreasing}
 use Rattle.std.proofs.lemmas.Bool.{cases_lt, lt-ltb, le-ltb, cond-true, cond-false}
-use Rattle.std.proofs.lemmas.List.{map-append, length-map}
+use Rattle.std.proofs.lemmas.List.{map-append, length-map, nil_from_length}
 use Rattle.std.proofs.lemmas.List.Elements.{All-head, All-tail, All-filter}
 use Rattle.std.proofs.lemmas.List.Kept.{IsStrictlyIncreasing-filter}
 use Rattle.std.proofs.lemmas.List.Sorted.{length_permutation}
@@ -109,18 +109,6 @@ module _ (facts : LoopFacts) (place : ℕ) where
   alone_kept true n h = (h, tt)
   alone_kept false n h = tt
 
-  alone_in : (ns : List ℕ) (b : ℕ) (ts : List (Noted WatchPiece)) → Every IsAloneAt ts → AreAlone StandsAt (chosen_in ns b ts)
-  alone_in [] b ts h = tt
-  alone_in (n ∷ ns) b [] h = tt
-  alone_in (n ∷ ns) b (t ∷ ts) h = alone_both (if_kept (nat_lt n b) t) (chosen_in ns b ts) (alone_kept (nat_lt n b) t (All-head IsAloneAt t ts h)) (alone_in ns b ts (All-tail IsAloneAt t ts h))
-
-  -- each entry that is chosen stands for its cluster alone
-  pub alone : (os ds : List (List ℕ)) (ts : List (List (Noted WatchPiece))) (b : ℕ) → AreTrails facts place ds ts → AreAlone StandsAt (chosen os b ts)
-  alone [] ds ts b h = tt
-  alone (o ∷ os) ds [] b h = tt
-  alone (o ∷ os) [] (t ∷ ts) b h = (let m = h.many in absurd (omega arith))
-  alone (o ∷ os) (d ∷ ds) (t ∷ ts) b h = alone_both (chosen_in o b t) (chosen os b ts) (alone_in o b t (first_trail d ds t ts h).alone) (alone os ds ts b (rest_trails d ds t ts h))
-
   alone_added_in : (ns : List ℕ) (a b : ℕ) (ts : List (Noted WatchPiece)) → Every IsAloneAt ts → AreAlone StandsAt (added_in ns a b ts)
   alone_added_in [] a b ts h = tt
   alone_added_in (n ∷ ns) a b [] h = tt
@@ -128,7 +116,7 @@ module _ (facts : LoopFacts) (place : ℕ) where
       let kept = nat_le a n && nat_lt n b in
       alone_both (if_kept kept t) (added_in ns a b ts) (alone_kept kept t (All-head IsAloneAt t ts h)) (alone_added_in ns a b ts (All-tail IsAloneAt t ts h))
 
-  -- and each that is between two bounds
+  -- each entry between two bounds stands for its cluster alone
   pub alone_added : (os ds : List (List ℕ)) (ts : List (List (Noted WatchPiece))) (a b : ℕ) → AreTrails facts place ds ts → AreAlone StandsAt (added os a b ts)
   alone_added [] ds ts a b h = tt
   alone_added (o ∷ os) ds [] a b h = tt
@@ -220,11 +208,6 @@ module _ (os ds : List (List ℕ)) (clusters : ℕ) (noted : AreNoted os ds clus
   set_many b le =
       length_permutation (noted_before os ds b) (set_before os ds clusters b) (permuted_by_counts (set_before os ds clusters b) (noted_before os ds b) (λ x. sym (set_times b x))) ∙ chosen_many b le
 
-  -- a set that rises and has the clusters chosen is that one
-  pub set_is : (b : ℕ) (xs : List ℕ) → IsStrictlyIncreasing xs → IsPermutation (noted_before os ds b) xs → xs ≡ set_before os ds clusters b
-  set_is b xs up p =
-      same_rising xs (set_before os ds clusters b) (rises_from xs up) (rises_from (set_before os ds clusters b) (set_rises b)) (λ x. times_permuted x (noted_before os ds b) xs p ∙ sym (set_times b x))
-
   -- a higher bound leaves none out
   pub set_grows : (low high : ℕ) → low ≤ high → Every (Contains (set_before os ds clusters high)) (set_before os ds clusters low)
   set_grows low high le = contained (set_before os ds clusters low) (set_before os ds clusters high) (λ x. omega (arith, set_times low x, set_times high x, higher_bound_keeps (Unit {0}) os (map bare_entries ds) low high x le))
@@ -249,6 +232,12 @@ module _ (os ds : List (List ℕ)) (clusters : ℕ) (noted : AreNoted os ds clus
     added_some lt = omega (arith, length_added low high le os ts, chosen_long low (omega arith), chosen_long high bound)
 
     module _ (cs : List ℕ) (up : IsStrictlyIncreasing cs) (p : IsPermutation news cs) where
+      -- from the first number on they are the set
+      pub first_set : low ≡ 0 → cs ≡ set_before os ds clusters high
+      first_set first =
+          let none : set_before os ds clusters low ≡ [] = nil_from_length (set_before os ds clusters low) (set_many low (omega arith) ∙ first) in
+          same_rising cs (set_before os ds clusters high) (rises_from cs up) (rises_from (set_before os ds clusters high) (set_rises high)) (λ x. omega (arith, grows x, times_permuted x news cs p, ap (times x) none))
+
       -- the next set has the members of the one before, and those that were added
       pub set_grown : IsUnion (set_before os ds clusters low ∷ cs ∷ []) (set_before os ds clusters high)
       set_grown =

@@ -53,17 +53,6 @@ module _ {H : Type 0} (drawn : H → List ℕ) where
   pub shared_again : (slots m : ℕ) (views now : List (List H)) → AreShared drawn slots m views → ((f : H → ℕ) → total f now ≡ total f views) → ((P : H → Type 0) → Each P views → Each P now) → AreShared drawn slots m now
   shared_again slots m views now c same each = record { all = same one ∙ c.all; once = λ x. same (λ k. times x (drawn k)) ∙ c.once x; each = each (Rises m) c.each }
 
-  -- hands that drew nothing
-  pub none_shared : (slots : ℕ) (h : H) → drawn h ≡ [] → AreShared drawn slots 0 (replicate slots h ∷ [])
-  none_shared slots h none = record {
-    all = (let e = sums one in omega arith);
-    once = λ x. (let e = sums (λ k. times x (drawn k)) in let z : times x (drawn h) ≡ 0 = ap (times x) none in grind (arith, common_steps));
-    each = each_alone (Rises 0) (replicate slots h) (All-replicate (Rises 0) slots h (subst (IsRisingBelow 0) (sym none) record { rises = λ k lt. absurd (omega arith); below = All-nil (λ y. y < 0) }));
-  }
-    where
-      sums : (f : H → ℕ) → total f (replicate slots h ∷ []) ≡ slots * f h
-      sums f = omega (arith, total_cons f (replicate slots h) [], sum_by-replicate f slots h)
-
   -- once one view has all hands, they share out the numbers
   module _ (slots m id : ℕ) (v : List H) (views : List (List H)) (at : get_elem? views id ≡ some v) (whole : length v ≡ slots) (c : AreShared drawn slots m views) where
     pub whole_total : (f : H → ℕ) → total f views ≡ sum_by f v

@@ -49,7 +49,7 @@ fn choose_between<P: Copy>(
 }
 
 /// The clusters whose number is less than a bound, but not less than a lower one, rising, and the join of their pieces.
-/// It looks at no other entries: the numbers of each slot rise.
+/// The number of a trail's entry stands at the same place of its slot's list, and rises: no other entries are looked at.
 pub fn partial_between<P: Piece + Copy>(
     alloc: Global,
     orders: &Orders,

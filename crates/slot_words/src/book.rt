@@ -7,7 +7,7 @@ ghost use Rattle.slot_words.specs.Shares.{IsOf, fresh_shares, hand_with, with_nu
 
 use crate::hand::NoteHands;
 use crate::orders::Orders;
-use crate::rule::{Deal, Enter, Gather, NoteDraw, NoteRule};
+use crate::rule::{Deal, Enter, Gather, Note, NoteRule};
 use crate::share::{Share, ShareList};
 use atomic_table::{Seat, Table};
 use rdf_values::{ListOf, Memory};
@@ -79,10 +79,7 @@ impl Book {
         requires room { length share.old.numbers < self.now.clusters }
         ensures { (n : ℕ) × (share.new ≡ with_number share.old n) × IsStrictlyIncreasing share.new.numbers }
     {
-        let number = self
-            .table
-            .shared
-            .fetch_add::<NoteDraw>(&mut share.seat, 0, 1);
+        let number = self.table.shared.fetch_add::<Note>(&mut share.seat, 0, 1);
         match share.numbers.push(number) {
             Ok(()) => {}
             Err(_) => unreachable!(),

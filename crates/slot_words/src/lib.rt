@@ -26,7 +26,7 @@ pub use crate::drawn::Drawn;
 pub use crate::interval::stride;
 pub use crate::lines::partial_lines;
 pub use crate::orders::Orders;
-pub use crate::partials::{PartialPiece, partial};
+pub use crate::partials::PartialPiece;
 pub use crate::seat::{ClaimSeat, SeatList};
 pub use crate::share::{Share, ShareList};
 

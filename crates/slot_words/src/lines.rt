@@ -8,7 +8,6 @@ ghost use Rattle.slot_words.specs.Trails.{AreTrails, HaveAllTrails, HaveSameBodi
 use crate::between::partial_between;
 use crate::interval::stride;
 use crate::orders::Orders;
-use crate::partials::partial;
 use crate::runs::runs_with;
 use crate::trails::taken_trails;
 use loop_pieces::{LoopPiece, PartialLine, WatchPiece};
@@ -27,7 +26,7 @@ fn first_line(
     ensures { (facts : LoopFacts) (place : ℕ) (dones : List (List ℕ)) (clusters : ℕ) → AreNoted orders.now.slots dones clusters → AreTrails facts place dones trails.now → IsBound below clusters
         → IfOk result (IsPartialLine facts place (set_before orders.now.slots dones clusters below)) }
 {
-    let chosen = partial(alloc, orders, below as u64, trails)?;
+    let chosen = partial_between(alloc, orders, 0, below as u64, trails)?;
     Ok(PartialLine {
         runs: runs_with(alloc, &[], chosen.clusters.as_slice())?,
         value: chosen.piece,

@@ -1,14 +1,12 @@
-// Results over the first clusters that were noted.
+// What entries of trails come to.
 ghost use Rattle.std.specs.Prelude.{◌≡◌, ◌≤◌, ◌<◌, ◌++◌, ℕ, List, IfOk, IsPermutation, length, map};
 ghost use Rattle.std.specs.List.Sorted.{IsStrictlyIncreasing};
 ghost use Rattle.rdf_values.specs.Times.{times};
 ghost use Rattle.merge_core.specs.declared.noted.Noted.{Noted};
-ghost use Rattle.slot_words.specs.Chosen.{AreAlone, AreOf, HaveNumbers, chosen, chosen_in, cluster_in, if_kept, piece_in};
+ghost use Rattle.slot_words.specs.Chosen.{AreAlone, AreOf, chosen_in, cluster_in, if_kept, piece_in};
 
-use crate::orders::Orders;
-use merge_core::{Noted, Piece, TrailList, merge_all};
+use merge_core::{Noted, Piece, merge_all};
 use rdf_values::{ListOf, Memory};
-use std::alloc::Global;
 
 /// What some clusters came to, which rise.
 #[derive(Drop)]
@@ -67,32 +65,4 @@ pub(crate) fn joined<P: Piece + Copy>(
         clusters: ListOf::from_vec(clusters),
         piece,
     })
-}
-
-/// The clusters whose number is less than a bound, rising, and the join of their pieces.
-/// The number of a trail's entry stands at the same place of its slot's list.
-pub fn partial<P: Piece + Copy>(
-    alloc: Global,
-    orders: &Orders,
-    below: u64,
-    trails: &TrailList<P>,
-) -> Result<PartialPiece<P>, Memory>
-    requires numbers { HaveNumbers orders.now.slots trails.now }
-    requires some { 0 < length (chosen orders.now.slots below trails.now) }
-    requires apart { (job : P.Job) × AreAlone (P.stands job) (chosen orders.now.slots below trails.now) × ((x : ℕ) → times x (map cluster_in (chosen orders.now.slots below trails.now)) ≤ 1) }
-    ensures named { IfOk result (λ p. IsStrictlyIncreasing p.clusters × IsPermutation (map cluster_in (chosen orders.now.slots below trails.now)) p.clusters) }
-    ensures stands { (job : P.Job) → AreAlone (P.stands job) (chosen orders.now.slots below trails.now) → IfOk result (λ p. P.stands job p.clusters p.piece) }
-{
-    let mut clusters = Vec::new(alloc);
-    let mut pieces = Vec::new(alloc);
-    for i in 0..orders.slots.len() {
-        choose(
-            &mut clusters,
-            &mut pieces,
-            orders.slots.at(i).as_slice(),
-            below,
-            trails.at(i).as_slice(),
-        )?;
-    }
-    joined(clusters, pieces)
 }

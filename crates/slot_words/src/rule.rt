@@ -53,9 +53,9 @@ impl TableRule<u8, NoteHands, (u32, u32)> for NoteRule {
 }
 
 /// A draw of the next number in the book.
-pub struct NoteDraw;
+pub struct Note;
 
-impl Play<u8, NoteHands> for NoteDraw {
+impl Play<u8, NoteHands> for Note {
     ghost use Rattle.slot_words.specs.Noting.{Drew};
 
     ghost then = { Drew };
