@@ -1,18 +1,16 @@
 -- What the rules have in common: so many hands share out the numbers below a bound.
-use Rattle.std.proofs.Common.{◌≡◌, ℕ, ◌+◌, ◌*◌, ◌<◌, List, [], ◌∷◌, ◌++◌, length, set, map, replicate, refl, sym, ap, ◌∙◌, subst, arith}
+use Rattle.std.proofs.Common.{◌≡◌, ℕ, ◌+◌, ◌<◌, List, [], ◌∷◌, ◌++◌, length, set, map, refl, sym, ap, ◌∙◌, subst, arith}
 use Rattle.std.specs.List.{sum_by}
 use Rattle.std.specs.List.Sorted.{IsStrictlyIncreasing}
-use Rattle.std.proofs.lemmas.Grind.{common_steps}
-use Rattle.std.proofs.lemmas.List.Elements.{All-nil, All-map, All-push, All-head, All-replicate, All-weaker}
-use Rattle.std.proofs.lemmas.List.Folds.{sum_by-replicate}
+use Rattle.std.proofs.lemmas.List.Elements.{All-map, All-push, All-head, All-weaker}
 use mathlib.Core.Option.{some}
 use lib.ListN.{get_elem?}
 use Rattle.rdf_values.specs.Draws.{DrawnBy}
 use Rattle.rdf_values.specs.Times.{times}
 use Rattle.rdf_values.proofs.DrawCounts.{drawn_by_counts, once_next, rises_push, sum_by-map, times_push}
 use Rattle.slot_words.specs.Totals.{total, one, Each, IsRisingBelow, AreShared}
-use Rattle.slot_words.proofs.Hands.{each_alone, each_one, each_weaker, ones, total_one, total_same}
-use Rattle.slot_words.proofs.Totals.{total_cons, total_whole}
+use Rattle.slot_words.proofs.Hands.{each_one, each_weaker, ones, total_one, total_same}
+use Rattle.slot_words.proofs.Totals.{total_whole}
 
 module _ {H : Type 0} (drawn : H → List ℕ) where
   abbrev Rises : ℕ → H → Type 0

@@ -68,8 +68,9 @@ module _ {P : Type 0} where
   none_below (n ∷ ns) low high (t ∷ ts) h = ap₂ (λ x y. x ++ y) (not_high low high n t (h 0 (omega arith))) (none_below ns low high ts (λ k lt. h (suc k) (omega arith)))
 
   -- they stand together
-  pub stretch : (ns : List ℕ) (low high : ℕ) (ts : List (Noted P)) (s m : ℕ) → length ns ≡ length ts → IsStretch ns low high s m → chosen_in (take m (drop s ns)) high (take m (drop s ts)) ≡ added_in ns low high ts
-  stretch [] low high ts zero zero same h = refl
+  pub stretch : (ns : List ℕ) (low high : ℕ) (ts : List (Noted P)) (s m : ℕ) → length ns ≡ length ts → IsStretch ns low high s m → take m (drop s ts) ≡ added_in ns low high ts
+  stretch [] low high [] zero zero same h = refl
+  stretch [] low high (t ∷ ts) zero zero same h = absurd (omega arith)
   stretch [] low high ts zero (suc m) same h = (let f = h.fits in absurd (omega arith))
   stretch [] low high ts (suc s) m same h = (let f = h.fits in absurd (omega arith))
   stretch (n ∷ ns) low high [] s m same h = absurd (omega arith)
@@ -83,8 +84,7 @@ module _ {P : Type 0} where
       }
       ∙ ap (λ x. x ++ added_in ns low high ts) (sym (not_low low high n t (h.before 0 (omega arith))))
   stretch (n ∷ ns) low high (t ∷ ts) zero (suc m) same h =
-      ap (λ b. if_kept b t ++ chosen_in (take m ns) high (take m ts)) (lt-ltb n high (h.less 0 (omega arith)))
-      ∙ ap₂ (λ x y. x ++ y) (sym (both low high n t (h.from 0 (omega arith) (omega arith)) (h.less 0 (omega arith)))) (stretch ns low high ts zero m (omega arith) record {
+      ap₂ (λ x y. x ++ y) (sym (both low high n t (h.from 0 (omega arith) (omega arith)) (h.less 0 (omega arith)))) (stretch ns low high ts zero m (omega arith) record {
         fits = (let f = h.fits in omega arith);
         before = λ k lt. absurd (omega arith);
         from = λ k le lt. h.from (suc k) (omega arith) (omega arith);

@@ -1,18 +1,18 @@
 -- One more trail, and one more entry of it.
-use Rattle.std.proofs.Common.{◌≡◌, ℕ, suc, ◌+◌, ◌<◌, ◌≤◌, List, [], ◌∷◌, ◌++◌, length, map, drop, get_or, Some, refl, sym, ap, ap₂, ◌∙◌, subst, arith, append_assoc, append-nil, drop-cons, length-drop}
-use Rattle.std.specs.Prelude.{nat_lt, slice_get}
+use Rattle.std.proofs.Common.{◌≡◌, ℕ, suc, ◌+◌, ◌<◌, List, [], ◌∷◌, ◌++◌, length, map, drop, take, get_or, refl, sym, ap, ◌∙◌, arith, append_assoc, length-drop}
+use Rattle.std.proofs.Math.Seq.{take-suc}
 use Rattle.std.proofs.lemmas.List.{map-append}
-use Rattle.std.proofs.lemmas.Option.{get_or_from_slice_get}
-use Rattle.lemmas.proofs.Parts.{none_left}
 use Rattle.merge_core.specs.declared.noted.Noted.{Noted}
-use Rattle.slot_words.specs.Chosen.{if_kept, chosen_in, chosen, HaveNumbers}
+use Rattle.slot_words.specs.Chosen.{HaveNumbers}
 
 module _ {P : Type 0} where
-  pub entry_next : (ns : List ℕ) (ts : List (Noted P)) (b i : ℕ) (d : ℕ) (e : Noted P) → length ns ≡ length ts → i < length ns
-      → chosen_in (drop i ns) b (drop i ts) ≡ if_kept (nat_lt (get_or ns i d) b) (get_or ts i e) ++ chosen_in (drop (i + 1) ns) b (drop (i + 1) ts)
-  entry_next ns ts b i d e same lt =
-      ap₂ (λ x y. chosen_in x b y) (drop-cons ns i d lt) (drop-cons ts i e (omega arith))
-      ∙ (let k : suc i ≡ i + 1 = omega arith in ap (λ j. if_kept (nat_lt (get_or ns i d) b) (get_or ts i e) ++ chosen_in (drop j ns) b (drop j ts)) k)
+  -- one more entry was appended
+  pub entry_appended : {B : Type 0} (f : Noted P → B) (old new all : List B) (entries : List (Noted P)) (i : ℕ) (e : Noted P)
+      → i < length entries → e ≡ get_or entries i e → new ≡ all ++ f e ∷ [] → all ≡ old ++ map f (take i entries) → new ≡ old ++ map f (take (i + 1) entries)
+  entry_appended f old new all entries i e lt is more before =
+      let k : suc i ≡ i + 1 = omega arith in
+      let longer : take (i + 1) entries ≡ take i entries ++ e ∷ [] = ap (λ j. take j entries) (sym k) ∙ take-suc entries i e lt ∙ ap (λ x. take i entries ++ x ∷ []) (sym is) in
+      more ∙ ap (λ l. l ++ f e ∷ []) before ∙ append_assoc old (map f (take i entries)) (f e ∷ []) ∙ ap (λ l. old ++ l) (sym (ap (map f) longer ∙ map-append f (take i entries) (e ∷ [])))
 
   -- what was appended, and what is left
   pub appended : {B : Type 0} (f : Noted P → B) (old new rest all : List B) (here left whole : List (Noted P)) → new ≡ old ++ map f here → whole ≡ here ++ left → old ++ map f whole ≡ all → new ++ map f left ≡ all

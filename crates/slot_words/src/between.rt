@@ -6,7 +6,7 @@ ghost use Rattle.rdf_values.specs.Times.{times};
 ghost use Rattle.slot_words.specs.Chosen.{AreAlone, HaveNumbers, IsStretch, added, added_in, cluster_in, piece_in};
 
 use crate::orders::Orders;
-use crate::partials::{PartialPiece, choose, joined};
+use crate::partials::{PartialPiece, append, joined};
 use merge_core::{Noted, Piece, TrailList};
 use rdf_values::Memory;
 use std::alloc::Global;
@@ -39,13 +39,7 @@ fn choose_between<P: Copy>(
     ensures pieces { IfOk result (λ _. pieces.new.items ≡ pieces.old.items ++ map piece_in (added_in numbers.now low below trail.now)) }
 {
     let (start, end) = stretch(numbers, low, below);
-    choose(
-        clusters,
-        pieces,
-        &numbers[start..end],
-        below,
-        &trail[start..end],
-    )
+    append(clusters, pieces, &trail[start..end])
 }
 
 /// The clusters whose number is less than a bound, but not less than a lower one, rising, and the join of their pieces.

@@ -3,7 +3,7 @@ ghost use Rattle.std.specs.Prelude.{◌≡◌, ◌≤◌, ◌<◌, ◌++◌, ℕ
 ghost use Rattle.std.specs.List.Sorted.{IsStrictlyIncreasing};
 ghost use Rattle.rdf_values.specs.Times.{times};
 ghost use Rattle.merge_core.specs.declared.noted.Noted.{Noted};
-ghost use Rattle.slot_words.specs.Chosen.{AreAlone, AreOf, chosen_in, cluster_in, if_kept, piece_in};
+ghost use Rattle.slot_words.specs.Chosen.{AreAlone, AreOf, cluster_in, piece_in};
 
 use merge_core::{Noted, Piece, merge_all};
 use rdf_values::{ListOf, Memory};
@@ -15,37 +15,18 @@ pub struct PartialPiece<P> {
     pub piece: P,
 }
 
-// Appends an entry, where it is kept.
-fn keep<P: Copy>(
+// Appends the clusters and the pieces of entries.
+pub(crate) fn append<P: Copy>(
     clusters: &mut Vec<u32>,
     pieces: &mut Vec<P>,
-    noted: &Noted<P>,
-    kept: bool,
+    entries: &[Noted<P>],
 ) -> Result<(), Memory>
-    ensures clusters { IfOk result (λ _. clusters.new.items ≡ clusters.old.items ++ map cluster_in (if_kept kept noted.now)) }
-    ensures pieces { IfOk result (λ _. pieces.new.items ≡ pieces.old.items ++ map piece_in (if_kept kept noted.now)) }
+    ensures clusters { IfOk result (λ _. clusters.new.items ≡ clusters.old.items ++ map cluster_in entries.now) }
+    ensures pieces { IfOk result (λ _. pieces.new.items ≡ pieces.old.items ++ map piece_in entries.now) }
 {
-    if kept {
+    for noted in entries {
         clusters.push(noted.cluster)?;
         pieces.push(noted.piece)?;
-    }
-    Ok(())
-}
-
-// Appends the entries of one trail whose number is less than a bound.
-pub(crate) fn choose<P: Copy>(
-    clusters: &mut Vec<u32>,
-    pieces: &mut Vec<P>,
-    numbers: &[u64],
-    below: u64,
-    trail: &[Noted<P>],
-) -> Result<(), Memory>
-    requires { length numbers.now ≡ length trail.now }
-    ensures clusters { IfOk result (λ _. clusters.new.items ≡ clusters.old.items ++ map cluster_in (chosen_in numbers.now below trail.now)) }
-    ensures pieces { IfOk result (λ _. pieces.new.items ≡ pieces.old.items ++ map piece_in (chosen_in numbers.now below trail.now)) }
-{
-    for i in 0..numbers.len() {
-        keep(clusters, pieces, &trail[i], numbers[i] < below)?;
     }
     Ok(())
 }
