@@ -10,8 +10,8 @@ use crate::end::FilledLoop;
 use crate::gather::Done;
 use loop_pieces::{LoopPiece, PartialLine};
 use merge_core::merge_all;
-use slot_words::{Book, Share, ShareList, partial_lines};
 use rdf_values::{ListOf, Memory};
+use slot_words::{Book, Share, ShareList, partial_lines};
 use std::alloc::Global;
 
 // Appends a share, where there is one.

@@ -8,9 +8,8 @@ ghost use Rattle.event_loop.specs.Gathered.{AreFacts, HasMemory, HasStopped, IsO
 
 use crate::SlotState;
 use crate::workers::{End, Finished, Slot};
-use slot_words::{Claims, SeatList};
-use slot_words::Share;
 use rdf_values::{Fault, Memory};
+use slot_words::{Claims, SeatList, Share};
 use std::alloc::Global;
 
 /// A slot whose clusters are all processed: its state, and its right to note, where a result is watched.

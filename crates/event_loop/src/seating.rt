@@ -6,9 +6,8 @@ ghost use Rattle.event_loop.specs.Seated.{AreBlank, IsOpened};
 ghost use Rattle.event_loop.specs.Workers.{IsFresh, IsReady};
 
 use crate::workers::Slot;
-use slot_words::SeatList;
-use slot_words::{Book, ShareList};
 use rdf_values::Memory;
+use slot_words::{Book, SeatList, ShareList};
 use std::alloc::Global;
 
 /// A book with a share for each slot, where a result is watched; it takes the memory for all numbers.

@@ -8,8 +8,8 @@ ghost use Rattle.snapshot_pieces.specs.Stopping.{HasStopped};
 
 use crate::finished::{End, Finished};
 use crate::piece::Piece;
-use slot_words::{Claims, SeatList};
 use rdf_values::{Fault, ListOf, Memory};
+use slot_words::{Claims, SeatList};
 use std::alloc::Global;
 
 // The fault at the lower entry.

@@ -5,9 +5,9 @@ ghost use Rattle.snapshot_run.specs.Texts.{AreRecords};
 
 use crate::stop::SnapStop;
 use crate::workers::run_slots;
-use slot_words::Claims;
 use rdf_outside::Gate;
 use rdf_values::{ListOf, Text};
+use slot_words::Claims;
 use snapshot_entries::SnapJob;
 use snapshot_pieces::{Outcome, gathered, placed};
 use std::alloc::Global;

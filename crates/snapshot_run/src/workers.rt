@@ -8,10 +8,10 @@ ghost use Rattle.snapshot_run.specs.Runs.{data_with, facts_of, spans_of};
 ghost use Rattle.snapshot_pieces.specs.declared.finished.Finished.{Finished};
 
 use crate::piece::make_piece;
-use slot_words::{ClaimSeat, Claims};
 use expr_eval::Steps;
 use rdf_outside::Gate;
 use rdf_values::{Fault, ListOf, Memory};
+use slot_words::{ClaimSeat, Claims};
 use snapshot_entries::{Skim, SkimStop, SnapJob};
 use snapshot_pieces::{End, Finished};
 use std::alloc::Global;
