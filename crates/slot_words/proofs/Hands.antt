@@ -5,7 +5,7 @@ use Rattle.std.proofs.lemmas.List.{map-append}
 use Rattle.std.proofs.lemmas.List.Elements.{All-nil, All-cons, All-head, All-tail, All-append, All-weaker}
 use Rattle.std.proofs.lemmas.List.FromFn.{map-range_with_len_more}
 use Rattle.std.proofs.lemmas.List.Sums.{sum_by-append, sum_by-cons}
-use mathlib.Core.Option.{some, some-injective, some-ne-none}
+use mathlib.Core.Option.{some}
 use lib.ListN.{get_elem?}
 use Rattle.atomic_table.proofs.Lists.{at_set, at_snoc}
 use Rattle.slot_words.specs.Totals.{total, one, Each}
@@ -23,10 +23,6 @@ module _ {H : Type 0} where
 
   pub each_weaker : (P Q : H → Type 0) → ((h : H) → P h → Q h) → (views : List (List H)) → Each P views → Each Q views
   each_weaker P Q f views each id v at = All-weaker P Q f v (each id v at)
-
-  pub each_alone : (P : H → Type 0) (v : List H) → All P v → Each P (v ∷ [])
-  each_alone P v good zero u e = subst (All P) (some-injective v u e) good
-  each_alone P v good (suc j) u e = absurd (some-ne-none u (sym e))
 
   -- the total after one hand alone has changed
   pub total_one : (f : H → ℕ) (views : List (List H)) (id : ℕ) (h g : H) → get_elem? views id ≡ some (h ∷ []) → total f (set views id (g ∷ [])) + f h ≡ total f views + f g
