@@ -13,8 +13,8 @@ use Rattle.rdf_values.proofs.DrawCounts.{times_concat, times_push, counts_by_dra
 use Rattle.rdf_values.proofs.UnionLemmas.{drawn_lists_unite}
 use Rattle.merge_core.proofs.Faults.{Among, Told, told_nothing, told_both, first_told, among_left, among_right}
 use Rattle.merge_core.proofs.Holding.{only}
-use Rattle.cluster_claims.specs.Seats.{ClaimsSeen, SeatSeen, IsLeast, IsPassed, last_of}
-use Rattle.partial_watch.specs.Shares.{BookSeen}
+use Rattle.slot_words.specs.Seats.{ClaimsSeen, SeatSeen, IsLeast, IsPassed, last_of}
+use Rattle.slot_words.specs.Shares.{BookSeen}
 use Rattle.event_loop.specs.Jobs.{JobFacts}
 use Rattle.event_loop.specs.Slots.{SlotView}
 use Rattle.event_loop.specs.declared.workers.Finished.{Finished}

@@ -1,12 +1,12 @@
 -- What the slots of a loop begin with.
-use Rattle.std.proofs.Common.{◌≡◌, ℕ, ◌+◌, List, [], ◌∷◌, ◌++◌, length, Option, None, Some, refl, sym, ap, ◌∙◌, subst, arith, length-append}
-use Rattle.std.specs.Prelude.{MatchOption}
+use Rattle.std.proofs.Common.{◌≡◌, ℕ, ◌+◌, List, [], ◌∷◌, ◌++◌, length, Option, None, Some, refl, sym, ap, ◌∙◌, subst, arith, append-nil, length-append}
+use Rattle.std.specs.Prelude.{MatchOption, option_to_list}
 use Rattle.std.specs.List.{All, range_with_len}
 use Rattle.std.proofs.lemmas.List.{length-map}
 use Rattle.std.proofs.lemmas.List.FromFn.{length-range_with_len}
 use Rattle.std.proofs.lemmas.List.Elements.{All-map, All-nil, All-push, All-pop}
-use Rattle.cluster_claims.specs.Seats.{ClaimsSeen, SeatSeen, fresh_seat, fresh_seats}
-use Rattle.partial_watch.specs.Shares.{BookSeen, ShareSeen, fresh_share, fresh_shares}
+use Rattle.slot_words.specs.Seats.{ClaimsSeen, SeatSeen, fresh_seat, fresh_seats}
+use Rattle.slot_words.specs.Shares.{BookSeen, ShareSeen, fresh_share, fresh_shares}
 use Rattle.event_loop.specs.declared.workers.Slot.{Slot}
 use Rattle.event_loop.specs.Seated.{AreBlank, IsBlank}
 use Rattle.event_loop.specs.Workers.{HasNoted, IsFresh, IsReady}
@@ -23,17 +23,22 @@ all_ready c n = All-map (IsReady c) (fresh_seat c) (range_with_len 0 n) (λ k d 
 pub all_blank : (b : BookSeen) (n : ℕ) (shares : List ShareSeen) → shares ≡ fresh_shares b n → AreBlank (Some b) n shares
 all_blank b n shares is = (ap length is ∙ many_shares b n, subst (All (IsBlank b)) (sym is) (All-map (IsBlank b) (fresh_share b) (range_with_len 0 n) (λ k d lt. record { of = (refl, refl); unnoted = refl })))
 
+-- nothing comes of an empty vector
+pub none_popped : {S : Type 0} (r : Option S) (n m : ℕ) → MatchOption r ((n ≡ 0) × (m ≡ 0)) (λ _. m + 1 ≡ n) → r ≡ None → n ≡ 0
+none_popped None n m popped e = popped.0
+none_popped (Some s) n m popped e = absurd (cc)
+
 -- the next share, where there is a book
 pub next_share : (b : Option BookSeen) (n : ℕ) (old new : List ShareSeen) (r : Option ShareSeen)
-    → AreBlank b (n + 1) old → MatchOption r ((old ≡ []) × (new ≡ [])) (λ s. old ≡ new ++ s ∷ []) → HasNoted b 0 r × AreBlank b n new
-next_share None n old new None blank popped = (tt, popped.1)
-next_share None n old new (Some s) blank popped = absurd (none new (sym popped ∙ blank))
+    → AreBlank b (n + 1) old → old ≡ new ++ option_to_list r → (r ≡ None → length old ≡ 0) → HasNoted b 0 r × AreBlank b n new
+next_share None n old new None blank popped none = (tt, sym (append-nil new) ∙ sym popped ∙ blank)
+next_share None n old new (Some s) blank popped some = absurd (none new (sym popped ∙ blank))
   where
     none : (xs : List ShareSeen) → xs ++ s ∷ [] ≡ [] → ⊥
     none [] e = absurd (cc)
     none (x ∷ xs) e = absurd (cc)
-next_share (Some b) n old new None blank popped = (let e = ap length popped.0 in let m = blank.0 in absurd (omega arith))
-next_share (Some b) n old new (Some s) blank popped =
+next_share (Some b) n old new None blank popped none = (let e = none refl in let m = blank.0 in absurd (omega arith))
+next_share (Some b) n old new (Some s) blank popped some =
     let all = All-pop (IsBlank b) old new (Some s) popped blank.1 in
     let m = blank.0 in
     ((all.1.of, ap length all.1.unnoted), (omega (arith, ap length popped, length-append new (s ∷ [])), all.0))
@@ -48,13 +53,13 @@ pub none_seated : (c : ClaimsSeen) (b : Option BookSeen) (seats : List SeatSeen)
 none_seated c b seats shares ready blank = record { ready = ready; blank = blank; done = All-nil (IsFresh c b) }
 
 pub next_seated : (c : ClaimsSeen) (b : Option BookSeen) (seats seats' : List SeatSeen) (shares shares' : List ShareSeen) (slots slots' : List Slot) (seat : SeatSeen) (share : Option ShareSeen) (slot : Slot)
-    → AreSeated c b seats shares slots → seats ≡ seats' ++ seat ∷ [] → MatchOption share ((shares ≡ []) × (shares' ≡ [])) (λ s. shares ≡ shares' ++ s ∷ [])
+    → AreSeated c b seats shares slots → seats ≡ seats' ++ seat ∷ [] → shares ≡ shares' ++ option_to_list share → (share ≡ None → length shares ≡ 0)
     → slots' ≡ slots ++ slot ∷ [] → slot.seat ≡ seat → slot.share ≡ share
     → AreSeated c b seats' shares' slots'
-next_seated c b seats seats' shares shares' slots slots' seat share slot h seats_are shares_are slots_are seat_is share_is =
+next_seated c b seats seats' shares shares' slots slots' seat share slot h seats_are shares_are none slots_are seat_is share_is =
     let ready = All-pop (IsReady c) seats seats' (Some seat) seats_are h.ready in
     let many : length seats ≡ length seats' + 1 = omega (arith, ap length seats_are, length-append seats' (seat ∷ [])) in
-    let noted = next_share b (length seats') shares shares' share (subst (λ (n : ℕ). AreBlank b n shares) many h.blank) shares_are in
+    let noted = next_share b (length seats') shares shares' share (subst (λ (n : ℕ). AreBlank b n shares) many h.blank) shares_are none in
     record {
       ready = ready.0;
       blank = noted.1;

@@ -5,7 +5,7 @@ use Rattle.std.specs.List.{remove}
 use Rattle.std.proofs.lemmas.List.Elements.{All-tail}
 use Rattle.std.proofs.lemmas.List.Concat.{flat_map-append}
 use Rattle.loop_pieces.specs.declared.loop_piece.LoopPiece.{LoopPiece}
-use Rattle.partial_watch.specs.Shares.{ShareSeen}
+use Rattle.slot_words.specs.Shares.{ShareSeen}
 use Rattle.event_loop.specs.declared.gather.Done.{Done}
 use Rattle.event_loop.specs.Filling.{AllAreGoing, ArePieces, IsGoing, IsPieceOf, shares_in, share_or_none}
 

@@ -16,10 +16,10 @@ use Rattle.loop_pieces.specs.declared.filled_result.PartialLine.{PartialLine}
 use Rattle.loop_pieces.specs.declared.loop_piece.LoopPiece.{LoopPiece}
 use Rattle.merge_core.specs.Pieces.{Stand}
 use Rattle.rdf_model.specs.declared.loop_facts.LoopFacts.{LoopFacts}
-use Rattle.partial_watch.specs.Chains.{AreNoted, HavePartialsOver, noted_sets}
-use Rattle.partial_watch.specs.Trails.{HasSameBody, HaveAllTrails, HaveSameBodies}
-use Rattle.partial_watch.specs.Shares.{BookSeen, ShareSeen, many_in}
-use Rattle.partial_watch.specs.Shares as book
+use Rattle.slot_words.specs.Chains.{AreNoted, HavePartialsOver, noted_sets}
+use Rattle.slot_words.specs.Trails.{HasSameBody, HaveAllTrails, HaveSameBodies}
+use Rattle.slot_words.specs.Shares.{BookSeen, ShareSeen, many_in}
+use Rattle.slot_words.specs.Shares as book
 use Rattle.event_loop.specs.Jobs.{JobFacts}
 use Rattle.event_loop.specs.declared.gather.Done.{Done}
 use Rattle.event_loop.specs.Ends.{AreNotedPartials}

@@ -10,10 +10,10 @@ use Rattle.std.specs.contracts.option.Option.{the_row as option_row}
 use Rattle.rdf_values.proofs.SharedScript.{columns_sync}
 use Rattle.columns.specs.contracts.cuts.Cuts.{the_row as cuts_row}
 use Rattle.columns.specs.contracts.columns.Columns.{the_row as columns_row}
-use Rattle.partial_watch.specs.contracts.book.Book.{the_row as book_row}
-use Rattle.partial_watch.proofs.book.Book.TheSendSync as book
-use Rattle.cluster_claims.specs.contracts.claims.Claims.{the_row as claims_row}
-use Rattle.cluster_claims.proofs.claims.Claims.TheSendSync as claims
+use Rattle.slot_words.specs.contracts.book.Book.{the_row as book_row}
+use Rattle.slot_words.proofs.book.Book.TheSendSync as book
+use Rattle.slot_words.specs.contracts.claims.Claims.{the_row as claims_row}
+use Rattle.slot_words.proofs.claims.Claims.TheSendSync as claims
 
 cuts_sync : IsSync cuts_row
 cuts_sync = search (sendable, crosses) depth 40 fits 4000

@@ -8,8 +8,8 @@ use Rattle.rdf_values.specs.declared.fault.Fault.{Fault}
 use Rattle.rdf_values.proofs.Below.{length-below}
 use Rattle.rdf_values.proofs.Leading.{cuts_lead}
 use Rattle.columns.proofs.Leading.{few_ranges}
-use Rattle.cluster_claims.specs.Seats.{ClaimsSeen, SeatSeen, fresh_seats}
-use Rattle.partial_watch.specs.Shares.{BookSeen}
+use Rattle.slot_words.specs.Seats.{ClaimsSeen, SeatSeen, fresh_seats}
+use Rattle.slot_words.specs.Shares.{BookSeen}
 use Rattle.loop_keys.specs.Jobs.{IsJob, JobView, passes_in}
 use Rattle.loop_pieces.specs.Whole.{cluster_fault}
 use Rattle.loop_pieces.proofs.ClusterFaults.{lower_clusters_fault_first}

@@ -4,7 +4,7 @@ use Rattle.rdf_values.specs.Cuts.{below}
 use Rattle.rdf_values.specs.Machine.{first_in}
 use Rattle.loop_pieces.specs.LoopPieces.{StandsFor}
 use Rattle.loop_pieces.specs.declared.filled_result.PartialLine.{PartialLine}
-use Rattle.partial_watch.specs.Chains.{AreNoted, HavePartialsOver, noted_sets}
+use Rattle.slot_words.specs.Chains.{AreNoted, HavePartialsOver, noted_sets}
 use Rattle.event_loop.specs.Jobs.{JobFacts}
 use Rattle.event_loop.specs.declared.end.FilledLoop.{FilledLoop}
 use Rattle.event_loop.specs.declared.end.LoopEnd.{LoopEnd}

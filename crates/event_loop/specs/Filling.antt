@@ -4,7 +4,7 @@ use Rattle.rdf_values.specs.Cuts.{below}
 use Rattle.loop_pieces.specs.LoopPieces.{StandsFor}
 use Rattle.loop_pieces.specs.Trails.{HaveTrails}
 use Rattle.loop_pieces.specs.declared.loop_piece.LoopPiece.{LoopPiece}
-use Rattle.partial_watch.specs.Shares.{BookSeen, ShareSeen}
+use Rattle.slot_words.specs.Shares.{BookSeen, ShareSeen}
 use Rattle.event_loop.specs.Jobs.{JobFacts}
 use Rattle.event_loop.specs.Slots.{IsSlotOf, SlotView}
 use Rattle.event_loop.specs.declared.progress.Phase.TheVariants as phase

@@ -4,8 +4,8 @@ use Rattle.rdf_values.specs.Cuts.{below}
 use Rattle.rdf_values.specs.Draws.{IsUnion}
 use Rattle.rdf_values.specs.Machine.{AreInEntryOrder, first_in}
 use Rattle.rdf_values.specs.declared.fault.Fault.{Fault}
-use Rattle.cluster_claims.specs.Seats.{ClaimsSeen, SeatSeen}
-use Rattle.partial_watch.specs.Shares.{BookSeen, ShareSeen}
+use Rattle.slot_words.specs.Seats.{ClaimsSeen, SeatSeen}
+use Rattle.slot_words.specs.Shares.{BookSeen, ShareSeen}
 use Rattle.event_loop.specs.Jobs.{JobFacts}
 use Rattle.event_loop.specs.Slots.{IsSlotOf}
 use Rattle.event_loop.specs.declared.progress.Phase.TheVariants as phase

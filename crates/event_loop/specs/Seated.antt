@@ -1,7 +1,7 @@
 -- What the slots of a loop begin with.
 use Rattle.std.specs.Prelude.{◌≡◌, ℕ, List, [], Option, Some, None, All, length}
-use Rattle.partial_watch.specs.Shares.{BookSeen, ShareSeen}
-use Rattle.partial_watch.specs.Shares as book
+use Rattle.slot_words.specs.Shares.{BookSeen, ShareSeen}
+use Rattle.slot_words.specs.Shares as book
 
 -- a share of this book that noted nothing
 pub record IsBlank (b : BookSeen) (s : ShareSeen) : Type 0 where

@@ -2,10 +2,10 @@
 use Rattle.std.specs.Prelude.{◌≡◌, ◌<◌, ◌≤◌, ◌⊎◌, ⊤, ℕ, List, [], ◌∷◌, ◌++◌, Option, Some, None, IsSomeAnd, length, slice_get}
 use Rattle.rdf_values.specs.Times.{times}
 use Rattle.rdf_values.specs.declared.fault.Fault.{Fault}
-use Rattle.cluster_claims.specs.Seats.{ClaimsSeen, SeatSeen}
-use Rattle.cluster_claims.specs.Seats as claims
-use Rattle.partial_watch.specs.Shares.{BookSeen, ShareSeen}
-use Rattle.partial_watch.specs.Shares as book
+use Rattle.slot_words.specs.Seats.{ClaimsSeen, SeatSeen}
+use Rattle.slot_words.specs.Seats as claims
+use Rattle.slot_words.specs.Shares.{BookSeen, ShareSeen}
+use Rattle.slot_words.specs.Shares as book
 use Rattle.event_loop.specs.Jobs.{JobFacts}
 use Rattle.event_loop.specs.Slots.{IsSlotOf, SlotView}
 use Rattle.event_loop.specs.declared.progress.Phase.TheVariants as phase

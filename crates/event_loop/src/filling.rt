@@ -1,6 +1,6 @@
 // What a loop without a fault is filled with.
 ghost use Rattle.std.specs.Prelude.{◌≡◌, ◌<◌, ◌≤◌, ◌++◌, List, Option, IfOk, OnOk, flat_map};
-ghost use Rattle.partial_watch.specs.Trails.{HaveSameBodies};
+ghost use Rattle.slot_words.specs.Trails.{HaveSameBodies};
 ghost use Rattle.event_loop.specs.Jobs.{JobFacts};
 ghost use Rattle.event_loop.specs.Ends.{AreNotedPartials};
 ghost use Rattle.event_loop.specs.Filling.{AllAreGoing, AreFilled, ArePieces, CanFill, dones_of, orders_of, share_or_none, shares_in};
@@ -10,8 +10,8 @@ use crate::end::FilledLoop;
 use crate::gather::Done;
 use loop_pieces::{LoopPiece, PartialLine};
 use merge_core::merge_all;
-use partial_watch::{Book, Share, ShareList, partial_lines};
 use rdf_values::{ListOf, Memory};
+use slot_words::{Book, Share, ShareList, partial_lines};
 use std::alloc::Global;
 
 // Appends a share, where there is one.

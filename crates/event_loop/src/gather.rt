@@ -1,16 +1,15 @@
 // What the slots of a loop give back.
 ghost use Rattle.std.specs.Prelude.{◌≡◌, ◌<◌, ◌++◌, All, flat_map, map, IfOk, OnOk, vec_len, Option};
 ghost use Rattle.rdf_values.specs.Machine.{least_fault, lesser_fault};
-ghost use Rattle.cluster_claims.specs.Seats.{IsOf};
-ghost use Rattle.partial_watch.specs.Shares.{BookSeen};
+ghost use Rattle.slot_words.specs.Seats.{IsOf};
+ghost use Rattle.slot_words.specs.Shares.{BookSeen};
 ghost use Rattle.event_loop.specs.Jobs.{JobFacts};
 ghost use Rattle.event_loop.specs.Gathered.{AreFacts, HasMemory, HasStopped, IsOutcome, done_in, done_or_none, end_faults, seat_in};
 
 use crate::SlotState;
 use crate::workers::{End, Finished, Slot};
-use cluster_claims::{Claims, SeatList};
-use partial_watch::Share;
 use rdf_values::{Fault, Memory};
+use slot_words::{Claims, SeatList, Share};
 use std::alloc::Global;
 
 /// A slot whose clusters are all processed: its state, and its right to note, where a result is watched.

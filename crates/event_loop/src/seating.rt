@@ -1,14 +1,13 @@
 // What the slots of a loop begin with.
 ghost use Rattle.std.specs.Prelude.{◌≡◌, ◌<◌, ◌≤◌, All, IfOk, Option, length, vec_len};
-ghost use Rattle.cluster_claims.specs.Seats.{ClaimsSeen};
-ghost use Rattle.partial_watch.specs.Shares.{BookSeen};
+ghost use Rattle.slot_words.specs.Seats.{ClaimsSeen};
+ghost use Rattle.slot_words.specs.Shares.{BookSeen};
 ghost use Rattle.event_loop.specs.Seated.{AreBlank, IsOpened};
 ghost use Rattle.event_loop.specs.Workers.{IsFresh, IsReady};
 
 use crate::workers::Slot;
-use cluster_claims::SeatList;
-use partial_watch::{Book, ShareList};
 use rdf_values::Memory;
+use slot_words::{Book, SeatList, ShareList};
 use std::alloc::Global;
 
 /// A book with a share for each slot, where a result is watched; it takes the memory for all numbers.
@@ -34,8 +33,8 @@ pub fn seated(alloc: Global, seats: SeatList, shares: ShareList) -> Result<Vec<S
     ensures many { IfOk result (λ v. vec_len v ≡ length seats) }
     ensures fresh { (c : ClaimsSeen) (b : Option BookSeen) → All (IsReady c) seats → AreBlank b (length seats) shares → IfOk result (λ v. All (IsFresh c b) v.items) }
 {
-    let mut seats = seats;
-    let mut shares = shares;
+    let mut seats = seats.into_vec();
+    let mut shares = shares.into_vec();
     let mut slots = Vec::new(alloc);
     while let Some(seat) = seats.pop() {
         let share = shares.pop();

@@ -12,12 +12,11 @@ ghost use Rattle.event_loop.specs.declared.workers.Slot.{Slot};
 ghost use Rattle.event_loop.specs.declared.workers.Finished.{Finished};
 
 use crate::{Progress, SlotState, SlotStop};
-use cluster_claims::{ClaimSeat, Claims};
 use expr_eval::Steps;
 use loop_keys::Job;
-use partial_watch::{Book, Share};
 use rdf_outside::Gate;
 use rdf_values::{Fault, Memory};
+use slot_words::{Book, ClaimSeat, Claims, Share};
 use std::alloc::Global;
 use std::marker::Brand;
 use std::sync::ledger::{Blank, Ledger};

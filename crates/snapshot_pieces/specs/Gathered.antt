@@ -3,7 +3,7 @@ use Rattle.std.specs.Prelude.{◌≡◌, ⊤, ◌<◌, ℕ, List, [], ◌∷◌,
 use Rattle.rdf_values.specs.Machine.{first_in}
 use Rattle.rdf_values.specs.Times.{times}
 use Rattle.rdf_values.specs.declared.fault.Fault.{Fault}
-use Rattle.cluster_claims.specs.Seats.{SeatSeen}
+use Rattle.slot_words.specs.Seats.{SeatSeen}
 use Rattle.snapshot_pieces.specs.Facts.{IsPieceOf, SnapFacts}
 use Rattle.snapshot_pieces.specs.Stopping.{clusters_of}
 use Rattle.snapshot_pieces.specs.declared.finished.End.{End}

@@ -1,8 +1,8 @@
 -- How a slot stops.
 use Rattle.std.specs.Prelude.{◌≡◌, ◌<◌, ◌≤◌, ◌⊎◌, ⊤, ℕ, List, [], ◌∷◌, ◌++◌, Some, None, IsSomeAnd, All, map, slice_get}
 use Rattle.rdf_values.specs.declared.fault.Fault.{Fault}
-use Rattle.cluster_claims.specs.Seats.{ClaimsSeen, SeatSeen}
-use Rattle.cluster_claims.specs.Seats as claims
+use Rattle.slot_words.specs.Seats.{ClaimsSeen, SeatSeen}
+use Rattle.slot_words.specs.Seats as claims
 use Rattle.snapshot_pieces.specs.Facts.{AreSound, IsPieceOf, SnapFacts}
 use Rattle.snapshot_pieces.specs.declared.finished.End.{End}
 use Rattle.snapshot_pieces.specs.declared.finished.End.TheVariants.{Over, Faulted, NoMemory}

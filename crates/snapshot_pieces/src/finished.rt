@@ -1,7 +1,7 @@
 // How a slot stopped.
 use crate::piece::Piece;
-use cluster_claims::ClaimSeat;
 use rdf_values::{Fault, ListOf};
+use slot_words::ClaimSeat;
 
 /// Why a slot stopped: no cluster is left for it, and it made these pieces; it met its first fault; or it had no memory.
 #[derive(Drop)]

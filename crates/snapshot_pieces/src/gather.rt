@@ -1,15 +1,15 @@
 // What the slots tell together.
 ghost use Rattle.std.specs.Prelude.{◌≡◌, ◌<◌, ◌++◌, All, flat_map, map, IfOk, OnOk, vec_len};
 ghost use Rattle.rdf_values.specs.Machine.{least_fault, lesser_fault};
-ghost use Rattle.cluster_claims.specs.Seats.{IsOf};
+ghost use Rattle.slot_words.specs.Seats.{IsOf};
 ghost use Rattle.snapshot_pieces.specs.Facts.{AreFacts, SnapFacts};
 ghost use Rattle.snapshot_pieces.specs.Gathered.{HasMemory, IsOutcome, end_faults, pieces_in, pieces_of, seat_in};
 ghost use Rattle.snapshot_pieces.specs.Stopping.{HasStopped};
 
 use crate::finished::{End, Finished};
 use crate::piece::Piece;
-use cluster_claims::{Claims, SeatList};
 use rdf_values::{Fault, ListOf, Memory};
+use slot_words::{Claims, SeatList};
 use std::alloc::Global;
 
 // The fault at the lower entry.

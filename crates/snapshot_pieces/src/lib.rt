@@ -1,5 +1,5 @@
 //! The records of clusters that slots made side by side: how slots stop, what they tell together, and their records in file order.
-//! Stands on `cluster_claims`; the laws of what slots tell are those of `merge_core`.
+//! Stands on `slot_words`; the laws of what slots tell are those of `merge_core`.
 #![tactic(auto)]
 
 pub mod finished;

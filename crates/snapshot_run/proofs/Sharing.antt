@@ -13,8 +13,8 @@ use Rattle.rdf_values.proofs.SharedScript.{columns_sync, list_sync}
 use Rattle.graph.proofs.Shared.{graph_sync}
 use Rattle.columns.specs.contracts.cuts.Cuts.{the_row as cuts_row}
 use Rattle.columns.specs.contracts.columns.Columns.{the_row as columns_row}
-use Rattle.cluster_claims.specs.contracts.claims.Claims.{the_row as claims_row}
-use Rattle.cluster_claims.proofs.claims.Claims.TheSendSync as claims
+use Rattle.slot_words.specs.contracts.claims.Claims.{the_row as claims_row}
+use Rattle.slot_words.proofs.claims.Claims.TheSendSync as claims
 use Rattle.snapshot_plan.specs.contracts.planning.SnapPlan.{the_row as plan_row}
 use Rattle.snapshot_plan.specs.contracts.planning.SnapPlan.TheInside.{the_row as inside_row}
 use Rattle.snapshot_plan.specs.contracts.planning.SnapPlan.TheInside as I

@@ -18,7 +18,7 @@ use Rattle.rdf_values.specs.declared.value.Value.{Value}
 use Rattle.rdf_values.proofs.Leading.{cuts_lead}
 use Rattle.rdf_model.specs.Results.{Dataset}
 use Rattle.columns.specs.CutsView.{CutsView}
-use Rattle.cluster_claims.specs.Seats.{ClaimsSeen, SeatSeen, fresh_seat, fresh_seats}
+use Rattle.slot_words.specs.Seats.{ClaimsSeen, SeatSeen, fresh_seat, fresh_seats}
 use Rattle.graph_numbers.specs.Graphs.{GraphView, IsGraph}
 use Rattle.graph_numbers.specs.Laws.{graph_of}
 use Rattle.snapshot_plan.specs.Views.{IsPlan, PlanView, plan_columns}

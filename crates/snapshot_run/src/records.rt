@@ -3,12 +3,11 @@ ghost use Rattle.std.specs.Prelude.{◌≡◌, ◌<◌, ◌≤◌};
 ghost use Rattle.snapshot_entries.specs.Jobs.{IsWork, data_of, plan_of};
 ghost use Rattle.snapshot_run.specs.Texts.{AreRecords};
 
-use crate::seating::seated;
 use crate::stop::SnapStop;
 use crate::workers::run_slots;
-use cluster_claims::Claims;
 use rdf_outside::Gate;
 use rdf_values::{ListOf, Text};
+use slot_words::Claims;
 use snapshot_entries::SnapJob;
 use snapshot_pieces::{Outcome, gathered, placed};
 use std::alloc::Global;
@@ -28,7 +27,7 @@ pub(crate) fn make_records<R: Threads + Sync, G: Gate>(
 {
     let clusters = job.columns.cuts().count();
     let (claims, seats) = Claims::new(alloc, clusters, slots)?;
-    let ready = seated(alloc, seats)?;
+    let ready = seats.into_vec();
     let finished = run_slots(rt, alloc, job, &claims, ready, gate)?;
     match gathered(alloc, claims, finished)? {
         Outcome::Faulted(fault) => Err(SnapStop::Fault {

@@ -3,15 +3,15 @@ ghost use Rattle.std.specs.Prelude.{◌≡◌, ℕ, ◌<◌, All, IfOk, length, 
 ghost use Rattle.entry_fns.specs.Lists.{functions_in};
 ghost use Rattle.snapshot_entries.specs.Jobs.{IsWork, data_of, plan_of};
 ghost use Rattle.snapshot_pieces.specs.Stopping.{HasStopped, IsReady, Stopped};
-ghost use Rattle.cluster_claims.specs.Seats.{IsOf};
+ghost use Rattle.slot_words.specs.Seats.{IsOf};
 ghost use Rattle.snapshot_run.specs.Runs.{data_with, facts_of, spans_of};
 ghost use Rattle.snapshot_pieces.specs.declared.finished.Finished.{Finished};
 
 use crate::piece::make_piece;
-use cluster_claims::{ClaimSeat, Claims};
 use expr_eval::Steps;
 use rdf_outside::Gate;
 use rdf_values::{Fault, ListOf, Memory};
+use slot_words::{ClaimSeat, Claims};
 use snapshot_entries::{Skim, SkimStop, SnapJob};
 use snapshot_pieces::{End, Finished};
 use std::alloc::Global;

@@ -4,7 +4,7 @@ use Rattle.rdf_values.specs.Cuts.{below}
 use Rattle.loop_pieces.specs.LoopPieces.{StandsFor}
 use Rattle.loop_pieces.specs.declared.loop_piece.LoopPiece.{LoopPiece}
 use Rattle.merge_core.specs.Pieces.{Stand}
-use Rattle.partial_watch.specs.Trails.{HaveSameBodies}
+use Rattle.slot_words.specs.Trails.{HaveSameBodies}
 use Rattle.event_loop.specs.Filling.{ArePieces}
 use Rattle.event_loop.specs.Gathered.{finished_by}
 use Rattle.event_loop.proofs.Shares.{as_many_pieces, stand}

@@ -1,6 +1,6 @@
 use Rattle.std.proofs.Common.{map, subst, sym}
 use Rattle.std.proofs.lemmas.Result.{IfOk-weaker}
-use Rattle.partial_watch.specs.Chains.{HavePartialsOver, noted_sets}
+use Rattle.slot_words.specs.Chains.{HavePartialsOver, noted_sets}
 use Rattle.event_loop.specs.Ends.{AreNotedPartials}
 use Rattle.event_loop.specs.Filling.{dones_of, orders_of}
 use Rattle.event_loop.specs.Gathered.{finished_by}

@@ -3,7 +3,7 @@ use Rattle.std.specs.List.{All}
 use Rattle.std.proofs.lemmas.List.Elements.{All-map}
 use Rattle.rdf_values.specs.Draws.{DrawnBy}
 use Rattle.rdf_values.specs.Machine.{least_fault}
-use Rattle.cluster_claims.specs.Seats.{IsOf, IsLeast, IsPassed, SeatSeen}
+use Rattle.slot_words.specs.Seats.{IsOf, IsLeast, IsPassed, SeatSeen}
 use Rattle.event_loop.specs.Gathered.{AreDone, HasMemory, end_faults, seat_in}
 use Rattle.event_loop.proofs.Ended.{drawn_in, IsKept, least_is_first, all_over, are_done, as_many, left_none}
 use Rattle.event_loop.proofs.gather.gathered.Goals as goal

@@ -13,8 +13,8 @@ use Rattle.std.specs.contracts.option.Option.{the_row as option_row}
 use Rattle.graph.specs.contracts.graph.Graph.{the_row as graph_row}
 use Rattle.graph.proofs.Shared.{graph_sync}
 use Rattle.columns.specs.contracts.columns.Columns.{the_row as columns_row}
-use Rattle.partial_watch.specs.contracts.book.Book.{the_row as book_row}
-use Rattle.cluster_claims.specs.contracts.claims.Claims.{the_row as claims_row}
+use Rattle.slot_words.specs.contracts.book.Book.{the_row as book_row}
+use Rattle.slot_words.specs.contracts.claims.Claims.{the_row as claims_row}
 use Rattle.event_loop.proofs.Sharing.{table_sync, claims_sync, books_sync, eight_sync}
 use Rattle.entry_fns.specs.contracts.list.FnList.{the_row as functions_row}
 use Rattle.event_loop.specs.contracts.workers.run_slots.{G-row}

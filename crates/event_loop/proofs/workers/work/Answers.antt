@@ -1,5 +1,5 @@
 use Rattle.std.proofs.Common.{◌≡◌, ◌+◌, ◌∷◌, ◌++◌, List, [], ℕ, Ok, length, sym, ap, ◌∙◌, subst, length-append}
-use Rattle.cluster_claims.specs.Seats.{IsOf, SeatSeen}
+use Rattle.slot_words.specs.Seats.{IsOf, SeatSeen}
 use Rattle.loop_keys.specs.Jobs.{job_of}
 use Rattle.event_loop.specs.Jobs.{job_facts}
 use Rattle.event_loop.specs.Workers.{AreSound, HasNoted}

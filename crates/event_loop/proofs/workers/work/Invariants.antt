@@ -1,5 +1,5 @@
 use Rattle.std.proofs.Common.{◌≡◌, ◌-◌, None, length}
-use Rattle.cluster_claims.specs.Seats as claims
+use Rattle.slot_words.specs.Seats as claims
 use Rattle.loop_keys.specs.Jobs.{job_of}
 use Rattle.event_loop.specs.Jobs.{job_facts}
 use Rattle.event_loop.specs.Slots.{IsSlotOf}

@@ -3,7 +3,7 @@ use Rattle.std.specs.List.{All}
 use Rattle.std.proofs.lemmas.List.Elements.{All-map}
 use Rattle.rdf_values.specs.Draws.{DrawnBy}
 use Rattle.rdf_values.specs.Machine.{least_fault}
-use Rattle.cluster_claims.specs.Seats.{IsOf, IsLeast, IsPassed, SeatSeen}
+use Rattle.slot_words.specs.Seats.{IsOf, IsLeast, IsPassed, SeatSeen}
 use Rattle.snapshot_pieces.specs.Gathered.{HasAll, HasMemory, end_faults, seat_in}
 use Rattle.snapshot_pieces.proofs.Ended.{drawn_in, has_all, IsKept, least_is_first, left_none}
 use Rattle.snapshot_pieces.proofs.gather.gathered.Goals as goal

@@ -4,14 +4,14 @@ use Rattle.std.specs.List.{All}
 use Rattle.columns.specs.CutsView.{CutsView}
 use Rattle.snapshot_entries.specs.Jobs.{data_of, plan_of}
 use Rattle.snapshot_pieces.specs.Facts.{AreFacts}
-use Rattle.snapshot_pieces.specs.Stopping.{HasStopped}
+use Rattle.snapshot_pieces.specs.Stopping.{HasStopped, IsReady}
 use Rattle.snapshot_run.specs.Runs.{facts_of, spans_of}
 use Rattle.snapshot_run.proofs.Whole.{are_facts, are_records, has_all, is_fault, seats_many, seats_ready}
 use Rattle.snapshot_run.proofs.records.make_records.Goals as goal
 
 pub run_slots-requires-clause-ready : goal.run_slots-requires-clause-ready
 run_slots-requires-clause-ready g c = λ κs h.
-    c.in_ok-ready.ensures.ready c.in_ok-claims.claims (seats_ready c.in_ok-claims.claims c.args.slots c.in_ok-claims.seats c.in_ok-claims.ensures.2)
+    subst (All (IsReady c.in_ok-claims.claims)) (sym c.into_vec-ready.ensures) (seats_ready c.in_ok-claims.claims c.args.slots c.in_ok-claims.seats c.in_ok-claims.ensures.2)
 
 pub run_slots-requires-clause-clusters : goal.run_slots-requires-clause-clusters
 run_slots-requires-clause-clusters g c = λ κs h.
@@ -20,11 +20,12 @@ run_slots-requires-clause-clusters g c = λ κs h.
 pub gathered-requires-clause-some : goal.gathered-requires-clause-some
 gathered-requires-clause-some g c =
     let many = seats_many c.in_ok-claims.claims c.args.slots c.in_ok-claims.seats c.in_ok-claims.ensures.2 in
-    omega (arith, c.in_ok-finished.ensures.len, c.in_ok-ready.ensures.many, many, c.requires.slots.0)
+    omega (arith, c.in_ok-finished.ensures.len, c.into_vec-ready.result.ok.0, ap length c.into_vec-ready.ensures, many, c.requires.slots.0)
 
 pub gathered-requires-clause-many : goal.gathered-requires-clause-many
 gathered-requires-clause-many g c =
-    c.in_ok-finished.ensures.len ∙ c.in_ok-ready.ensures.many ∙ seats_many c.in_ok-claims.claims c.args.slots c.in_ok-claims.seats c.in_ok-claims.ensures.2 ∙ sym c.in_ok-claims.ensures.1
+    let many = seats_many c.in_ok-claims.claims c.args.slots c.in_ok-claims.seats c.in_ok-claims.ensures.2 in
+    omega (arith, c.in_ok-finished.ensures.len, c.into_vec-ready.result.ok.0, ap length c.into_vec-ready.ensures, many, c.in_ok-claims.ensures.1)
 
 pub gathered-requires-clause-of : goal.gathered-requires-clause-of
 gathered-requires-clause-of g c =

@@ -9,7 +9,7 @@ use Rattle.std.proofs.Crossing.{crosses, dyn_box_sync}
 use Rattle.rdf_values.proofs.fn_names.FnNames.TheSendSync as names
 use Rattle.std.specs.contracts.alloc.Global.{the_row as global_row}
 use Rattle.columns.specs.contracts.columns.Columns.{the_row as columns_row}
-use Rattle.cluster_claims.specs.contracts.claims.Claims.{the_row as claims_row}
+use Rattle.slot_words.specs.contracts.claims.Claims.{the_row as claims_row}
 use Rattle.entry_fns.specs.contracts.list.FnList.{the_row as functions_row}
 use Rattle.snapshot_plan.specs.contracts.planning.SnapPlan.{the_row as plan_row}
 use Rattle.snapshot_run.proofs.Sharing.{plan_sync, table_sync, claims_sync, six_sync}

@@ -1,5 +1,5 @@
 use Rattle.std.proofs.Common.{◌≡◌, ◌-◌, None, length}
-use Rattle.cluster_claims.specs.Seats as claims
+use Rattle.slot_words.specs.Seats as claims
 use Rattle.snapshot_entries.specs.Entries.{IsSkimOf}
 use Rattle.snapshot_entries.specs.Jobs.{data_of, plan_of}
 use Rattle.snapshot_pieces.specs.Stopping.{AreMade, clusters_of}

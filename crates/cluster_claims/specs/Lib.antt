@@ -1,4 +1,0 @@
-pub mod Claiming
-pub mod Hands
-pub mod Seats
-pub mod Totals

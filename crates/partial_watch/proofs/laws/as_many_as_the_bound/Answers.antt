@@ -1,5 +1,0 @@
-use Rattle.partial_watch.proofs.Noted.{as_many_as_the_bound}
-use Rattle.partial_watch.proofs.laws.as_many_as_the_bound.Goals as goal
-
-pub returns : goal.returns
-returns g c = as_many_as_the_bound g.row.P.Denot

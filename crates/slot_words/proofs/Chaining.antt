@@ -1,0 +1,76 @@
+-- The sets after every so many clusters are a chain.
+use Rattle.std.proofs.Common.{◌≡◌, ℕ, zero, suc, ◌+◌, ◌*◌, ◌/◌, ◌<◌, ◌≤◌, List, [], ◌∷◌, ◌++◌, length, map, Some, refl, sym, ap, ◌∙◌, subst, arith, mul-le-mul_right}
+use Rattle.std.specs.Prelude.{slice_get, option_map, Contains}
+use Rattle.std.specs.List.{All}
+use Rattle.std.specs.List.Sorted.{IsStrictlyIncreasing}
+use Rattle.std.proofs.lemmas.List.{length-map, map-append}
+use Rattle.std.proofs.lemmas.Option.{slice_get-map, slice_get_within}
+use Rattle.rdf_values.specs.Cuts.{below}
+use Rattle.rdf_values.proofs.Below.{length-below, slice_get-below}
+use Rattle.rdf_model.specs.PartialResults.{IsChain}
+use Rattle.rdf_model.specs.declared.loop_facts.LoopFacts.{LoopFacts}
+use Rattle.loop_pieces.specs.PartialLines.{ArePartialLines, IsPartialLine}
+use Rattle.loop_pieces.specs.declared.filled_result.PartialLine.{PartialLine}
+use Rattle.slot_words.specs.Chains.{AreNoted, set_before, chain_of}
+use Rattle.slot_words.proofs.Noting.{set_rises, set_within, set_many, set_grows}
+use Rattle.slot_words.proofs.Places.{same_item}
+
+-- a multiple that is counted is no greater than the number
+pub multiple_below : (c g j : ℕ) → 0 < g → j < c / g → (j + 1) * g ≤ c
+multiple_below c g j some lt =
+    let low : (c / g) * g ≤ c = omega arith in
+    let high : (j + 1) * g ≤ (c / g) * g = mul-le-mul_right g (omega arith) in
+    omega arith
+
+-- an item of a list by numbers
+pub at_below : {A : Type 0} (f : ℕ → A) (n j : ℕ) (x : A) → slice_get (map f (below n)) j ≡ Some x → (j < n) × (f j ≡ x)
+at_below f n j x h =
+    let inside : j < n = omega (arith, slice_get_within (map f (below n)) j x h, length-map (below n) f, length-below n) in
+    (inside, same_item (slice_get (map f (below n)) j) (f j) x (slice_get-map f (below n) j ∙ ap (option_map f) (slice_get-below n j inside)) h)
+
+module _ (os ds : List (List ℕ)) (clusters step : ℕ) (noted : AreNoted os ds clusters) (some : 0 < step) where
+  abbrev set_at : ℕ → List ℕ
+  set_at j = set_before os ds clusters ((j + 1) * step)
+
+  pub is_chain : IsChain clusters step (chain_of os ds clusters step)
+  is_chain = record {
+    count = length-map (below (clusters / step)) set_at ∙ length-below (clusters / step);
+    sizes = λ j set at. (let b = at_below set_at (clusters / step) j set at in ap length (sym b.1) ∙ set_many os ds clusters noted ((j + 1) * step) (multiple_below clusters step j some b.0));
+    rising = λ j set at. (let b = at_below set_at (clusters / step) j set at in subst IsStrictlyIncreasing b.1 (set_rises os ds clusters noted ((j + 1) * step)));
+    clusters = λ j set at. (let b = at_below set_at (clusters / step) j set at in subst (All (λ x. x < clusters)) b.1 (set_within os ds clusters noted ((j + 1) * step)));
+    nested = λ j set next at after.
+        (let b = at_below set_at (clusters / step) j set at in
+        let a = at_below set_at (clusters / step) (j + 1) next after in
+        let more : (j + 1) * step ≤ (j + 1 + 1) * step = mul-le-mul_right step (omega arith) in
+        subst (λ (l : List ℕ). All (Contains l) set) a.1 (subst (All (Contains (set_at (j + 1)))) b.1 (set_grows os ds clusters noted ((j + 1) * step) ((j + 1 + 1) * step) more)));
+  }
+
+-- ---- lines
+
+module _ (facts : LoopFacts) (place : ℕ) where
+  lines_push : (sets : List (List ℕ)) (ls : List PartialLine) (set : List ℕ) (l : PartialLine) → ArePartialLines facts place sets ls → IsPartialLine facts place set l → ArePartialLines facts place (sets ++ set ∷ []) (ls ++ l ∷ [])
+  lines_push [] [] set l h k = (k, tt)
+  lines_push [] (m ∷ ms) set l h k = elim h [ ]
+  lines_push (s ∷ ss) [] set l h k = elim h [ ]
+  lines_push (s ∷ ss) (m ∷ ms) set l h k = (h.0, lines_push ss ms set l h.1 k)
+
+  pub lines_next : (f : ℕ → List ℕ) (j : ℕ) (ls now : List PartialLine) (l : PartialLine)
+      → ArePartialLines facts place (map f (below j)) ls → IsPartialLine facts place (f j) l → now ≡ ls ++ l ∷ [] → ArePartialLines facts place (map f (below (j + 1))) now
+  lines_next f j ls now l h one is =
+      let next : suc j ≡ j + 1 = omega arith in
+      subst (λ k. ArePartialLines facts place (map f (below k)) now) next
+      (subst (λ (sets : List (List ℕ)). ArePartialLines facts place sets now) (sym (map-append f (below j) (j ∷ [])))
+      (subst (ArePartialLines facts place (map f (below j) ++ f j ∷ [])) (sym is) (lines_push (map f (below j)) ls (f j) l h one)))
+
+  line_in : (sets : List (List ℕ)) (ls : List PartialLine) (j : ℕ) (set : List ℕ) (l : PartialLine) → ArePartialLines facts place sets ls → slice_get sets j ≡ Some set → slice_get ls j ≡ Some l → IsPartialLine facts place set l
+  line_in [] ls j set l h at there = absurd (cc)
+  line_in (s ∷ ss) [] j set l h at there = elim h [ ]
+  line_in (s ∷ ss) (m ∷ ms) zero set l h at there =
+      let same : s ≡ set = same_item (Some s) s set refl at in
+      let line : m ≡ l = same_item (Some m) m l refl there in
+      subst (λ (x : PartialLine). IsPartialLine facts place set x) line (subst (λ (x : List ℕ). IsPartialLine facts place x m) same h.0)
+  line_in (s ∷ ss) (m ∷ ms) (suc j) set l h at there = line_in ss ms j set l h.1 at there
+
+  -- one of the lines so far
+  pub line_at : (f : ℕ → List ℕ) (n j : ℕ) (ls : List PartialLine) (l : PartialLine) → ArePartialLines facts place (map f (below n)) ls → j < n → slice_get ls j ≡ Some l → IsPartialLine facts place (f j) l
+  line_at f n j ls l h lt there = line_in (map f (below n)) ls j (f j) l h (slice_get-map f (below n) j ∙ ap (option_map f) (slice_get-below n j lt)) there

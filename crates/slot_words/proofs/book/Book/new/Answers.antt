@@ -1,0 +1,29 @@
+use Rattle.std.proofs.Common.{◌+◌, ◌-◌, [], refl, ap, ◌∙◌, arith}
+use Rattle.slot_words.specs.Noting.{AreNotings}
+use Rattle.slot_words.specs.Shares.{BookSeen, fresh_shares}
+use Rattle.slot_words.proofs.Notes.{again}
+use Rattle.slot_words.proofs.Tokens.{deals, many_left, next_dealt, one_dealt}
+use Rattle.slot_words.proofs.book.Book.new.Goals as goal
+
+pub split_seat-seat-requires : goal.split_seat-seat-requires
+split_seat-seat-requires c =
+    let key = c.in_ok-table.table.shared.key in
+    let left = many_left _ _ _ _ _ _ _ _ c.loop-slot.invariant in
+    (c.loop-slot.invariant.of, omega (arith, c.in_ok-table.ensures), deals (AreNotings key) (again key) c.loop-slot.first.id c.loop-slot.first.me.0 (omega arith))
+
+pub fresh-requires : goal.fresh-requires
+fresh-requires c =
+    let s = c.split_seat-seat.ensures in
+    s.4 ∙ ap (λ v. (v, [])) (one_dealt _ _ _ _ _ _ _ _ c.loop-slot.invariant (omega arith))
+
+pub loop-slot-preserved : goal.loop-slot-preserved
+loop-slot-preserved c =
+    let i = c.loop-slot.invariant in
+    let s = c.split_seat-seat.ensures in
+    next_dealt _ _ _ _ _ _ _ _ i (c.args.slots - (c.loop-slot.slot + 1)) _ _ _ _ (omega arith) s.0 s.2 c.in_ok-push.ensures.ok
+    (c.in_ok-fresh.ensures ∙ ap (λ t. record { table = t; slot = c.loop-slot.slot; clusters = c.args.clusters; numbers = [] }) (s.3 ∙ i.of))
+
+pub returns : goal.returns
+returns c =
+    let book : BookSeen = record { table = c.in_ok-table.table.shared.table_id; clusters = c.args.clusters; slots = c.args.slots } in
+    (refl, refl, c.loop-slot.invariant.dealt ∙ ap (fresh_shares book) (omega arith))

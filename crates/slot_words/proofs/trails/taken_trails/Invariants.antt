@@ -1,0 +1,5 @@
+use Rattle.slot_words.proofs.Taking.{IsTaking}
+use Rattle.slot_words.proofs.trails.taken_trails.Given as goal
+
+abbrev pub invariant-loop-i : goal.invariant-loop-i
+invariant-loop-i l = IsTaking l.watched l.i l.fn.pieces l.pieces l.trails

@@ -1,0 +1,50 @@
+-- The sets of clusters over which partial results come.
+use Rattle.std.specs.Prelude.{◌≡◌, ◌+◌, ◌*◌, ◌/◌, ◌<◌, ◌≤◌, ℕ, List, length, map, nat_lt}
+use Rattle.std.specs.List.{filter}
+use Rattle.rdf_values.specs.Cuts.{below, stride}
+use Rattle.rdf_values.specs.Draws.{DrawnBy, IsUnion}
+use Rattle.rdf_values.specs.Times.{times}
+use Rattle.rdf_model.specs.declared.loop_facts.LoopFacts.{LoopFacts}
+use Rattle.merge_core.specs.declared.noted.Noted.{Noted}
+use Rattle.loop_pieces.specs.PartialLines.{HavePartials}
+use Rattle.loop_pieces.specs.declared.filled_result.PartialLine.{PartialLine}
+use Rattle.slot_words.specs.Chosen.{chosen, cluster_in}
+
+-- an entry of a cluster, without a piece
+abbrev pub bare_entry : ℕ → Noted (Unit {0})
+bare_entry cluster = record { cluster = cluster; piece = tt }
+
+-- entries of these clusters
+abbrev pub bare_entries : List ℕ → List (Noted (Unit {0}))
+bare_entries clusters = map bare_entry clusters
+
+-- the clusters with a number less than a bound, where the slots finished these and drew those numbers for them
+abbrev pub noted_before : List (List ℕ) → List (List ℕ) → ℕ → List ℕ
+noted_before orders dones bound = map cluster_in (chosen orders bound (map bare_entries dones))
+
+-- they, rising, among so many clusters
+abbrev pub set_before : List (List ℕ) → List (List ℕ) → ℕ → ℕ → List ℕ
+set_before orders dones clusters bound = filter (λ c. nat_lt 0 (times c (noted_before orders dones bound))) (below clusters)
+
+-- the sets after every so many clusters
+abbrev pub chain_of : List (List ℕ) → List (List ℕ) → ℕ → ℕ → List (List ℕ)
+chain_of orders dones clusters step = map (λ j. set_before orders dones clusters ((j + 1) * step)) (below (clusters / step))
+
+-- the sets of a loop that notes its watched results after every k-th cluster
+abbrev pub noted_sets : List (List ℕ) → List (List ℕ) → ℕ → ℕ → List (List ℕ)
+noted_sets orders dones clusters k = chain_of orders dones clusters (stride clusters k)
+
+-- the slots finished all clusters, each once, and drew a number for each
+pub record AreNoted (orders dones : List (List ℕ)) (clusters : ℕ) : Type 0 where
+  pub unite : IsUnion dones (below clusters)
+  pub drawn : DrawnBy orders clusters
+  pub many : map length orders ≡ map length dones
+
+-- some of so many clusters have a number less than the bound
+abbrev pub IsBound : ℕ → ℕ → Type 0
+IsBound bound clusters = (0 < bound) × (bound ≤ clusters) × (clusters ≤ 1000000)
+
+-- each watched result has its partial results, after every k-th cluster, over these sets
+pub record HavePartialsOver (facts : LoopFacts) (watched : List ℕ) (k : ℕ) (sets : List (List ℕ)) (partials : List (List PartialLine)) : Type 0 where
+  pub are : HavePartials facts watched k partials
+  pub sets_are : are.sets ≡ sets

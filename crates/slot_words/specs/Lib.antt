@@ -1,0 +1,11 @@
+pub mod Chains
+pub mod Chosen
+pub mod Claiming
+pub mod Hands
+pub mod Noting
+pub mod NotingLaws
+pub mod Runs
+pub mod Seats
+pub mod Shares
+pub mod Totals
+pub mod Trails

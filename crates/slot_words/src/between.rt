@@ -1,0 +1,75 @@
+// Results over the clusters that were noted next.
+ghost use Rattle.std.specs.Prelude.{◌≡◌, ◌-◌, ◌≤◌, ◌<◌, ◌++◌, ℕ, List, IfOk, IsPermutation, length, map};
+ghost use Rattle.std.specs.List.{All};
+ghost use Rattle.std.specs.List.Sorted.{IsStrictlyIncreasing};
+ghost use Rattle.rdf_values.specs.Times.{times};
+ghost use Rattle.slot_words.specs.Chosen.{AreAlone, HaveNumbers, IsStretch, added, added_in, cluster_in, piece_in};
+
+use crate::orders::Orders;
+use crate::partials::{PartialPiece, append, joined};
+use merge_core::{Noted, Piece, TrailList};
+use rdf_values::Memory;
+use std::alloc::Global;
+
+// Where the numbers stand that are less than a bound, but not less than a lower one: from the first place to below the second.
+fn stretch(numbers: &[u64], low: u64, below: u64) -> (usize, usize)
+    requires rises { IsStrictlyIncreasing numbers.now }
+    requires bounds { low ≤ below }
+    ensures order { (result.0 ≤ result.1) × (result.1 ≤ length numbers.now) }
+    ensures stretch { IsStretch numbers.now low below result.0 (result.1 - result.0) }
+{
+    let start = numbers.partition_point(|n| *n < low);
+    let end = numbers.partition_point(|n| *n < below);
+    (start, end)
+}
+
+// Appends the entries of one trail whose number is less than a bound, but not less than a lower one.
+fn choose_between<P: Copy>(
+    clusters: &mut Vec<u32>,
+    pieces: &mut Vec<P>,
+    numbers: &[u64],
+    low: u64,
+    below: u64,
+    trail: &[Noted<P>],
+) -> Result<(), Memory>
+    requires same { length numbers.now ≡ length trail.now }
+    requires rises { IsStrictlyIncreasing numbers.now }
+    requires bounds { low ≤ below }
+    ensures clusters { IfOk result (λ _. clusters.new.items ≡ clusters.old.items ++ map cluster_in (added_in numbers.now low below trail.now)) }
+    ensures pieces { IfOk result (λ _. pieces.new.items ≡ pieces.old.items ++ map piece_in (added_in numbers.now low below trail.now)) }
+{
+    let (start, end) = stretch(numbers, low, below);
+    append(clusters, pieces, &trail[start..end])
+}
+
+/// The clusters whose number is less than a bound, but not less than a lower one, rising, and the join of their pieces.
+/// The number of a trail's entry stands at the same place of its slot's list, and rises: no other entries are looked at.
+pub fn partial_between<P: Piece + Copy>(
+    alloc: Global,
+    orders: &Orders,
+    low: u64,
+    below: u64,
+    trails: &TrailList<P>,
+) -> Result<PartialPiece<P>, Memory>
+    requires numbers { HaveNumbers orders.now.slots trails.now }
+    requires rise { All IsStrictlyIncreasing orders.now.slots }
+    requires bounds { low ≤ below }
+    requires some { 0 < length (added orders.now.slots low below trails.now) }
+    requires apart { (job : P.Job) × AreAlone (P.stands job) (added orders.now.slots low below trails.now) × ((x : ℕ) → times x (map cluster_in (added orders.now.slots low below trails.now)) ≤ 1) }
+    ensures named { IfOk result (λ p. IsStrictlyIncreasing p.clusters × IsPermutation (map cluster_in (added orders.now.slots low below trails.now)) p.clusters) }
+    ensures stands { (job : P.Job) → AreAlone (P.stands job) (added orders.now.slots low below trails.now) → IfOk result (λ p. P.stands job p.clusters p.piece) }
+{
+    let mut clusters = Vec::new(alloc);
+    let mut pieces = Vec::new(alloc);
+    for i in 0..orders.slots.len() {
+        choose_between(
+            &mut clusters,
+            &mut pieces,
+            orders.slots.at(i).as_slice(),
+            low,
+            below,
+            trails.at(i).as_slice(),
+        )?;
+    }
+    joined(clusters, pieces)
+}

@@ -1,0 +1,34 @@
+//! The words that all slots share under a rule. By one of them slots draw clusters, each once, and stop at a bar that another holds; on one they
+//! note the clusters that they finish in one order. Results over the first clusters noted, and the partial lines of watched results.
+//! No clause says when a slot draws, nor which slots do.
+#![tactic(auto)]
+
+mod between;
+pub mod book;
+pub mod claims;
+pub mod drawn;
+pub mod hand;
+pub mod interval;
+pub mod laws;
+pub mod lines;
+pub mod orders;
+pub mod partials;
+mod rule;
+mod runs;
+pub mod seat;
+pub mod share;
+mod trails;
+
+pub use crate::between::partial_between;
+pub use crate::book::Book;
+pub use crate::claims::Claims;
+pub use crate::drawn::Drawn;
+pub use crate::interval::stride;
+pub use crate::lines::partial_lines;
+pub use crate::orders::Orders;
+pub use crate::partials::PartialPiece;
+pub use crate::seat::{ClaimSeat, SeatList};
+pub use crate::share::{Share, ShareList};
+
+#[cfg(test)]
+mod tests;
