@@ -16,7 +16,9 @@ fn reads_columns_and_rows(rt: HostRuntime) -> Result<(), Fail> {
     assert_eq!(rt; jets, [3, 4].as_slice());
     let mut bytes = Bytes::new(rt.alloc());
     bytes.extend(text)?;
-    let columns = read_columns(&rt, rt.alloc(), bytes, 3, 2)?;
+    let mut parts = Vec::new(rt.alloc());
+    parts.push(bytes)?;
+    let columns = read_columns(&rt, rt.alloc(), parts, 3, 2)?;
     assert_eq!(rt; columns.entries(), 4);
     assert_eq!(rt; columns.cuts().count(), 2);
     Ok(())
