@@ -137,6 +137,24 @@ pub fn read_table_in_slots<R: Threads + Sync>(
     Ok(in_one_piece(alloc, read_table(alloc, bytes)?)?)
 }
 
+/// The table of the texts, where the first is the first line alone and the others can be read in pieces.
+pub(crate) fn read_texts_side_by_side<R: Threads + Sync>(
+    rt: &R,
+    alloc: Global,
+    texts: Texts<'_>,
+    slots: u32,
+) -> Option<MarkedPieces>
+    requires { All EndsLine texts.lines.now }
+    ensures value { IfSome result (λ m. table_of (csv_records (joined texts.entry.lines.now ++ texts.entry.last.now)) ≡ Ok (record { table = m.table; marks = m.marks })) }
+    ensures within { IfSome result (λ m. All (λ e. e < length m.table.rows) m.marks) }
+{
+    let Some((head, lines)) = texts.lines.split_first() else {
+        return None;
+    };
+    let last = texts.last;
+    read_behind(rt, alloc, head.as_slice(), Texts { lines, last }, slots)
+}
+
 /// The table that the parts spell, kept in the pieces in which it is read. Where it can't be read in pieces, the parts are
 /// put together and read whole.
 pub(crate) fn read_parts<R: Threads + Sync>(
@@ -151,14 +169,8 @@ pub(crate) fn read_parts<R: Threads + Sync>(
     ensures within { IfOk result (λ m. All (λ e. e < length m.table.rows) m.marks) }
 {
     let texts = parts.texts();
-    if let Some((head, lines)) = texts.lines.split_first() {
-        let behind = Texts {
-            lines,
-            last: texts.last,
-        };
-        if let Some(marked) = read_behind(rt, alloc, head.as_slice(), behind, slots) {
-            return Ok(marked);
-        }
+    if let Some(marked) = read_texts_side_by_side(rt, alloc, texts, slots) {
+        return Ok(marked);
     }
     let whole = together(alloc, texts)?;
     Ok(in_one_piece(alloc, read_table(alloc, whole.as_slice())?)?)
