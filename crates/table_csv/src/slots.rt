@@ -14,7 +14,7 @@ use crate::parts::Parts;
 use crate::pieces::{append_pieces, in_one_piece, is_head, read_piece};
 use crate::reading::read_table;
 use crate::refusal::TableRefusal;
-use crate::texts::{Texts, halved, together};
+use crate::texts::{Text, Texts, halved, together};
 use columns::halves;
 use std::alloc::Global;
 use std::thread::{Threads, join};
@@ -40,13 +40,15 @@ fn read_pieces<R: Threads + Sync>(
     rt: &R,
     alloc: Global,
     head: &[u8],
-    texts: Texts<'_>,
+    lines: &[Text],
+    last: &[u8],
     slots: u32,
 ) -> Option<MarkedPieces>
     requires head { IsHead head.now }
-    requires lines { All EndsLine texts.lines.now }
-    ensures { IfSome result (λ m. IsPiece head.now (joined texts.entry.lines.now ++ texts.entry.last.now) m) }
+    requires lines { All EndsLine lines.now }
+    ensures { IfSome result (λ m. IsPiece head.now (joined lines.now ++ last.now) m) }
 {
+    let texts = Texts { lines, last };
     if slots < 2 {
         return read_texts(alloc, head, texts);
     }
@@ -62,22 +64,11 @@ fn read_pieces<R: Threads + Sync>(
         || -> Option<MarkedPieces>
             requires { IsSync R.row × IsHead head.now × All EndsLine front.now }
             ensures { IfSome result (λ m. IsPiece head.entry.now (joined front.entry.now ++ middle.entry.now) m) }
-        {
-            read_pieces(
-                rt,
-                alloc,
-                head,
-                Texts {
-                    lines: front,
-                    last: middle,
-                },
-                half,
-            )
-        },
+        { read_pieces(rt, alloc, head, front, middle, half) },
         || -> Option<MarkedPieces>
             requires { IsSync R.row × IsHead head.now × All EndsLine back.now }
             ensures { IfSome result (λ m. IsPiece head.entry.now (joined back.entry.now ++ last.entry.now) m) }
-        { read_pieces(rt, alloc, head, Texts { lines: back, last }, others) },
+        { read_pieces(rt, alloc, head, back, last, others) },
     );
     append_pieces(first?, second?)
 }
@@ -98,7 +89,7 @@ fn read_behind<R: Threads + Sync>(
     if has_quote(head) || is_head(alloc, head) != Ok(true) {
         return None;
     }
-    read_pieces(rt, alloc, head, texts, slots)
+    read_pieces(rt, alloc, head, texts.lines, texts.last, slots)
 }
 
 /// The table of the bytes, where it can be read in pieces.
