@@ -27,4 +27,6 @@ pub use crate::slots::read_table_in_slots;
 #[cfg(test)]
 mod tests;
 #[cfg(test)]
+mod tests_parts;
+#[cfg(test)]
 mod tests_slots;

@@ -14,7 +14,7 @@ use crate::parts::Parts;
 use crate::pieces::{append_pieces, in_one_piece, is_head, read_piece};
 use crate::reading::read_table;
 use crate::refusal::TableRefusal;
-use crate::texts::{Texts, halved, together};
+use crate::texts::{Text, Texts, halved, together};
 use columns::halves;
 use std::alloc::Global;
 use std::thread::{Threads, join};
@@ -40,13 +40,15 @@ fn read_pieces<R: Threads + Sync>(
     rt: &R,
     alloc: Global,
     head: &[u8],
-    texts: Texts<'_>,
+    lines: &[Text],
+    last: &[u8],
     slots: u32,
 ) -> Option<MarkedPieces>
     requires head { IsHead head.now }
-    requires lines { All EndsLine texts.lines.now }
-    ensures { IfSome result (λ m. IsPiece head.now (joined texts.entry.lines.now ++ texts.entry.last.now) m) }
+    requires lines { All EndsLine lines.now }
+    ensures { IfSome result (λ m. IsPiece head.now (joined lines.now ++ last.now) m) }
 {
+    let texts = Texts { lines, last };
     if slots < 2 {
         return read_texts(alloc, head, texts);
     }
@@ -62,22 +64,11 @@ fn read_pieces<R: Threads + Sync>(
         || -> Option<MarkedPieces>
             requires { IsSync R.row × IsHead head.now × All EndsLine front.now }
             ensures { IfSome result (λ m. IsPiece head.entry.now (joined front.entry.now ++ middle.entry.now) m) }
-        {
-            read_pieces(
-                rt,
-                alloc,
-                head,
-                Texts {
-                    lines: front,
-                    last: middle,
-                },
-                half,
-            )
-        },
+        { read_pieces(rt, alloc, head, front, middle, half) },
         || -> Option<MarkedPieces>
             requires { IsSync R.row × IsHead head.now × All EndsLine back.now }
             ensures { IfSome result (λ m. IsPiece head.entry.now (joined back.entry.now ++ last.entry.now) m) }
-        { read_pieces(rt, alloc, head, Texts { lines: back, last }, others) },
+        { read_pieces(rt, alloc, head, back, last, others) },
     );
     append_pieces(first?, second?)
 }
@@ -98,7 +89,7 @@ fn read_behind<R: Threads + Sync>(
     if has_quote(head) || is_head(alloc, head) != Ok(true) {
         return None;
     }
-    read_pieces(rt, alloc, head, texts, slots)
+    read_pieces(rt, alloc, head, texts.lines, texts.last, slots)
 }
 
 /// The table of the bytes, where it can be read in pieces.
@@ -137,6 +128,24 @@ pub fn read_table_in_slots<R: Threads + Sync>(
     Ok(in_one_piece(alloc, read_table(alloc, bytes)?)?)
 }
 
+/// The table of the texts, where the first is the first line alone and the others can be read in pieces.
+pub(crate) fn read_texts_side_by_side<R: Threads + Sync>(
+    rt: &R,
+    alloc: Global,
+    texts: Texts<'_>,
+    slots: u32,
+) -> Option<MarkedPieces>
+    requires { All EndsLine texts.lines.now }
+    ensures value { IfSome result (λ m. table_of (csv_records (joined texts.entry.lines.now ++ texts.entry.last.now)) ≡ Ok (record { table = m.table; marks = m.marks })) }
+    ensures within { IfSome result (λ m. All (λ e. e < length m.table.rows) m.marks) }
+{
+    let Some((head, lines)) = texts.lines.split_first() else {
+        return None;
+    };
+    let last = texts.last;
+    read_behind(rt, alloc, head.as_slice(), Texts { lines, last }, slots)
+}
+
 /// The table that the parts spell, kept in the pieces in which it is read. Where it can't be read in pieces, the parts are
 /// put together and read whole.
 pub(crate) fn read_parts<R: Threads + Sync>(
@@ -151,14 +160,8 @@ pub(crate) fn read_parts<R: Threads + Sync>(
     ensures within { IfOk result (λ m. All (λ e. e < length m.table.rows) m.marks) }
 {
     let texts = parts.texts();
-    if let Some((head, lines)) = texts.lines.split_first() {
-        let behind = Texts {
-            lines,
-            last: texts.last,
-        };
-        if let Some(marked) = read_behind(rt, alloc, head.as_slice(), behind, slots) {
-            return Ok(marked);
-        }
+    if let Some(marked) = read_texts_side_by_side(rt, alloc, texts, slots) {
+        return Ok(marked);
     }
     let whole = together(alloc, texts)?;
     Ok(in_one_piece(alloc, read_table(alloc, whole.as_slice())?)?)

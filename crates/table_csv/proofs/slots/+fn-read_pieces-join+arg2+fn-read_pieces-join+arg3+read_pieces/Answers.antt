@@ -17,5 +17,5 @@ returns g t c =
     let second = rw c.in_ok-second.was at c.join-first.ensures.second in
     let front = joined c.halved.result.0.lines.now ++ c.halved.result.0.last.now in
     let back = joined c.halved.result.1.lines.now ++ c.halved.result.1.last.now in
-    let lines = joined c.args.texts.lines.now ++ c.args.texts.last.now in
+    let lines = joined c.args.lines.now ++ c.args.last.now in
     pieces_answer c.args.head.now front back lines c.in_ok-first.field-0 c.in_ok-second.field-0 c.append_pieces.result c.requires.head c.halved.ensures.whole c.halved.ensures.cut first second c.append_pieces.ensures.few c.append_pieces.ensures.table c.append_pieces.ensures.marks
