@@ -1,5 +1,5 @@
 -- What is read of a file as a whole.
-use Rattle.std.specs.Prelude.{◌≡◌, ◌<◌, ℕ, ◌+◌, List, [], Option, Some, None, length, drop, ◌++◌}
+use Rattle.std.specs.Prelude.{◌≡◌, ◌<◌, ◌≤◌, ℕ, ◌+◌, List, [], Option, Some, None, length, drop, flat_map, ◌++◌}
 
 -- these are all the bytes that were left, and none is left now, where that is told
 abbrev pub Reads : Option (List ℕ) → Option (List ℕ) → List ℕ → Type 0
@@ -20,3 +20,12 @@ TakesOneMore max (Some left) after = after ≡ Some (drop (max + 1) left)
 abbrev pub Joins : List ℕ → List ℕ → Option (List ℕ) → Type 0
 Joins all bytes None = ⊥
 Joins all bytes (Some rest) = all ≡ bytes ++ rest
+
+-- the bytes of the parts, one part behind the other
+abbrev pub in_a_row : List (List ℕ) → List ℕ
+in_a_row parts = flat_map (λ part. part) parts
+
+-- all the bytes that were left, in parts, and no more than so many
+pub record ReadsParts (max : ℕ) (left after : Option (List ℕ)) (parts : List (List ℕ)) : Type 0 where
+  pub bytes : Reads left after (in_a_row parts)
+  pub few : length (in_a_row parts) ≤ max

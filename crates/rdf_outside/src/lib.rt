@@ -8,6 +8,7 @@ mod failed;
 mod gate;
 mod memory_shelf;
 mod memory_sink;
+mod ranges;
 mod shelf;
 mod sink;
 mod std_answers;
@@ -25,7 +26,7 @@ pub use crate::shelf::{Shelf, TurnStop};
 pub use crate::sink::Sink;
 pub use crate::std_sink::StdSink;
 pub use crate::turns::Turns;
-pub use crate::whole::{ReadRefusal, read_whole, write_whole};
+pub use crate::whole::{ReadRefusal, one_part, read_parts, read_whole, write_whole};
 pub use crate::word_list::WordList;
 
 #[cfg(test)]

@@ -6,8 +6,9 @@ use crate::call_list::CallList;
 use crate::failed::Failed;
 use crate::shelf::{Shelf, TurnStop};
 use crate::turns::Turns;
-use rdf_values::Memory;
+use rdf_values::{Bytes, Memory};
 use std::alloc::Global;
+use std::thread::Threads;
 
 #[derive(Drop)]
 struct MemoryFile {
@@ -202,5 +203,16 @@ impl Shelf for MemoryShelf {
         buf[..count].copy_from_slice(&rest[..count]);
         self.turned = further(self.turned, count);
         Ok(count)
+    }
+
+    // Threads gain nothing where the bytes are in memory.
+    fn read_side_by_side<R: Threads + Sync>(
+        &mut self,
+        _rt: &R,
+        _alloc: Global,
+        _max: usize,
+        _slots: u32,
+    ) -> Option<Vec<Bytes>> {
+        None
     }
 }

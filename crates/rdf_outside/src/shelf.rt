@@ -1,8 +1,13 @@
 // What gives files.
-ghost use Rattle.std.specs.Prelude.{◌≡◌, ◌∷◌, ◌++◌, [], ℕ, List, Option};
+ghost use Rattle.std.specs.Prelude.{◌≡◌, ◌∷◌, ◌++◌, [], ℕ, List, Option, IfSome, IfNone};
+ghost use Rattle.std.specs.Thread.{IsSync};
 ghost use Rattle.rdf_outside.specs.Outside.{HasCause, TurnHasCause, TurnsTo, ReadsFrom};
+ghost use Rattle.rdf_outside.specs.Whole.{ReadsParts};
 
 use crate::failed::Failed;
+use rdf_values::Bytes;
+use std::alloc::Global;
+use std::thread::Threads;
 
 /// Why a shelf didn't turn to a file. `Memory` is want of memory alone.
 #[derive(Clone, Copy, Debug, PartialEq, Eq)]
@@ -39,4 +44,20 @@ pub trait Shelf {
         ensures turns { turns self.new ≡ turns self.old }
         ensures bytes { ReadsFrom (left self.old) (left self.new) result buf.new }
         ensures cause { HasCause (faults self.old) (faults self.new) result };
+
+    /// Reads to the end of the file turned to in parts, side by side by at most so many slots, where the shelf can and the
+    /// file has at most `max` bytes; where it answers none, nothing is read.
+    fn read_side_by_side<R: Threads + Sync>(
+        &mut self,
+        rt: &R,
+        alloc: Global,
+        max: usize,
+        slots: u32,
+    ) -> Option<Vec<Bytes>>
+        requires sync { IsSync R.row }
+        ensures same { files self.new ≡ files self.old }
+        ensures turns { turns self.new ≡ turns self.old }
+        ensures faults { faults self.new ≡ faults self.old }
+        ensures read { IfSome result (λ parts. ReadsParts max (left self.old) (left self.new) parts.items) }
+        ensures kept { IfNone result (left self.new ≡ left self.old) };
 }

@@ -1,10 +1,13 @@
 // Each call that may want memory once with enough of it, and the two edges.
+ghost use Rattle.std.specs.Prelude.{◌+◌, ◌<◌, ◌^◌};
+
 use super::*;
-use std::alloc::Global;
+use std::alloc::{AllocError, Global};
 use std::cell::RefCell;
 use std::fmt::Display;
 use std::io::ErrorKind;
 use std::test::Fail;
+use std::thread::Threads;
 use std::{env, fs, io};
 
 #[test]
@@ -107,6 +110,83 @@ fn a_real_file_is_read(rt: HostRuntime) -> Result<(), Fail> {
         panic!(rt; "the folder's name is no text");
     };
     assert!(rt; shelf.turn_to(name) == Ok(false));
+    Ok(())
+}
+
+// So many numbers, a line each.
+fn numbers(alloc: Global, count: u32) -> Result<Vec<u8>, AllocError> {
+    let mut lines = Vec::new(alloc);
+    for number in 0..count {
+        for byte in number.to_be_bytes() {
+            lines.push(byte)?;
+        }
+    }
+    Ok(lines)
+}
+
+// What a file's parts are, one behind the other, and how many there are.
+fn in_parts<R: Threads + Sync, S: Shelf>(
+    rt: &R,
+    alloc: Global,
+    shelf: &mut S,
+    max: usize,
+    slots: u32,
+) -> Result<(Vec<u8>, usize), ReadRefusal>
+    requires { max + 1 < 2 ^ 64 }
+{
+    let parts = read_parts(rt, alloc, shelf, max, slots)?;
+    let mut bytes = Vec::new(alloc);
+    for part in &parts {
+        let Ok(()) = bytes.extend_from_slice(part.as_slice()) else {
+            return Err(ReadRefusal::Memory);
+        };
+    }
+    Ok((bytes, parts.len()))
+}
+
+// Each of four bytes says where it stands, so parts out of order would be seen. The last part is one byte longer.
+#[test]
+fn a_real_file_is_read_in_parts(rt: HostRuntime) -> Result<(), Fail> {
+    let alloc: Global = rt.alloc();
+    let mut path = env::temp_dir(&rt)?;
+    path.push("rdf_outside_a_real_file_is_read_in_parts")?;
+    let mut written = numbers(alloc, 750_000)?;
+    written.push(b'1')?;
+    let len = written.len();
+    fs::write(&rt, path.as_path(), written.as_slice())?;
+    let Some(name) = path.as_path().to_str() else {
+        panic!(rt; "the folder's name is no text");
+    };
+    let mut shelf = DirShelf::new(&rt);
+    for (slots, count) in [(1, 1), (2, 2), (3, 3), (4, 4), (64, 5)] {
+        assert!(rt; shelf.turn_to(name) == Ok(true));
+        match in_parts(&rt, alloc, &mut shelf, len, slots) {
+            Ok((bytes, parts)) => {
+                assert_eq!(rt; parts, count);
+                assert!(rt; bytes == written);
+            }
+            Err(refusal) => panic!(rt; "{refusal:?}"),
+        }
+        assert!(rt; shelf.read(&mut [0; 8]) == Ok(0));
+    }
+    assert!(rt; shelf.turn_to(name) == Ok(true));
+    assert!(rt;
+        matches!(
+            in_parts(&rt, alloc, &mut shelf, len - 1, 4),
+            Err(ReadRefusal::TooLarge)
+        )
+    );
+    assert!(rt; shelf.turn_to(name) == Ok(true));
+    assert!(rt; shelf.read(&mut [0; 8]) == Ok(8));
+    match in_parts(&rt, alloc, &mut shelf, len, 4) {
+        Ok((bytes, parts)) => {
+            assert_eq!(rt; parts, 1);
+            assert!(rt; written.len() > 8);
+            assert!(rt; bytes.as_slice() == &written[8..]);
+        }
+        Err(refusal) => panic!(rt; "{refusal:?}"),
+    }
+    fs::remove_file(&rt, path.as_path())?;
     Ok(())
 }
 

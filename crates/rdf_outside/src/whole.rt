@@ -1,13 +1,14 @@
 // Whole reads and whole writes.
 ghost use Rattle.std.specs.Prelude.{◌≡◌, ◌<◌, ◌≤◌, ◌+◌, ◌^◌, ℕ, List, length, IfOk, OnOk, IsErrOf};
 ghost use Rattle.rdf_outside.specs.Outside.{Rose, HasCause, Appends, AppendsPart};
-ghost use Rattle.rdf_outside.specs.Whole.{Reads, IsTooLarge, TakesOneMore, Joins};
+ghost use Rattle.rdf_outside.specs.Whole.{Reads, ReadsParts, IsTooLarge, TakesOneMore, Joins, in_a_row};
 
 use crate::failed::Failed;
 use crate::shelf::Shelf;
 use crate::sink::Sink;
 use rdf_values::{Bytes, Memory};
 use std::alloc::Global;
+use std::thread::Threads;
 
 /// Why a file wasn't read to its end. `Memory` is want of memory alone.
 #[derive(Clone, Copy, Debug, PartialEq, Eq)]
@@ -50,7 +51,46 @@ pub fn read_whole<S: Shelf>(alloc: Global, shelf: &mut S, max: usize) -> Result<
     Err(ReadRefusal::TooLarge)
 }
 
-fn zeros(alloc: Global, len: usize) -> Result<Vec<u8>, Memory>
+/// The bytes as the one part of a whole.
+pub fn one_part(alloc: Global, bytes: Bytes) -> Result<Vec<Bytes>, Memory>
+    ensures { IfOk result (λ parts. in_a_row parts.items ≡ bytes) }
+{
+    let mut parts = Vec::new(alloc);
+    match parts.push(bytes) {
+        Ok(()) => Ok(parts),
+        Err(_) => Err(Memory),
+    }
+}
+
+/// What `read_whole` reads, in one part or, where the shelf can, in several that so many slots read side by side.
+pub fn read_parts<R: Threads + Sync, S: Shelf>(
+    rt: &R,
+    alloc: Global,
+    shelf: &mut S,
+    max: usize,
+    slots: u32,
+) -> Result<Vec<Bytes>, ReadRefusal>
+    requires { max + 1 < 2 ^ 64 }
+    ensures same { S.files shelf.new ≡ S.files shelf.old }
+    ensures turns { S.turns shelf.new ≡ S.turns shelf.old }
+    ensures later { S.faults shelf.old ≤ S.faults shelf.new }
+    ensures read { IfOk result (λ parts. ReadsParts max (S.left shelf.old) (S.left shelf.new) parts.items) }
+    ensures too_large { IsErrOf result ReadRefusal.TooLarge → IsTooLarge max (S.left shelf.old) }
+    ensures taken { IsErrOf result ReadRefusal.TooLarge → TakesOneMore max (S.left shelf.old) (S.left shelf.new) }
+    ensures failed { IsErrOf result ReadRefusal.Failed → Rose (S.faults shelf.old) (S.faults shelf.new) }
+    ensures kept { (IsErrOf result ReadRefusal.Failed → ⊥) → S.faults shelf.new ≡ S.faults shelf.old }
+{
+    if let Some(parts) = shelf.read_side_by_side(rt, alloc, max, slots) {
+        return Ok(parts);
+    }
+    let bytes = read_whole(alloc, shelf, max)?;
+    match one_part(alloc, bytes) {
+        Ok(parts) => Ok(parts),
+        Err(Memory) => Err(ReadRefusal::Memory),
+    }
+}
+
+pub(crate) fn zeros(alloc: Global, len: usize) -> Result<Vec<u8>, Memory>
     ensures { IfOk result (λ v. length v.items ≡ len) }
 {
     match Vec::from_elem(alloc, 0, len) {

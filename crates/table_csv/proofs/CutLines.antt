@@ -151,8 +151,7 @@ no_records = refl
 
 -- the records of bytes that are cut behind a line's end are those of the two parts
 pub csv_cut : (lines rest : List ℕ) → IsCut lines rest → list_any is_quote lines ≡ false → list_any is_special rest ≡ false → csv_records (lines ++ rest) ≡ csv_records lines ++ csv_records rest
-csv_cut lines rest (inl (inl none)) n m = rw (none, no_records) refl
-csv_cut lines rest (inl (inr l)) n m =
+csv_cut lines rest (inl l) n m =
     let plain = rw l.1 at n in
     rw (l.1, append_assoc l.0 (10 ∷ []) rest) (line_cut l.0 rest (front_plain l.0 (10 ∷ []) plain) m)
 csv_cut lines rest (inr none) n m = rw (none, append-nil lines, no_records, append-nil (csv_records lines)) refl

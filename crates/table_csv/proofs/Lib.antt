@@ -15,3 +15,4 @@ pub mod PieceSteps
 pub mod ShiftedRows
 pub mod Steps
 pub mod TableSteps
+pub mod TextSteps

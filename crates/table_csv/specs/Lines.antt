@@ -11,10 +11,10 @@ is_quote b = nat_eq b 34
 abbrev pub is_special : ℕ → Bool
 is_special b = nat_eq b 34 || nat_eq b 239
 
--- the bytes end with a line's end, or there are none
-abbrev pub AreLines : List ℕ → Type 0
-AreLines bytes = (bytes ≡ []) ⊎ ((front : List ℕ) × (bytes ≡ front ++ 10 ∷ []))
+-- the bytes end where a line does
+abbrev pub EndsLine : List ℕ → Type 0
+EndsLine bytes = (front : List ℕ) × (bytes ≡ front ++ 10 ∷ [])
 
--- whole lines stand before the rest, or nothing is left
+-- the first bytes end where a line does, or nothing is left
 abbrev pub IsCut : List ℕ → List ℕ → Type 0
-IsCut lines rest = AreLines lines ⊎ (rest ≡ [])
+IsCut lines rest = EndsLine lines ⊎ (rest ≡ [])

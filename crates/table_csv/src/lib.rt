@@ -9,11 +9,13 @@ mod lines;
 mod marked;
 mod marked_pieces;
 mod packed;
+mod parts;
 mod pieces;
 mod reading;
 mod records;
 mod refusal;
 mod slots;
+mod texts;
 
 pub use crate::marked::Marked;
 pub use crate::marked_pieces::MarkedPieces;
@@ -24,5 +26,7 @@ pub use crate::slots::read_table_in_slots;
 
 #[cfg(test)]
 mod tests;
+#[cfg(test)]
+mod tests_parts;
 #[cfg(test)]
 mod tests_slots;

@@ -1,17 +1,20 @@
 // Tables that are packed as soon as they are read.
 ghost use Rattle.std.specs.Prelude.{◌≡◌, ◌≤◌, ◌<◌, All, IfOk, MatchResult, Ok, length};
+ghost use Rattle.std.specs.Thread.{IsSync};
+ghost use Rattle.columns.specs.Wholes.{joined};
 ghost use Rattle.rdf_values.specs.Answers.{Refuses};
 ghost use Rattle.rdf_values.specs.TableText.{table_of};
 ghost use Rattle.table_csv.specs.ColumnsOver.{columns_over, marked_in};
 ghost use Rattle.table_csv.specs.Csv.{csv_records};
 
 use crate::marked_pieces::MarkedPieces;
+use crate::parts::{Parts, whole_lines};
 use crate::refusal::TableRefusal;
-use crate::slots::read_table_in_slots;
+use crate::slots::{read_parts, read_table_in_slots};
 use columns::Columns;
-use rdf_values::Bytes;
+use rdf_values::{Bytes, Memory};
 use std::alloc::Global;
-use std::thread::Threads;
+use std::thread::{Threads, join};
 
 // The table that CSV bytes spell. The bytes go once they are read.
 fn read_owned<R: Threads + Sync>(
@@ -27,21 +30,59 @@ fn read_owned<R: Threads + Sync>(
     read_table_in_slots(rt, alloc, bytes.as_slice(), slots)
 }
 
-/// The columns of the table that CSV bytes spell, cut at its marks into clusters of at most that size: read as
-/// `read_table_in_slots` reads it, and packed by so many slots once the bytes are gone.
+// The table's columns. The parts that it was read from go, with several slots while it is packed.
+fn pack_as_parts_go<R: Threads + Sync>(
+    rt: &R,
+    alloc: Global,
+    marked: MarkedPieces,
+    parts: Parts,
+    size: u32,
+    slots: u32,
+) -> Result<Columns, Memory>
+    requires within { All (λ e. e < length marked.table.rows) marked.marks }
+    requires size { 1 ≤ size }
+    ensures { IfOk result (λ columns. columns ≡ columns_over (record { table = marked.table; marks = marked.marks }) size) }
+{
+    if slots < 2 {
+        drop(parts);
+        return marked.into_columns(rt, alloc, size, slots);
+    }
+    let (columns, ()) = join(
+        rt,
+        move || -> Result<Columns, Memory>
+            requires { IsSync R.row × (1 ≤ size) × All (λ e. e < length marked.table.rows) marked.marks }
+            ensures { IfOk result (λ columns. columns ≡ columns_over (record { table = marked.table; marks = marked.marks }) size) }
+        { marked.into_columns(rt, alloc, size, slots) },
+        move || drop(parts),
+    );
+    columns
+}
+
+/// The columns of the table that CSV bytes spell, given in parts that are cut anywhere. The table is cut at its marks into
+/// clusters of at most that size: one part is read as `read_table_in_slots` reads it, several are read side by side,
+/// and the columns are packed by so many slots.
 pub fn read_columns<R: Threads + Sync>(
     rt: &R,
     alloc: Global,
-    bytes: Bytes,
+    mut parts: Vec<Bytes>,
     size: u32,
     slots: u32,
 ) -> Result<Columns, TableRefusal>
     requires size { 1 ≤ size }
-    ensures value { MatchResult result (λ columns. table_of (csv_records bytes) ≡ Ok (marked_in columns))
-        (Refuses TableRefusal.At TableRefusal.Memory (table_of (csv_records bytes))) }
+    ensures value { MatchResult result (λ columns. table_of (csv_records (joined parts.items)) ≡ Ok (marked_in columns))
+        (Refuses TableRefusal.At TableRefusal.Memory (table_of (csv_records (joined parts.items)))) }
     ensures over { IfOk result (λ columns. columns ≡ columns_over (marked_in columns) size) }
     ensures within { IfOk result (λ columns. All (λ e. e < length columns.table.rows) columns.cuts.marks) }
 {
+    if parts.len() > 1 {
+        let parts = whole_lines(alloc, parts)?;
+        let marked = read_parts(rt, alloc, &parts, slots)?;
+        return Ok(pack_as_parts_go(rt, alloc, marked, parts, size, slots)?);
+    }
+    let bytes = match parts.pop() {
+        Some(bytes) => bytes,
+        None => Bytes::new(alloc),
+    };
     let marked = read_owned(rt, alloc, bytes, slots)?;
     Ok(marked.into_columns(rt, alloc, size, slots)?)
 }

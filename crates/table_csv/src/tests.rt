@@ -14,10 +14,16 @@ fn reads_columns_and_rows(rt: HostRuntime) -> Result<(), Fail> {
         panic!(rt; "no vector");
     };
     assert_eq!(rt; jets, [3, 4].as_slice());
-    let mut bytes = Bytes::new(rt.alloc());
-    bytes.extend(text)?;
-    let columns = read_columns(&rt, rt.alloc(), bytes, 3, 2)?;
-    assert_eq!(rt; columns.entries(), 4);
-    assert_eq!(rt; columns.cuts().count(), 2);
+    for parts in 1..4 {
+        let mut given = Vec::new(rt.alloc());
+        for part in text.chunks(text.len().div_ceil(parts)) {
+            let mut bytes = Bytes::new(rt.alloc());
+            bytes.extend(part)?;
+            given.push(bytes)?;
+        }
+        let columns = read_columns(&rt, rt.alloc(), given, 3, 2)?;
+        assert_eq!(rt; columns.entries(), 4);
+        assert_eq!(rt; columns.cuts().count(), 2);
+    }
     Ok(())
 }

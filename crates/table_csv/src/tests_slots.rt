@@ -19,7 +19,7 @@ fn padded(alloc: Global, before: u32, lines: &str, behind: u32) -> Result<String
 }
 
 // Whether the one column has these numbers, with so many of 0 before them and behind them.
-fn holds(marked: MarkedPieces, before: u32, numbers: &[i64], behind: u32) -> bool {
+pub(crate) fn holds(marked: MarkedPieces, before: u32, numbers: &[i64], behind: u32) -> bool {
     let parts = marked.table.into_parts();
     let mut entry: u32 = 0;
     for column in parts.pieces {

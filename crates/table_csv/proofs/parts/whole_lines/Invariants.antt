@@ -1,0 +1,10 @@
+use Rattle.std.proofs.Common.{◌≡◌, ◌++◌, All}
+use Rattle.columns.specs.Wholes.{joined}
+use Rattle.table_csv.specs.Lines.{EndsLine}
+use Rattle.table_csv.proofs.parts.whole_lines.Given as goal
+
+abbrev pub invariant-loop-part : goal.invariant-loop-part
+invariant-loop-part l = record {
+  whole : joined l.fn.parts.items ≡ (joined l.lines.items ++ l.last) ++ joined l.part-iterator.rest.items;
+  lines : All EndsLine l.lines.items;
+}

@@ -1,0 +1,23 @@
+use Rattle.std.proofs.Common.{◌<◌, ◌≡◌, ◌+◌, ◌/◌, All, arith, get_or, length}
+use Rattle.std.proofs.lemmas.List.Elements.{All-take}
+use Rattle.table_csv.specs.Lines.{EndsLine}
+use Rattle.table_csv.proofs.TextSteps.{behind_ends, halves_cut, halves_whole}
+use Rattle.table_csv.proofs.texts.halved.Goals as goal
+
+pub returns-clause-whole : goal.returns-clause-whole
+returns-clause-whole c =
+    let half = c.in-Some.others / 2 in
+    let within : half < length c.args.texts.lines.now = omega arith in
+    halves_whole c.args.texts.lines.now half c.as_slice.result.now c.args.texts.last.now within (cc c.index-lines-half.is)
+
+pub returns-clause-cut : goal.returns-clause-cut
+returns-clause-cut c =
+    let half = c.in-Some.others / 2 in
+    let within : half < length c.args.texts.lines.now = omega arith in
+    halves_cut c.args.texts.lines.now half c.as_slice.result.now _ c.requires.lines within (cc c.index-lines-half.is)
+
+pub returns-clause-front : goal.returns-clause-front
+returns-clause-front c = All-take EndsLine (c.in-Some.others / 2) c.args.texts.lines.now c.requires.lines
+
+pub returns-clause-back : goal.returns-clause-back
+returns-clause-back c = behind_ends c.args.texts.lines.now (c.in-Some.others / 2 + 1) c.requires.lines

@@ -1,0 +1,6 @@
+use Rattle.std.proofs.Common.{◌≡◌, take}
+use Rattle.columns.specs.Wholes.{joined}
+use Rattle.table_csv.proofs.texts.together.Given as goal
+
+abbrev pub invariant-loop-text : goal.invariant-loop-text
+invariant-loop-text l = l.whole ≡ joined (take l.text-index l.texts.lines.now)
