@@ -6,6 +6,7 @@
 mod answer;
 mod friend;
 mod input;
+mod make;
 mod means;
 mod one_due;
 mod over_table;

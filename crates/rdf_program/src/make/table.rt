@@ -2,7 +2,7 @@
 ghost use Rattle.std.specs.Prelude.{◌≡◌, ◌≤◌, IfOk};
 ghost use Rattle.rdf_values.specs.Generator.{generated_table};
 
-use crate::line::{LONGEST, write_line};
+use crate::make::line::{LONGEST, write_line};
 use rdf_values::{Bytes, Memory};
 use std::alloc::Global;
 

@@ -1,6 +1,6 @@
 use Rattle.std.proofs.Common.{◌+◌, ◌/◌, ◌%◌, ◌++◌, ◌∷◌, ◌∙◌, [], ap, append_assoc, sym, take}
-use Rattle.rdf_make.proofs.Decimal.{decimal_one, decimal_two, decimal_three}
-use Rattle.rdf_make.proofs.line.put_digits.Goals as goal
+use Rattle.rdf_program.proofs.Decimal.{decimal_one, decimal_two, decimal_three}
+use Rattle.rdf_program.proofs.make.line.put_digits.Goals as goal
 
 pub returns-then-n-lt10-clause-text : goal.returns-then-n-lt10-clause-text
 returns-then-n-lt10-clause-text c =
