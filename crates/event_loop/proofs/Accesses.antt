@@ -1,10 +1,11 @@
 -- What a session is after an access.
-use Rattle.std.proofs.Common.{if◌then◌else◌, ◌≡◌, ◌⊎◌, inl, inr, ℕ, zero, suc, ◌+◌, ◌<◌, ◌≤◌, Bool, true, List, [], ◌∷◌, ◌++◌, take, length, Option, Some, None, refl, sym, ◌∙◌, ap, subst, arith, length-append, add-one}
+use Rattle.std.proofs.Common.{if◌then◌else◌, ◌≡◌, ◌⊎◌, inl, inr, ℕ, ◌+◌, ◌<◌, ◌≤◌, Bool, true, List, [], ◌∷◌, ◌++◌, take, length, Option, Some, None, refl, sym, ◌∙◌, ap, subst, arith, length-append}
 use Rattle.std.specs.Prelude.{IfSome, filter_map, option_map, slice_get, unwrap_or}
 use Rattle.std.specs.List.{cons_option}
 use Rattle.std.proofs.lemmas.Option.{IfSome_then, slice_get_within}
+use Rattle.lemmas.proofs.Answers.{same_some}
 use Rattle.lemmas.proofs.Parts.{take_next}
-use Rattle.lemmas.proofs.Places.{kept_at}
+use Rattle.lemmas.proofs.Places.{before_or_last, kept_at}
 use Rattle.rdf_values.specs.Bookings.{Booked}
 use Rattle.rdf_values.specs.Cuts.{Lead, cut}
 use Rattle.rdf_values.specs.Machine.{first_in}
@@ -18,7 +19,6 @@ use Rattle.rdf_model.specs.Loops.{Access, accesses, filled_by, loop_of, loop_pas
 use Rattle.rdf_model.specs.Results.{Dataset, first_fault, first_fault_from}
 use Rattle.rdf_model.proofs.Turns.{loops_come_in_turn}
 use Rattle.graph_numbers.specs.Graphs.{graph_prints}
-use Rattle.graph_numbers.proofs.Listed.{of_joined}
 use Rattle.loop_keys.specs.Jobs.{passes_in}
 use Rattle.loop_pieces.proofs.ClusterFaults.{first_cluster_has_first_fault}
 use Rattle.event_loop.specs.Jobs.{job_facts}
@@ -96,26 +96,15 @@ pushed s n f loops is sound joined filled there turn =
       words = is.words;
       slots = is.slots;
       watch = is.watch;
-      filled = λ l g at. go l g (of_joined s.loops (f ∷ []) l g (ap (λ (x : List FilledLoop). slice_get x l) (sym joined) ∙ at));
+      filled = λ l g at. go l g (before_or_last s.loops f l g (ap (λ (x : List FilledLoop). slice_get x l) (sym joined) ∙ at));
       few = omega (arith, many, there);
       turn = λ e. many ∙ turn;
       kept = subst (λ (o : Option Kept). IfSome o (IsKept (record s { next = n; loops = loops }))) (sym sound) tt;
     }
   where
-    alone : (k : ℕ) (g : FilledLoop) → slice_get (f ∷ []) k ≡ Some g → (k ≡ 0) × (f ≡ g)
-    alone zero g q = (refl, same_some q)
-      where
-        same_some : {a b : FilledLoop} → ◌≡◌ {A = Option FilledLoop} (Some a) (Some b) → a ≡ b
-        same_some e = cc
-    alone (suc k) g q = absurd (cc)
-
-    go : (l : ℕ) (g : FilledLoop) → (slice_get s.loops l ≡ Some g) ⊎ ((k : ℕ) × (l ≡ length s.loops + k) × (slice_get (f ∷ []) k ≡ Some g)) → IsFilled (job_facts (session_job s l)) s.watch g
+    go : (l : ℕ) (g : FilledLoop) → (slice_get s.loops l ≡ Some g) ⊎ ((l ≡ length s.loops) × (f ≡ g)) → IsFilled (job_facts (session_job s l)) s.watch g
     go l g (inl q) = is.filled l g q
-    go l g (inr q) =
-        let own = alone q.0 g q.2 in
-        let zero_more = own.0 in let place = q.1 in
-        let number : length s.loops ≡ l = omega (arith, zero_more, place) in
-        subst (λ (x : FilledLoop). IsFilled (job_facts (session_job s l)) s.watch x) own.1 (subst (λ (m : ℕ). IsFilled (job_facts (session_job s m)) s.watch f) number filled)
+    go l g (inr q) = subst (λ (x : FilledLoop). IsFilled (job_facts (session_job s l)) s.watch x) q.1 (subst (λ (m : ℕ). IsFilled (job_facts (session_job s m)) s.watch f) (sym q.0) filled)
 
 pub faulted : (s : SessionView) (n : ℕ) (k : Kept) → IsSession s → k.loop_index ≡ length s.loops → k.loop_index < length (loop_results (history s.graph.script)) → first_fault s.dataset (passes_in (session_job s k.loop_index)) ≡ Some k.fault
     → IsSession (record s { next = n; fault = Some k })
@@ -136,6 +125,9 @@ faulted s n k is number there first = record {
 -- ---- a Print
 
 module _ (s : SessionView) (is : IsSession s) (print : ℕ) (next : print ≡ s.next) (a : Access) (at : slice_get (accesses (history s.graph.script)) print ≡ Some a) where
+  same_access : (b : Access) → slice_get (accesses (history s.graph.script)) print ≡ Some b → a ≡ b
+  same_access b there = same_some (sym at ∙ there)
+
   turn : ComesInTurn (history s.graph.script) print a
   turn = loops_come_in_turn s.graph.names s.graph.header s.graph.script print a is.booked.accepted at
 
@@ -171,12 +163,6 @@ module _ (s : SessionView) (is : IsSession s) (print : ℕ) (next : print ≡ s.
       sound = λ b there sound. subst (λ (x : Access). first_fault s.dataset (passes_run (history s.graph.script) x) ≡ None) (same_access b there)
           (ap (λ (o : Option (List Booked)). first_fault s.dataset (loop_passes (history s.graph.script) (unwrap_or o []))) (no_loop lt sound) ∙ no_pass_no_fault s.dataset 0 s.dataset.rows);
     }
-      where
-        same_access : (b : Access) → slice_get (accesses (history s.graph.script)) print ≡ Some b → a ≡ b
-        same_access b there = same_some (sym at ∙ there)
-          where
-            same_some : {x y : Access} → ◌≡◌ {A = Option Access} (Some x) (Some y) → x ≡ y
-            same_some e = cc
 
     -- the loop is run
     pub record IsNext : Type 0 where
@@ -201,11 +187,8 @@ module _ (s : SessionView) (is : IsSession s) (print : ℕ) (next : print ≡ s.
 
     pub unfilled : length s.loops ≤ l → (b : Access) → slice_get (accesses (history s.graph.script)) print ≡ Some b → IsUnfilled s b.result
     unfilled ge b there m m_fills =
-        let same_number : l ≡ m = same_some (sym (found_is l filling) ∙ ap (λ (x : Access). loop_filling (history s.graph.script) x.result) (same_some (sym at ∙ there)) ∙ m_fills) in
+        let same_number : l ≡ m = same_some (sym (found_is l filling) ∙ ap (λ (x : Access). loop_filling (history s.graph.script) x.result) (same_access b there) ∙ m_fills) in
         omega (arith, ge, same_number)
-      where
-        same_some : {A : Type 0} {x y : A} → ◌≡◌ {A = Option A} (Some x) (Some y) → x ≡ y
-        same_some e = cc
 
     new_session : (n : IsNext) → s.fault ≡ None → (f : FilledLoop) (loops : List FilledLoop) → loops ≡ s.loops ++ f ∷ [] → IsFilled (job_facts (session_job s l)) s.watch f → IsSession (record s { next = print + 1; loops = loops })
     new_session n sound f loops joined filled =
@@ -232,12 +215,6 @@ module _ (s : SessionView) (is : IsSession s) (print : ℕ) (next : print ≡ s.
           sound = λ b there h. subst (λ (x : Access). first_fault s.dataset (passes_run (history s.graph.script) x) ≡ None) (same_access b there)
               (ap (first_fault s.dataset) (sym (passes_are n)) ∙ sym (job_fault s is l) ∙ filled.sound);
         }
-      where
-        same_some : {A : Type 0} {x y : A} → ◌≡◌ {A = Option A} (Some x) (Some y) → x ≡ y
-        same_some e = cc
-
-        same_access : (b : Access) → slice_get (accesses (history s.graph.script)) print ≡ Some b → a ≡ b
-        same_access b there = same_some (sym at ∙ there)
 
     faulted_session : (n : IsNext) → (f : Fault) → first_in (job_facts (session_job s l)).faults ≡ Some f → IsSession (record s { next = print + 1; fault = Some (record { loop_index = l; fault = f }) })
     faulted_session n f first =
@@ -250,11 +227,8 @@ module _ (s : SessionView) (is : IsSession s) (print : ℕ) (next : print ≡ s.
       fault = refl;
       kept = λ k e. absurd (cc);
       unfilled = unfilled ge;
-      ran = λ b there h. n.its_results ∙ sym n.fills ∙ ap (λ (x : Access). x.fills) (same_some (sym at ∙ there));
+      ran = λ b there h. n.its_results ∙ sym n.fills ∙ ap (λ (x : Access). x.fills) (same_access b there);
     }
-      where
-        same_some : {A : Type 0} {x y : A} → ◌≡◌ {A = Option A} (Some x) (Some y) → x ≡ y
-        same_some e = cc
 
     kept_access : length s.loops ≤ l → (k : Kept) → s.fault ≡ Some k → IsFaulted s (record s { next = print + 1 }) print k.loop_index k.fault
     kept_access ge k e = record {
@@ -274,9 +248,6 @@ module _ (s : SessionView) (is : IsSession s) (print : ℕ) (next : print ≡ s.
 access_of : (script : List Statement) (print l : ℕ) → option_map (λ (a : Access). loop_of script a.result) (slice_get (accesses script) print) ≡ Some l → (a : Access) × (slice_get (accesses script) print ≡ Some a) × (loop_of script a.result ≡ l)
 access_of script print l h = go (slice_get (accesses script) print) refl h
   where
-    same_some : {A : Type 0} {x y : A} → ◌≡◌ {A = Option A} (Some x) (Some y) → x ≡ y
-    same_some e = cc
-
     go : (o : Option Access) → slice_get (accesses script) print ≡ o → option_map (λ (a : Access). loop_of script a.result) o ≡ Some l → (a : Access) × (slice_get (accesses script) print ≡ Some a) × (loop_of script a.result ≡ l)
     go None e q = absurd (cc)
     go (Some a) e q = (a, e, same_some q)

@@ -3,6 +3,7 @@ use Rattle.std.proofs.Common.{if◌then◌else◌, ◌≡◌, ℕ, zero, suc, �
 use Rattle.std.specs.Prelude.{slice_get}
 use Rattle.std.proofs.lemmas.List.{length-map}
 use Rattle.std.proofs.lemmas.Option.{slice_get_within}
+use Rattle.lemmas.proofs.Answers.{same_some}
 use Rattle.lemmas.proofs.Places.{something_at}
 use Rattle.rdf_values.specs.Cuts.{cut, stride}
 use Rattle.rdf_values.specs.Path.{history}
@@ -53,9 +54,6 @@ module _ (s : SessionView) (is : IsSession s) where
             chain = filled.partials.over.are.chain (omega (arith, e));
             lines = λ w place g ls there its_place its_lines. filled.partials.over.are.each w place ls its_place (ap (λ (x : FilledLoop). slice_get x.partials w) (same_some (sym at ∙ there)) ∙ its_lines);
           }
-        where
-          same_some : {a b : FilledLoop} → ◌≡◌ {A = Option FilledLoop} (Some a) (Some b) → a ≡ b
-          same_some q = cc
 
       by_loop : (o : Option FilledLoop) → slice_get s.loops l ≡ o → HasChain l
       by_loop None e = default (λ w place f ls there its_place its_lines. absurd (cc (e, there)))

@@ -69,11 +69,8 @@ module _ (s : SessionView) (is : IsSession s) where
         placed = subst (λ (ps : List Pass). IsPlaced (history s.graph.script) ps b place) (sym (ap (λ (o : Option (List Booked)). loop_passes (history s.graph.script) (unwrap_or o [])) results.1)) f.placed;
       }
 
-  filled_at : (b : Booked) (l : ℕ) (place : Place) (f : FilledLoop) → IsFoundAt s b l place → slice_get s.loops l ≡ Some f → IsFilledAt s b f place
-  filled_at b l place f h at = record { number = l; its_number = h.its_number; its_loop = at; placed = h.placed }
-
   pub result_is : (b : Booked) (l : ℕ) (place : Place) (f : FilledLoop) → IsFoundAt s b l place → slice_get s.loops l ≡ Some f → IsFilledAt s b f place
-  result_is b l place f h at = filled_at b l place f h at
+  result_is b l place f h at = record { number = l; its_number = h.its_number; its_loop = at; placed = h.placed }
 
   -- ---- watched results
 
@@ -114,7 +111,7 @@ module _ (s : SessionView) (is : IsSession s) where
       record {
         filled = f.0;
         place = place;
-        filled_at = filled_at b l place f.0 h f.1;
+        filled_at = result_is b l place f.0 h f.1;
         watched = noted;
         its_lines = own f.0 f.1;
       }

@@ -1,11 +1,12 @@
 -- The place of a result in a loop, as it is found among the loop's passes.
-use Rattle.std.proofs.Common.{if◌then◌else◌, ◌≡◌, ◌⊎◌, inl, inr, ℕ, zero, suc, ◌+◌, ◌*◌, ◌<◌, ◌≤◌, Bool, true, false, cond, List, [], ◌∷◌, ◌++◌, map, take, length, Option, Some, None, refl, sym, ◌∙◌, ap, ap₂, arith, length-append}
+use Rattle.std.proofs.Common.{if◌then◌else◌, ◌≡◌, ◌⊎◌, inl, inr, ℕ, zero, suc, ◌+◌, ◌*◌, ◌≤◌, Bool, true, false, cond, List, [], ◌∷◌, ◌++◌, map, take, length, Some, None, refl, sym, ◌∙◌, ap, ap₂, arith, length-append}
 use Rattle.std.specs.Prelude.{⊤, count_by, filter, nat_lt, option_map, slice_get}
 use Rattle.std.specs.List.{position, position_or_len}
 use Rattle.std.proofs.lemmas.Bool.Decides.{nat_tests}
 use Rattle.std.proofs.lemmas.List.{length-map, length-reverse}
 use Rattle.std.proofs.lemmas.List.Concat.{flat_map-append}
 use Rattle.std.proofs.lemmas.Option.{slice_get_within}
+use Rattle.lemmas.proofs.Answers.{same_some}
 use Rattle.lemmas.proofs.Parts.{take_front}
 use Rattle.lemmas.proofs.Places.{something_at}
 use native.Mathlib.Nat.{mul-le-mul_right}
@@ -153,10 +154,7 @@ module _ (g : GraphView) (is : IsGraph g) (l : ℕ) (ps : List NumberedPass) (lo
             go (inr f) = f
 
         start_is : n ≡ length its_place.start
-        start_is = some_is (sym at ∙ at_start its_place)
-          where
-            some_is : {a b : ℕ} → ◌≡◌ {A = Option ℕ} (Some a) (Some b) → a ≡ b
-            some_is q = cc
+        start_is = same_some (sym at ∙ at_start its_place)
 
         front_is : take n ps ≡ its_place.start
         front_is = ap₂ (λ (k : ℕ) (l : List NumberedPass). take k l) start_is its_place.numbered ∙ take_front its_place.start (result_passes (booked_statements g) r x.booked ++ its_place.rest)

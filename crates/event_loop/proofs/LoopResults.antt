@@ -1,11 +1,11 @@
 -- Which results a loop fills, by their numbers.
 use Rattle.std.proofs.Common.{if◌then◌else◌, ◌≡◌, ◌⊎◌, inl, inr, ℕ, zero, suc, ◌+◌, ◌<◌, ◌≤◌, Bool, true, false, not, ◌||◌, List, [], ◌∷◌, ◌++◌, map, take, length, Option, Some, None, refl, sym, ◌∙◌, ap, subst, arith, slice_get, filter, filter_map}
 use Rattle.std.specs.List.{cons_option}
-use Rattle.std.proofs.lemmas.Bool.{cases_lt}
+use Rattle.std.proofs.lemmas.Bool.{cases_lt, or_right}
 use Rattle.std.proofs.lemmas.List.{append-nil, length-map}
 use Rattle.std.proofs.lemmas.Option.{slice_get_within}
 use Rattle.lemmas.proofs.Answers.{same_some}
-use Rattle.lemmas.proofs.Places.{kept_at}
+use Rattle.lemmas.proofs.Places.{before_or_last, kept_at}
 use Rattle.rdf_values.specs.Bookings.{Booked, Pass, bookings, booked_by, filled, names_of, passes_of, waiting}
 use Rattle.rdf_values.specs.Names.{among, same}
 use Rattle.rdf_values.specs.declared.statement.Statement.{Statement}
@@ -15,7 +15,6 @@ use Rattle.rdf_model.proofs.Accepted.{itself, names_equal}
 use Rattle.graph_numbers.specs.Results.{loops, pass_at, passes_from, result_passes}
 use Rattle.graph_numbers.specs.declared.pass.Pass.{Pass as NumberedPass}
 use Rattle.graph_numbers.proofs.Extending.{Extends, itself as all_of_it, further}
-use Rattle.graph_numbers.proofs.Listed.{of_joined}
 use Rattle.graph_numbers.proofs.Looping.{loops_are}
 use Rattle.graph_numbers.proofs.Passing.{shorter}
 use Rattle.graph.specs.LoopRows.{AreNamedInTurn}
@@ -33,19 +32,11 @@ filter_map-append {A} {B} f (x ∷ xs) ys = go (f x) (filter_map-append f xs ys)
     go None h = h
     go (Some y) h = ap (λ l. y ∷ l) h
 
-alone_at : {A : Type 0} (x y : A) (k : ℕ) → slice_get (x ∷ []) k ≡ Some y → x ≡ y
-alone_at x y zero h = same_some h
-alone_at x y (suc k) h = absurd (cc)
-
 among_front : (bs : List Booked) (i k : ℕ) (b : Booked) (name : List ℕ) → slice_get bs i ≡ Some b → i < k → same name b.name ≡ true → among name (names_of (take k bs)) ≡ true
 among_front [] i k b name at lt is = absurd (cc)
 among_front (c ∷ bs) i zero b name at lt is = absurd (omega arith)
 among_front (c ∷ bs) zero (suc k) b name at lt is = let one : same name c.name ≡ true = ap (λ (x : Booked). same name x.name) (same_some at) ∙ is in ap (λ (t : Bool). t || among name (names_of (take k bs))) one
-among_front (c ∷ bs) (suc i) (suc k) b name at lt is = ap (λ (t : Bool). same name c.name || t) (among_front bs i k b name at (omega arith) is) ∙ or_true (same name c.name)
-  where
-    or_true : (t : Bool) → (t || true) ≡ true
-    or_true true = refl
-    or_true false = refl
+among_front (c ∷ bs) (suc i) (suc k) b name at lt is = or_right (same name c.name) (among name (names_of (take k bs))) (among_front bs i k b name at (omega arith) is)
 
 -- what passes the test and stands in a list is among the names of those that pass
 kept_among : (test : Booked → Bool) (bs : List Booked) (k : ℕ) (b : Booked) → slice_get bs k ≡ Some b → test b ≡ true → among b.name (names_of (filter test bs)) ≡ true
@@ -56,12 +47,8 @@ kept_among test (c ∷ bs) zero b at met =
     ∙ ap (λ (x : Booked). same b.name x.name || among b.name (names_of (filter test bs))) is ∙ ap (λ (t : Bool). t || among b.name (names_of (filter test bs))) (itself b.name)
 kept_among test (c ∷ bs) (suc k) b at met = go (test c) (kept_among test bs k b at met)
   where
-    or_true : (t : Bool) → (t || true) ≡ true
-    or_true true = refl
-    or_true false = refl
-
     go : (t : Bool) → among b.name (names_of (filter test bs)) ≡ true → among b.name (names_of (if t then c ∷ filter test bs else filter test bs)) ≡ true
-    go true h = ap (λ (u : Bool). same b.name c.name || u) h ∙ or_true (same b.name c.name)
+    go true h = or_right (same b.name c.name) (among b.name (names_of (filter test bs))) h
     go false h = h
 
 -- and who is named there does
@@ -139,19 +126,19 @@ module _ (script : List Statement) where
       own = record { before = before; begins = ends; numbered = refl; named = refl }
 
       both : (slice_get (loops script before) l ≡ Some ps → slice_get (loop_results before) l ≡ Some results → IsLoop ps results)
-          → (slice_get (loops script before) l ≡ Some ps) ⊎ ((k : ℕ) × (l ≡ length (loops script before) + k) × (slice_get (passes_from script (waits before) 0 (bookings before) ∷ []) k ≡ Some ps))
-          → (slice_get (loop_results before) l ≡ Some results) ⊎ ((k : ℕ) × (l ≡ length (loop_results before) + k) × (slice_get (waiting before ∷ []) k ≡ Some results)) → IsLoop ps results
+          → (slice_get (loops script before) l ≡ Some ps) ⊎ ((l ≡ length (loops script before)) × (passes_from script (waits before) 0 (bookings before) ≡ ps))
+          → (slice_get (loop_results before) l ≡ Some results) ⊎ ((l ≡ length (loop_results before)) × (waiting before ≡ results)) → IsLoop ps results
       both next (inl p) (inl q) = next p q
-      both next (inl p) (inr q) = let lt = slice_get_within (loops script before) l ps p in let e1 = q.1 in let e2 = many before ends in absurd (omega arith)
-      both next (inr p) (inl q) = let lt = slice_get_within (loop_results before) l results q in let e1 = p.1 in let e2 = many before ends in absurd (omega arith)
+      both next (inl p) (inr q) = let lt = slice_get_within (loops script before) l ps p in let e1 = q.0 in let e2 = many before ends in absurd (omega arith)
+      both next (inr p) (inl q) = let lt = slice_get_within (loop_results before) l results q in let e1 = p.0 in let e2 = many before ends in absurd (omega arith)
       both next (inr p) (inr q) =
-          subst (λ (x : List NumberedPass). IsLoop x results) (alone_at (passes_from script (waits before) 0 (bookings before)) ps p.0 p.2) (subst (λ (x : List Booked). IsLoop (passes_from script (waits before) 0 (bookings before)) x) (alone_at (waiting before) results q.0 q.2) own)
+          subst (λ (x : List NumberedPass). IsLoop x results) p.1 (subst (λ (x : List Booked). IsLoop (passes_from script (waits before) 0 (bookings before)) x) q.1 own)
 
       go : (b : Bool) → (slice_get (loops script before) l ≡ Some ps → slice_get (loop_results before) l ≡ Some results → IsLoop ps results)
           → slice_get (loops script before ++ (if b then [] else passes_from script (waits before) 0 (bookings before) ∷ [])) l ≡ Some ps
           → slice_get (loop_results before ++ cons_option (if b then None else Some (waiting before)) []) l ≡ Some results → IsLoop ps results
       go true next p q = next (ap (λ x. slice_get x l) (sym (append-nil (loops script before))) ∙ p) (ap (λ x. slice_get x l) (sym (append-nil (loop_results before))) ∙ q)
-      go false next p q = both next (of_joined (loops script before) (passes_from script (waits before) 0 (bookings before) ∷ []) l ps p) (of_joined (loop_results before) (waiting before ∷ []) l results q)
+      go false next p q = both next (before_or_last (loops script before) (passes_from script (waits before) 0 (bookings before)) l ps p) (before_or_last (loop_results before) (waiting before) l results q)
   loop_at (s ∷ before) e l ps results at there = loop_at before (shorter s before script e) l ps results (ap (λ x. slice_get x l) (sym (append-nil (loops script before))) ∙ at) there
 
   -- the passes of the result stand together in the loop

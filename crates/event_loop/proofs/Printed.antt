@@ -2,13 +2,13 @@
 use Rattle.std.proofs.Common.{◌≡◌, ◌⊎◌, inl, inr, ℕ, zero, suc, ◌+◌, ◌<◌, Bool, true, false, not, ◌||◌, List, [], ◌∷◌, ◌++◌, take, length, Option, Some, None, option_map, refl, sym, ◌∙◌, ap, subst, arith, slice_get, if◌then◌else◌, filter}
 use Rattle.std.specs.List.{cons_option}
 use Rattle.std.proofs.lemmas.List.{append-nil}
+use Rattle.lemmas.proofs.Places.{before_or_last}
 use Rattle.rdf_values.specs.Bookings.{Booked, bookings, filled, names_of, waiting}
 use Rattle.rdf_values.specs.Names.{among, place, same}
 use Rattle.rdf_values.specs.declared.statement.Statement.{Statement}
 use Rattle.rdf_values.specs.declared.statement.Statement.TheVariants.{Print}
 use Rattle.rdf_model.specs.Loops.{Access, accesses, filled_by, loop_results}
 use Rattle.rdf_model.proofs.Accepted.{names_equal}
-use Rattle.graph_numbers.proofs.Listed.{of_joined}
 use Rattle.graph.specs.LoopRows.{AreNamedInTurn, filled_count}
 use Rattle.graph.proofs.Filled.{filled_first}
 use Rattle.event_loop.specs.Places.{fills, loop_filling}
@@ -114,24 +114,16 @@ filled_stays before p name h = go (among p (filled before))
 
 printed_is_filled : (script : List Statement) → AreNamedInTurn script → (p : ℕ) (a : Access) → slice_get (accesses script) p ≡ Some a → among a.result (filled script) ≡ true
 printed_is_filled [] turn p a at = absurd (cc)
-printed_is_filled (Print r ∷ before) turn p a at = go (of_joined (accesses before) (record { result = r; fills = filled_by before r } ∷ []) p a at) (λ q. printed_is_filled before turn.1 p a q)
+printed_is_filled (Print r ∷ before) turn p a at = go (before_or_last (accesses before) (record { result = r; fills = filled_by before r }) p a at) (λ q. printed_is_filled before turn.1 p a q)
   where
     own : (b : Bool) → among r (filled before) ≡ b → among r (if b then filled before else names_of (bookings before)) ≡ true
     own true e = e
     own false e = turn.0
 
-    alone : (k : ℕ) → slice_get (record { result = r; fills = filled_by before r } ∷ []) k ≡ Some a → r ≡ a.result
-    alone zero q = ap (λ (o : Option Access). result_in o) q
-      where
-        result_in : Option Access → List ℕ
-        result_in None = r
-        result_in (Some x) = x.result
-    alone (suc k) q = absurd (cc)
-
-    go : (slice_get (accesses before) p ≡ Some a) ⊎ ((k : ℕ) × (p ≡ length (accesses before) + k) × (slice_get (record { result = r; fills = filled_by before r } ∷ []) k ≡ Some a))
+    go : (slice_get (accesses before) p ≡ Some a) ⊎ ((p ≡ length (accesses before)) × (record { result = r; fills = filled_by before r } ≡ a))
         → (slice_get (accesses before) p ≡ Some a → among a.result (filled before) ≡ true) → among a.result (filled (Print r ∷ before)) ≡ true
     go (inl q) next = filled_stays before r a.result (next q)
-    go (inr q) next = subst (λ (n : List ℕ). among n (filled (Print r ∷ before)) ≡ true) (alone q.0 q.2) (own (among r (filled before)) refl)
+    go (inr q) next = subst (λ (n : List ℕ). among n (filled (Print r ∷ before)) ≡ true) (ap (λ (x : Access). x.result) q.1) (own (among r (filled before)) refl)
 printed_is_filled (s ∷ before) turn p a at = printed_is_filled before turn.1 p a at
 
 -- the result of a Print is filled by a loop
