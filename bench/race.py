@@ -14,7 +14,7 @@ TURNS = 5
 SEED = 7
 MOST_ENTRIES = 1000000
 
-# the first entries of seed 7, as the tests of crates/rdf_make have them
+# the first entries of seed 7, as `MadeEntries` of crates/rdf_program has them
 FIRST_LINES = b"""\
 c0:int,c1:int,c2:int,c3:int,v:vec
 7,736,465,194,736;465;194

@@ -3,12 +3,12 @@ ghost use Rattle.std.specs.Prelude.{◌<◌, ◌≤◌, IfOk};
 ghost use Rattle.rdf_values.specs.Bookable.{IsBookable};
 ghost use Rattle.rdf_values.specs.Path.{history};
 ghost use Rattle.rdf_values.specs.Words.{StatementsHaveWords};
-ghost use Rattle.lazy_loop.specs.Sessions.{IsSession, session_of};
+ghost use Rattle.event_loop.specs.Sessions.{IsSession, session_of};
 
 use columns::{Columns, cut};
 use entry_fns::FnList;
+use event_loop::{LoopRefusal, Session};
 use graph::Graph;
-use lazy_loop::{LoopRefusal, Session};
 use rdf_model::laws::{scripts_are_bookable, scripts_have_words};
 use rdf_outside::OpenGate;
 use rdf_values::{EntryFault, Fault, Memory, Script};

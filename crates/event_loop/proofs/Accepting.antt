@@ -1,30 +1,33 @@
 -- What an accepted script says of its actions: their edges are those of an axis, and only numbers are watched.
-use Rattle.std.proofs.Common.{◌≡◌, inl, inr, ℕ, zero, suc, ◌≤◌, Bool, true, false, ◌&&◌, List, [], ◌∷◌, ◌++◌, length, map, reverse, Option, None, Some, refl, sym, ◌∙◌, ap, subst, arith, slice_get, append-nil, if◌then◌else◌}
+use Rattle.std.proofs.Common.{◌≡◌, inl, inr, ℕ, zero, suc, ◌≤◌, Bool, true, false, ◌&&◌, List, [], ◌∷◌, ◌++◌, length, map, reverse, None, Some, refl, sym, ◌∙◌, ap, subst, arith, slice_get, append-nil, if◌then◌else◌}
 use Rattle.std.specs.List.{AllByRecursion, list_any}
-use Rattle.std.proofs.lemmas.Bool.{and_parts, or_cases, or_left, or_parts, or_right}
+use Rattle.std.proofs.lemmas.Bool.{and_parts, or_cases, or_left, or_right}
 use Rattle.std.proofs.lemmas.List.{reverse-append}
 use Rattle.std.proofs.lemmas.List.Elements.{recursion_from_All}
+use Rattle.lemmas.proofs.Answers.{same_some}
+use Rattle.lemmas.proofs.Parts.{take_front}
 use Rattle.rdf_values.specs.Bookable.{IsBookable, IsShort}
-use Rattle.rdf_values.specs.Bookings.{ActionAt, Booked, ReportOn, booked_by, bookings, covered, is_watched, names_of, results_named}
+use Rattle.rdf_values.specs.Bookings.{ActionAt, Booked, ReportOn, booked_by, bookings, is_watched, names_of, results_named}
 use Rattle.rdf_values.specs.Edges.{are_edges}
 use Rattle.rdf_values.specs.Kinds.{FunctionNames, Scope}
 use Rattle.rdf_values.specs.Names.{among, same}
-use Rattle.rdf_values.specs.Path.{Path, history, path}
-use Rattle.rdf_values.specs.Verdict.{AreAccepted, can_watch, check, check_columns, check_edges, check_node, check_passes, check_results, first_refusal, is_in_use, is_node, is_result, permitted_kinds, refuse_if, refuse_unless, result_is, scope_at}
+use Rattle.rdf_values.specs.Path.{Path, history}
+use Rattle.rdf_values.specs.Verdict.{AreAccepted, can_watch, check, check_columns, check_edges, check_node, check_passes, check_results, is_result, permitted_kinds, refuse_unless, result_is, scope_at}
 use Rattle.rdf_values.specs.Bookings.{columns_of}
 use Rattle.rdf_values.specs.declared.action.ActionKind.{ActionKind}
 use Rattle.rdf_values.specs.declared.action.ActionKind.TheVariants as kind
-use Rattle.rdf_values.specs.declared.graph_cause.GraphCause.{GraphCause}
 use Rattle.rdf_values.specs.declared.graph_cause.GraphCause.TheVariants as cause
 use Rattle.rdf_values.specs.declared.script.Line.{Line}
 use Rattle.rdf_values.specs.declared.script.Script.{Script}
 use Rattle.rdf_values.specs.declared.statement.Statement.{Statement}
 use Rattle.rdf_values.specs.declared.statement.Statement.TheVariants.{Action, Report, Watch}
-use Rattle.rdf_model.proofs.Accepted.{both_none, if_fails, itself, names_equal, third, unless_holds}
+use Rattle.rdf_model.proofs.Accepted.{both_none, names_equal, third, unless_holds}
 use Rattle.histograms.specs.Axis.{IsAxis}
 use Rattle.actions.specs.Holding.{HasEdges}
 use Rattle.graph_numbers.proofs.Listed.{of_joined}
+use Rattle.graph.proofs.Filled.{all_in_turn, later_named}
 use Rattle.cluster_tally.specs.Tallies.{CanWatch}
+use Rattle.event_loop.proofs.LoopResults.{one_number}
 
 -- ---- edges
 
@@ -79,39 +82,7 @@ module _ (names : FunctionNames) (header : Scope) where
     | inr q ↦ own_edges before s acc.0 short.0 q.0 b k at q.2 of
   ]
 
-  -- ---- names of results
-
-  unused : (before : List Statement) (result parent : List ℕ) (more : List (Option GraphCause)) → first_refusal (check_node before result parent ∷ more) ≡ None → is_result before result ≡ false
-  unused before result parent more h =
-      let q = both_none (check_node before result parent) more h in
-      let p = both_none (refuse_if (is_in_use before result) cause.NameTaken) (refuse_unless (is_node before parent) cause.UnknownName ∷ []) q.0 in
-      (or_parts (is_node before result) (is_result before result) (if_fails (is_in_use before result) cause.NameTaken p.0)).1
-
-  fresh : (before : List Statement) (s : Statement) → check names header before s ≡ None → (n : ℕ) (b : Booked) → slice_get (booked_by before s) n ≡ Some b → is_result before b.name ≡ false
-  fresh before (Action result parent k) h zero b is = let e : record { name = result; booking = ActionAt k (path before parent) } ≡ b = cc is in subst (λ (x : Booked). is_result before x.name ≡ false) e (unused before result parent _ h)
-  fresh before (Action result parent k) h (suc n) b is = cc is
-  fresh before (Report result parent) h zero b is = let e : record { name = result; booking = ReportOn (covered before (path before parent)) } ≡ b = cc is in subst (λ (x : Booked). is_result before x.name ≡ false) e (unused before result parent _ h)
-  fresh before (Report result parent) h (suc n) b is = cc is
-  fresh before s h n b is = cc is
-
-among_there : (bs : List Booked) (n : ℕ) (b : Booked) (name : List ℕ) → slice_get bs n ≡ Some b → b.name ≡ name → among name (names_of bs) ≡ true
-among_there [] n b name is e = cc is
-among_there (c ∷ cs) zero b name is e =
-    let here : c ≡ b = cc is in
-    or_left (same name c.name) (among name (names_of cs)) (ap (same name) (ap (λ (x : Booked). x.name) here ∙ e) ∙ itself name)
-among_there (c ∷ cs) (suc n) b name is e = or_right (same name c.name) (among name (names_of cs)) (among_there cs n b name is e)
-
-few_booked : (before : List Statement) (s : Statement) → length (booked_by before s) ≤ 1
-few_booked before (Action result parent k) = omega arith
-few_booked before (Report result parent) = omega arith
-few_booked before s = omega arith
-
-only_one : (xs : List Booked) → length xs ≤ 1 → (i k : ℕ) (b c : Booked) → slice_get xs i ≡ Some b → slice_get xs k ≡ Some c → b ≡ c
-only_one [] few i k b c x y = cc x
-only_one (z ∷ w ∷ ws) few i k b c x y = absurd (omega arith)
-only_one (z ∷ []) few zero zero b c x y = cc (x, y)
-only_one (z ∷ []) few zero (suc k) b c x y = cc y
-only_one (z ∷ []) few (suc i) k b c x y = cc x
+-- ---- names of results
 
 -- one of the results of a name that can be watched
 record IsNamed (bs : List Booked) (name : List ℕ) : Type 0 where
@@ -141,26 +112,18 @@ no_both : (b : Bool) → b ≡ true → b ≡ false → ⊥
 no_both b t f = cc (sym t ∙ f)
 
 module _ (names : FunctionNames) (header : Scope) where
-  -- results have distinct names
-  unique : (st : List Statement) → AreAccepted names header st → (i k : ℕ) (b c : Booked) → slice_get (bookings st) i ≡ Some b → slice_get (bookings st) k ≡ Some c → b.name ≡ c.name → b ≡ c
-  unique [] acc i k b c x y e = cc x
-  unique (s ∷ before) acc i k b c x y e = elim (of_joined (bookings before) (booked_by before s) i b x) [
-    | inl p ↦ elim (of_joined (bookings before) (booked_by before s) k c y) [
-      | inl q ↦ unique before acc.1 i k b c p q e
-      | inr q ↦ absurd (no_both (is_result before c.name) (among_there (bookings before) i b c.name p e) (fresh names header before s acc.0 q.0 c q.2))
-    ]
-    | inr p ↦ elim (of_joined (bookings before) (booked_by before s) k c y) [
-      | inl q ↦ absurd (no_both (is_result before b.name) (among_there (bookings before) k c b.name q (sym e)) (fresh names header before s acc.0 p.0 b p.2))
-      | inr q ↦ only_one (booked_by before s) (few_booked before s) p.0 q.0 b c p.2 q.2
-    ]
-  ]
-
   among_more : (xs ys : List Booked) (name : List ℕ) → among name (names_of xs) ≡ true → among name (names_of (xs ++ ys)) ≡ true
   among_more [] ys name h = cc h
   among_more (x ∷ xs) ys name h = elim (or_cases (same name x.name) (among name (names_of xs)) h) [
     | inl p ↦ or_left (same name x.name) (among name (names_of (xs ++ ys))) p
     | inr p ↦ or_right (same name x.name) (among name (names_of (xs ++ ys))) (among_more xs ys name p)
   ]
+
+  -- a result that a statement books has a name of its own
+  new_name : (before : List Statement) (s : Statement) → AreAccepted names header (s ∷ before) → (n : ℕ) (b : Booked) → slice_get (bookings (s ∷ before)) n ≡ Some b → length (bookings before) ≤ n → is_result before b.name ≡ false
+  new_name before s acc n b is le =
+      subst (λ (bs : List Booked). among b.name (names_of bs) ≡ false) (take_front (bookings before) (booked_by before s))
+      (later_named (s ∷ before) (all_in_turn names header (s ∷ before) acc) n b is (length (bookings before)) le)
 
   -- what is watched is a result
   watched_named : (st : List Statement) → AreAccepted names header st → (name : List ℕ) → is_watched st name ≡ true → is_result st name ≡ true
@@ -180,13 +143,15 @@ module _ (names : FunctionNames) (header : Scope) where
             let known = (both_none (refuse_unless (is_result before r) cause.UnknownName) _ acc.0).1 in
             let can = unless_holds (result_is can_watch before r) cause.WrongKind (both_none (refuse_unless (result_is can_watch before r) cause.WrongKind) _ known).0 in
             let c = any_named (bookings before) r can in
-            let one = unique before acc.1 c.place n c.booked b c.there_is here (c.named ∙ names_equal r b.name p) in
+            let same_name : same c.booked.name b.name ≡ true = ap (λ (m : List ℕ). same m b.name) c.named ∙ p in
+            let number = one_number before (all_in_turn names header before acc.1) c.place n c.booked b c.there_is here same_name in
+            let one : c.booked ≡ b = same_some (sym c.there_is ∙ ap (slice_get (bookings before)) number ∙ here) in
             subst (λ (x : Booked). can_watch x.booking ≡ true) one c.can)
         | inr p ↦ watched_can before acc.1 n b here p
       ]
   watched_can (s ∷ before) acc n b is h = elim (of_joined (bookings before) (booked_by before s) n b is) [
     | inl q ↦ watched_can before acc.1 n b q h
-    | inr q ↦ absurd (no_both (is_result before b.name) (watched_named before acc.1 b.name h) (fresh names header before s acc.0 q.0 b q.2))
+    | inr q ↦ absurd (no_both (is_result before b.name) (watched_named before acc.1 b.name h) (new_name before s acc n b is (omega (arith, q.1))))
   ]
 
 kind_can : (k : ActionKind) (at : Path) → can_watch (ActionAt k at) ≡ true → CanWatch k

@@ -1,33 +1,30 @@
 -- One more pass.
-use Rattle.std.proofs.Common.{◌≡◌, inl, inr, ℕ, zero, suc, ◌+◌, ◌<◌, ◌≤◌, ◌^◌, Bool, true, false, not, ◌&&◌, List, [], ◌∷◌, ◌++◌, length, map, take, get_or, Option, None, Some, refl, sym, ◌∙◌, ap, ap₂, subst, arith, slice_get, unwrap_or, option_map, if◌then◌else◌, append-nil, append_assoc, length-append}
+use Rattle.std.proofs.Common.{◌≡◌, ℕ, zero, suc, ◌+◌, ◌<◌, ◌≤◌, ◌^◌, Bool, true, false, ◌&&◌, List, [], ◌∷◌, ◌++◌, length, map, take, get_or, Option, None, Some, refl, sym, ◌∙◌, ap, ap₂, subst, arith, slice_get, unwrap_or, option_map, if◌then◌else◌, append-nil, length-append}
 use mir.Val.{bool_byte}
-use Rattle.std.specs.Prelude.{⊤, MatchOption, is_none}
+use Rattle.std.specs.Prelude.{is_none}
 use Rattle.std.proofs.lemmas.List.Concat.{flat_map-append}
 use Rattle.std.proofs.lemmas.List.{length-map, length-take}
 use Rattle.std.proofs.lemmas.Option.{same_Some}
 use Rattle.lemmas.proofs.Parts.{take_next}
 use Rattle.lemmas.proofs.Places.{mapped_at}
-use Rattle.rdf_values.specs.Bookings.{ActionAt, Booked, Booking, Pass, ReportOn, bookings, filled, has_variations, is_watched, named_before, result_depends}
+use Rattle.rdf_values.specs.Bookings.{ActionAt, Booking, Pass, ReportOn, bookings, is_watched, named_before}
 use Rattle.rdf_values.specs.Functions.{fn_names}
 use Rattle.rdf_values.specs.Kinds.{scope_of}
-use Rattle.rdf_values.specs.Names.{among}
 use Rattle.rdf_values.specs.Path.{Path, Variation, history, variations}
 use Rattle.rdf_values.specs.declared.action.ActionKind.{ActionKind}
 use Rattle.rdf_values.specs.declared.statement.Statement.{Statement}
-use Rattle.rdf_values.specs.declared.statement.Statement.TheVariants.{Print}
 use Rattle.rdf_model.specs.LoopFacts.{is_covered, kind_in, kinds_in}
 use Rattle.graph_numbers.specs.Graphs.{GraphView, graph_filters, graph_loops, graph_results, graph_under, graph_variations}
-use Rattle.graph_numbers.specs.Results.{ResultAt, kind_of_booking, loops, numbered_pass, own_loop, passes_from, places_from, result_passes, under_at}
+use Rattle.graph_numbers.specs.Results.{ResultAt, kind_of_booking, under_at}
 use Rattle.graph_numbers.specs.declared.pass.Pass.{Pass as NumberedPass}
 use Rattle.graph_numbers.specs.declared.result_kind.ResultKind.{ResultKind}
 use Rattle.graph_numbers.specs.declared.result_kind.ResultKind.TheVariants as what
-use Rattle.graph_numbers.proofs.Listed.{of_joined}
 use Rattle.graph_numbers.proofs.Resulting.{booked_are}
 use Rattle.loop_keys.specs.Caches.{numbered_in}
 use Rattle.loop_keys.specs.Jobs.{IsJob, JobView, job_graph, passes_in}
 use Rattle.loop_keys.proofs.EvaluateLaws.{accepted_of}
 use Rattle.loop_keys.proofs.PassNumbers.{result_inside, result_there}
-use Rattle.loop_keys.proofs.PassTies.{of_chosen, of_mapped, pass_of}
+use Rattle.loop_keys.proofs.PassTies.{of_chosen, pass_of}
 use Rattle.loop_keys.specs.Turns.{numbered_passes}
 use Rattle.loop_keys.proofs.Covered.{covered_count, passes_count}
 use Rattle.loop_keys.proofs.EntryLaws.{read_pass}
@@ -36,77 +33,21 @@ use Rattle.actions.specs.Holding.{HasEdges}
 use Rattle.cluster_tally.specs.Feedings.{IsFresh, place_if}
 use Rattle.cluster_tally.specs.Tallies.{CanWatch, TallyView}
 use Rattle.loop_pieces.specs.Trails.{place_if_watched, watched_from, watched_places}
+use Rattle.result_text.proofs.Within.{IsIn, variation_within}
 use Rattle.event_loop.specs.Passes.{IsOfPasses, is_watched_pass, places_before, watched_before}
 use Rattle.event_loop.proofs.Accepting.{all_short, can_be_watched, has_edges}
+use Rattle.event_loop.proofs.Decoding.{watched-append}
 
 -- ---- the variation of a pass is one of the script
 
-module _ (script : List Statement) where
-  abbrev IsInside : NumberedPass → Type 0
-  IsInside m = MatchOption m.variation ⊤ (λ v. v < length (variations script))
-
-  places_within : (test : Variation → Bool) (n : ℕ) (vs : List Variation) (i v : ℕ) → slice_get (places_from test n vs) i ≡ Some v → v < n + length vs
-  places_within test n [] i v is = cc is
-  places_within test n (x ∷ xs) i v is = step (test x) i is (λ k q. places_within test (suc n) xs k v q)
-    where
-      step : (b : Bool) (k : ℕ) → slice_get (if b then n ∷ places_from test (suc n) xs else places_from test (suc n) xs) k ≡ Some v
-          → ((l : ℕ) → slice_get (places_from test (suc n) xs) l ≡ Some v → v < suc n + length xs) → v < n + suc (length xs)
-      step true zero q next = let e : n ≡ v = cc q in omega (arith, e)
-      step true (suc k) q next = let lt = next k q in omega (arith, lt)
-      step false k q next = let lt = next k q in omega (arith, lt)
-
-  of_result : (n : ℕ) (b : Booked) (i : ℕ) (m : NumberedPass) → slice_get (result_passes script n b) i ≡ Some m → IsInside m
-  of_result n b zero m is = let e : numbered_pass n None ≡ m = cc is in subst IsInside e tt
-  of_result n b (suc i) m is = step (has_variations script b.name) is
-    where
-      places : List ℕ
-      places = places_from (λ v. result_depends v b.booking) 0 (variations script)
-
-      step : (t : Bool) → slice_get (if t then map (λ v. numbered_pass n (Some v)) (places_from (λ v. result_depends v b.booking) 0 (variations script)) else []) i ≡ Some m → IsInside m
-      step true q =
-          let v = of_mapped (λ v. numbered_pass n (Some v)) (places_from (λ v. result_depends v b.booking) 0 (variations script)) i m q in
-          let lt = places_within (λ v. result_depends v b.booking) 0 (variations script) i v.0 v.1 in
-          subst IsInside v.2 (omega (arith, lt))
-      step false q = cc q
-
-  of_passes : (test : Booked → Bool) (n : ℕ) (bs : List Booked) (i : ℕ) (m : NumberedPass) → slice_get (passes_from script test n bs) i ≡ Some m → IsInside m
-  of_passes test n [] i m is = cc is
-  of_passes test n (b ∷ bs) i m is = step (test b) is (of_passes test (suc n) bs)
-    where
-      step : (t : Bool) → slice_get ((if t then result_passes script n b else []) ++ passes_from script test (suc n) bs) i ≡ Some m
-          → ((k : ℕ) (o : NumberedPass) → slice_get (passes_from script test (suc n) bs) k ≡ Some o → IsInside o) → IsInside m
-      step true q next = elim (of_joined (result_passes script n b) (passes_from script test (suc n) bs) i m q) [
-        | inl p ↦ of_result n b i m p
-        | inr p ↦ next p.0 m p.2
-      ]
-      step false q next = next i m q
-
-  of_loops : (before : List Statement) (k : ℕ) (ps : List NumberedPass) → slice_get (loops script before) k ≡ Some ps → (i : ℕ) (m : NumberedPass) → slice_get ps i ≡ Some m → IsInside m
-  of_loops [] k ps is i m there = cc is
-  of_loops (s ∷ before) k ps is i m there = elim (of_joined (loops script before) (own_loop script before s) k ps is) [
-    | inl q ↦ of_loops before k ps q i m there
-    | inr q ↦ own s q.0 q.2
-  ]
-    where
-      printed : (b : Bool) (n : ℕ) → slice_get (if b then [] else passes_from script (λ (b : Booked). not (among b.name (filled before))) 0 (bookings before) ∷ []) n ≡ Some ps → IsInside m
-      printed true n q = cc q
-      printed false (suc n) q = cc q
-      printed false zero q =
-          let e : passes_from script (λ (b : Booked). not (among b.name (filled before))) 0 (bookings before) ≡ ps = cc q in
-          of_passes (λ (b : Booked). not (among b.name (filled before))) 0 (bookings before) i m (ap (λ l. slice_get l i) e ∙ there)
-
-      own : (s : Statement) (n : ℕ) → slice_get (own_loop script before s) n ≡ Some ps → IsInside m
-      own (Print result) n q = printed (among result (filled before)) n q
-      own s n q = cc q
-
-  under_there : (u : Option ℕ) → MatchOption u ⊤ (λ v. v < length (variations script)) → is_none (under_at script u) ≡ is_none u
-  under_there None h = refl
-  under_there (Some v) h = step (variations script) v h
-    where
-      step : (vs : List Variation) (k : ℕ) → k < length vs → is_none (slice_get vs k) ≡ false
-      step [] k lt = absurd (omega arith)
-      step (x ∷ xs) zero lt = refl
-      step (x ∷ xs) (suc k) lt = step xs k (omega arith)
+under_there : (script : List Statement) (u : Option ℕ) → IsIn (length (variations script)) u → is_none (under_at script u) ≡ is_none u
+under_there script None h = refl
+under_there script (Some v) h = step (variations script) v h
+  where
+    step : (vs : List Variation) (k : ℕ) → k < length vs → is_none (slice_get vs k) ≡ false
+    step [] k lt = absurd (omega arith)
+    step (x ∷ xs) zero lt = refl
+    step (x ∷ xs) (suc k) lt = step xs k (omega arith)
 
 -- ---- the passes of a job by numbers
 
@@ -131,7 +72,7 @@ module _ (j : JobView) (n : ℕ) (m : NumberedPass) (its : numbered_in j n ≡ S
   pub under_same : is_none (graph_under (job_graph j) m.variation) ≡ is_none m.variation
   under_same =
       let ps = of_chosen (slice_get (graph_loops (job_graph j)) j.number) n m its in
-      under_there (history j.script) m.variation (of_loops (history j.script) (history j.script) j.number ps.0 ps.1 n m ps.2)
+      under_there (history j.script) m.variation (variation_within (job_graph j) j.number n ps.0 m ps.1 ps.2)
 
   abbrev pub its_result : ResultAt
   its_result = (result_there j n m its).0
@@ -203,15 +144,6 @@ module _ (j : JobView) (n : ℕ) (m : NumberedPass) (its : numbered_in j n ≡ S
 
 -- ---- one more
 
-watched_more : (script : List Statement) (n : ℕ) (ps : List Pass) (p : Pass) → watched_from script n (ps ++ p ∷ []) ≡ watched_from script n ps ++ place_if_watched script (n + length (kinds_in ps)) p
-watched_more script n [] p = append-nil (place_if_watched script n p) ∙ (let e : n ≡ n + 0 = omega arith in ap (λ k. place_if_watched script k p) e)
-watched_more script n (q ∷ qs) p =
-    let more = length (kind_in q.result.booking) in
-    ap (λ l. place_if_watched script n q ++ l) (watched_more script (n + more) qs p)
-    ∙ sym (append_assoc (place_if_watched script n q) (watched_from script (n + more) qs) (place_if_watched script (n + more + length (kinds_in qs)) p))
-    ∙ (let e : n + more + length (kinds_in qs) ≡ n + length (kinds_in (q ∷ qs)) = omega (arith, length-append (kind_in q.result.booking) (kinds_in qs)) in
-    ap (λ k. watched_from script n (q ∷ qs) ++ place_if_watched script k p) e)
-
 module _ (j : JobView) (n : ℕ) (p : Pass) (here : slice_get (passes_in j) n ≡ Some p) where
   kinds_next : kinds_in (take (n + 1) (passes_in j)) ≡ kinds_in (take n (passes_in j)) ++ kind_in p.result.booking
   kinds_next =
@@ -221,9 +153,11 @@ module _ (j : JobView) (n : ℕ) (p : Pass) (here : slice_get (passes_in j) n �
 
   places_next : places_before j (n + 1) ≡ places_before j n ++ place_if_watched (history j.script) (length (kinds_in (take n (passes_in j)))) p
   places_next =
+      let e : 0 + length (kinds_in (take n (passes_in j))) ≡ length (kinds_in (take n (passes_in j))) = omega arith in
       ap (watched_places (history j.script)) (take_next (passes_in j) n p here)
-      ∙ watched_more (history j.script) 0 (take n (passes_in j)) p
-      ∙ (let e : (k : ℕ) → 0 + k ≡ k = λ k. omega arith in ap (λ k. places_before j n ++ place_if_watched (history j.script) k p) (e (length (kinds_in (take n (passes_in j))))))
+      ∙ watched-append (history j.script) 0 (take n (passes_in j)) (p ∷ [])
+      ∙ ap (λ k. places_before j n ++ watched_from (history j.script) k (p ∷ [])) e
+      ∙ ap (λ l. places_before j n ++ l) (append-nil (place_if_watched (history j.script) (length (kinds_in (take n (passes_in j)))) p))
 
   -- a report's pass adds nothing
   module _ (none : kind_in p.result.booking ≡ []) where

@@ -4,6 +4,10 @@ pub mod Gathered
 pub mod Jobs
 pub mod Parts
 pub mod Passes
+pub mod Places
 pub mod Seated
+pub mod Sessions
 pub mod Slots
+pub mod Transcripts
+pub mod Turns
 pub mod Workers

@@ -1,6 +1,8 @@
 mod AcceptedRuns
 mod Answering
 mod Booking
+mod Decimal
 mod Inputs
+mod MadeEntries
 mod OneDue
 mod SomeDue

@@ -12,7 +12,7 @@ use Rattle.rdf_model.specs.PartialResults.{Course}
 use Rattle.rdf_model.specs.Transcript.{transcript}
 use Rattle.script_read.proofs.Answered.{answered}
 use Rattle.table_csv.specs.Csv.{csv_records}
-use Rattle.lazy_loop.proofs.SomeChain.{first_sets, first_sets_are_a_chain}
+use Rattle.event_loop.proofs.SomeChain.{first_sets, first_sets_are_a_chain}
 use Rattle.command_words.specs.Asked.{asked_of}
 use Rattle.command_words.specs.declared.command.Command.{Command}
 use Rattle.command_words.specs.declared.command.Friend.{Friend}

@@ -8,6 +8,7 @@ ghost use Rattle.rdf_program.specs.Running.{AreSettings};
 
 use crate::answer::Answer;
 use crate::friend::answer_with_friend;
+use crate::make::{make_script, make_table};
 use crate::means::Means;
 use crate::over_table::answer_script;
 use columns::Columns;
@@ -16,7 +17,6 @@ use input_files::{
     FileCause, FileRefusal, MAX_TABLE, ReadFile, columns_of, read_columns_file, read_script_file,
     read_table_file, script_of,
 };
-use rdf_make::{make_script, make_table};
 use rdf_outside::{Gate, Shelf};
 use rdf_values::Memory;
 use result_text::{Refusal, refusal_line};

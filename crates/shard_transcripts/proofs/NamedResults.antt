@@ -15,8 +15,8 @@ use Rattle.rdf_model.specs.Transcript.{named_lines, partial_lines, result_lines}
 use Rattle.rdf_model.proofs.Accepted.{names_equal}
 use Rattle.graph_numbers.proofs.Extending.{Extends, further, itself}
 use Rattle.graph.specs.LoopRows.{AreNamedInTurn}
-use Rattle.lazy_loop.proofs.Filling.{one_number}
-use Rattle.lazy_loop.proofs.Found.{AreOf, passes_are_of}
+use Rattle.event_loop.proofs.LoopResults.{one_number}
+use Rattle.event_loop.proofs.Found.{AreOf, passes_are_of}
 
 -- ---- the only one that passes a test
 

@@ -28,12 +28,12 @@ use Rattle.graph_numbers.proofs.Extending.{itself}
 use Rattle.loop_pieces.specs.Whole.{cluster_fault}
 use Rattle.loop_pieces.proofs.ClusterFaults.{first_cluster_has_first_fault}
 use Rattle.loop_pieces.proofs.WholeLoops.{all_clusters_are_the_table}
-use Rattle.lazy_loop.specs.Places.{fills}
-use Rattle.lazy_loop.proofs.Accesses.{none_more, one_loop_more}
-use Rattle.lazy_loop.proofs.Filling.{many}
-use Rattle.lazy_loop.proofs.Filling as filling
-use Rattle.lazy_loop.proofs.Found.{in_turn}
-use Rattle.lazy_loop.proofs.Printed.{place_at, printed_has_loop}
+use Rattle.event_loop.specs.Places.{fills}
+use Rattle.event_loop.proofs.Accesses.{none_more, one_loop_more}
+use Rattle.event_loop.proofs.LoopResults.{many}
+use Rattle.event_loop.proofs.LoopResults as filling
+use Rattle.event_loop.proofs.Found.{in_turn}
+use Rattle.event_loop.proofs.Printed.{place_at, printed_has_loop}
 use Rattle.shard_lines.specs.declared.shard_line.ShardLine.{ShardLine}
 use Rattle.shard_files.specs.Merging.{fault_or_lines, up_to_fault}
 use Rattle.shard_files.specs.declared.shard_loop.ShardLoop.{ShardLoop}

@@ -1,0 +1,15 @@
+use Rattle.std.proofs.Common.{◌≡◌, ◌≤◌, List, Some, length, map, take}
+use Rattle.rdf_values.specs.Bookings.{Pass as NamedPass}
+use Rattle.rdf_model.specs.LoopFacts.{kinds_in}
+use Rattle.graph_numbers.specs.Graphs.{booked_statements}
+use Rattle.graph_numbers.specs.Results.{pass_at}
+use Rattle.loop_pieces.specs.Trails.{watched_places}
+use Rattle.event_loop.proofs.place.counts_of.Given as goal
+
+abbrev pub invariant-loop-pass : goal.invariant-loop-pass
+invariant-loop-pass l = record {
+  few_actions : l.actions ≤ l.pass-index;
+  few_watched : l.watched ≤ l.pass-index;
+  each : (qs : List NamedPass) → map (pass_at (booked_statements l.graph)) l.passes ≡ map (λ q. Some q) qs
+      → (l.actions ≡ length (kinds_in (take l.pass-index qs))) × (l.watched ≡ length (watched_places (booked_statements l.graph) (take l.pass-index qs)));
+}

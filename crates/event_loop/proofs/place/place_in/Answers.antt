@@ -1,0 +1,38 @@
+use Rattle.std.proofs.Common.{◌≤◌, ◌*◌, arith, sym}
+use Rattle.lemmas.proofs.Parts.{take_no_longer}
+use native.Mathlib.Nat.{mul-le-mul_left}
+use Rattle.event_loop.proofs.Found.{loop_few, none_found, pass_of, place_is, taken_at}
+use Rattle.event_loop.proofs.place.place_in.Goals as goal
+
+pub returns-in_default : goal.returns-in_default
+returns-in_default c = λ x results its there.
+    none_found c.args.graph.now c.is_booked.ensures c.args.loop_index c.passes-passes.result.now c.passes-passes.ensures results there c.args.r x its (sym c.in_default.ensures)
+
+pub counts_of-before-requires-clause-passes : goal.counts_of-before-requires-clause-passes
+counts_of-before-requires-clause-passes c = λ i p at.
+    pass_of c.args.graph.now c.is_booked.ensures c.args.loop_index c.passes-passes.result.now c.passes-passes.ensures i p (taken_at c.in-Some.start c.passes-passes.result.now i p at)
+
+pub counts_of-before-requires-clause-few : goal.counts_of-before-requires-clause-few
+counts_of-before-requires-clause-few c =
+    let few = loop_few c.args.graph.now c.is_booked.ensures c.args.loop_index c.passes-passes.result.now c.passes-passes.ensures _ _ c.variations.ensures c.len-variations.ensures.count c.len-variations.ensures.few in
+    let front = take_no_longer c.in-Some.start c.passes-passes.result.now in
+    omega (arith, few, front)
+
+pub overflow_cast-own : goal.overflow_cast-own
+overflow_cast-own c =
+    let few = loop_few c.args.graph.now c.is_booked.ensures c.args.loop_index c.passes-passes.result.now c.passes-passes.ensures _ _ c.variations.ensures c.len-variations.ensures.count c.len-variations.ensures.few in
+    let own = c.pass_count-own.ensures.few in
+    omega (arith, few, own)
+
+pub overflow_mul-result : goal.overflow_mul-result
+overflow_mul-result c =
+    let few = loop_few c.args.graph.now c.is_booked.ensures c.args.loop_index c.passes-passes.result.now c.passes-passes.ensures _ _ c.variations.ensures c.len-variations.ensures.count c.len-variations.ensures.few in
+    let own = c.pass_count-own.ensures.few in
+    let product : c.pass_count-own.result * c.accumulators.result ≤ c.pass_count-own.result * 1 = mul-le-mul_left c.pass_count-own.result c.accumulators.ensures.few in
+    omega (arith, few, own, product)
+
+pub returns : goal.returns
+returns c = λ x results its there.
+    let few = loop_few c.args.graph.now c.is_booked.ensures c.args.loop_index c.passes-passes.result.now c.passes-passes.ensures _ _ c.variations.ensures c.len-variations.ensures.count c.len-variations.ensures.few in
+    place_is c.args.graph.now c.is_booked.ensures c.args.loop_index c.passes-passes.result.now c.passes-passes.ensures results there c.args.r x its c.in-Some.start (sym c.in-Some.ensures) few
+    c.counts_of-before.result.actions c.counts_of-before.result.watched c.pass_count-own.result c.accumulators.result c.counts_of-before.ensures c.pass_count-own.ensures.count c.accumulators.ensures.value

@@ -1,0 +1,57 @@
+use Rattle.std.proofs.Common.{◌≡◌, ◌<◌, ◌≤◌, length, arith}
+use Rattle.event_loop.specs.Sessions.{session_of}
+use Rattle.event_loop.proofs.Accesses.{accessed_filled, accessed_old, after_faulted, after_filled, after_old, faulted_new, loop_within, print_few, pushed_items}
+use Rattle.event_loop.proofs.session.Session.access.Goals as goal
+
+pub overflow_add-self : goal.overflow_add-self
+overflow_add-self g c = let few = print_few (session_of c.args.self.now) c.requires.session c.args.print c.requires.print.1 in omega (arith, few)
+
+pub overflow_add-self-in-Some : goal.overflow_add-self-in-Some
+overflow_add-self-in-Some g c = let few = print_few (session_of c.args.self.now) c.requires.session c.args.print c.requires.print.1 in omega (arith, few)
+
+pub overflow_add-self-in-Ok-Filled : goal.overflow_add-self-in-Ok-Filled
+overflow_add-self-in-Ok-Filled g c = let few = print_few (session_of c.args.self.now) c.requires.session c.args.print c.requires.print.1 in omega (arith, few)
+
+pub overflow_add-self-in-Ok-Faulted : goal.overflow_add-self-in-Ok-Faulted
+overflow_add-self-in-Ok-Faulted g c = let few = print_few (session_of c.args.self.now) c.requires.session c.args.print c.requires.print.1 in omega (arith, few)
+
+pub returns-then-l-len-clause-session : goal.returns-then-l-len-clause-session
+returns-then-l-len-clause-session g c =
+    let lt : c.filling-l.result < length c.args.self.now.loops.items = omega arith in
+    after_old (session_of c.args.self.now) c.requires.session c.args.print c.requires.print.0 c.filling-l.result c.filling-l.ensures lt
+
+pub returns-then-l-len-clause-ok : goal.returns-then-l-len-clause-ok
+returns-then-l-len-clause-ok g c = λ r e.
+    let lt : c.filling-l.result < length c.args.self.now.loops.items = omega arith in
+    let same_result : c.print_result-r.result ≡ r = cc in
+    accessed_old (session_of c.args.self.now) c.requires.session c.args.print c.requires.print.0 c.filling-l.result c.filling-l.ensures c.print_result-r.result r same_result c.print_result-r.ensures lt
+
+pub run-requires-clause-its_loop : goal.run-requires-clause-its_loop
+run-requires-clause-its_loop g c κs within =
+    let ge : length c.args.self.now.loops.items ≤ c.filling-l.result = omega arith in
+    loop_within (session_of c.args.self.now) c.requires.session c.args.print c.requires.print.0 c.filling-l.result c.filling-l.ensures ge c.in_default.is
+
+pub returns-else-is_err-clause-session : goal.returns-else-is_err-clause-session
+returns-else-is_err-clause-session g c =
+    let ge : length c.args.self.now.loops.items ≤ c.filling-l.result = omega arith in
+    after_filled (session_of c.args.self.now) c.requires.session c.args.print c.requires.print.0 c.filling-l.result c.filling-l.ensures ge c.in_default.is c.in-Ok-Filled.filled c.push.new.self.items
+    (pushed_items _ _ _ _ c.push.ensures.items c.if-is_err.ensures.negation) (rw c.in-Ok-Filled.field-0-is at c.in-Ok-Filled.ensures)
+
+pub returns-else-is_err-clause-ok : goal.returns-else-is_err-clause-ok
+returns-else-is_err-clause-ok g c = λ r e.
+    let ge : length c.args.self.now.loops.items ≤ c.filling-l.result = omega arith in
+    let same_result : c.print_result-r.result ≡ r = cc in
+    accessed_filled (session_of c.args.self.now) c.requires.session c.args.print c.requires.print.0 c.filling-l.result c.filling-l.ensures ge c.in_default.is c.in-Ok-Filled.filled c.push.new.self.items
+    (pushed_items _ _ _ _ c.push.ensures.items c.if-is_err.ensures.negation) (rw c.in-Ok-Filled.field-0-is at c.in-Ok-Filled.ensures) c.print_result-r.result r same_result c.print_result-r.ensures
+
+pub returns-in-Ok-Faulted-clause-session : goal.returns-in-Ok-Faulted-clause-session
+returns-in-Ok-Faulted-clause-session g c =
+    let ge : length c.args.self.now.loops.items ≤ c.filling-l.result = omega arith in
+    after_faulted (session_of c.args.self.now) c.requires.session c.args.print c.requires.print.0 c.filling-l.result c.filling-l.ensures ge c.in_default.is c.in-Ok-Faulted.fault (rw c.in-Ok-Faulted.field-0-is at c.in-Ok-Faulted.ensures)
+
+pub returns-in-Ok-Faulted-clause-fault : goal.returns-in-Ok-Faulted-clause-fault
+returns-in-Ok-Faulted-clause-fault g c = λ l f e.
+    let ge : length c.args.self.now.loops.items ≤ c.filling-l.result = omega arith in
+    let same_loop : c.filling-l.result ≡ l = cc in
+    let same_fault : c.in-Ok-Faulted.fault ≡ f = cc in
+    faulted_new (session_of c.args.self.now) c.requires.session c.args.print c.requires.print.0 c.filling-l.result c.filling-l.ensures ge c.in_default.is c.in-Ok-Faulted.fault (rw c.in-Ok-Faulted.field-0-is at c.in-Ok-Faulted.ensures) l f same_loop same_fault

@@ -1,0 +1,180 @@
+-- What a contract sees of a session.
+use Rattle.std.specs.Prelude.{◌≡◌, ℕ, ◌+◌, ◌<◌, ◌≤◌, ◌⊎◌, List, [], ◌∷◌, Option, None, Some, IfSome, length, slice_get, unwrap_or}
+use Rattle.rdf_values.specs.Functions.{Function}
+use Rattle.rdf_values.specs.Bookings.{Booked, Pass}
+use Rattle.rdf_values.specs.Path.{history}
+use Rattle.rdf_values.specs.Tables.{IsTable}
+use Rattle.rdf_values.specs.Words.{StatementsHaveWords}
+use Rattle.rdf_values.specs.declared.fault.Fault.{Fault}
+use Rattle.rdf_values.specs.declared.statement.Statement.{Statement}
+use Rattle.rdf_model.specs.Laws.{loops_before}
+use Rattle.rdf_model.specs.Loops.{Access, accesses, loop_passes, loop_results}
+use Rattle.rdf_model.specs.Results.{Dataset, first_fault}
+use Rattle.columns.specs.CutsView.{CutsView}
+use Rattle.columns.specs.ColumnsView.{ColumnsView}
+use Rattle.entry_fns.specs.Lists.{functions_in}
+use Rattle.graph_numbers.specs.Graphs.{GraphView, IsGraph, graph_prints}
+use Rattle.graph_numbers.specs.Laws.{graph_of}
+use Rattle.loop_keys.specs.Jobs.{JobView, passes_in}
+use Rattle.loop_pieces.specs.Trails.{place_if_watched}
+use Rattle.loop_pieces.specs.declared.filled_result.FilledResult.{FilledResult}
+use Rattle.loop_pieces.specs.declared.filled_result.PartialLine.{PartialLine}
+use Rattle.event_loop.specs.Jobs.{job_facts}
+use Rattle.event_loop.specs.Ends.{IsFilled}
+use Rattle.event_loop.specs.declared.end.FilledLoop.{FilledLoop}
+use Rattle.event_loop.specs.Places.{IsPlaced, loop_filling}
+use Rattle.event_loop.specs.declared.kept.Kept.{Kept}
+use Rattle.event_loop.specs.declared.place.Place.{Place}
+use Rattle.event_loop.specs.declared.session.Session.{Session}
+
+-- the graph, the functions and the table, its cuts, the limits, the next Print, the completed loops, and the fault of the one after them
+pub record SessionView : Type 0 where
+  pub graph : GraphView
+  pub dataset : Dataset
+  pub cuts : CutsView
+  pub slots : ℕ
+  pub watch : ℕ
+  pub next : ℕ
+  pub loops : List FilledLoop
+  pub fault : Option Kept
+
+-- the functions, and the table of the columns
+abbrev pub dataset_of : ColumnsView → List Function → Dataset
+dataset_of columns fns = record { fns = fns; columns = columns.table.columns; rows = columns.table.rows }
+
+-- the parts of a session
+abbrev pub session_of : {V : Type 0} {D : V → Type 0} {g : _} → Session V D g → SessionView
+session_of s = record {
+  graph = s.graph;
+  dataset = dataset_of s.columns (functions_in s.functions.now);
+  cuts = s.columns.cuts;
+  slots = s.slots;
+  watch = s.watch;
+  next = s.next;
+  loops = s.loops.items;
+  fault = s.fault;
+}
+
+-- a session that ran no loop
+abbrev pub fresh_session : GraphView → ColumnsView → List Function → ℕ → ℕ → SessionView
+fresh_session graph columns fns slots watch = record {
+  graph = graph;
+  dataset = dataset_of columns fns;
+  cuts = columns.cuts;
+  slots = slots;
+  watch = watch;
+  next = 0;
+  loops = [];
+  fault = None;
+}
+
+-- the loop of that number, over the session's table
+abbrev pub session_job : SessionView → ℕ → JobView
+session_job s l = record { script = s.graph.script; number = l; dataset = s.dataset; cuts = s.cuts }
+
+-- the passes of the loop that a Print runs
+abbrev pub passes_run : List Statement → Access → List Pass
+passes_run script a = loop_passes script (unwrap_or a.fills [])
+
+-- ---- what holds of a session
+
+-- the fault is the first one of the loop after the completed ones
+pub record IsKept (s : SessionView) (k : Kept) : Type 0 where
+  pub number : k.loop_index ≡ length s.loops
+  pub there : k.loop_index < length (loop_results (history s.graph.script))
+  pub first : first_fault s.dataset (passes_in (session_job s k.loop_index)) ≡ Some k.fault
+
+-- the parts fit, each completed loop is filled, and they are those of the Prints before the next one, up to a kept fault
+pub record IsSession (s : SessionView) : Type 0 where
+  pub graph : s.graph ≡ graph_of s.graph.script s.dataset
+  pub booked : IsGraph s.graph
+  pub table : IsTable (record { columns = s.dataset.columns; rows = s.dataset.rows })
+  pub cuts : s.cuts.entries ≡ length s.dataset.rows
+  pub words : StatementsHaveWords (history s.graph.script)
+  pub slots : (0 < s.slots) × (s.slots ≤ 16)
+  pub watch : 0 < s.watch
+  pub filled : (l : ℕ) (f : FilledLoop) → slice_get s.loops l ≡ Some f → IsFilled (job_facts (session_job s l)) s.watch f
+  pub few : length s.loops ≤ length (loop_results (history s.graph.script))
+  pub turn : s.fault ≡ None → length s.loops ≡ loops_before (history s.graph.script) s.next
+  pub kept : IfSome s.fault (IsKept s)
+
+-- ---- results
+
+-- a completed loop fills the result of that name
+pub record IsFilledIn (s : SessionView) (name : List ℕ) : Type 0 where
+  pub number : ℕ
+  pub its_number : loop_filling (history s.graph.script) name ≡ Some number
+  pub completed : number < length s.loops
+
+-- none does
+abbrev pub IsUnfilled : SessionView → List ℕ → Type 0
+IsUnfilled s name = (l : ℕ) → loop_filling (history s.graph.script) name ≡ Some l → length s.loops ≤ l
+
+-- the loop of that number is completed and fills the result, whose passes stand in that place of it
+pub record IsFoundAt (s : SessionView) (b : Booked) (number : ℕ) (place : Place) : Type 0 where
+  pub its_number : loop_filling (history s.graph.script) b.name ≡ Some number
+  pub completed : number < length s.loops
+  pub placed : IsPlaced (history s.graph.script) (passes_in (session_job s number)) b place
+
+-- the result's passes stand in that place of the completed loop that fills it
+pub record IsFilledAt (s : SessionView) (b : Booked) (l : FilledLoop) (place : Place) : Type 0 where
+  pub number : ℕ
+  pub its_number : loop_filling (history s.graph.script) b.name ≡ Some number
+  pub its_loop : slice_get s.loops number ≡ Some l
+  pub placed : IsPlaced (history s.graph.script) (passes_in (session_job s number)) b place
+
+-- the loop's piece, with the numbers of the result's accumulators
+pub record IsResult (s : SessionView) (b : Booked) (f : FilledResult) : Type 0 where
+  pub filled : FilledLoop
+  pub place : Place
+  pub filled_at : IsFilledAt s b filled place
+  pub piece : f.piece.now ≡ filled.piece
+  pub first : f.first ≡ place.first
+  pub passes : f.passes ≡ place.passes
+
+-- the partial results of a watched result
+pub record ArePartials (s : SessionView) (b : Booked) (lines : List PartialLine) : Type 0 where
+  pub filled : FilledLoop
+  pub place : Place
+  pub filled_at : IsFilledAt s b filled place
+  pub watched : (n : ℕ) → place_if_watched (history s.graph.script) n (record { result = b; under = None }) ≡ n ∷ []
+  pub its_lines : slice_get filled.partials place.watched ≡ Some lines
+
+-- the result isn't watched, or isn't filled
+abbrev pub HasNoPartials : SessionView → Booked → Type 0
+HasNoPartials s b = (place_if_watched (history s.graph.script) 0 (record { result = b; under = None }) ≡ []) ⊎ IsUnfilled s b.name
+
+-- ---- accesses
+
+-- all but the next Print, the loops and the fault
+pub record HasSameParts (old new : SessionView) : Type 0 where
+  pub graph : new.graph ≡ old.graph
+  pub dataset : new.dataset ≡ old.dataset
+  pub cuts : new.cuts ≡ old.cuts
+  pub slots : new.slots ≡ old.slots
+  pub watch : new.watch ≡ old.watch
+
+-- the Print's result is filled, by a new loop only where it wasn't before
+pub record IsAccessed (old new : SessionView) (print r : ℕ) : Type 0 where
+  pub its_result : slice_get (graph_prints old.graph) print ≡ Some (Some r)
+  pub next : new.next ≡ old.next + 1
+  pub fault : new.fault ≡ old.fault
+  pub stays : (l : ℕ) (f : FilledLoop) → slice_get old.loops l ≡ Some f → slice_get new.loops l ≡ Some f
+  pub filled : (a : Access) → slice_get (accesses (history old.graph.script)) print ≡ Some a → IsFilledIn new a.result
+  pub again : (a : Access) → slice_get (accesses (history old.graph.script)) print ≡ Some a → IsFilledIn old a.result → new.loops ≡ old.loops
+  pub sound : (a : Access) → slice_get (accesses (history old.graph.script)) print ≡ Some a → old.fault ≡ None → first_fault old.dataset (passes_run (history old.graph.script) a) ≡ None
+
+-- the Print's result isn't filled, and the fault is the kept one, or that of the loop which was to fill it
+pub record IsFaulted (old new : SessionView) (print l : ℕ) (f : Fault) : Type 0 where
+  pub next : new.next ≡ old.next + 1
+  pub loops : new.loops ≡ old.loops
+  pub fault : new.fault ≡ Some (record { loop_index = l; fault = f })
+  pub kept : (k : Kept) → old.fault ≡ Some k → old.fault ≡ new.fault
+  pub unfilled : (a : Access) → slice_get (accesses (history old.graph.script)) print ≡ Some a → IsUnfilled old a.result
+  pub ran : (a : Access) → slice_get (accesses (history old.graph.script)) print ≡ Some a → old.fault ≡ None → slice_get (loop_results (history old.graph.script)) l ≡ a.fills
+
+-- memory is wanted only for a new loop, and nothing changes
+pub record IsRefused (old new : SessionView) (print : ℕ) : Type 0 where
+  pub same : new ≡ old
+  pub sound : old.fault ≡ None
+  pub unfilled : (a : Access) → slice_get (accesses (history old.graph.script)) print ≡ Some a → IsUnfilled old a.result

@@ -1,0 +1,36 @@
+-- What one Print adds to a text.
+use Rattle.std.specs.Prelude.{◌≡◌, ℕ, ◌+◌, List, None, Some, slice_get}
+use Rattle.rdf_values.specs.Cuts.{cut}
+use Rattle.rdf_values.specs.Path.{history}
+use Rattle.rdf_model.specs.Loops.{Access, accesses}
+use Rattle.rdf_model.specs.PartialResults.{Course}
+use Rattle.rdf_model.specs.Results.{first_fault}
+use Rattle.rdf_model.specs.Transcript.{Printed, access_passes, access_printed, in_front_of}
+use Rattle.loop_pieces.specs.PartialLines.{ArePartialLines}
+use Rattle.loop_pieces.specs.declared.filled_result.PartialLine.{PartialLine}
+use Rattle.event_loop.specs.Jobs.{job_facts}
+use Rattle.event_loop.specs.declared.end.FilledLoop.{FilledLoop}
+use Rattle.event_loop.specs.Sessions.{SessionView, session_job}
+
+-- the clusters are the session's, and the partial results of its loops are over the sets of the course
+pub record FitsCourse (s : SessionView) (course : Course) : Type 0 where
+  pub spans : course.spans ≡ cut s.cuts.entries s.cuts.size s.cuts.marks
+  pub lines : (l w place : ℕ) (f : FilledLoop) (ls : List PartialLine) → slice_get s.loops l ≡ Some f → slice_get (job_facts (session_job s l)).watched w ≡ Some place → slice_get f.partials w ≡ Some ls
+      → ArePartialLines (job_facts (session_job s l)).facts place (course.chains l) ls
+
+-- what the Print gives before what else is printed, in a course
+abbrev pub print_gives : SessionView → Course → Access → Printed → Printed
+print_gives s course a rest = access_printed (history s.graph.script) s.dataset course a (first_fault s.dataset (access_passes (history s.graph.script) s.dataset course a)) rest
+
+-- the next Print is made without a fault, and its lines are added
+pub record GoesOn (old new : SessionView) (before after : List ℕ) (print : ℕ) : Type 0 where
+  pub next : new.next ≡ old.next + 1
+  pub sound : new.fault ≡ None
+  pub stays : (l : ℕ) (f : FilledLoop) → slice_get old.loops l ≡ Some f → slice_get new.loops l ≡ Some f
+  pub lines : (course : Course) (a : Access) (rest : Printed) → FitsCourse new course → slice_get (accesses (history old.graph.script)) print ≡ Some a
+      → in_front_of before (print_gives old course a rest) ≡ in_front_of after rest
+
+-- its loop faults, and the line of the fault is added
+pub record EndsAt (old : SessionView) (before after : List ℕ) (print : ℕ) : Type 0 where
+  pub lines : (course : Course) (a : Access) (rest : Printed) → slice_get (accesses (history old.graph.script)) print ≡ Some a
+      → in_front_of before (print_gives old course a rest) ≡ record { bytes = after; status = 8 }

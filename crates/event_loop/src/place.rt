@@ -1,0 +1,125 @@
+// Where the passes of a result stand in a loop.
+ghost use Rattle.std.specs.Prelude.{◌≡◌, ◌<◌, ◌≤◌, ◌^◌, ◌∷◌, [], ℕ, List, MatchOption, None, Some, if◌then◌else◌, count_by, false, length, map, nat_eq, option_map, slice_get};
+ghost use Rattle.std.specs.List.{position};
+ghost use Rattle.rdf_values.specs.Bookings.{Booked, Pass as NamedPass};
+ghost use Rattle.rdf_model.specs.LoopFacts.{kind_in, kinds_in};
+ghost use Rattle.rdf_model.specs.Loops.{loop_passes, loop_results};
+ghost use Rattle.graph_numbers.specs.Graphs.{IsGraph, booked_statements, graph_loops, graph_results};
+ghost use Rattle.graph_numbers.specs.Results.{ResultAt, pass_at};
+ghost use Rattle.graph_numbers.specs.declared.pass.Pass.{Pass as NumberedPass};
+ghost use Rattle.loop_pieces.specs.Trails.{place_if_watched, watched_places};
+ghost use Rattle.event_loop.specs.Places.{IsFilledPlace, IsPassOf, fills};
+
+use graph::Graph;
+use graph_numbers::{Pass, ResultKind};
+
+/// How many action passes of the loop come before those of the result, how many are its own, and how many
+/// watched ones come before them.
+#[derive(Clone, Copy, Debug)]
+pub struct Place {
+    pub first: u32,
+    pub passes: u32,
+    pub watched: u32,
+}
+
+// How many action passes there are among some passes, and how many of them are watched.
+#[derive(Clone, Copy)]
+struct PassCounts {
+    actions: u32,
+    watched: u32,
+}
+
+// How many accumulators each pass of a result has: of an action one, and of a report none.
+fn accumulators(graph: &Graph, r: u32) -> u32
+    requires { r < length (graph_results graph.now) }
+    ensures value { option_map (λ (x : ResultAt). length (kind_in x.booked.booking)) (slice_get (graph_results graph.now) r) ≡ Some result }
+    ensures few { result ≤ 1 }
+{
+    match graph.kind(r) {
+        ResultKind::Action(_) => 1,
+        ResultKind::Report => 0,
+    }
+}
+
+// How many of them are watched in a pass: those of the nominal pass of a watched result.
+fn watched_accumulators(graph: &Graph, pass: Pass) -> u32
+    requires { IsPassOf graph.now pass }
+    ensures value { (q : NamedPass) → pass_at (booked_statements graph.now) pass ≡ Some q → result ≡ length (place_if_watched (booked_statements graph.now) 0 q) }
+    ensures few { result ≤ 1 }
+{
+    match pass.variation {
+        Some(_) => 0,
+        None => {
+            if graph.watched(pass.result) {
+                accumulators(graph, pass.result)
+            } else {
+                0
+            }
+        }
+    }
+}
+
+// The counts of some passes.
+fn counts_of(graph: &Graph, passes: &[Pass]) -> PassCounts
+    requires passes { (i : ℕ) (p : NumberedPass) → slice_get passes.now i ≡ Some p → IsPassOf graph.now p }
+    requires few { length passes.now < 2 ^ 32 }
+    ensures { (qs : List NamedPass) → map (pass_at (booked_statements graph.now)) passes.now ≡ map (λ q. Some q) qs
+        → (result.actions ≡ length (kinds_in qs)) × (result.watched ≡ length (watched_places (booked_statements graph.now) qs)) }
+{
+    let mut actions = 0;
+    let mut watched = 0;
+    for pass in passes {
+        actions += accumulators(graph, pass.result);
+        watched += watched_accumulators(graph, *pass);
+    }
+    PassCounts { actions, watched }
+}
+
+// The place of the first pass of a result.
+fn first_pass(passes: &[Pass], r: u32) -> Option<usize>
+    ensures { result ≡ position (λ (p : NumberedPass). nat_eq p.result r) passes.now }
+{
+    passes.iter().position(|p| p.result == r)
+}
+
+// How many passes a result has.
+fn pass_count(passes: &[Pass], r: u32) -> usize
+    ensures count { result ≡ count_by (λ (p : NumberedPass). nat_eq p.result r) passes.now }
+    ensures few { result ≤ length passes.now }
+{
+    passes.iter().filter(|p| p.result == r).count()
+}
+
+/// The place of a result's passes in a loop; none where the loop doesn't fill it.
+pub fn place_in(graph: &Graph, loop_index: u32, r: u32) -> Option<Place>
+    requires its_loop { loop_index < length (graph_loops graph.now) }
+    requires result { r < length (graph_results graph.now) }
+    ensures { (x : ResultAt) (results : List Booked) → slice_get (graph_results graph.now) r ≡ Some x → slice_get (loop_results (booked_statements graph.now)) loop_index ≡ Some results
+        → MatchOption result (fills x.booked.name results ≡ false) (IsFilledPlace (booked_statements graph.now) x.booked results) }
+{
+    graph.is_booked();
+    let _variations = graph.variations().len();
+    let passes = graph.passes(loop_index);
+    let Some(start) = first_pass(passes, r) else {
+        return None;
+    };
+    let before = counts_of(graph, &passes[..start]);
+    let own = pass_count(passes, r) as u32;
+    Some(Place {
+        first: before.actions,
+        passes: own * accumulators(graph, r),
+        watched: before.watched,
+    })
+}
+
+/// Whether a result's partial results are noted: it is a watched action.
+pub fn is_noted(graph: &Graph, r: u32) -> bool
+    requires { r < length (graph_results graph.now) }
+    ensures { (x : ResultAt) (n : ℕ) → slice_get (graph_results graph.now) r ≡ Some x
+        → place_if_watched (booked_statements graph.now) n (record { result = x.booked; under = None }) ≡ (if result then n ∷ [] else []) }
+{
+    match graph.kind(r) {
+        ResultKind::Action(_) => graph.watched(r),
+        ResultKind::Report => false,
+    }
+}

@@ -1,0 +1,89 @@
+// The Prints of a script, in order.
+ghost use Rattle.std.specs.Prelude.{◌≡◌, ◌<◌, ◌≤◌, ◌++◌, ℕ, IfOk, None, Ok, OnOk, Some, false, length, slice_get, true};
+ghost use Rattle.entry_fns.specs.Lists.{functions_in};
+ghost use Rattle.rdf_values.specs.Functions.{fn_names};
+ghost use Rattle.rdf_values.specs.Path.{history};
+ghost use Rattle.rdf_values.specs.Words.{StatementsHaveWords};
+ghost use Rattle.rdf_model.specs.Loops.{accesses};
+ghost use Rattle.event_loop.specs.Sessions.{HasSameParts, IsSession, session_of};
+ghost use Rattle.event_loop.specs.Transcripts.{IsTranscript};
+ghost use Rattle.event_loop.specs.Turns.{EndsAt, GoesOn};
+
+use crate::refusal::LoopRefusal;
+use crate::results::put_result;
+use crate::session::Session;
+use crate::transcript::Transcript;
+use columns::Columns;
+use entry_fns::FnList;
+use graph::Graph;
+use rdf_outside::Gate;
+use rdf_values::{Memory, Text};
+use result_text::fault_line;
+use std::alloc::Global;
+use std::thread::Threads;
+
+// Appends what a Print gives: the lines of its result, or the line of the fault of its loop. Answers whether the run goes on.
+fn put_print<R: Threads + Sync, G: Gate>(
+    rt: &R,
+    alloc: Global,
+    session: &mut Session<'_>,
+    text: &mut Text,
+    print: u32,
+    gate: &G,
+) -> Result<bool, Memory>
+    requires print { (print ≡ (session_of session.old).next) × (print < length (accesses (history (session_of session.old).graph.script))) }
+    requires session { IsSession (session_of session.old) }
+    requires sound { (session_of session.old).fault ≡ None }
+    ensures session { IsSession (session_of session.new) }
+    ensures parts { HasSameParts (session_of session.old) (session_of session.new) }
+    ensures more { result ≡ Ok true → GoesOn (session_of session.old) (session_of session.new) text.old text.new print }
+    ensures end { result ≡ Ok false → EndsAt (session_of session.old) text.old text.new print }
+{
+    match session.access(rt, alloc, print, gate) {
+        Ok(r) => {
+            put_result(alloc, text, session, r)?;
+            Ok(true)
+        }
+        Err(LoopRefusal::Fault { loop_index, fault }) => {
+            let line = fault_line(alloc, session.graph(), loop_index, &fault)?;
+            text.extend(line.as_bytes())?;
+            Ok(false)
+        }
+        Err(LoopRefusal::Memory) => Err(Memory),
+    }
+}
+
+/// Runs the Prints in order over the columns that the graph was booked with. Loops share their clusters out to so many slots.
+/// Watched results are noted after every `watch`-th cluster.
+pub fn run_prints<R: Threads + Sync, G: Gate>(
+    rt: &R,
+    alloc: Global,
+    graph: Graph,
+    columns: Columns,
+    functions: &FnList,
+    slots: u32,
+    watch: u32,
+    gate: &G,
+) -> Result<Transcript, Memory>
+    requires graph { (graph.header ≡ columns.table.columns) × (graph.names ≡ fn_names (functions_in functions.now)) }
+    requires words { StatementsHaveWords (history graph.script) }
+    requires slots { (0 < slots) × (slots ≤ 16) }
+    requires watch { 0 < watch }
+    ensures { IfOk result (λ t. IsTranscript graph.script (record { fns = functions_in functions.now; columns = columns.table.columns; rows = columns.table.rows }) columns.cuts watch t) }
+{
+    let mut session = Session::new(alloc, graph, columns, functions, slots, watch);
+    let mut text = Text::new(alloc);
+    let prints = session.graph().prints();
+    for print in 0..prints {
+        if !put_print(rt, alloc, &mut session, &mut text, print, gate)? {
+            return Ok(Transcript {
+                text,
+                faulted: true,
+            });
+        }
+    }
+    Ok(Transcript {
+        text,
+        faulted: false,
+    })
+}

@@ -1,4 +1,0 @@
-pub mod Places
-pub mod Sessions
-pub mod Transcripts
-pub mod Turns
