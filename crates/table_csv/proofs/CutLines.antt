@@ -1,6 +1,6 @@
 -- Records of bytes without a double quote that are cut behind a line's end.
 use Rattle.std.proofs.Common.{◌≡◌, ◌+◌, ℕ, List, [], ◌∷◌, ◌++◌, length, Bool, true, false, arith, refl, sym, ◌∙◌, append_assoc, append-nil, inl, inr}
-use Rattle.std.specs.Prelude.{if◌then◌else◌, ◌==◌, ◌&&◌, ◌||◌, nat_eq}
+use Rattle.std.specs.Prelude.{if◌then◌else◌, ◌==◌, ◌&&◌, nat_eq}
 use Rattle.std.specs.List.{list_any}
 use Rattle.lemmas.proofs.Booleans.{and_false, neither}
 use Rattle.csv.specs.Machine.{ends_with, next_record, step, in_field, start_field, start_record}

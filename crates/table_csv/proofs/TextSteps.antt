@@ -1,8 +1,8 @@
 -- Texts that end where lines do.
-use Rattle.std.proofs.Common.{◌≡◌, ◌<◌, ◌≤◌, ◌+◌, ◌-◌, ◌∙◌, ℕ, zero, suc, All, List, [], ◌∷◌, ◌++◌, length, take, drop, get_or, add-one, append-nil, append_assoc, ap, arith, inl, inr, length-drop, refl, sym}
+use Rattle.std.proofs.Common.{◌≡◌, ◌<◌, ◌+◌, ◌-◌, ◌∙◌, ℕ, zero, suc, All, List, [], ◌∷◌, ◌++◌, length, take, drop, get_or, add-one, append-nil, append_assoc, ap, arith, inl, inr, length-drop, refl, sym}
 use Rattle.std.proofs.Math.Seq.{drop-append_seam}
 use Rattle.std.proofs.lemmas.Grind.{flat_map-append}
-use Rattle.std.proofs.lemmas.List.{take_all, take_more}
+use Rattle.std.proofs.lemmas.List.{take_all}
 use Rattle.std.proofs.lemmas.List.Elements.{All-append, All-drop, All-take}
 use Rattle.columns.specs.Wholes.{joined}
 use Rattle.table_csv.specs.Lines.{EndsLine, IsCut}
@@ -23,13 +23,6 @@ pub lines_more : (lines all : List (List ℕ)) (last beginning rest line : List 
 lines_more lines all last beginning rest line h (inl l) some e a = rw a (All-append EndsLine lines (line ∷ []) h (one_more EndsLine line (rw e (ends_behind last beginning l))))
 lines_more lines all last beginning rest line h (inr none) some e a = absurd (omega (arith, ap length none))
 
-pub part_kept : (parts lines more : List (List ℕ)) (last part beginning rest line : List ℕ) → joined parts ≡ (joined lines ++ last) ++ (part ++ joined more) → beginning ++ rest ≡ part → length rest ≡ 0 → line ≡ last ++ beginning
-    → joined parts ≡ (joined lines ++ line) ++ joined more
-part_kept parts lines more last part beginning [] line whole cut none e =
-    let w = rw (← cut) at whole in
-    rw e (w ∙ simp (append_assoc, append-nil))
-part_kept parts lines more last part beginning (x ∷ rest) line whole cut none e = absurd (omega arith)
-
 pub part_cut : (parts lines all more : List (List ℕ)) (last part beginning rest line left : List ℕ) → joined parts ≡ (joined lines ++ last) ++ (part ++ joined more) → beginning ++ rest ≡ part → line ≡ last ++ beginning
     → all ≡ lines ++ line ∷ [] → left ≡ drop (length beginning) part → joined parts ≡ (joined all ++ left) ++ joined more
 part_cut parts lines all more last part beginning rest line left whole cut e a l =
@@ -38,18 +31,6 @@ part_cut parts lines all more last part beginning rest line left whole cut e a l
     rw (a, joined_more lines line, behind, e) (w ∙ simp append_assoc)
 
 -- ---- halves of texts
-
-pub one_whole : (lines : List (List ℕ)) (last front back : List ℕ) → length lines ≡ 0 → front ++ back ≡ last → (joined lines ++ front) ++ (joined lines ++ back) ≡ joined lines ++ last
-one_whole [] last front back none e = e
-one_whole (x ∷ lines) last front back none e = absurd (omega arith)
-
-pub one_cut : (lines : List (List ℕ)) (front back : List ℕ) → length lines ≡ 0 → IsCut front back → IsCut (joined lines ++ front) (joined lines ++ back)
-one_cut [] front back none cut = cut
-one_cut (x ∷ lines) front back none cut = absurd (omega arith)
-
-pub one_text : (lines : List (List ℕ)) (last : List ℕ) → length lines ≡ 0 → joined lines ++ last ≡ last
-one_text [] last none = refl
-one_text (x ∷ lines) last none = absurd (omega arith)
 
 joined_at : (lines : List (List ℕ)) (half : ℕ) (d : List ℕ) → half < length lines → joined lines ≡ joined (take half lines) ++ (get_or lines half d ++ joined (drop (suc half) lines))
 joined_at [] half d h = absurd (omega arith)
@@ -72,13 +53,3 @@ halves_cut lines half text rest ends h e =
 
 pub behind_ends : (lines : List (List ℕ)) (i : ℕ) → All EndsLine lines → All EndsLine (take (length lines - i) (drop i lines))
 behind_ends lines i ends = All-take EndsLine (length lines - i) (drop i lines) (All-drop EndsLine i lines ends)
-
--- ---- texts put together
-
-pub joined_next : (lines : List (List ℕ)) (i : ℕ) (text : List ℕ) → i < length lines → text ≡ get_or lines i text → joined (take (i + 1) lines) ≡ joined (take i lines) ++ text
-joined_next lines i text h e = ap joined (take_more lines i text h) ∙ joined_more (take i lines) (get_or lines i text) ∙ ap (λ t. joined (take i lines) ++ t) (sym e)
-
--- ---- a first line
-
-pub first_line : (head last : List ℕ) (lines : List (List ℕ)) → (head ++ joined lines) ++ last ≡ head ++ (joined lines ++ last)
-first_line head last lines = append_assoc head (joined lines) last

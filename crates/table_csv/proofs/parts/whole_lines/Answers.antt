@@ -1,6 +1,5 @@
-use Rattle.std.proofs.Common.{◌<◌, ◌∙◌, ◌≡◌, ◌++◌, arith, length}
+use Rattle.std.proofs.Common.{◌<◌, ◌≡◌, ◌++◌, arith, length}
 use Rattle.std.proofs.lemmas.Bool.Decides.{nat_tests}
-use Rattle.columns.specs.Wholes.{joined}
 use Rattle.table_csv.proofs.TextSteps.{lines_more, part_cut}
 use Rattle.table_csv.proofs.parts.whole_lines.Goals as goal
 

@@ -1,4 +1,4 @@
-use Rattle.std.proofs.Common.{◌<◌, ◌≡◌, ◌+◌, ◌/◌, All, arith, get_or, length}
+use Rattle.std.proofs.Common.{◌<◌, ◌+◌, ◌/◌, arith, length}
 use Rattle.std.proofs.lemmas.List.Elements.{All-take}
 use Rattle.table_csv.specs.Lines.{EndsLine}
 use Rattle.table_csv.proofs.TextSteps.{behind_ends, halves_cut, halves_whole}
