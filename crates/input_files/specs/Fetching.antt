@@ -1,6 +1,11 @@
 -- What reading a file by its name gives.
-use Rattle.std.specs.Prelude.{◌≡◌, ◌<◌, ◌≤◌, ℕ, List, Option, Some, None, length}
+use Rattle.std.specs.Prelude.{◌≡◌, ◌<◌, ◌≤◌, ℕ, List, Bool, Option, Some, None, Result, Ok, Err, length}
+use Rattle.rdf_values.specs.declared.memory.Memory.{Memory}
 use Rattle.rdf_outside.specs.Outside.{Rose}
+use Rattle.rdf_outside.specs.declared.shelf.TurnStop.{TurnStop}
+use Rattle.rdf_outside.specs.declared.shelf.TurnStop.TheVariants as stop
+use Rattle.rdf_outside.specs.declared.whole.ReadRefusal.{ReadRefusal}
+use Rattle.rdf_outside.specs.declared.whole.ReadRefusal.TheVariants as refusal
 use Rattle.input_files.specs.declared.whole_file.Fetched.{Fetched}
 use Rattle.input_files.specs.declared.whole_file.Fetched.TheVariants.{Whole, Absent, TooLong, Failed}
 
@@ -13,9 +18,27 @@ abbrev pub IsLongerThan : ℕ → Option (List ℕ) → Type 0
 IsLongerThan max None = ⊥
 IsLongerThan max (Some bytes) = max < length bytes
 
--- the whole file, if it is there and has at most max bytes; or a read that failed
-abbrev pub IsFetched : ℕ → Option (List ℕ → Option (List ℕ)) → List ℕ → ℕ → ℕ → Fetched → Type 0
-IsFetched max files name before now (Whole bytes) = Tells files name (λ file. file ≡ Some bytes) × (length bytes ≤ max)
-IsFetched max files name before now Absent = Tells files name (λ file. file ≡ None)
-IsFetched max files name before now TooLong = Tells files name (IsLongerThan max)
-IsFetched max files name before now Failed = Rose before now
+-- the whole file, if it is there and has at most max bytes, as what holds them; or a read that failed
+abbrev pub IsFetchedIn : {T : Type 0} → (T → List ℕ) → ℕ → Option (List ℕ → Option (List ℕ)) → List ℕ → ℕ → ℕ → Fetched T → Type 0
+IsFetchedIn bytes_of max files name before now (Whole holder) = Tells files name (λ file. file ≡ Some (bytes_of holder)) × (length (bytes_of holder) ≤ max)
+IsFetchedIn bytes_of max files name before now Absent = Tells files name (λ file. file ≡ None)
+IsFetchedIn bytes_of max files name before now TooLong = Tells files name (IsLongerThan max)
+IsFetchedIn bytes_of max files name before now Failed = Rose before now
+
+abbrev pub IsFetched : ℕ → Option (List ℕ → Option (List ℕ)) → List ℕ → ℕ → ℕ → Fetched (List ℕ) → Type 0
+IsFetched max files name before now fetched = IsFetchedIn (λ bytes. bytes) max files name before now fetched
+
+-- ---- what the steps of a fetch come to
+
+-- what a whole read is as a fetch
+abbrev pub fetched_by : {T : Type 0} → Result T ReadRefusal → Result (Fetched T) Memory
+fetched_by (Ok holder) = Ok (Whole holder)
+fetched_by (Err refusal.Memory) = Err (record {})
+fetched_by (Err refusal.Failed) = Ok Failed
+fetched_by (Err refusal.TooLarge) = Ok TooLong
+
+-- what is left where no file was turned to
+abbrev pub missed_by : {T : Type 0} → Result Bool TurnStop → Result (Fetched T) Memory
+missed_by (Ok found) = Ok Absent
+missed_by (Err stop.Memory) = Err (record {})
+missed_by (Err stop.Failed) = Ok Failed

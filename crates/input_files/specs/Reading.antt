@@ -77,10 +77,10 @@ HoldsTheTable table (Some bytes) = (length bytes ≤ max_table) × (table_of (cs
 abbrev pub RefusesTableFile : List ℕ → Option (List ℕ) → Due FileCause → Type 0
 RefusesTableFile name file due = WithTableFile causes name file (λ table d. ⊥) due
 
--- the whole file, if it has no more bytes than a table may have, or what is due to it
-abbrev pub ReadsTableBytes : Option (List ℕ → Option (List ℕ)) → List ℕ → ℕ → ℕ → ReadFile (List ℕ) → Type 0
-ReadsTableBytes files name before now (Whole bytes) = Tells files name (λ file. file ≡ Some bytes) × (length bytes ≤ max_table)
-ReadsTableBytes files name before now (Refused r) = Refuses (RefusesTableFile name) files name before now r.cause r.line
+-- the whole file, if it has no more bytes than a table may have, as what holds them, or what is due to it
+abbrev pub ReadsTableIn : {T : Type 0} → (T → List ℕ) → Option (List ℕ → Option (List ℕ)) → List ℕ → ℕ → ℕ → ReadFile T → Type 0
+ReadsTableIn bytes_of files name before now (Whole holder) = Tells files name (λ file. file ≡ Some (bytes_of holder)) × (length (bytes_of holder) ≤ max_table)
+ReadsTableIn bytes_of files name before now (Refused r) = Refuses (RefusesTableFile name) files name before now r.cause r.line
 
 -- a table whose marks are entries of it
 pub record IsTableRead (files : Option (List ℕ → Option (List ℕ))) (name : List ℕ) (m : MarkedPieces) : Type 0 where

@@ -16,4 +16,4 @@ pub use crate::read_file::{FileRefusal, ReadFile};
 pub use crate::refuse::{absent, unread};
 pub use crate::scripts::{MAX_SCRIPT, read_script_file, script_of};
 pub use crate::tables::{MAX_TABLE, columns_of, read_columns_file, read_table_file};
-pub use crate::whole_file::{Fetched, fetch};
+pub use crate::whole_file::{Fetched, fetch, fetch_parts};

@@ -1,13 +1,15 @@
 // Tables in files.
-ghost use Rattle.std.specs.Prelude.{◌≡◌, ◌≤◌, ◌++◌, ◌∷◌, [], IfOk};
+ghost use Rattle.std.specs.Prelude.{◌≡◌, ◌≤◌, ◌++◌, ◌∷◌, [], ℕ, List, Option, IfOk};
+ghost use Rattle.columns.specs.Wholes.{joined};
 ghost use Rattle.rdf_values.specs.RefusalLines.{table_cause_line};
-ghost use Rattle.input_files.specs.Reading.{ReadsColumnsFile, ReadsColumnsText, ReadsTableBytes, ReadsTableFile, ReadsTableText};
+ghost use Rattle.input_files.specs.Fetching.{IsFetchedIn};
+ghost use Rattle.input_files.specs.Reading.{ReadsColumnsFile, ReadsColumnsText, ReadsTableFile, ReadsTableIn, ReadsTableText};
 ghost use Rattle.input_files.specs.declared.file_cause.FileCause.TheVariants.{TableRefused};
 
 use crate::file_cause::FileCause;
 use crate::read_file::{FileRefusal, ReadFile};
 use crate::refuse::{absent, refused, unread};
-use crate::whole_file::{Fetched, fetch};
+use crate::whole_file::{Fetched, fetch, fetch_parts};
 use columns::Columns;
 use rdf_outside::Shelf;
 use rdf_values::{Bytes, Memory, TableCause};
@@ -42,34 +44,35 @@ fn table_of<R: Threads + Sync>(
     }
 }
 
-/// The columns of the table that the bytes spell, over clusters of at most that size, or its refusal. The table is read and
-/// packed side by side where there are several slots; the bytes go once they are read.
+/// The columns of the table that the bytes of the parts spell, one behind the other, over clusters of at most that size, or
+/// its refusal. The table is read and packed side by side where there are several slots; the bytes go once they are read.
 pub fn columns_of<R: Threads + Sync>(
     rt: &R,
     alloc: Global,
-    bytes: Bytes,
+    parts: Vec<Bytes>,
     size: u32,
     slots: u32,
 ) -> Result<ReadFile<Columns>, Memory>
     requires size { 1 ≤ size }
-    ensures { IfOk result (ReadsColumnsText bytes size) }
+    ensures { IfOk result (ReadsColumnsText (joined parts.items) size) }
 {
-    match read_columns(rt, alloc, bytes, size, slots) {
+    match read_columns(rt, alloc, parts, size, slots) {
         Ok(columns) => Ok(ReadFile::Whole(columns)),
         Err(TableRefusal::Memory) => Err(Memory),
         Err(TableRefusal::At(cause)) => Ok(ReadFile::Refused(no_table(alloc, cause)?)),
     }
 }
 
-// The bytes of the file that a shelf has under a name, where they are no more than a table may have.
-fn read_bytes<S: Shelf>(alloc: Global, shelf: &mut S, name: &str) -> Result<ReadFile<Bytes>, Memory>
-    ensures same { S.files shelf.new ≡ S.files shelf.old }
-    ensures turns { S.turns shelf.new ≡ S.turns shelf.old ++ name.now ∷ [] }
-    ensures later { S.faults shelf.old ≤ S.faults shelf.new }
-    ensures read { IfOk result (ReadsTableBytes (S.files shelf.old) name.now (S.faults shelf.old) (S.faults shelf.new)) }
+// What was fetched of a table, or the refusal where it isn't the whole file.
+fn whole_or_refused<T>(
+    alloc: Global,
+    name: &str,
+    fetched: Fetched<T>,
+) -> Result<ReadFile<T>, Memory>
+    ensures { IfOk result (λ read. (bytes_of : T → List ℕ) (files : Option (List ℕ → Option (List ℕ))) (before now : ℕ) → IsFetchedIn bytes_of 67108864 files name.now before now fetched → ReadsTableIn bytes_of files name.now before now read) }
 {
-    match fetch(alloc, shelf, name, MAX_TABLE)? {
-        Fetched::Whole(bytes) => Ok(ReadFile::Whole(bytes)),
+    match fetched {
+        Fetched::Whole(holder) => Ok(ReadFile::Whole(holder)),
         Fetched::Absent => Ok(ReadFile::Refused(absent(alloc, name)?)),
         Fetched::TooLong => Ok(ReadFile::Refused(refused(
             alloc,
@@ -93,7 +96,8 @@ pub fn read_table_file<R: Threads + Sync, S: Shelf>(
     ensures later { S.faults shelf.old ≤ S.faults shelf.new }
     ensures read { IfOk result (ReadsTableFile (S.files shelf.old) name.now (S.faults shelf.old) (S.faults shelf.new)) }
 {
-    match read_bytes(alloc, shelf, name)? {
+    let fetched = fetch(alloc, shelf, name, MAX_TABLE)?;
+    match whole_or_refused(alloc, name, fetched)? {
         ReadFile::Whole(bytes) => table_of(rt, alloc, bytes.as_slice(), slots),
         ReadFile::Refused(refusal) => Ok(ReadFile::Refused(refusal)),
     }
@@ -114,8 +118,9 @@ pub fn read_columns_file<R: Threads + Sync, S: Shelf>(
     ensures later { S.faults shelf.old ≤ S.faults shelf.new }
     ensures read { IfOk result (ReadsColumnsFile (S.files shelf.old) name.now size (S.faults shelf.old) (S.faults shelf.new)) }
 {
-    match read_bytes(alloc, shelf, name)? {
-        ReadFile::Whole(bytes) => columns_of(rt, alloc, bytes, size, slots),
+    let fetched = fetch_parts(rt, alloc, shelf, name, MAX_TABLE, slots)?;
+    match whole_or_refused(alloc, name, fetched)? {
+        ReadFile::Whole(parts) => columns_of(rt, alloc, parts, size, slots),
         ReadFile::Refused(refusal) => Ok(ReadFile::Refused(refusal)),
     }
 }

@@ -17,7 +17,7 @@ use input_files::{
     FileCause, FileRefusal, MAX_TABLE, ReadFile, columns_of, read_columns_file, read_script_file,
     read_table_file, script_of,
 };
-use rdf_outside::{Gate, Shelf};
+use rdf_outside::{Gate, Shelf, one_part};
 use rdf_values::Memory;
 use result_text::{Refusal, refusal_line};
 use std::thread::Threads;
@@ -71,7 +71,7 @@ fn made_columns<R: Threads + Sync, G>(
         }));
     }
     let (size, slots) = (means.settings.cluster, means.settings.slots);
-    columns_of(means.rt, alloc, bytes, size, slots)
+    columns_of(means.rt, alloc, one_part(alloc, bytes)?, size, slots)
 }
 
 /// The answer to the generator's script over its table.

@@ -1,0 +1,18 @@
+use Rattle.std.proofs.Common.{arith}
+use Rattle.std.proofs.lemmas.Grind.{common_steps}
+use Rattle.columns.specs.Wholes.{joined}
+use Rattle.input_files.proofs.tables.read_columns_file.Goals as goal
+
+pub returns-in-Whole-clause-read : goal.returns-in-Whole-clause-read
+returns-in-Whole-clause-read g c =
+    let whole =
+    rw c.in-Whole.is at
+    (c.in_ok-parts.ensures (λ parts. joined parts.items) (g.S.Shelf.files c.args.shelf.now) (g.S.Shelf.faults c.args.shelf.now) (g.S.Shelf.faults c.fetch_parts.new.shelf) c.in_ok-fetched.ensures.fetched) in
+    grind (arith, common_steps, whole)
+
+pub returns-in-Refused-clause-read : goal.returns-in-Refused-clause-read
+returns-in-Refused-clause-read g c =
+    let refused =
+    rw c.in-Refused.is at
+    (c.in_ok-parts.ensures (λ parts. joined parts.items) (g.S.Shelf.files c.args.shelf.now) (g.S.Shelf.faults c.args.shelf.now) (g.S.Shelf.faults c.fetch_parts.new.shelf) c.in_ok-fetched.ensures.fetched) in
+    refused
