@@ -1,7 +1,6 @@
 // What is copied of the versions that an action reads, where it can't read them in place.
 ghost use Rattle.std.specs.Prelude.{◌≡◌, ◌<◌, ◌+◌, ℕ, Bool, ℤ, List, IfOk, OnErr, OnOk, Some, length, slice_get, slice_index_or, slice_set, true};
 ghost use Rattle.std.specs.List.{AllByRecursion};
-ghost use Rattle.rdf_values.specs.Tables.{kind_at};
 ghost use Rattle.rdf_values.specs.declared.value.ColType.{ColType as KindOf};
 ghost use Rattle.rdf_values.specs.declared.value.ColType.TheVariants as kind;
 ghost use Rattle.rdf_values.specs.declared.value.Value.TheVariants as val;
@@ -12,14 +11,15 @@ ghost use Rattle.graph_numbers.specs.Sources.{source_value};
 ghost use Rattle.expr_lanes.specs.Places.{EachPlace};
 ghost use Rattle.block_cache.specs.Lanes.{kinds_of};
 ghost use Rattle.loop_keys.specs.Plain.{ArePlain};
-ghost use Rattle.loop_keys.specs.Jobs.{Fits, job_graph, job_of};
-ghost use Rattle.loop_keys.specs.Keys.{AreKeys, key as key_of};
-ghost use Rattle.loop_keys.specs.Store.{row_of, site_in, source_at, version_in};
+ghost use Rattle.loop_keys.specs.Jobs.{job_graph, job_of};
+ghost use Rattle.loop_keys.specs.Keys.{key as key_of};
+ghost use Rattle.loop_keys.specs.Store.{row_of, site_in, source_at};
 ghost use Rattle.block_cache.specs.Blocks.{AreReady};
 ghost use Rattle.graph_numbers.specs.declared.source.Source.TheVariants as source;
 ghost use Rattle.block_cache.specs.Fills.{AreSiteKinds, holds_at};
 ghost use Rattle.block_passes.specs.Copying.{AreCopied, GivesNumber, GivesVector, HasVector, IsCopyOf};
 ghost use Rattle.block_passes.specs.Inputs.{AreAtHand, ArePlainSources, AreWhole, CanServe, IsAtHand, IsPlainSource, IsWhole};
+ghost use Rattle.block_passes.specs.Turns.{IsTurn};
 
 use crate::elements::{SiteElement, element_at};
 use crate::inputs::source_under;
@@ -97,8 +97,7 @@ fn site_vector<'s>(
     under: Option<u32>,
     place: u32,
 ) -> &'s [i64]
-    requires job { Fits at.now.job.now }
-    requires rows { AreKeys (job_graph (job_of at.now.job.now)) at.now.rows.now }
+    requires turn { IsTurn at.now }
     requires site { site < length (graph_sites (job_graph (job_of at.now.job.now))) }
     requires ready { AreReady (job_of at.now.job.now) at.now.first at.now.count lanes.now }
     requires vectors { slice_get (kinds_of lanes.now) (key_of (job_graph (job_of at.now.job.now)) site under) ≡ Some kind.Vect }
@@ -126,8 +125,7 @@ fn copy_vectors(
     site: u32,
     under: Option<u32>,
 ) -> Result<CopiedVectors, Memory>
-    requires job { Fits at.now.job.now }
-    requires rows { AreKeys (job_graph (job_of at.now.job.now)) at.now.rows.now }
+    requires turn { IsTurn at.now }
     requires site { site < length (graph_sites (job_graph (job_of at.now.job.now))) }
     requires ready { AreReady (job_of at.now.job.now) at.now.first at.now.count lanes.now }
     requires vectors { slice_get (kinds_of lanes.now) (key_of (job_graph (job_of at.now.job.now)) site under) ≡ Some kind.Vect }
@@ -146,8 +144,7 @@ fn copy_vectors(
 
 /// The element of a site's vector at a place where it is at hand.
 fn given_at(at: &Turn<'_>, lanes: &[Lane], of: &SiteElement, place: u32) -> i64
-    requires job { Fits at.now.job.now }
-    requires rows { AreKeys (job_graph (job_of at.now.job.now)) at.now.rows.now }
+    requires turn { IsTurn at.now }
     requires site { of.now.site < length (graph_sites (job_graph (job_of at.now.job.now))) }
     requires ready { AreReady (job_of at.now.job.now) at.now.first at.now.count lanes.now }
     requires inside { place < at.now.count }
@@ -175,8 +172,7 @@ fn copy_elements(
     selection: &Selection,
     of: &SiteElement,
 ) -> Result<Vec<i64>, Memory>
-    requires job { Fits at.now.job.now }
-    requires rows { AreKeys (job_graph (job_of at.now.job.now)) at.now.rows.now }
+    requires turn { IsTurn at.now }
     requires site { of.now.site < length (graph_sites (job_graph (job_of at.now.job.now))) }
     requires ready { AreReady (job_of at.now.job.now) at.now.first at.now.count lanes.now }
     requires inside { EachPlace selection.now (λ p. p < at.now.count) }
@@ -194,8 +190,7 @@ fn copy_elements(
 
 /// Of which kind a site's values are.
 fn site_kind(at: &Turn<'_>, site: u32, under: Option<u32>) -> ColType
-    requires job { Fits at.now.job.now }
-    requires rows { AreKeys (job_graph (job_of at.now.job.now)) at.now.rows.now }
+    requires turn { IsTurn at.now }
     requires site { site < length (graph_sites (job_graph (job_of at.now.job.now))) }
     ensures expr { (e : CheckedExpr) × IsSiteExpr (job_graph (job_of at.now.job.now)) site e × (result ≡ e.kind) }
     ensures its { (kinds : List KindOf) → AreSiteKinds (job_graph (job_of at.now.job.now)) kinds → (k : KindOf) → slice_get kinds (key_of (job_graph (job_of at.now.job.now)) site under) ≡ Some k → result ≡ k }
@@ -217,8 +212,7 @@ fn copy_tagged(
     selection: &Selection,
     of: &SiteElement,
 ) -> Result<Vec<i64>, Memory>
-    requires job { Fits at.now.job.now }
-    requires rows { AreKeys (job_graph (job_of at.now.job.now)) at.now.rows.now }
+    requires turn { IsTurn at.now }
     requires site { of.now.site < length (graph_sites (job_graph (job_of at.now.job.now))) }
     requires ready { AreReady (job_of at.now.job.now) at.now.first at.now.count lanes.now }
     requires vectors { (e : CheckedExpr) → IsSiteExpr (job_graph (job_of at.now.job.now)) of.now.site e → e.kind ≡ kind.Vect }
@@ -241,8 +235,7 @@ fn copy_version(
     version: u32,
     under: Option<u32>,
 ) -> Result<Copied, Memory>
-    requires job { Fits at.now.job.now }
-    requires rows { AreKeys (job_graph (job_of at.now.job.now)) at.now.rows.now }
+    requires turn { IsTurn at.now }
     requires ready { AreReady (job_of at.now.job.now) at.now.first at.now.count lanes.now }
     requires can { (scratch levels : ℕ) × CanServe (job_of at.now.job.now) at.now.first under at.now.count (kinds_of lanes.now) at.now.cells.now scratch levels version }
     requires inside { EachPlace selection.now (λ p. p < at.now.count) }
@@ -277,8 +270,7 @@ fn copy_input(
     own: &ActionRead<'_>,
     nth: usize,
 ) -> Result<Copied, Memory>
-    requires job { Fits at.now.job.now }
-    requires rows { AreKeys (job_graph (job_of at.now.job.now)) at.now.rows.now }
+    requires turn { IsTurn at.now }
     requires ready { AreReady (job_of at.now.job.now) at.now.first at.now.count lanes.now }
     requires can { (scratch levels : ℕ) × AllByRecursion (CanServe (job_of at.now.job.now) at.now.first own.now.under at.now.count (kinds_of lanes.now) at.now.cells.now scratch levels) own.now.inputs.now }
     requires inside { EachPlace selection.now (λ p. p < at.now.count) }
@@ -300,8 +292,7 @@ pub(crate) fn copy_inputs(
     selection: &Selection,
     own: &ActionRead<'_>,
 ) -> Result<Copies, Memory>
-    requires job { Fits at.now.job.now }
-    requires rows { AreKeys (job_graph (job_of at.now.job.now)) at.now.rows.now }
+    requires turn { IsTurn at.now }
     requires ready { AreReady (job_of at.now.job.now) at.now.first at.now.count lanes.now }
     requires can { (scratch levels : ℕ) × AllByRecursion (CanServe (job_of at.now.job.now) at.now.first own.now.under at.now.count (kinds_of lanes.now) at.now.cells.now scratch levels) own.now.inputs.now }
     requires inside { EachPlace selection.now (λ p. p < at.now.count) }

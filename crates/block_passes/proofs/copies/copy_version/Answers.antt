@@ -62,7 +62,7 @@ returns-in_err-copy_vectors-in-Vect-clause-plain g c = λ used p source.
 
 pub copy_tagged-requires-clause-vectors : goal.copy_tagged-requires-clause-vectors
 copy_tagged-requires-clause-vectors g c = λ e its.
-    element_kind (job_of c.args.at.now.job.now) c.requires.job.job c.args.under c.args.version c.in-Element.site c.in-Element.place c.in-Element.tags (c.source_under.ensures ∙ c.in-Element.is) e its
+    element_kind (job_of c.args.at.now.job.now) c.requires.turn.fits.job c.args.under c.args.version c.in-Element.site c.in-Element.place c.in-Element.tags (c.source_under.ensures ∙ c.in-Element.is) e its
 
 pub returns-in_err-copy_tagged-in-Element-clause-plain : goal.returns-in_err-copy_tagged-in-Element-clause-plain
 returns-in_err-copy_tagged-in-Element-clause-plain g c = λ used p source.
