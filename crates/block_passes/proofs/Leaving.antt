@@ -1,15 +1,12 @@
 -- What parts of a pass leave of a block, one after another.
-use Rattle.std.proofs.Common.{◌≡◌, ◌∙◌, List, refl, subst, sym, ℕ}
+use Rattle.std.proofs.Common.{◌≡◌, ◌∙◌, List, subst, sym, ℕ}
 use Rattle.block_cache.specs.Lanes.{LaneView}
 use Rattle.loop_keys.specs.Jobs.{job_of}
 use Rattle.block_passes.specs.Spends.{Spends}
 use Rattle.block_passes.specs.Turns.{KeepsRoom, Leaves}
 use Rattle.block_passes.specs.declared.turn.Turn.{Turn}
 use Rattle.block_passes.specs.declared.turn.Work.{Work}
-use Rattle.block_passes.proofs.Spending.{spends_none, spends_then}
-
-pub leaves_none : {V : Type 0} {D : V → Type 0} {g : _} (t : Turn V D g) (a : Work) (n : ℕ) → Leaves t a a n n
-leaves_none t a n = record { spends = spends_none (job_of t.job.now) t.first t.count a.lanes.items n; scratch = refl; levels = refl }
+use Rattle.block_passes.proofs.Spending.{spends_then}
 
 pub leaves_then : {V : Type 0} {D : V → Type 0} {g : _} (t : Turn V D g) (a b c : Work) (l m n : ℕ) → Leaves t a b l m → Leaves t b c m n → Leaves t a c l n
 leaves_then t a b c l m n h k = record {
