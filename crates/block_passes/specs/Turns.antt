@@ -2,6 +2,7 @@
 use Rattle.std.specs.Prelude.{◌≡◌, ◌<◌, ◌≤◌, ◌+◌, ℕ, List, Some, length}
 use Rattle.expr_lanes.specs.Places.{EachPlace}
 use Rattle.expr_lanes.specs.declared.TheConstants.{MAX_PLACES}
+use Rattle.block_cache.specs.Lanes.{LaneView}
 use Rattle.loop_keys.specs.Jobs.{Fits, job_graph, job_of}
 use Rattle.loop_keys.specs.Keys.{AreKeys}
 use Rattle.loop_keys.specs.declared.job.Job.{Job}
@@ -26,8 +27,14 @@ pub record IsTurnOf {V : Type 0} {D : V → Type 0} {g : _} (j : Job V D g) (p :
 abbrev pub IsTurn : {V : Type 0} {D : V → Type 0} {g : _} → Turn V D g → Type 0
 IsTurn t = IsTurnOf t.job.now t.plan.now t.rows.now t.first t.count
 
--- what is held is right, the search is in the block, and below its limit all that was begun is held
+-- so it is, and what the lanes hold of the block is right
+pub record IsOver {V : Type 0} {D : V → Type 0} {g : _} (t : Turn V D g) (lanes : List LaneView) : Type 0 where
+  pub turn : IsTurn t
+  pub ready : AreReady (job_of t.job.now) t.first t.count lanes
+
+-- likewise of what was evaluated, where the search is in the block, and below its limit all that was begun is held
 pub record IsKnown {V : Type 0} {D : V → Type 0} {g : _} (t : Turn V D g) (w : Work) : Type 0 where
+  pub turn : IsTurn t
   pub ready : AreReady (job_of t.job.now) t.first t.count w.lanes.items
   pub limit : w.found.limit ≤ t.count
   pub settled : (p : ℕ) → p < w.found.limit → IsSettledAt w.lanes.items p

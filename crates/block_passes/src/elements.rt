@@ -9,11 +9,10 @@ ghost use Rattle.expr_lanes.specs.Places.{EachPlace};
 ghost use Rattle.loop_keys.specs.Jobs.{job_graph, job_of};
 ghost use Rattle.loop_keys.specs.Keys.{key as key_of};
 ghost use Rattle.loop_keys.specs.Store.{row_of, site_in};
-ghost use Rattle.block_cache.specs.Blocks.{AreReady};
 ghost use Rattle.block_cache.specs.Fills.{fault_over, holds_at};
 ghost use Rattle.block_passes.specs.Copying.{IsNumberOf};
 ghost use Rattle.block_passes.specs.Inputs.{IsServedTo, element_fault};
-ghost use Rattle.block_passes.specs.Turns.{IsKnown, IsSelected, IsTurn, KeepsRoom};
+ghost use Rattle.block_passes.specs.Turns.{IsKnown, IsOver, IsSelected, KeepsRoom};
 
 use crate::kept::Kept;
 use crate::turn::{Turn, Work};
@@ -54,9 +53,8 @@ pub(crate) fn element_at(
     of: &SiteElement,
     place: u32,
 ) -> Result<i64, EntryFault>
-    requires turn { IsTurn at.now }
+    requires over { IsOver at.now lanes.now }
     requires site { of.now.site < length (graph_sites (job_graph (job_of at.now.job.now))) }
-    requires ready { AreReady (job_of at.now.job.now) at.now.first at.now.count lanes.now }
     requires inside { place < at.now.count }
     requires held { holds_at lanes.now (key_of (job_graph (job_of at.now.job.now)) of.now.site of.now.under) place ≡ true }
     ensures { IsNumberOf (source_value {M = ⊥} (row_of (job_of at.now.job.now) (at.now.first + place)) (site_in (job_of at.now.job.now) (at.now.first + place) of.now.under) (source.Element of.now.site of.now.nth of.now.tags)) result }
@@ -81,9 +79,8 @@ fn first_without(
     selection: &Selection,
     of: &SiteElement,
 ) -> Option<PlaceFault>
-    requires turn { IsTurn at.now }
+    requires over { IsOver at.now lanes.now }
     requires site { of.now.site < length (graph_sites (job_graph (job_of at.now.job.now))) }
-    requires ready { AreReady (job_of at.now.job.now) at.now.first at.now.count lanes.now }
     requires inside { EachPlace selection.now (λ p. p < at.now.count) }
     requires held { EachPlace selection.now (λ p. holds_at lanes.now (key_of (job_graph (job_of at.now.job.now)) of.now.site of.now.under) p ≡ true) }
     ensures { result ≡ fault_over (element_fault (job_of at.now.job.now) at.now.first of.now.under of.now.site of.now.nth of.now.tags) selection.now }
@@ -102,7 +99,6 @@ fn first_without(
 /// Tests whether there is an element for each tag at the selected places, where the site's value is held: the first at which there isn't
 /// lowers the limit, below which the places are left.
 pub(crate) fn test_elements(at: &Turn<'_>, work: &mut Work, to: &mut Kept, of: &SiteElement)
-    requires turn { IsTurn at.now }
     requires site { of.now.site < length (graph_sites (job_graph (job_of at.now.job.now))) }
     requires known { IsKnown at.now work.old }
     requires selected { IsSelected work.old.found.limit to.old }

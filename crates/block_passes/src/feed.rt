@@ -11,7 +11,6 @@ ghost use Rattle.loop_keys.specs.Plain.{ArePlain};
 ghost use Rattle.loop_keys.specs.Jobs.{job_of, passes_in};
 ghost use Rattle.loop_keys.specs.Entries.{IsNoTake, facts_in};
 ghost use Rattle.loop_keys.specs.Turns.{actions_before};
-ghost use Rattle.block_cache.specs.Blocks.{AreReady};
 ghost use Rattle.block_passes.specs.Clear.{IsClear};
 ghost use Rattle.block_passes.specs.Counting.{IsAmid, at_pass};
 ghost use Rattle.block_passes.specs.Fed.{CanFeedAny, IsFeedable};
@@ -20,7 +19,7 @@ ghost use Rattle.block_passes.specs.Plans.{IsPlan};
 ghost use Rattle.block_passes.specs.Selections.{AreKept};
 ghost use Rattle.block_passes.specs.Inputs.{AreAtHand, ArePlainSources, AreWhole};
 ghost use Rattle.block_passes.specs.Tries.{AreAllWhole, CanServeAll, IsReadOf};
-ghost use Rattle.block_passes.specs.Turns.{IsTurn};
+ghost use Rattle.block_passes.specs.Turns.{IsOver, IsTurn};
 
 use crate::copies::copy_inputs;
 use crate::in_place::lanes_in_place;
@@ -54,8 +53,7 @@ fn feed_copies(
     own: &ActionRead<'_>,
     to: FedPass,
 ) -> Result<(), Memory>
-    requires turn { IsTurn at.now }
-    requires ready { AreReady (job_of at.now.job.now) at.now.first at.now.count lanes.now }
+    requires over { IsOver at.now lanes.now }
     requires can { CanGather (job_of at.now.job.now) at.now.first at.now.count (kinds_of lanes.now) at.now.cells.now own.now.kind.now own.now.inputs.now own.now.under }
     requires inside { EachPlace selection.now (λ p. p < at.now.count) }
     requires hand { EachPlace selection.now (AreAtHand (job_of at.now.job.now) lanes.now own.now.under own.now.inputs.now) }
@@ -80,8 +78,7 @@ pub(crate) fn feed_action(
     own: &ActionRead<'_>,
     to: FedPass,
 ) -> Result<(), Memory>
-    requires turn { IsTurn at.now }
-    requires ready { AreReady (job_of at.now.job.now) at.now.first at.now.count lanes.now }
+    requires over { IsOver at.now lanes.now }
     requires own { IsReadOf (job_of at.now.job.now) at.now.pass own.now.kind.now own.now.inputs.now own.now.under }
     requires place { to.place ≡ actions_before (job_of at.now.job.now) at.now.pass }
     requires can { CanGather (job_of at.now.job.now) at.now.first at.now.count (kinds_of lanes.now) at.now.cells.now own.now.kind.now own.now.inputs.now own.now.under }

@@ -3,9 +3,8 @@ ghost use Rattle.std.specs.Prelude.{◌≡◌, ℤ, ℕ, List, None, Some, lengt
 ghost use Rattle.rdf_values.specs.declared.action.ActionKind.TheVariants as action;
 ghost use Rattle.block_cache.specs.Lanes.{kinds_of};
 ghost use Rattle.loop_keys.specs.Jobs.{job_of};
-ghost use Rattle.block_cache.specs.Blocks.{AreReady};
 ghost use Rattle.block_passes.specs.Feeds.{AreInPlace, CanGather};
-ghost use Rattle.block_passes.specs.Turns.{IsTurn};
+ghost use Rattle.block_passes.specs.Turns.{IsOver};
 
 use crate::sources::lane_in_place;
 use crate::turn::{ActionRead, Turn};
@@ -21,8 +20,7 @@ fn one_in_place<'a: 's, 's>(
     own: &ActionRead<'_>,
     to: &mut Sources<'s>,
 ) -> bool
-    requires turn { IsTurn at.now }
-    requires ready { AreReady (job_of at.now.job.now) at.now.first at.now.count lanes.now }
+    requires over { IsOver at.now lanes.now }
     requires can { CanGather (job_of at.now.job.now) at.now.first at.now.count (kinds_of lanes.now) at.now.cells.now own.now.kind.now own.now.inputs.now own.now.under }
     requires one { length own.now.inputs.now ≡ 1 }
     ensures { result ≡ true → AreInPlace (job_of at.now.job.now) at.now.first at.now.count lanes.now own.now.kind.now own.now.inputs.now own.now.under to.new }
@@ -42,8 +40,7 @@ fn weighted_in_place<'a: 's, 's>(
     own: &ActionRead<'_>,
     to: &mut Sources<'s>,
 ) -> bool
-    requires turn { IsTurn at.now }
-    requires ready { AreReady (job_of at.now.job.now) at.now.first at.now.count lanes.now }
+    requires over { IsOver at.now lanes.now }
     requires can { CanGather (job_of at.now.job.now) at.now.first at.now.count (kinds_of lanes.now) at.now.cells.now own.now.kind.now own.now.inputs.now own.now.under }
     requires kind { (edges : List ℤ) × (x w : List ℕ) × (own.now.kind.now ≡ action.Histo1D edges x (Some w)) }
     ensures { result ≡ true → AreInPlace (job_of at.now.job.now) at.now.first at.now.count lanes.now own.now.kind.now own.now.inputs.now own.now.under to.new }
@@ -66,8 +63,7 @@ fn pair_in_place<'a: 's, 's>(
     own: &ActionRead<'_>,
     to: &mut Sources<'s>,
 ) -> bool
-    requires turn { IsTurn at.now }
-    requires ready { AreReady (job_of at.now.job.now) at.now.first at.now.count lanes.now }
+    requires over { IsOver at.now lanes.now }
     requires can { CanGather (job_of at.now.job.now) at.now.first at.now.count (kinds_of lanes.now) at.now.cells.now own.now.kind.now own.now.inputs.now own.now.under }
     requires kind { (xs ys : List ℤ) × (x y : List ℕ) × (own.now.kind.now ≡ action.Histo2D xs ys x y None) }
     ensures { result ≡ true → AreInPlace (job_of at.now.job.now) at.now.first at.now.count lanes.now own.now.kind.now own.now.inputs.now own.now.under to.new }
@@ -90,8 +86,7 @@ fn weighted_pair_in_place<'a: 's, 's>(
     own: &ActionRead<'_>,
     to: &mut Sources<'s>,
 ) -> bool
-    requires turn { IsTurn at.now }
-    requires ready { AreReady (job_of at.now.job.now) at.now.first at.now.count lanes.now }
+    requires over { IsOver at.now lanes.now }
     requires can { CanGather (job_of at.now.job.now) at.now.first at.now.count (kinds_of lanes.now) at.now.cells.now own.now.kind.now own.now.inputs.now own.now.under }
     requires kind { (xs ys : List ℤ) × (x y w : List ℕ) × (own.now.kind.now ≡ action.Histo2D xs ys x y (Some w)) }
     ensures { result ≡ true → AreInPlace (job_of at.now.job.now) at.now.first at.now.count lanes.now own.now.kind.now own.now.inputs.now own.now.under to.new }
@@ -118,8 +113,7 @@ pub(crate) fn lanes_in_place<'a: 's, 's>(
     own: &ActionRead<'_>,
     to: &mut Sources<'s>,
 ) -> bool
-    requires turn { IsTurn at.now }
-    requires ready { AreReady (job_of at.now.job.now) at.now.first at.now.count lanes.now }
+    requires over { IsOver at.now lanes.now }
     requires can { CanGather (job_of at.now.job.now) at.now.first at.now.count (kinds_of lanes.now) at.now.cells.now own.now.kind.now own.now.inputs.now own.now.under }
     ensures { result ≡ true → AreInPlace (job_of at.now.job.now) at.now.first at.now.count lanes.now own.now.kind.now own.now.inputs.now own.now.under to.new }
 {

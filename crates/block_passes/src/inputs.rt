@@ -13,7 +13,7 @@ ghost use Rattle.loop_keys.specs.Turns.{HasAllDemands};
 ghost use Rattle.block_cache.specs.Blocks.{AreReady};
 ghost use Rattle.block_cache.specs.Fills.{CanFill, IsSpentOver, holds_at, site_fault};
 ghost use Rattle.block_passes.specs.Inputs.{AreAtHand, CanServe, DemandsInputs, DemandsSource, IsAtHand, IsServedTo, element_fault, inputs_fault, source_fault};
-ghost use Rattle.block_passes.specs.Turns.{IsKnown, IsSelected, IsTurn, KeepsRoom, Leaves};
+ghost use Rattle.block_passes.specs.Turns.{IsKnown, IsOver, IsSelected, IsTurn, KeepsRoom, Leaves};
 
 use crate::elements::{SiteElement, test_elements};
 use crate::kept::Kept;
@@ -47,8 +47,7 @@ fn is_at_hand(
     version: u32,
     under: Option<u32>,
 ) -> bool
-    requires turn { IsTurn at.now }
-    requires ready { AreReady (job_of at.now.job.now) at.now.first at.now.count lanes.now }
+    requires over { IsOver at.now lanes.now }
     requires can { (scratch levels : ℕ) × CanServe (job_of at.now.job.now) at.now.first under at.now.count (kinds_of lanes.now) at.now.cells.now scratch levels version }
     requires inside { EachPlace selection.now (λ p. p < at.now.count) }
     ensures held { result ≡ true → EachPlace selection.now (λ p. IsAtHand (job_of at.now.job.now) lanes.now under p (source_at (job_of at.now.job.now) under version)) }
@@ -76,8 +75,7 @@ fn are_at_hand(
     inputs: &[u32],
     under: Option<u32>,
 ) -> bool
-    requires turn { IsTurn at.now }
-    requires ready { AreReady (job_of at.now.job.now) at.now.first at.now.count lanes.now }
+    requires over { IsOver at.now lanes.now }
     requires can { (scratch levels : ℕ) × AllByRecursion (CanServe (job_of at.now.job.now) at.now.first under at.now.count (kinds_of lanes.now) at.now.cells.now scratch levels) inputs.now }
     requires inside { EachPlace selection.now (λ p. p < at.now.count) }
     ensures held { result ≡ true → EachPlace selection.now (AreAtHand (job_of at.now.job.now) lanes.now under inputs.now) }
@@ -102,7 +100,6 @@ fn serve_site<L: Ledger>(
     under: Option<u32>,
     steps: &mut Steps<L>,
 ) -> Result<(), Memory>
-    requires turn { IsTurn at.now }
     requires site { site < length (graph_sites (job_graph (job_of at.now.job.now))) }
     requires known { IsKnown at.now work.old }
     requires can { CanFill (job_of at.now.job.now) at.now.first under at.now.count (kinds_of work.old.lanes.items) at.now.cells.now (length work.old.scratch.items) (length work.old.levels.items) site }
@@ -168,7 +165,6 @@ fn serve_element<L: Ledger>(
     of: &SiteElement,
     steps: &mut Steps<L>,
 ) -> Result<(), Memory>
-    requires turn { IsTurn at.now }
     requires site { of.now.site < length (graph_sites (job_graph (job_of at.now.job.now))) }
     requires known { IsKnown at.now work.old }
     requires can { CanFill (job_of at.now.job.now) at.now.first of.now.under at.now.count (kinds_of work.old.lanes.items) at.now.cells.now (length work.old.scratch.items) (length work.old.levels.items) of.now.site }
@@ -197,7 +193,6 @@ fn serve_version<L: Ledger>(
     under: Option<u32>,
     steps: &mut Steps<L>,
 ) -> Result<(), Memory>
-    requires turn { IsTurn at.now }
     requires known { IsKnown at.now work.old }
     requires can { CanServe (job_of at.now.job.now) at.now.first under at.now.count (kinds_of work.old.lanes.items) at.now.cells.now (length work.old.scratch.items) (length work.old.levels.items) version }
     requires selected { IsSelected work.old.found.limit to.old }
@@ -235,7 +230,6 @@ fn serve_each<L: Ledger>(
     under: Option<u32>,
     steps: &mut Steps<L>,
 ) -> Result<(), Memory>
-    requires turn { IsTurn at.now }
     requires known { IsKnown at.now work.old }
     requires can { AllByRecursion (CanServe (job_of at.now.job.now) at.now.first under at.now.count (kinds_of work.old.lanes.items) at.now.cells.now (length work.old.scratch.items) (length work.old.levels.items)) inputs.now }
     requires selected { IsSelected work.old.found.limit to.old }
@@ -266,7 +260,6 @@ pub(crate) fn serve_inputs<L: Ledger>(
     under: Option<u32>,
     steps: &mut Steps<L>,
 ) -> Result<(), Memory>
-    requires turn { IsTurn at.now }
     requires known { IsKnown at.now work.old }
     requires can { AllByRecursion (CanServe (job_of at.now.job.now) at.now.first under at.now.count (kinds_of work.old.lanes.items) at.now.cells.now (length work.old.scratch.items) (length work.old.levels.items)) inputs.now }
     requires selected { IsSelected work.old.found.limit to.old }

@@ -34,7 +34,6 @@ pub(crate) fn filter_places<L: Ledger>(
     filter: SiteFilter,
     steps: &mut Steps<L>,
 ) -> Result<(), Memory>
-    requires turn { IsTurn at.now }
     requires site { filter.site < length (graph_sites (job_graph (job_of at.now.job.now))) }
     requires known { IsKnown at.now work.old }
     requires can { CanFill (job_of at.now.job.now) at.now.first filter.under at.now.count (kinds_of work.old.lanes.items) at.now.cells.now (length work.old.scratch.items) (length work.old.levels.items) filter.site }

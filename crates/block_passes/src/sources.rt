@@ -9,11 +9,11 @@ ghost use Rattle.block_cache.specs.Lanes.{LaneView, kinds_of};
 ghost use Rattle.expr_lanes.specs.Places.{is_in};
 ghost use Rattle.loop_keys.specs.Jobs.{job_of};
 ghost use Rattle.loop_keys.specs.Store.{row_of, site_in, source_at, version_in};
-ghost use Rattle.block_cache.specs.Blocks.{AreReady, HasColumn};
+ghost use Rattle.block_cache.specs.Blocks.{HasColumn};
 ghost use Rattle.block_passes.specs.Copying.{AreCopied, IsCopyOf};
 ghost use Rattle.block_passes.specs.Feeds.{AreLanesOf, CanGather, HasHeld, IsLaneOf};
 ghost use Rattle.block_passes.specs.Inputs.{AreAtHand, CanServe, IsAtHand, IsWhole};
-ghost use Rattle.block_passes.specs.Turns.{IsTurn};
+ghost use Rattle.block_passes.specs.Turns.{IsOver, IsTurn};
 
 use crate::copies::{Copied, Copies};
 use crate::turn::{ActionRead, Turn};
@@ -47,8 +47,7 @@ fn version_lane<'a: 's, 's>(
     version: u32,
     under: Option<u32>,
 ) -> FedLane<'s>
-    requires turn { IsTurn at.now }
-    requires ready { AreReady (job_of at.now.job.now) at.now.first at.now.count lanes.now }
+    requires over { IsOver at.now lanes.now }
     requires can { (scratch levels : ℕ) × CanServe (job_of at.now.job.now) at.now.first under at.now.count (kinds_of lanes.now) at.now.cells.now scratch levels version }
     requires copied { IsCopyOf (job_of at.now.job.now) at.now.first under (kinds_of lanes.now) _selection.now version copied.now }
     ensures { (p : ℕ) → p < at.now.count → is_in p _selection.now ≡ true → IsAtHand (job_of at.now.job.now) lanes.now under p (source_at (job_of at.now.job.now) under version)
@@ -90,8 +89,7 @@ pub(crate) fn lane_in_place<'a: 's, 's>(
     version: u32,
     under: Option<u32>,
 ) -> Option<FedLane<'s>>
-    requires turn { IsTurn at.now }
-    requires ready { AreReady (job_of at.now.job.now) at.now.first at.now.count lanes.now }
+    requires over { IsOver at.now lanes.now }
     requires can { (scratch levels : ℕ) × CanServe (job_of at.now.job.now) at.now.first under at.now.count (kinds_of lanes.now) at.now.cells.now scratch levels version }
     ensures given { IfSome result (λ lane. (p : ℕ) → p < at.now.count → IsAtHand (job_of at.now.job.now) lanes.now under p (source_at (job_of at.now.job.now) under version)
         → IsLaneOf (version_in {M = ⊥} (job_of at.now.job.now) (at.now.first + p) under version) lane p) }
@@ -117,8 +115,7 @@ fn whole_lane<'a: 's, 's>(
     version: u32,
     under: Option<u32>,
 ) -> FedLane<'s>
-    requires turn { IsTurn at.now }
-    requires ready { AreReady (job_of at.now.job.now) at.now.first at.now.count lanes.now }
+    requires over { IsOver at.now lanes.now }
     requires can { (scratch levels : ℕ) × CanServe (job_of at.now.job.now) at.now.first under at.now.count (kinds_of lanes.now) at.now.cells.now scratch levels version }
     requires whole { IsWhole (job_of at.now.job.now) under (kinds_of lanes.now) (source_at (job_of at.now.job.now) under version) }
     ensures { (p : ℕ) → p < at.now.count → IsAtHand (job_of at.now.job.now) lanes.now under p (source_at (job_of at.now.job.now) under version)
@@ -138,8 +135,7 @@ pub(crate) fn gather<'a: 's, 's>(
     copies: &'s Copies,
     own: &ActionRead<'_>,
 ) -> Sources<'s>
-    requires turn { IsTurn at.now }
-    requires ready { AreReady (job_of at.now.job.now) at.now.first at.now.count lanes.now }
+    requires over { IsOver at.now lanes.now }
     requires can { CanGather (job_of at.now.job.now) at.now.first at.now.count (kinds_of lanes.now) at.now.cells.now own.now.kind.now own.now.inputs.now own.now.under }
     requires copied { AreCopied (job_of at.now.job.now) at.now.first own.now.under (kinds_of lanes.now) selection.now own.now.inputs.now copies.now }
     ensures { (p : ℕ) → p < at.now.count → is_in p selection.now ≡ true → AreAtHand (job_of at.now.job.now) lanes.now own.now.under own.now.inputs.now p

@@ -4,12 +4,11 @@ ghost use Rattle.expr_lanes.specs.Places.{EachPlace};
 ghost use Rattle.actions.specs.Batches.{places_of};
 ghost use Rattle.loop_keys.specs.Plain.{ArePlain};
 ghost use Rattle.loop_keys.specs.Jobs.{job_of};
-ghost use Rattle.block_cache.specs.Blocks.{AreReady};
 ghost use Rattle.block_cache.specs.Fills.{fault_over};
 ghost use Rattle.block_cache.specs.Lanes.{kinds_of};
 ghost use Rattle.block_passes.specs.Feeds.{CanGather, of_batch, unfed};
 ghost use Rattle.block_passes.specs.Inputs.{AreAtHand, ArePlainSources, IsServedTo};
-ghost use Rattle.block_passes.specs.Turns.{IsKnown, IsSelected, IsTurn, KeepsRoom};
+ghost use Rattle.block_passes.specs.Turns.{IsKnown, IsOver, IsSelected, KeepsRoom};
 
 use crate::copies::copy_inputs;
 use crate::in_place::lanes_in_place;
@@ -49,8 +48,7 @@ fn first_unfed_copy(
     selection: &Selection,
     own: &ActionRead<'_>,
 ) -> Result<Option<PlaceFault>, Memory>
-    requires turn { IsTurn at.now }
-    requires ready { AreReady (job_of at.now.job.now) at.now.first at.now.count lanes.now }
+    requires over { IsOver at.now lanes.now }
     requires can { CanGather (job_of at.now.job.now) at.now.first at.now.count (kinds_of lanes.now) at.now.cells.now own.now.kind.now own.now.inputs.now own.now.under }
     requires inside { EachPlace selection.now (λ p. p < at.now.count) }
     requires hand { EachPlace selection.now (AreAtHand (job_of at.now.job.now) lanes.now own.now.under own.now.inputs.now) }
@@ -72,8 +70,7 @@ fn first_unfed(
     selection: &Selection,
     own: &ActionRead<'_>,
 ) -> Result<Option<PlaceFault>, Memory>
-    requires turn { IsTurn at.now }
-    requires ready { AreReady (job_of at.now.job.now) at.now.first at.now.count lanes.now }
+    requires over { IsOver at.now lanes.now }
     requires can { CanGather (job_of at.now.job.now) at.now.first at.now.count (kinds_of lanes.now) at.now.cells.now own.now.kind.now own.now.inputs.now own.now.under }
     requires inside { EachPlace selection.now (λ p. p < at.now.count) }
     requires hand { EachPlace selection.now (AreAtHand (job_of at.now.job.now) lanes.now own.now.under own.now.inputs.now) }
@@ -99,7 +96,6 @@ pub(crate) fn test_feeding(
     to: &mut Kept,
     own: &ActionRead<'_>,
 ) -> Result<(), Memory>
-    requires turn { IsTurn at.now }
     requires known { IsKnown at.now work.old }
     requires can { CanGather (job_of at.now.job.now) at.now.first at.now.count (kinds_of work.old.lanes.items) at.now.cells.now own.now.kind.now own.now.inputs.now own.now.under }
     requires selected { IsSelected work.old.found.limit to.old }

@@ -10,7 +10,7 @@ note-requires g c = λ x q.
     let i = fault_selected (element_fault (job_of c.args.at.now.job.now) c.args.at.now.first c.args.of.now.under c.args.of.now.site c.args.of.now.nth c.args.of.now.tags) c.args.to.now.places c.as_slice-rising.ensures.rising c.first_without-fault.result c.first_without-fault.ensures x q in
     let l = c.requires.selected.inside x.place i in
     let le = c.requires.known.limit in
-    let few = c.requires.turn.few in
+    let few = c.requires.known.turn.few in
     omega (arith, l, le, few)
 
 pub returns-clause-tested : goal.returns-clause-tested

@@ -29,7 +29,7 @@ serve_each-requires g t c κs within =
     (length c.args.work.now.scratch.items) (length c.args.work.now.levels.items) (length c.serve_version.new.work.scratch.items) (length c.serve_version.new.work.levels.items) c.serve_version.ensures.leaves.spends.kinds c.serve_version.ensures.leaves.scratch c.serve_version.ensures.leaves.levels c.requires.can in
     let inside = rest_inside j c.args.at.now.first c.args.under c.args.inputs.now c.in-Some.rest.now c.in-Some.version.now c.in-Some.ensures.cases.0 c.args.at.now.count c.args.at.now.pass c.args.to.now.places c.serve_version.new.to c.args.work.now.lanes.items c.serve_version.new.work.lanes.items c.args.work.now.found c.serve_version.new.work.found h in
     let demanded = rest_demanded j c.args.at.now.first c.args.under c.args.inputs.now c.in-Some.rest.now c.in-Some.version.now c.in-Some.ensures.cases.0 c.args.at.now.count c.args.at.now.pass c.args.to.now.places c.serve_version.new.to c.args.work.now.lanes.items c.serve_version.new.work.lanes.items c.args.work.now.found c.serve_version.new.work.found h c.requires.demanded in
-    (search rules, (search rules, (c.requires.turn, (record { ready = h.ready; limit = omega (arith, falls, limit); settled = h.settled }, (can, (record { made = h.its_limit; inside = inside }, demanded))))))
+    (search rules, (search rules, (record { turn = c.requires.known.turn; ready = h.ready; limit = omega (arith, falls, limit); settled = h.settled }, (can, (record { made = h.its_limit; inside = inside }, demanded)))))
 
 pub returns-in-Ok-clause-served : goal.returns-in-Ok-clause-served
 returns-in-Ok-clause-served g t c =

@@ -14,7 +14,7 @@ test_elements-requires-clause-known g c =
     let served = c.in-Ok.ensures.served in
     let f = served.lowers.falls in
     let l = c.requires.known.limit in
-    record { ready = served.ready; limit = omega (arith, f, l); settled = served.settled }
+    record { turn = c.requires.known.turn; ready = served.ready; limit = omega (arith, f, l); settled = served.settled }
 
 pub test_elements-requires-clause-selected : goal.test_elements-requires-clause-selected
 test_elements-requires-clause-selected g c =

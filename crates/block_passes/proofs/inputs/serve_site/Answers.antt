@@ -14,7 +14,7 @@ note-requires g c = λ x q.
     let i = fault_selected (site_fault (job_of c.args.at.now.job.now) c.args.at.now.first c.args.under c.args.site) c.args.to.now.places c.as_slice-rising.ensures.rising c.in-Ok.fault c.in-Ok.ensures.filled.fault x q in
     let l = c.requires.inside x.place i in
     let le = c.requires.known.limit in
-    let few = c.requires.turn.few in
+    let few = c.requires.known.turn.few in
     omega (arith, l, le, few)
 
 pub returns-in-Ok-clause-served : goal.returns-in-Ok-clause-served

@@ -15,12 +15,12 @@ note-requires g c = λ x q.
     let i = fault_selected (site_fault (job_of c.args.at.now.job.now) c.args.at.now.first c.args.filter.under c.args.filter.site) c.copy_from.new.self c.as_slice-rising.ensures.rising c.in-Ok.fault c.in-Ok.ensures.passed.fault x q in
     let l = c.requires.inside x.place (sym (ap (is_in x.place) c.copy_from.ensures) ∙ i) in
     let le = c.requires.known.limit in
-    let few = c.requires.turn.few in
+    let few = c.requires.known.turn.few in
     omega (arith, l, le, few)
 
 pub pass_filter-requires-clause-selected : goal.pass_filter-requires-clause-selected
 pass_filter-requires-clause-selected g c =
-    selected c.args.at.now.count c.copy_from.new.self c.args.work.now.found.limit c.len-few.result c.requires.turn.small c.requires.known.limit (λ p i. c.requires.inside p (sym (ap (is_in p) c.copy_from.ensures) ∙ i)) c.len-few.ensures.count c.len-few.ensures.few
+    selected c.args.at.now.count c.copy_from.new.self c.args.work.now.found.limit c.len-few.result c.requires.known.turn.small c.requires.known.limit (λ p i. c.requires.inside p (sym (ap (is_in p) c.copy_from.ensures) ∙ i)) c.len-few.ensures.count c.len-few.ensures.few
 
 pub returns-in-Ok-clause-filtered : goal.returns-in-Ok-clause-filtered
 returns-in-Ok-clause-filtered g c =

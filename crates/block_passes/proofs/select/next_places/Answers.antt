@@ -18,7 +18,7 @@ filter_places-requires-clause-site g c =
     site_there (job_of c.args.at.now.job.now) c.requires.turn.fits.job (longer s.up c.args.next.filter.site c.args.next.filter.under) s.up.sites c.args.next.filter.site refl (p.tried c.args.next.step _ s.own)
 
 pub filter_places-requires-clause-known : goal.filter_places-requires-clause-known
-filter_places-requires-clause-known g c = let r = c.requires.ready c.requires.turn.plan in record { ready = r.ready; limit = r.within; settled = r.settled }
+filter_places-requires-clause-known g c = let r = c.requires.ready c.requires.turn.plan in record { turn = c.requires.turn; ready = r.ready; limit = r.within; settled = r.settled }
 
 pub filter_places-requires-clause-can : goal.filter_places-requires-clause-can
 filter_places-requires-clause-can g c = c.requires.can.each c.args.next.step c.args.next.parent c.args.next.filter.site c.args.next.filter.under c.requires.step

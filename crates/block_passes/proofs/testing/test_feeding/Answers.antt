@@ -11,7 +11,7 @@ note-requires g c = λ x q.
     let i = fault_selected (unfed (job_of c.args.at.now.job.now) c.args.at.now.first c.args.own.now.kind.now c.args.own.now.inputs.now c.args.own.now.under) c.args.to.now.places c.as_slice-rising.ensures.rising c.in_ok-fault.fault c.in_ok-fault.ensures.fault x q in
     let l = c.requires.selected.inside x.place i in
     let le = c.requires.known.limit in
-    let few = c.requires.turn.few in
+    let few = c.requires.known.turn.few in
     omega (arith, l, le, few)
 
 pub returns-clause-tested : goal.returns-clause-tested
