@@ -18,6 +18,7 @@ pub mod FirstFaults
 pub mod FirstLengths
 pub mod GatheredLanes
 pub mod KeyKinds
+pub mod Leaving
 pub mod LoadedColumns
 pub mod NextPlaces
 pub mod Parts

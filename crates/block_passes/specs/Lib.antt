@@ -16,3 +16,4 @@ pub mod Spends
 pub mod States
 pub mod Steps
 pub mod Tries
+pub mod Turns

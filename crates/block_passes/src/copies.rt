@@ -1,7 +1,6 @@
 // What is copied of the versions that an action reads, where it can't read them in place.
 ghost use Rattle.std.specs.Prelude.{◌≡◌, ◌<◌, ◌+◌, ℕ, Bool, ℤ, List, IfOk, OnErr, OnOk, Some, length, slice_get, slice_index_or, slice_set, true};
 ghost use Rattle.std.specs.List.{AllByRecursion};
-ghost use Rattle.rdf_values.specs.Tables.{kind_at};
 ghost use Rattle.rdf_values.specs.declared.value.ColType.{ColType as KindOf};
 ghost use Rattle.rdf_values.specs.declared.value.ColType.TheVariants as kind;
 ghost use Rattle.rdf_values.specs.declared.value.Value.TheVariants as val;
@@ -12,14 +11,14 @@ ghost use Rattle.graph_numbers.specs.Sources.{source_value};
 ghost use Rattle.expr_lanes.specs.Places.{EachPlace};
 ghost use Rattle.block_cache.specs.Lanes.{kinds_of};
 ghost use Rattle.loop_keys.specs.Plain.{ArePlain};
-ghost use Rattle.loop_keys.specs.Jobs.{Fits, job_graph, job_of};
-ghost use Rattle.loop_keys.specs.Keys.{AreKeys, key as key_of};
-ghost use Rattle.loop_keys.specs.Store.{row_of, site_in, source_at, version_in};
-ghost use Rattle.block_cache.specs.Blocks.{AreReady};
+ghost use Rattle.loop_keys.specs.Jobs.{job_graph, job_of};
+ghost use Rattle.loop_keys.specs.Keys.{key as key_of};
+ghost use Rattle.loop_keys.specs.Store.{row_of, site_in, source_at};
 ghost use Rattle.graph_numbers.specs.declared.source.Source.TheVariants as source;
 ghost use Rattle.block_cache.specs.Fills.{AreSiteKinds, holds_at};
 ghost use Rattle.block_passes.specs.Copying.{AreCopied, GivesNumber, GivesVector, HasVector, IsCopyOf};
 ghost use Rattle.block_passes.specs.Inputs.{AreAtHand, ArePlainSources, AreWhole, CanServe, IsAtHand, IsPlainSource, IsWhole};
+ghost use Rattle.block_passes.specs.Turns.{IsOver, IsTurn};
 
 use crate::elements::{SiteElement, element_at};
 use crate::inputs::source_under;
@@ -97,10 +96,8 @@ fn site_vector<'s>(
     under: Option<u32>,
     place: u32,
 ) -> &'s [i64]
-    requires job { Fits at.now.job.now }
-    requires rows { AreKeys (job_graph (job_of at.now.job.now)) at.now.rows.now }
+    requires over { IsOver at.now lanes.now }
     requires site { site < length (graph_sites (job_graph (job_of at.now.job.now))) }
-    requires ready { AreReady (job_of at.now.job.now) at.now.first at.now.count lanes.now }
     requires vectors { slice_get (kinds_of lanes.now) (key_of (job_graph (job_of at.now.job.now)) site under) ≡ Some kind.Vect }
     requires inside { place < at.now.count }
     requires held { holds_at lanes.now (key_of (job_graph (job_of at.now.job.now)) site under) place ≡ true }
@@ -126,10 +123,8 @@ fn copy_vectors(
     site: u32,
     under: Option<u32>,
 ) -> Result<CopiedVectors, Memory>
-    requires job { Fits at.now.job.now }
-    requires rows { AreKeys (job_graph (job_of at.now.job.now)) at.now.rows.now }
+    requires over { IsOver at.now lanes.now }
     requires site { site < length (graph_sites (job_graph (job_of at.now.job.now))) }
-    requires ready { AreReady (job_of at.now.job.now) at.now.first at.now.count lanes.now }
     requires vectors { slice_get (kinds_of lanes.now) (key_of (job_graph (job_of at.now.job.now)) site under) ≡ Some kind.Vect }
     requires inside { EachPlace selection.now (λ p. p < at.now.count) }
     requires held { EachPlace selection.now (λ p. holds_at lanes.now (key_of (job_graph (job_of at.now.job.now)) site under) p ≡ true) }
@@ -146,10 +141,8 @@ fn copy_vectors(
 
 /// The element of a site's vector at a place where it is at hand.
 fn given_at(at: &Turn<'_>, lanes: &[Lane], of: &SiteElement, place: u32) -> i64
-    requires job { Fits at.now.job.now }
-    requires rows { AreKeys (job_graph (job_of at.now.job.now)) at.now.rows.now }
+    requires over { IsOver at.now lanes.now }
     requires site { of.now.site < length (graph_sites (job_graph (job_of at.now.job.now))) }
-    requires ready { AreReady (job_of at.now.job.now) at.now.first at.now.count lanes.now }
     requires inside { place < at.now.count }
     requires hand { IsAtHand (job_of at.now.job.now) lanes.now of.now.under place (source.Element of.now.site of.now.nth of.now.tags) }
     ensures { source_value {M = ⊥} (row_of (job_of at.now.job.now) (at.now.first + place)) (site_in (job_of at.now.job.now) (at.now.first + place) of.now.under) (source.Element of.now.site of.now.nth of.now.tags) ≡ Gives (val.Int result) }
@@ -175,10 +168,8 @@ fn copy_elements(
     selection: &Selection,
     of: &SiteElement,
 ) -> Result<Vec<i64>, Memory>
-    requires job { Fits at.now.job.now }
-    requires rows { AreKeys (job_graph (job_of at.now.job.now)) at.now.rows.now }
+    requires over { IsOver at.now lanes.now }
     requires site { of.now.site < length (graph_sites (job_graph (job_of at.now.job.now))) }
-    requires ready { AreReady (job_of at.now.job.now) at.now.first at.now.count lanes.now }
     requires inside { EachPlace selection.now (λ p. p < at.now.count) }
     requires hand { EachPlace selection.now (λ p. IsAtHand (job_of at.now.job.now) lanes.now of.now.under p (source.Element of.now.site of.now.nth of.now.tags)) }
     ensures { IfOk result (λ v. EachPlace selection.now (λ p. GivesNumber v.items p (source_value {M = ⊥} (row_of (job_of at.now.job.now) (at.now.first + p)) (site_in (job_of at.now.job.now) (at.now.first + p) of.now.under) (source.Element of.now.site of.now.nth of.now.tags)))) }
@@ -194,8 +185,7 @@ fn copy_elements(
 
 /// Of which kind a site's values are.
 fn site_kind(at: &Turn<'_>, site: u32, under: Option<u32>) -> ColType
-    requires job { Fits at.now.job.now }
-    requires rows { AreKeys (job_graph (job_of at.now.job.now)) at.now.rows.now }
+    requires turn { IsTurn at.now }
     requires site { site < length (graph_sites (job_graph (job_of at.now.job.now))) }
     ensures expr { (e : CheckedExpr) × IsSiteExpr (job_graph (job_of at.now.job.now)) site e × (result ≡ e.kind) }
     ensures its { (kinds : List KindOf) → AreSiteKinds (job_graph (job_of at.now.job.now)) kinds → (k : KindOf) → slice_get kinds (key_of (job_graph (job_of at.now.job.now)) site under) ≡ Some k → result ≡ k }
@@ -217,10 +207,8 @@ fn copy_tagged(
     selection: &Selection,
     of: &SiteElement,
 ) -> Result<Vec<i64>, Memory>
-    requires job { Fits at.now.job.now }
-    requires rows { AreKeys (job_graph (job_of at.now.job.now)) at.now.rows.now }
+    requires over { IsOver at.now lanes.now }
     requires site { of.now.site < length (graph_sites (job_graph (job_of at.now.job.now))) }
-    requires ready { AreReady (job_of at.now.job.now) at.now.first at.now.count lanes.now }
     requires vectors { (e : CheckedExpr) → IsSiteExpr (job_graph (job_of at.now.job.now)) of.now.site e → e.kind ≡ kind.Vect }
     requires inside { EachPlace selection.now (λ p. p < at.now.count) }
     requires hand { EachPlace selection.now (λ p. IsAtHand (job_of at.now.job.now) lanes.now of.now.under p (source.Element of.now.site of.now.nth of.now.tags)) }
@@ -241,9 +229,7 @@ fn copy_version(
     version: u32,
     under: Option<u32>,
 ) -> Result<Copied, Memory>
-    requires job { Fits at.now.job.now }
-    requires rows { AreKeys (job_graph (job_of at.now.job.now)) at.now.rows.now }
-    requires ready { AreReady (job_of at.now.job.now) at.now.first at.now.count lanes.now }
+    requires over { IsOver at.now lanes.now }
     requires can { (scratch levels : ℕ) × CanServe (job_of at.now.job.now) at.now.first under at.now.count (kinds_of lanes.now) at.now.cells.now scratch levels version }
     requires inside { EachPlace selection.now (λ p. p < at.now.count) }
     requires hand { EachPlace selection.now (λ p. IsAtHand (job_of at.now.job.now) lanes.now under p (source_at (job_of at.now.job.now) under version)) }
@@ -277,9 +263,7 @@ fn copy_input(
     own: &ActionRead<'_>,
     nth: usize,
 ) -> Result<Copied, Memory>
-    requires job { Fits at.now.job.now }
-    requires rows { AreKeys (job_graph (job_of at.now.job.now)) at.now.rows.now }
-    requires ready { AreReady (job_of at.now.job.now) at.now.first at.now.count lanes.now }
+    requires over { IsOver at.now lanes.now }
     requires can { (scratch levels : ℕ) × AllByRecursion (CanServe (job_of at.now.job.now) at.now.first own.now.under at.now.count (kinds_of lanes.now) at.now.cells.now scratch levels) own.now.inputs.now }
     requires inside { EachPlace selection.now (λ p. p < at.now.count) }
     requires hand { EachPlace selection.now (AreAtHand (job_of at.now.job.now) lanes.now own.now.under own.now.inputs.now) }
@@ -300,9 +284,7 @@ pub(crate) fn copy_inputs(
     selection: &Selection,
     own: &ActionRead<'_>,
 ) -> Result<Copies, Memory>
-    requires job { Fits at.now.job.now }
-    requires rows { AreKeys (job_graph (job_of at.now.job.now)) at.now.rows.now }
-    requires ready { AreReady (job_of at.now.job.now) at.now.first at.now.count lanes.now }
+    requires over { IsOver at.now lanes.now }
     requires can { (scratch levels : ℕ) × AllByRecursion (CanServe (job_of at.now.job.now) at.now.first own.now.under at.now.count (kinds_of lanes.now) at.now.cells.now scratch levels) own.now.inputs.now }
     requires inside { EachPlace selection.now (λ p. p < at.now.count) }
     requires hand { EachPlace selection.now (AreAtHand (job_of at.now.job.now) lanes.now own.now.under own.now.inputs.now) }

@@ -1,19 +1,18 @@
 // The elements of a site's vector that are the values of a Vary.
-ghost use Rattle.std.specs.Prelude.{◌≡◌, ◌<◌, ◌≤◌, ◌+◌, ℕ, length, true, Some};
+ghost use Rattle.std.specs.Prelude.{◌≡◌, ◌<◌, ◌+◌, length, true, Some};
 ghost use Rattle.rdf_values.specs.declared.value.Value.TheVariants as val;
 ghost use Rattle.rdf_model.specs.ColumnValues.{tag_element};
 ghost use Rattle.graph_numbers.specs.Graphs.{graph_sites};
 ghost use Rattle.graph_numbers.specs.Sources.{source_value};
 ghost use Rattle.graph_numbers.specs.declared.source.Source.TheVariants as source;
 ghost use Rattle.expr_lanes.specs.Places.{EachPlace};
-ghost use Rattle.loop_keys.specs.Jobs.{Fits, job_graph, job_of};
-ghost use Rattle.loop_keys.specs.Keys.{AreKeys, key as key_of};
+ghost use Rattle.loop_keys.specs.Jobs.{job_graph, job_of};
+ghost use Rattle.loop_keys.specs.Keys.{key as key_of};
 ghost use Rattle.loop_keys.specs.Store.{row_of, site_in};
-ghost use Rattle.block_cache.specs.Blocks.{AreReady};
 ghost use Rattle.block_cache.specs.Fills.{fault_over, holds_at};
 ghost use Rattle.block_passes.specs.Copying.{IsNumberOf};
 ghost use Rattle.block_passes.specs.Inputs.{IsServedTo, element_fault};
-ghost use Rattle.block_passes.specs.Spends.{IsSettledAt};
+ghost use Rattle.block_passes.specs.Turns.{IsKnown, IsOver, IsSelected, KeepsRoom};
 
 use crate::kept::Kept;
 use crate::turn::{Turn, Work};
@@ -54,10 +53,8 @@ pub(crate) fn element_at(
     of: &SiteElement,
     place: u32,
 ) -> Result<i64, EntryFault>
-    requires job { Fits at.now.job.now }
-    requires rows { AreKeys (job_graph (job_of at.now.job.now)) at.now.rows.now }
+    requires over { IsOver at.now lanes.now }
     requires site { of.now.site < length (graph_sites (job_graph (job_of at.now.job.now))) }
-    requires ready { AreReady (job_of at.now.job.now) at.now.first at.now.count lanes.now }
     requires inside { place < at.now.count }
     requires held { holds_at lanes.now (key_of (job_graph (job_of at.now.job.now)) of.now.site of.now.under) place ≡ true }
     ensures { IsNumberOf (source_value {M = ⊥} (row_of (job_of at.now.job.now) (at.now.first + place)) (site_in (job_of at.now.job.now) (at.now.first + place) of.now.under) (source.Element of.now.site of.now.nth of.now.tags)) result }
@@ -82,10 +79,8 @@ fn first_without(
     selection: &Selection,
     of: &SiteElement,
 ) -> Option<PlaceFault>
-    requires job { Fits at.now.job.now }
-    requires rows { AreKeys (job_graph (job_of at.now.job.now)) at.now.rows.now }
+    requires over { IsOver at.now lanes.now }
     requires site { of.now.site < length (graph_sites (job_graph (job_of at.now.job.now))) }
-    requires ready { AreReady (job_of at.now.job.now) at.now.first at.now.count lanes.now }
     requires inside { EachPlace selection.now (λ p. p < at.now.count) }
     requires held { EachPlace selection.now (λ p. holds_at lanes.now (key_of (job_graph (job_of at.now.job.now)) of.now.site of.now.under) p ≡ true) }
     ensures { result ≡ fault_over (element_fault (job_of at.now.job.now) at.now.first of.now.under of.now.site of.now.nth of.now.tags) selection.now }
@@ -104,20 +99,13 @@ fn first_without(
 /// Tests whether there is an element for each tag at the selected places, where the site's value is held: the first at which there isn't
 /// lowers the limit, below which the places are left.
 pub(crate) fn test_elements(at: &Turn<'_>, work: &mut Work, to: &mut Kept, of: &SiteElement)
-    requires job { Fits at.now.job.now }
-    requires rows { AreKeys (job_graph (job_of at.now.job.now)) at.now.rows.now }
     requires site { of.now.site < length (graph_sites (job_graph (job_of at.now.job.now))) }
-    requires ready { AreReady (job_of at.now.job.now) at.now.first at.now.count work.old.lanes.items }
-    requires few { at.now.first + at.now.count ≤ 1000000 }
-    requires limit { work.old.found.limit ≤ at.now.count }
-    requires made { to.old.limit ≡ Some work.old.found.limit }
-    requires inside { EachPlace to.old.places (λ p. p < work.old.found.limit) }
-    requires settled { (p : ℕ) → p < work.old.found.limit → IsSettledAt work.old.lanes.items p }
+    requires known { IsKnown at.now work.old }
+    requires selected { IsSelected work.old.found.limit to.old }
     requires held { EachPlace to.old.places (λ p. holds_at work.old.lanes.items (key_of (job_graph (job_of at.now.job.now)) of.now.site of.now.under) p ≡ true) }
     ensures tested { IsServedTo (job_of at.now.job.now) at.now.first at.now.count (element_fault (job_of at.now.job.now) at.now.first of.now.under of.now.site of.now.nth of.now.tags) at.now.pass to.old.places to.new work.old.lanes.items work.old.found work.new.found }
     ensures lanes { work.new.lanes.items ≡ work.old.lanes.items }
-    ensures scratch { length work.new.scratch.items ≡ length work.old.scratch.items }
-    ensures levels { length work.new.levels.items ≡ length work.old.levels.items }
+    ensures room { KeepsRoom work.old work.new }
 {
     let _rising = to.places.as_slice();
     let fault = first_without(at, &work.lanes, &to.places, of);

@@ -1,19 +1,18 @@
 // The end of a block: what its search comes to, and what the tally takes in of it.
-ghost use Rattle.std.specs.Prelude.{◌≡◌, ◌≢◌, ◌<◌, ◌≤◌, ◌+◌, ℕ, All, Err, List, OnErr, OnOk, None, length};
+ghost use Rattle.std.specs.Prelude.{◌≡◌, ◌≢◌, ◌<◌, ℕ, All, Err, List, OnErr, OnOk, None, length};
 ghost use Rattle.rdf_model.specs.LoopFacts.{kinds_in};
-ghost use Rattle.expr_lanes.specs.declared.TheConstants.{MAX_PLACES};
 ghost use Rattle.block_cache.specs.Lanes.{AreUnknown, kinds_of, rooms_of};
 ghost use Rattle.cluster_tally.specs.Stages.{Stage};
 ghost use Rattle.cluster_tally.specs.Tallies.{Holds};
 ghost use Rattle.loop_keys.specs.Caches.{IsPlainLoop};
-ghost use Rattle.loop_keys.specs.Jobs.{Fits, job_graph, job_of, passes_in};
-ghost use Rattle.loop_keys.specs.Keys.{AreKeys};
+ghost use Rattle.loop_keys.specs.Jobs.{job_of, passes_in};
 ghost use Rattle.loop_keys.specs.Entries.{IsNoTake, facts_in};
 ghost use Rattle.block_passes.specs.Blocks.{IsBefore, IsBlockTried, after_block, entries_from};
 ghost use Rattle.block_passes.specs.Clear.{IsClear};
 ghost use Rattle.block_passes.specs.Plans.{IsPlan};
 ghost use Rattle.block_passes.specs.Selections.{CanSelect, IsReadyBelow};
 ghost use Rattle.block_passes.specs.Tries.{CanServeAll};
+ghost use Rattle.block_passes.specs.Turns.{IsTurn, KeepsRoom};
 
 use crate::feed::feed_passes;
 use crate::kept::Kept;
@@ -35,10 +34,7 @@ fn take_in(
     tally: &mut Tally,
     cluster: u32,
 ) -> Result<(), Memory>
-    requires job { Fits at.now.job.now }
-    requires rows { AreKeys (job_graph (job_of at.now.job.now)) at.now.rows.now }
-    requires plan { IsPlan (job_of at.now.job.now) at.now.plan.now }
-    requires small { at.now.count ≤ MAX_PLACES }
+    requires turn { IsTurn at.now }
     requires serve { (scratch levels : ℕ) × CanServeAll (job_of at.now.job.now) at.now.first at.now.count (kinds_of lanes.now) at.now.cells.now scratch levels }
     requires clear { (p : IsPlan (job_of at.now.job.now) at.now.plan.now) → IsClear (job_of at.now.job.now) at.now.first at.now.count p.chains at.now.plan.now lanes.now kept.now }
     requires before { (watched : List ℕ) × (s : Stage) × IsBefore (job_of at.now.job.now) watched s cluster (entries_from at.now.first at.now.count) tally.old }
@@ -60,12 +56,7 @@ pub(crate) fn try_begun<L: Ledger>(
     cluster: u32,
     steps: &mut Steps<L>,
 ) -> Result<(), BlockStop>
-    requires job { Fits at.now.job.now }
-    requires rows { AreKeys (job_graph (job_of at.now.job.now)) at.now.rows.now }
-    requires small { at.now.count ≤ MAX_PLACES }
-    requires few { at.now.first + at.now.count ≤ 1000000 }
-    requires within { at.now.first + at.now.count ≤ length at.now.job.now.columns.now.table.rows }
-    requires plan { IsPlan (job_of at.now.job.now) at.now.plan.now }
+    requires turn { IsTurn at.now }
     requires can { CanSelect (job_of at.now.job.now) at.now.first at.now.count at.now.plan.now (kinds_of work.old.lanes.items) at.now.cells.now (length work.old.scratch.items) (length work.old.levels.items) }
     requires serve { CanServeAll (job_of at.now.job.now) at.now.first at.now.count (kinds_of work.old.lanes.items) at.now.cells.now (length work.old.scratch.items) (length work.old.levels.items) }
     requires begun { work.old.found ≡ record { limit = at.now.count; best = None } }
@@ -75,8 +66,7 @@ pub(crate) fn try_begun<L: Ledger>(
     ensures tried { IsBlockTried (job_of at.now.job.now) cluster (entries_from at.now.first at.now.count) tally.old tally.new steps.old steps.new result }
     ensures kinds { kinds_of work.new.lanes.items ≡ kinds_of work.old.lanes.items }
     ensures rooms { rooms_of work.new.lanes.items ≡ rooms_of work.old.lanes.items }
-    ensures scratch { length work.new.scratch.items ≡ length work.old.scratch.items }
-    ensures levels { length work.new.levels.items ≡ length work.old.levels.items }
+    ensures room { KeepsRoom work.old work.new }
     ensures kept { length kept.new ≡ length kept.old }
     ensures plain { IsPlainLoop (job_of at.now.job.now) → All IsNoTake (kinds_in (passes_in (job_of at.now.job.now))) → result ≢ Err BlockStop.Memory }
 {

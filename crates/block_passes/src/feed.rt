@@ -1,19 +1,16 @@
 // Feeding what the passes of a block give.
-ghost use Rattle.std.specs.Prelude.{◌≡◌, ◌<◌, ◌≤◌, ◌+◌, ℕ, All, Bool, List, IfOk, OnErr, OnOk, length, slice_get, Some};
+ghost use Rattle.std.specs.Prelude.{◌≡◌, ◌<◌, ◌+◌, ℕ, All, Bool, List, IfOk, OnErr, OnOk, length, slice_get, Some};
 ghost use Rattle.rdf_model.specs.LoopFacts.{kinds_in};
 ghost use Rattle.rdf_model.specs.declared.loop_facts.LoopFacts.{LoopFacts};
 ghost use Rattle.expr_lanes.specs.Places.{EachPlace};
-ghost use Rattle.expr_lanes.specs.declared.TheConstants.{MAX_PLACES};
 ghost use Rattle.block_cache.specs.Lanes.{kinds_of};
 ghost use Rattle.cluster_tally.specs.Blocks.{BlockStage, HoldsIn, pass_done};
 ghost use Rattle.actions.specs.Holding.{IsTake};
 ghost use Rattle.loop_keys.specs.Caches.{IsPlainLoop, numbered_in};
 ghost use Rattle.loop_keys.specs.Plain.{ArePlain};
-ghost use Rattle.loop_keys.specs.Jobs.{Fits, job_graph, job_of, passes_in};
-ghost use Rattle.loop_keys.specs.Keys.{AreKeys};
+ghost use Rattle.loop_keys.specs.Jobs.{job_of, passes_in};
 ghost use Rattle.loop_keys.specs.Entries.{IsNoTake, facts_in};
 ghost use Rattle.loop_keys.specs.Turns.{actions_before};
-ghost use Rattle.block_cache.specs.Blocks.{AreReady};
 ghost use Rattle.block_passes.specs.Clear.{IsClear};
 ghost use Rattle.block_passes.specs.Counting.{IsAmid, at_pass};
 ghost use Rattle.block_passes.specs.Fed.{CanFeedAny, IsFeedable};
@@ -22,6 +19,7 @@ ghost use Rattle.block_passes.specs.Plans.{IsPlan};
 ghost use Rattle.block_passes.specs.Selections.{AreKept};
 ghost use Rattle.block_passes.specs.Inputs.{AreAtHand, ArePlainSources, AreWhole};
 ghost use Rattle.block_passes.specs.Tries.{AreAllWhole, CanServeAll, IsReadOf};
+ghost use Rattle.block_passes.specs.Turns.{IsOver, IsTurn};
 
 use crate::copies::copy_inputs;
 use crate::in_place::lanes_in_place;
@@ -55,9 +53,7 @@ fn feed_copies(
     own: &ActionRead<'_>,
     to: FedPass,
 ) -> Result<(), Memory>
-    requires job { Fits at.now.job.now }
-    requires rows { AreKeys (job_graph (job_of at.now.job.now)) at.now.rows.now }
-    requires ready { AreReady (job_of at.now.job.now) at.now.first at.now.count lanes.now }
+    requires over { IsOver at.now lanes.now }
     requires can { CanGather (job_of at.now.job.now) at.now.first at.now.count (kinds_of lanes.now) at.now.cells.now own.now.kind.now own.now.inputs.now own.now.under }
     requires inside { EachPlace selection.now (λ p. p < at.now.count) }
     requires hand { EachPlace selection.now (AreAtHand (job_of at.now.job.now) lanes.now own.now.under own.now.inputs.now) }
@@ -82,11 +78,7 @@ pub(crate) fn feed_action(
     own: &ActionRead<'_>,
     to: FedPass,
 ) -> Result<(), Memory>
-    requires job { Fits at.now.job.now }
-    requires rows { AreKeys (job_graph (job_of at.now.job.now)) at.now.rows.now }
-    requires ready { AreReady (job_of at.now.job.now) at.now.first at.now.count lanes.now }
-    requires plan { IsPlan (job_of at.now.job.now) at.now.plan.now }
-    requires small { at.now.count ≤ MAX_PLACES }
+    requires over { IsOver at.now lanes.now }
     requires own { IsReadOf (job_of at.now.job.now) at.now.pass own.now.kind.now own.now.inputs.now own.now.under }
     requires place { to.place ≡ actions_before (job_of at.now.job.now) at.now.pass }
     requires can { CanGather (job_of at.now.job.now) at.now.first at.now.count (kinds_of lanes.now) at.now.cells.now own.now.kind.now own.now.inputs.now own.now.under }
@@ -120,10 +112,7 @@ fn feed_pass(
     own: Pass,
     to: FedPass,
 ) -> Result<u32, Memory>
-    requires job { Fits at.now.job.now }
-    requires rows { AreKeys (job_graph (job_of at.now.job.now)) at.now.rows.now }
-    requires plan { IsPlan (job_of at.now.job.now) at.now.plan.now }
-    requires small { at.now.count ≤ MAX_PLACES }
+    requires turn { IsTurn at.now }
     requires serve { (scratch levels : ℕ) × CanServeAll (job_of at.now.job.now) at.now.first at.now.count (kinds_of lanes.now) at.now.cells.now scratch levels }
     requires clear { (p : IsPlan (job_of at.now.job.now) at.now.plan.now) → IsClear (job_of at.now.job.now) at.now.first at.now.count p.chains at.now.plan.now lanes.now kept.now }
     requires own { numbered_in (job_of at.now.job.now) at.now.pass ≡ Some own }
@@ -151,10 +140,7 @@ pub(crate) fn feed_passes(
     tally: &mut Tally,
     cluster: u32,
 ) -> Result<(), Memory>
-    requires job { Fits at.now.job.now }
-    requires rows { AreKeys (job_graph (job_of at.now.job.now)) at.now.rows.now }
-    requires plan { IsPlan (job_of at.now.job.now) at.now.plan.now }
-    requires small { at.now.count ≤ MAX_PLACES }
+    requires turn { IsTurn at.now }
     requires serve { (scratch levels : ℕ) × CanServeAll (job_of at.now.job.now) at.now.first at.now.count (kinds_of lanes.now) at.now.cells.now scratch levels }
     requires clear { (p : IsPlan (job_of at.now.job.now) at.now.plan.now) → IsClear (job_of at.now.job.now) at.now.first at.now.count p.chains at.now.plan.now lanes.now kept.now }
     requires begin { (watched : List ℕ) × (s : BlockStage) × IsAmid (job_of at.now.job.now) at.now.first at.now.count s × (s.cluster ≡ cluster) × (s.passes ≡ 0) × HoldsIn (facts_in (job_of at.now.job.now)) watched s tally.old }

@@ -2,10 +2,9 @@
 ghost use Rattle.std.specs.Prelude.{◌≡◌, ℤ, ℕ, List, None, Some, length, true};
 ghost use Rattle.rdf_values.specs.declared.action.ActionKind.TheVariants as action;
 ghost use Rattle.block_cache.specs.Lanes.{kinds_of};
-ghost use Rattle.loop_keys.specs.Jobs.{Fits, job_graph, job_of};
-ghost use Rattle.loop_keys.specs.Keys.{AreKeys};
-ghost use Rattle.block_cache.specs.Blocks.{AreReady};
+ghost use Rattle.loop_keys.specs.Jobs.{job_of};
 ghost use Rattle.block_passes.specs.Feeds.{AreInPlace, CanGather};
+ghost use Rattle.block_passes.specs.Turns.{IsOver};
 
 use crate::sources::lane_in_place;
 use crate::turn::{ActionRead, Turn};
@@ -21,9 +20,7 @@ fn one_in_place<'a: 's, 's>(
     own: &ActionRead<'_>,
     to: &mut Sources<'s>,
 ) -> bool
-    requires job { Fits at.now.job.now }
-    requires rows { AreKeys (job_graph (job_of at.now.job.now)) at.now.rows.now }
-    requires ready { AreReady (job_of at.now.job.now) at.now.first at.now.count lanes.now }
+    requires over { IsOver at.now lanes.now }
     requires can { CanGather (job_of at.now.job.now) at.now.first at.now.count (kinds_of lanes.now) at.now.cells.now own.now.kind.now own.now.inputs.now own.now.under }
     requires one { length own.now.inputs.now ≡ 1 }
     ensures { result ≡ true → AreInPlace (job_of at.now.job.now) at.now.first at.now.count lanes.now own.now.kind.now own.now.inputs.now own.now.under to.new }
@@ -43,9 +40,7 @@ fn weighted_in_place<'a: 's, 's>(
     own: &ActionRead<'_>,
     to: &mut Sources<'s>,
 ) -> bool
-    requires job { Fits at.now.job.now }
-    requires rows { AreKeys (job_graph (job_of at.now.job.now)) at.now.rows.now }
-    requires ready { AreReady (job_of at.now.job.now) at.now.first at.now.count lanes.now }
+    requires over { IsOver at.now lanes.now }
     requires can { CanGather (job_of at.now.job.now) at.now.first at.now.count (kinds_of lanes.now) at.now.cells.now own.now.kind.now own.now.inputs.now own.now.under }
     requires kind { (edges : List ℤ) × (x w : List ℕ) × (own.now.kind.now ≡ action.Histo1D edges x (Some w)) }
     ensures { result ≡ true → AreInPlace (job_of at.now.job.now) at.now.first at.now.count lanes.now own.now.kind.now own.now.inputs.now own.now.under to.new }
@@ -68,9 +63,7 @@ fn pair_in_place<'a: 's, 's>(
     own: &ActionRead<'_>,
     to: &mut Sources<'s>,
 ) -> bool
-    requires job { Fits at.now.job.now }
-    requires rows { AreKeys (job_graph (job_of at.now.job.now)) at.now.rows.now }
-    requires ready { AreReady (job_of at.now.job.now) at.now.first at.now.count lanes.now }
+    requires over { IsOver at.now lanes.now }
     requires can { CanGather (job_of at.now.job.now) at.now.first at.now.count (kinds_of lanes.now) at.now.cells.now own.now.kind.now own.now.inputs.now own.now.under }
     requires kind { (xs ys : List ℤ) × (x y : List ℕ) × (own.now.kind.now ≡ action.Histo2D xs ys x y None) }
     ensures { result ≡ true → AreInPlace (job_of at.now.job.now) at.now.first at.now.count lanes.now own.now.kind.now own.now.inputs.now own.now.under to.new }
@@ -93,9 +86,7 @@ fn weighted_pair_in_place<'a: 's, 's>(
     own: &ActionRead<'_>,
     to: &mut Sources<'s>,
 ) -> bool
-    requires job { Fits at.now.job.now }
-    requires rows { AreKeys (job_graph (job_of at.now.job.now)) at.now.rows.now }
-    requires ready { AreReady (job_of at.now.job.now) at.now.first at.now.count lanes.now }
+    requires over { IsOver at.now lanes.now }
     requires can { CanGather (job_of at.now.job.now) at.now.first at.now.count (kinds_of lanes.now) at.now.cells.now own.now.kind.now own.now.inputs.now own.now.under }
     requires kind { (xs ys : List ℤ) × (x y w : List ℕ) × (own.now.kind.now ≡ action.Histo2D xs ys x y (Some w)) }
     ensures { result ≡ true → AreInPlace (job_of at.now.job.now) at.now.first at.now.count lanes.now own.now.kind.now own.now.inputs.now own.now.under to.new }
@@ -122,9 +113,7 @@ pub(crate) fn lanes_in_place<'a: 's, 's>(
     own: &ActionRead<'_>,
     to: &mut Sources<'s>,
 ) -> bool
-    requires job { Fits at.now.job.now }
-    requires rows { AreKeys (job_graph (job_of at.now.job.now)) at.now.rows.now }
-    requires ready { AreReady (job_of at.now.job.now) at.now.first at.now.count lanes.now }
+    requires over { IsOver at.now lanes.now }
     requires can { CanGather (job_of at.now.job.now) at.now.first at.now.count (kinds_of lanes.now) at.now.cells.now own.now.kind.now own.now.inputs.now own.now.under }
     ensures { result ≡ true → AreInPlace (job_of at.now.job.now) at.now.first at.now.count lanes.now own.now.kind.now own.now.inputs.now own.now.under to.new }
 {

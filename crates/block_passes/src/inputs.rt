@@ -1,20 +1,19 @@
 // Filling what an action reads.
-ghost use Rattle.std.specs.Prelude.{◌≡◌, ◌<◌, ◌≤◌, ◌+◌, ℕ, Bool, None, OnOk, Some, length, true, OnErr};
+ghost use Rattle.std.specs.Prelude.{◌≡◌, ◌<◌, ◌+◌, ℕ, Bool, None, OnOk, Some, length, true, OnErr};
 ghost use Rattle.std.specs.List.{AllByRecursion};
 ghost use Rattle.graph_numbers.specs.Graphs.{graph_sites, graph_versions};
 ghost use Rattle.graph_numbers.specs.declared.source.Source.TheVariants as source;
 ghost use Rattle.expr_lanes.specs.Places.{EachPlace, is_in};
-ghost use Rattle.expr_lanes.specs.declared.TheConstants.{MAX_PLACES};
 ghost use Rattle.block_cache.specs.Lanes.{kinds_of};
 ghost use Rattle.loop_keys.specs.Plain.{ArePlain, ArePlainVersions};
-ghost use Rattle.loop_keys.specs.Jobs.{Fits, job_graph, job_of};
-ghost use Rattle.loop_keys.specs.Keys.{AreKeys, key};
+ghost use Rattle.loop_keys.specs.Jobs.{job_graph, job_of};
+ghost use Rattle.loop_keys.specs.Keys.{key};
 ghost use Rattle.loop_keys.specs.Store.{IsSourceIn, source_at};
 ghost use Rattle.loop_keys.specs.Turns.{HasAllDemands};
 ghost use Rattle.block_cache.specs.Blocks.{AreReady};
 ghost use Rattle.block_cache.specs.Fills.{CanFill, IsSpentOver, holds_at, site_fault};
 ghost use Rattle.block_passes.specs.Inputs.{AreAtHand, CanServe, DemandsInputs, DemandsSource, IsAtHand, IsServedTo, element_fault, inputs_fault, source_fault};
-ghost use Rattle.block_passes.specs.Spends.{IsSettledAt, Spends};
+ghost use Rattle.block_passes.specs.Turns.{IsKnown, IsOver, IsSelected, IsTurn, KeepsRoom, Leaves};
 
 use crate::elements::{SiteElement, test_elements};
 use crate::kept::Kept;
@@ -48,9 +47,7 @@ fn is_at_hand(
     version: u32,
     under: Option<u32>,
 ) -> bool
-    requires job { Fits at.now.job.now }
-    requires rows { AreKeys (job_graph (job_of at.now.job.now)) at.now.rows.now }
-    requires ready { AreReady (job_of at.now.job.now) at.now.first at.now.count lanes.now }
+    requires over { IsOver at.now lanes.now }
     requires can { (scratch levels : ℕ) × CanServe (job_of at.now.job.now) at.now.first under at.now.count (kinds_of lanes.now) at.now.cells.now scratch levels version }
     requires inside { EachPlace selection.now (λ p. p < at.now.count) }
     ensures held { result ≡ true → EachPlace selection.now (λ p. IsAtHand (job_of at.now.job.now) lanes.now under p (source_at (job_of at.now.job.now) under version)) }
@@ -78,9 +75,7 @@ fn are_at_hand(
     inputs: &[u32],
     under: Option<u32>,
 ) -> bool
-    requires job { Fits at.now.job.now }
-    requires rows { AreKeys (job_graph (job_of at.now.job.now)) at.now.rows.now }
-    requires ready { AreReady (job_of at.now.job.now) at.now.first at.now.count lanes.now }
+    requires over { IsOver at.now lanes.now }
     requires can { (scratch levels : ℕ) × AllByRecursion (CanServe (job_of at.now.job.now) at.now.first under at.now.count (kinds_of lanes.now) at.now.cells.now scratch levels) inputs.now }
     requires inside { EachPlace selection.now (λ p. p < at.now.count) }
     ensures held { result ≡ true → EachPlace selection.now (AreAtHand (job_of at.now.job.now) lanes.now under inputs.now) }
@@ -105,21 +100,14 @@ fn serve_site<L: Ledger>(
     under: Option<u32>,
     steps: &mut Steps<L>,
 ) -> Result<(), Memory>
-    requires job { Fits at.now.job.now }
-    requires rows { AreKeys (job_graph (job_of at.now.job.now)) at.now.rows.now }
     requires site { site < length (graph_sites (job_graph (job_of at.now.job.now))) }
-    requires ready { AreReady (job_of at.now.job.now) at.now.first at.now.count work.old.lanes.items }
+    requires known { IsKnown at.now work.old }
     requires can { CanFill (job_of at.now.job.now) at.now.first under at.now.count (kinds_of work.old.lanes.items) at.now.cells.now (length work.old.scratch.items) (length work.old.levels.items) site }
-    requires small { at.now.count ≤ MAX_PLACES }
-    requires few { at.now.first + at.now.count ≤ 1000000 }
-    requires limit { work.old.found.limit ≤ at.now.count }
     requires inside { EachPlace to.old.places (λ p. p < work.old.found.limit) }
-    requires settled { (p : ℕ) → p < work.old.found.limit → IsSettledAt work.old.lanes.items p }
     ensures spent { IsSpentOver (job_of at.now.job.now) at.now.first under site to.old.places work.old.lanes.items work.new.lanes.items steps.old steps.new }
     ensures served { OnOk result (IsServedTo (job_of at.now.job.now) at.now.first at.now.count (site_fault (job_of at.now.job.now) at.now.first under site) at.now.pass to.old.places to.new work.new.lanes.items work.old.found work.new.found) }
     ensures held { OnOk result (EachPlace to.new.places (λ p. holds_at work.new.lanes.items (key (job_graph (job_of at.now.job.now)) site under) p ≡ true)) }
-    ensures scratch { length work.new.scratch.items ≡ length work.old.scratch.items }
-    ensures levels { length work.new.levels.items ≡ length work.old.levels.items }
+    ensures room { KeepsRoom work.old work.new }
     ensures plain { (used : ℕ → Bool) → ArePlain (job_of at.now.job.now) used → used site ≡ true → OnErr result ⊥ }
 {
     let _rising = to.places.as_slice();
@@ -155,8 +143,7 @@ fn serve_site<L: Ledger>(
 
 /// What gives a version its value, under nominal or a variation.
 pub(crate) fn source_under(at: &Turn<'_>, version: u32, under: Option<u32>) -> Source
-    requires job { Fits at.now.job.now }
-    requires rows { AreKeys (job_graph (job_of at.now.job.now)) at.now.rows.now }
+    requires turn { IsTurn at.now }
     requires version { version < length (graph_versions (job_graph (job_of at.now.job.now))) }
     ensures { source_at (job_of at.now.job.now) under version ≡ result }
 {
@@ -178,21 +165,14 @@ fn serve_element<L: Ledger>(
     of: &SiteElement,
     steps: &mut Steps<L>,
 ) -> Result<(), Memory>
-    requires job { Fits at.now.job.now }
-    requires rows { AreKeys (job_graph (job_of at.now.job.now)) at.now.rows.now }
     requires site { of.now.site < length (graph_sites (job_graph (job_of at.now.job.now))) }
-    requires ready { AreReady (job_of at.now.job.now) at.now.first at.now.count work.old.lanes.items }
+    requires known { IsKnown at.now work.old }
     requires can { CanFill (job_of at.now.job.now) at.now.first of.now.under at.now.count (kinds_of work.old.lanes.items) at.now.cells.now (length work.old.scratch.items) (length work.old.levels.items) of.now.site }
-    requires small { at.now.count ≤ MAX_PLACES }
-    requires few { at.now.first + at.now.count ≤ 1000000 }
-    requires limit { work.old.found.limit ≤ at.now.count }
     requires inside { EachPlace to.old.places (λ p. p < work.old.found.limit) }
-    requires settled { (p : ℕ) → p < work.old.found.limit → IsSettledAt work.old.lanes.items p }
     ensures spent { IsSpentOver (job_of at.now.job.now) at.now.first of.now.under of.now.site to.old.places work.old.lanes.items work.new.lanes.items steps.old steps.new }
     ensures served { OnOk result (IsServedTo (job_of at.now.job.now) at.now.first at.now.count (element_fault (job_of at.now.job.now) at.now.first of.now.under of.now.site of.now.nth of.now.tags) at.now.pass to.old.places to.new work.new.lanes.items work.old.found work.new.found) }
     ensures held { OnOk result (EachPlace to.new.places (λ p. IsAtHand (job_of at.now.job.now) work.new.lanes.items of.now.under p (source.Element of.now.site of.now.nth of.now.tags))) }
-    ensures scratch { length work.new.scratch.items ≡ length work.old.scratch.items }
-    ensures levels { length work.new.levels.items ≡ length work.old.levels.items }
+    ensures room { KeepsRoom work.old work.new }
     ensures plain { (used : ℕ → Bool) → ArePlain (job_of at.now.job.now) used → used of.now.site ≡ true → OnErr result ⊥ }
 {
     match serve_site(at, work, to, of.site, of.under, steps) {
@@ -213,23 +193,14 @@ fn serve_version<L: Ledger>(
     under: Option<u32>,
     steps: &mut Steps<L>,
 ) -> Result<(), Memory>
-    requires job { Fits at.now.job.now }
-    requires rows { AreKeys (job_graph (job_of at.now.job.now)) at.now.rows.now }
-    requires ready { AreReady (job_of at.now.job.now) at.now.first at.now.count work.old.lanes.items }
+    requires known { IsKnown at.now work.old }
     requires can { CanServe (job_of at.now.job.now) at.now.first under at.now.count (kinds_of work.old.lanes.items) at.now.cells.now (length work.old.scratch.items) (length work.old.levels.items) version }
-    requires small { at.now.count ≤ MAX_PLACES }
-    requires few { at.now.first + at.now.count ≤ 1000000 }
-    requires limit { work.old.found.limit ≤ at.now.count }
-    requires made { to.old.limit ≡ Some work.old.found.limit }
-    requires inside { EachPlace to.old.places (λ p. p < work.old.found.limit) }
-    requires settled { (p : ℕ) → p < work.old.found.limit → IsSettledAt work.old.lanes.items p }
+    requires selected { IsSelected work.old.found.limit to.old }
     requires demanded { (p : ℕ) (T : ℕ → Bool) → is_in p to.old.places ≡ true → HasAllDemands (job_of at.now.job.now) (at.now.first + p) T
         → DemandsSource (job_of at.now.job.now) (at.now.first + p) under T (source_at (job_of at.now.job.now) under version) }
-    ensures spends { Spends (job_of at.now.job.now) at.now.first at.now.count work.old.lanes.items work.new.lanes.items steps.old steps.new }
+    ensures leaves { Leaves at.now work.old work.new steps.old steps.new }
     ensures served { OnOk result (IsServedTo (job_of at.now.job.now) at.now.first at.now.count (source_fault (job_of at.now.job.now) at.now.first under (source_at (job_of at.now.job.now) under version)) at.now.pass to.old.places to.new work.new.lanes.items work.old.found work.new.found) }
     ensures held { OnOk result (EachPlace to.new.places (λ p. IsAtHand (job_of at.now.job.now) work.new.lanes.items under p (source_at (job_of at.now.job.now) under version))) }
-    ensures scratch { length work.new.scratch.items ≡ length work.old.scratch.items }
-    ensures levels { length work.new.levels.items ≡ length work.old.levels.items }
     ensures plain { (used : ℕ → Bool) → ArePlain (job_of at.now.job.now) used → IsSourceIn used (source_at (job_of at.now.job.now) under version) → OnErr result ⊥ }
 {
     if is_at_hand(at, &work.lanes, &to.places, version, under) {
@@ -259,23 +230,14 @@ fn serve_each<L: Ledger>(
     under: Option<u32>,
     steps: &mut Steps<L>,
 ) -> Result<(), Memory>
-    requires job { Fits at.now.job.now }
-    requires rows { AreKeys (job_graph (job_of at.now.job.now)) at.now.rows.now }
-    requires ready { AreReady (job_of at.now.job.now) at.now.first at.now.count work.old.lanes.items }
+    requires known { IsKnown at.now work.old }
     requires can { AllByRecursion (CanServe (job_of at.now.job.now) at.now.first under at.now.count (kinds_of work.old.lanes.items) at.now.cells.now (length work.old.scratch.items) (length work.old.levels.items)) inputs.now }
-    requires small { at.now.count ≤ MAX_PLACES }
-    requires few { at.now.first + at.now.count ≤ 1000000 }
-    requires limit { work.old.found.limit ≤ at.now.count }
-    requires made { to.old.limit ≡ Some work.old.found.limit }
-    requires inside { EachPlace to.old.places (λ p. p < work.old.found.limit) }
-    requires settled { (p : ℕ) → p < work.old.found.limit → IsSettledAt work.old.lanes.items p }
+    requires selected { IsSelected work.old.found.limit to.old }
     requires demanded { (p : ℕ) (T : ℕ → Bool) → is_in p to.old.places ≡ true → HasAllDemands (job_of at.now.job.now) (at.now.first + p) T
         → DemandsInputs (job_of at.now.job.now) (at.now.first + p) under T inputs.now }
-    ensures spends { Spends (job_of at.now.job.now) at.now.first at.now.count work.old.lanes.items work.new.lanes.items steps.old steps.new }
+    ensures leaves { Leaves at.now work.old work.new steps.old steps.new }
     ensures served { OnOk result (IsServedTo (job_of at.now.job.now) at.now.first at.now.count (inputs_fault (job_of at.now.job.now) at.now.first under inputs.now) at.now.pass to.old.places to.new work.new.lanes.items work.old.found work.new.found) }
     ensures held { OnOk result (EachPlace to.new.places (AreAtHand (job_of at.now.job.now) work.new.lanes.items under inputs.now)) }
-    ensures scratch { length work.new.scratch.items ≡ length work.old.scratch.items }
-    ensures levels { length work.new.levels.items ≡ length work.old.levels.items }
     ensures plain { (used : ℕ → Bool) → ArePlain (job_of at.now.job.now) used → ArePlainVersions (job_of at.now.job.now) used under inputs.now → OnErr result ⊥ }
 {
     let Some((version, rest)) = inputs.split_first() else {
@@ -298,23 +260,14 @@ pub(crate) fn serve_inputs<L: Ledger>(
     under: Option<u32>,
     steps: &mut Steps<L>,
 ) -> Result<(), Memory>
-    requires job { Fits at.now.job.now }
-    requires rows { AreKeys (job_graph (job_of at.now.job.now)) at.now.rows.now }
-    requires ready { AreReady (job_of at.now.job.now) at.now.first at.now.count work.old.lanes.items }
+    requires known { IsKnown at.now work.old }
     requires can { AllByRecursion (CanServe (job_of at.now.job.now) at.now.first under at.now.count (kinds_of work.old.lanes.items) at.now.cells.now (length work.old.scratch.items) (length work.old.levels.items)) inputs.now }
-    requires small { at.now.count ≤ MAX_PLACES }
-    requires few { at.now.first + at.now.count ≤ 1000000 }
-    requires limit { work.old.found.limit ≤ at.now.count }
-    requires made { to.old.limit ≡ Some work.old.found.limit }
-    requires inside { EachPlace to.old.places (λ p. p < work.old.found.limit) }
-    requires settled { (p : ℕ) → p < work.old.found.limit → IsSettledAt work.old.lanes.items p }
+    requires selected { IsSelected work.old.found.limit to.old }
     requires demanded { (p : ℕ) (T : ℕ → Bool) → is_in p to.old.places ≡ true → HasAllDemands (job_of at.now.job.now) (at.now.first + p) T
         → DemandsInputs (job_of at.now.job.now) (at.now.first + p) under T inputs.now }
-    ensures spends { Spends (job_of at.now.job.now) at.now.first at.now.count work.old.lanes.items work.new.lanes.items steps.old steps.new }
+    ensures leaves { Leaves at.now work.old work.new steps.old steps.new }
     ensures served { OnOk result (IsServedTo (job_of at.now.job.now) at.now.first at.now.count (inputs_fault (job_of at.now.job.now) at.now.first under inputs.now) at.now.pass to.old.places to.new work.new.lanes.items work.old.found work.new.found) }
     ensures held { OnOk result (EachPlace to.new.places (AreAtHand (job_of at.now.job.now) work.new.lanes.items under inputs.now)) }
-    ensures scratch { length work.new.scratch.items ≡ length work.old.scratch.items }
-    ensures levels { length work.new.levels.items ≡ length work.old.levels.items }
     ensures plain { (used : ℕ → Bool) → ArePlain (job_of at.now.job.now) used → ArePlainVersions (job_of at.now.job.now) used under inputs.now → OnErr result ⊥ }
 {
     if are_at_hand(at, &work.lanes, &to.places, inputs, under) {

@@ -1,12 +1,13 @@
 // Counting what a block does at the named filters.
-ghost use Rattle.std.specs.Prelude.{◌≡◌, ◌<◌, List, ℕ, length, slice_get, Some};
+ghost use Rattle.std.specs.Prelude.{◌≡◌, ◌<◌, List, ℕ, length, Some};
 ghost use Rattle.graph_numbers.specs.Graphs.{graph_filters};
 ghost use Rattle.cluster_tally.specs.Blocks.{BlockStage, HoldsIn, block_reaches};
 ghost use Rattle.cluster_tally.specs.Stages.{counted};
-ghost use Rattle.loop_keys.specs.Jobs.{Fits, job_graph, job_of};
+ghost use Rattle.loop_keys.specs.Jobs.{job_graph, job_of};
 ghost use Rattle.loop_keys.specs.Entries.{facts_in};
 ghost use Rattle.block_passes.specs.Counting.{AreCountable, IsAmid, at_filter};
 ghost use Rattle.block_passes.specs.Plans.{IsPlan};
+ghost use Rattle.block_passes.specs.Turns.{IsTurn};
 
 use crate::kept::Kept;
 use crate::turn::Turn;
@@ -15,8 +16,7 @@ use loop_pieces::Counts;
 
 /// How many entries of the block reach a named filter, and how many pass it: the sizes of two selections.
 fn counts_of(at: &Turn<'_>, kept: &[Kept], filter: u32) -> Counts
-    requires job { Fits at.now.job.now }
-    requires plan { IsPlan (job_of at.now.job.now) at.now.plan.now }
+    requires turn { IsTurn at.now }
     requires filter { filter < length (graph_filters (job_graph (job_of at.now.job.now))) }
     requires countable { (p : IsPlan (job_of at.now.job.now) at.now.plan.now) → AreCountable (job_of at.now.job.now) at.now.first at.now.count p.chains at.now.plan.now kept.now }
     ensures { (s : BlockStage) → IsAmid (job_of at.now.job.now) at.now.first at.now.count s → result ≡ counted (block_reaches (facts_in (job_of at.now.job.now)) s filter) }
@@ -32,8 +32,7 @@ fn counts_of(at: &Turn<'_>, kept: &[Kept], filter: u32) -> Counts
 
 /// Takes in what a block without a fault does at the named filters.
 pub(crate) fn note_filters(at: &Turn<'_>, kept: &[Kept], tally: &mut Tally)
-    requires job { Fits at.now.job.now }
-    requires plan { IsPlan (job_of at.now.job.now) at.now.plan.now }
+    requires turn { IsTurn at.now }
     requires countable { (p : IsPlan (job_of at.now.job.now) at.now.plan.now) → AreCountable (job_of at.now.job.now) at.now.first at.now.count p.chains at.now.plan.now kept.now }
     requires begin { (watched : List ℕ) × (s : BlockStage) × IsAmid (job_of at.now.job.now) at.now.first at.now.count s × (s.filters ≡ 0) × HoldsIn (facts_in (job_of at.now.job.now)) watched s tally.old }
     ensures { (watched : List ℕ) (s : BlockStage) → IsAmid (job_of at.now.job.now) at.now.first at.now.count s → s.filters ≡ 0 → HoldsIn (facts_in (job_of at.now.job.now)) watched s tally.old

@@ -1,15 +1,13 @@
 // Trying a report's pass over a block.
-ghost use Rattle.std.specs.Prelude.{◌≡◌, ◌<◌, ◌≤◌, ◌+◌, OnOk, Some, length, slice_get, OnErr};
+ghost use Rattle.std.specs.Prelude.{◌<◌, OnOk, Some, length, OnErr};
 ghost use Rattle.std.specs.List.{AllByRecursion};
-ghost use Rattle.expr_lanes.specs.declared.TheConstants.{MAX_PLACES};
 ghost use Rattle.block_cache.specs.Lanes.{kinds_of};
 ghost use Rattle.loop_keys.specs.Caches.{IsCovered, IsPlainLoop};
-ghost use Rattle.loop_keys.specs.Jobs.{Fits, job_graph, job_of};
-ghost use Rattle.loop_keys.specs.Keys.{AreKeys};
+ghost use Rattle.loop_keys.specs.Jobs.{job_of};
 ghost use Rattle.block_passes.specs.Plans.{IsPlan};
 ghost use Rattle.block_passes.specs.Selections.{AreRemade, CanSelect, IsReadyBelow};
-ghost use Rattle.block_passes.specs.Spends.{Spends};
 ghost use Rattle.block_passes.specs.Tries.{IsNamedMade, IsTriedTo, filter_fault, filters_fault};
+ghost use Rattle.block_passes.specs.Turns.{IsTurn, Leaves};
 
 use crate::kept::Kept;
 use crate::select::select_again;
@@ -26,22 +24,15 @@ fn try_filter<L: Ledger>(
     filter: u32,
     steps: &mut Steps<L>,
 ) -> Result<(), Memory>
-    requires job { Fits at.now.job.now }
-    requires rows { AreKeys (job_graph (job_of at.now.job.now)) at.now.rows.now }
-    requires small { at.now.count ≤ MAX_PLACES }
-    requires few { at.now.first + at.now.count ≤ 1000000 }
-    requires within { at.now.first + at.now.count ≤ length at.now.job.now.columns.now.table.rows }
-    requires plan { IsPlan (job_of at.now.job.now) at.now.plan.now }
+    requires turn { IsTurn at.now }
     requires can { CanSelect (job_of at.now.job.now) at.now.first at.now.count at.now.plan.now (kinds_of work.old.lanes.items) at.now.cells.now (length work.old.scratch.items) (length work.old.levels.items) }
     requires covered { IsCovered (job_of at.now.job.now) filter }
     requires ready { (p : IsPlan (job_of at.now.job.now) at.now.plan.now) → IsReadyBelow (job_of at.now.job.now) at.now.first at.now.count p.chains work.old.found.limit work.old.lanes.items kept.old }
-    ensures spends { Spends (job_of at.now.job.now) at.now.first at.now.count work.old.lanes.items work.new.lanes.items steps.old steps.new }
+    ensures leaves { Leaves at.now work.old work.new steps.old steps.new }
     ensures tried { (p : IsPlan (job_of at.now.job.now) at.now.plan.now)
         → OnOk result (IsTriedTo (job_of at.now.job.now) at.now.first at.now.count p.chains (filter_fault (job_of at.now.job.now) at.now.first filter) at.now.pass work.new.lanes.items kept.new work.old.found work.new.found) }
     ensures remade { OnOk result (AreRemade at.now.count kept.old kept.new) }
     ensures made { OnOk result (IsNamedMade at.now.count at.now.plan.now kept.new filter) }
-    ensures scratch { length work.new.scratch.items ≡ length work.old.scratch.items }
-    ensures levels { length work.new.levels.items ≡ length work.old.levels.items }
     ensures plain { IsPlainLoop (job_of at.now.job.now) → OnErr result ⊥ }
 {
     match at.plan.named(filter) {
@@ -61,22 +52,15 @@ pub(crate) fn try_filters<L: Ledger>(
     filters: &[u32],
     steps: &mut Steps<L>,
 ) -> Result<(), Memory>
-    requires job { Fits at.now.job.now }
-    requires rows { AreKeys (job_graph (job_of at.now.job.now)) at.now.rows.now }
-    requires small { at.now.count ≤ MAX_PLACES }
-    requires few { at.now.first + at.now.count ≤ 1000000 }
-    requires within { at.now.first + at.now.count ≤ length at.now.job.now.columns.now.table.rows }
-    requires plan { IsPlan (job_of at.now.job.now) at.now.plan.now }
+    requires turn { IsTurn at.now }
     requires can { CanSelect (job_of at.now.job.now) at.now.first at.now.count at.now.plan.now (kinds_of work.old.lanes.items) at.now.cells.now (length work.old.scratch.items) (length work.old.levels.items) }
     requires covered { AllByRecursion (IsCovered (job_of at.now.job.now)) filters.now }
     requires ready { (p : IsPlan (job_of at.now.job.now) at.now.plan.now) → IsReadyBelow (job_of at.now.job.now) at.now.first at.now.count p.chains work.old.found.limit work.old.lanes.items kept.old }
-    ensures spends { Spends (job_of at.now.job.now) at.now.first at.now.count work.old.lanes.items work.new.lanes.items steps.old steps.new }
+    ensures leaves { Leaves at.now work.old work.new steps.old steps.new }
     ensures tried { (p : IsPlan (job_of at.now.job.now) at.now.plan.now)
         → OnOk result (IsTriedTo (job_of at.now.job.now) at.now.first at.now.count p.chains (filters_fault (job_of at.now.job.now) at.now.first filters.now) at.now.pass work.new.lanes.items kept.new work.old.found work.new.found) }
     ensures remade { OnOk result (AreRemade at.now.count kept.old kept.new) }
     ensures made { OnOk result (AllByRecursion (IsNamedMade at.now.count at.now.plan.now kept.new) filters.now) }
-    ensures scratch { length work.new.scratch.items ≡ length work.old.scratch.items }
-    ensures levels { length work.new.levels.items ≡ length work.old.levels.items }
     ensures plain { IsPlainLoop (job_of at.now.job.now) → OnErr result ⊥ }
 {
     let Some((filter, rest)) = filters.split_first() else {

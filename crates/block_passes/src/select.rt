@@ -1,20 +1,18 @@
 // Selecting the places of a block that pass filters.
-ghost use Rattle.std.specs.Prelude.{◌≡◌, ◌<◌, ◌≤◌, ◌+◌, ◌++◌, ℕ, OnOk, Some, length, slice_get, OnErr, Bool, true};
+ghost use Rattle.std.specs.Prelude.{◌≡◌, ◌<◌, ◌+◌, ◌++◌, ℕ, OnOk, Some, length, slice_get, OnErr, Bool, true};
 ghost use Rattle.rdf_values.specs.declared.value.ColType.TheVariants as kind;
 ghost use Rattle.graph_numbers.specs.Graphs.{graph_sites};
 ghost use Rattle.expr_lanes.specs.Places.{EachPlace};
-ghost use Rattle.expr_lanes.specs.declared.TheConstants.{MAX_PLACES};
 ghost use Rattle.block_cache.specs.Lanes.{kinds_of};
 ghost use Rattle.loop_keys.specs.Caches.{IsPlainLoop};
 ghost use Rattle.loop_keys.specs.Plain.{ArePlain};
-ghost use Rattle.loop_keys.specs.Jobs.{Fits, job_graph, job_of};
-ghost use Rattle.loop_keys.specs.Keys.{AreKeys, key};
-ghost use Rattle.block_cache.specs.Blocks.{AreReady};
+ghost use Rattle.loop_keys.specs.Jobs.{job_graph, job_of};
+ghost use Rattle.loop_keys.specs.Keys.{key};
 ghost use Rattle.block_cache.specs.Fills.{CanFill, IsSpentOver};
 ghost use Rattle.block_passes.specs.Plans.{IsPlan};
 ghost use Rattle.block_passes.specs.Selections.{AreRemade, CanSelect, IsFilteredTo, IsNextSelected, IsReadyBelow, IsSelectedTo};
-ghost use Rattle.block_passes.specs.Spends.{IsSettledAt, Spends};
 ghost use Rattle.block_passes.specs.declared.kept.Kept.{Kept as KeptView};
+ghost use Rattle.block_passes.specs.Turns.{IsKnown, IsTurn, KeepsRoom, Leaves};
 
 use crate::kept::Kept;
 use crate::steps::Step;
@@ -36,21 +34,14 @@ pub(crate) fn filter_places<L: Ledger>(
     filter: SiteFilter,
     steps: &mut Steps<L>,
 ) -> Result<(), Memory>
-    requires job { Fits at.now.job.now }
-    requires rows { AreKeys (job_graph (job_of at.now.job.now)) at.now.rows.now }
     requires site { filter.site < length (graph_sites (job_graph (job_of at.now.job.now))) }
-    requires ready { AreReady (job_of at.now.job.now) at.now.first at.now.count work.old.lanes.items }
+    requires known { IsKnown at.now work.old }
     requires can { CanFill (job_of at.now.job.now) at.now.first filter.under at.now.count (kinds_of work.old.lanes.items) at.now.cells.now (length work.old.scratch.items) (length work.old.levels.items) filter.site }
     requires truth { slice_get (kinds_of work.old.lanes.items) (key (job_graph (job_of at.now.job.now)) filter.site filter.under) ≡ Some kind.Bool }
-    requires small { at.now.count ≤ MAX_PLACES }
-    requires few { at.now.first + at.now.count ≤ 1000000 }
-    requires limit { work.old.found.limit ≤ at.now.count }
     requires inside { EachPlace from.now.places (λ p. p < work.old.found.limit) }
-    requires settled { (p : ℕ) → p < work.old.found.limit → IsSettledAt work.old.lanes.items p }
     ensures spent { IsSpentOver (job_of at.now.job.now) at.now.first filter.under filter.site from.now.places work.old.lanes.items work.new.lanes.items steps.old steps.new }
     ensures filtered { OnOk result (IsFilteredTo (job_of at.now.job.now) at.now.first at.now.count filter.under filter.site at.now.pass from.now.places to.new work.new.lanes.items work.old.found work.new.found) }
-    ensures scratch { length work.new.scratch.items ≡ length work.old.scratch.items }
-    ensures levels { length work.new.levels.items ≡ length work.old.levels.items }
+    ensures room { KeepsRoom work.old work.new }
     ensures plain { (used : ℕ → Bool) → ArePlain (job_of at.now.job.now) used → used filter.site ≡ true → OnErr result ⊥ }
 {
     to.places.copy_from(&from.places);
@@ -94,24 +85,17 @@ pub(crate) fn next_places<L: Ledger>(
     next: NextStep,
     steps: &mut Steps<L>,
 ) -> Result<(), Memory>
-    requires job { Fits at.now.job.now }
-    requires rows { AreKeys (job_graph (job_of at.now.job.now)) at.now.rows.now }
-    requires small { at.now.count ≤ MAX_PLACES }
-    requires few { at.now.first + at.now.count ≤ 1000000 }
-    requires within { at.now.first + at.now.count ≤ length at.now.job.now.columns.now.table.rows }
-    requires plan { IsPlan (job_of at.now.job.now) at.now.plan.now }
+    requires turn { IsTurn at.now }
     requires can { CanSelect (job_of at.now.job.now) at.now.first at.now.count at.now.plan.now (kinds_of work.old.lanes.items) at.now.cells.now (length work.old.scratch.items) (length work.old.levels.items) }
     requires step { slice_get at.now.plan.now.steps next.step ≡ Some (Step.Filter next.parent next.filter.site next.filter.under) }
     requires above { length above.now ≡ next.step }
     requires own { 0 < length own.old }
     requires ready { (p : IsPlan (job_of at.now.job.now) at.now.plan.now) → IsReadyBelow (job_of at.now.job.now) at.now.first at.now.count p.chains work.old.found.limit work.old.lanes.items (above.now ++ own.old) }
     requires made { (s : KeptView) → slice_get (above.now ++ own.old) next.parent ≡ Some s → s.limit ≡ Some work.old.found.limit }
-    ensures spends { Spends (job_of at.now.job.now) at.now.first at.now.count work.old.lanes.items work.new.lanes.items steps.old steps.new }
+    ensures leaves { Leaves at.now work.old work.new steps.old steps.new }
     ensures selected { (p : IsPlan (job_of at.now.job.now) at.now.plan.now)
         → OnOk result (IsNextSelected (job_of at.now.job.now) at.now.first at.now.count p.chains at.now.pass next.step next.parent next.filter.site next.filter.under work.new.lanes.items (above.now ++ own.new) work.old.found work.new.found) }
     ensures remade { OnOk result (AreRemade at.now.count (above.now ++ own.old) (above.now ++ own.new)) }
-    ensures scratch { length work.new.scratch.items ≡ length work.old.scratch.items }
-    ensures levels { length work.new.levels.items ≡ length work.old.levels.items }
     ensures plain { IsPlainLoop (job_of at.now.job.now) → OnErr result ⊥ }
 {
     filter_places(
@@ -132,21 +116,14 @@ pub(crate) fn select_step<L: Ledger>(
     step: u32,
     steps: &mut Steps<L>,
 ) -> Result<(), Memory>
-    requires job { Fits at.now.job.now }
-    requires rows { AreKeys (job_graph (job_of at.now.job.now)) at.now.rows.now }
-    requires small { at.now.count ≤ MAX_PLACES }
-    requires few { at.now.first + at.now.count ≤ 1000000 }
-    requires within { at.now.first + at.now.count ≤ length at.now.job.now.columns.now.table.rows }
-    requires plan { IsPlan (job_of at.now.job.now) at.now.plan.now }
+    requires turn { IsTurn at.now }
     requires can { CanSelect (job_of at.now.job.now) at.now.first at.now.count at.now.plan.now (kinds_of work.old.lanes.items) at.now.cells.now (length work.old.scratch.items) (length work.old.levels.items) }
     requires step { step < length at.now.plan.now.steps }
     requires ready { (p : IsPlan (job_of at.now.job.now) at.now.plan.now) → IsReadyBelow (job_of at.now.job.now) at.now.first at.now.count p.chains work.old.found.limit work.old.lanes.items kept.old }
-    ensures spends { Spends (job_of at.now.job.now) at.now.first at.now.count work.old.lanes.items work.new.lanes.items steps.old steps.new }
+    ensures leaves { Leaves at.now work.old work.new steps.old steps.new }
     ensures selected { (p : IsPlan (job_of at.now.job.now) at.now.plan.now)
         → OnOk result (IsSelectedTo (job_of at.now.job.now) at.now.first at.now.count p.chains at.now.pass step work.new.lanes.items kept.new work.old.found work.new.found) }
     ensures remade { OnOk result (AreRemade at.now.count kept.old kept.new) }
-    ensures scratch { length work.new.scratch.items ≡ length work.old.scratch.items }
-    ensures levels { length work.new.levels.items ≡ length work.old.levels.items }
     ensures plain { IsPlainLoop (job_of at.now.job.now) → OnErr result ⊥ }
 {
     let limit = work.found.limit;
@@ -186,21 +163,14 @@ pub(crate) fn select_again<L: Ledger>(
     step: u32,
     steps: &mut Steps<L>,
 ) -> Result<(), Memory>
-    requires job { Fits at.now.job.now }
-    requires rows { AreKeys (job_graph (job_of at.now.job.now)) at.now.rows.now }
-    requires small { at.now.count ≤ MAX_PLACES }
-    requires few { at.now.first + at.now.count ≤ 1000000 }
-    requires within { at.now.first + at.now.count ≤ length at.now.job.now.columns.now.table.rows }
-    requires plan { IsPlan (job_of at.now.job.now) at.now.plan.now }
+    requires turn { IsTurn at.now }
     requires can { CanSelect (job_of at.now.job.now) at.now.first at.now.count at.now.plan.now (kinds_of work.old.lanes.items) at.now.cells.now (length work.old.scratch.items) (length work.old.levels.items) }
     requires step { step < length at.now.plan.now.steps }
     requires ready { (p : IsPlan (job_of at.now.job.now) at.now.plan.now) → IsReadyBelow (job_of at.now.job.now) at.now.first at.now.count p.chains work.old.found.limit work.old.lanes.items kept.old }
-    ensures spends { Spends (job_of at.now.job.now) at.now.first at.now.count work.old.lanes.items work.new.lanes.items steps.old steps.new }
+    ensures leaves { Leaves at.now work.old work.new steps.old steps.new }
     ensures selected { (p : IsPlan (job_of at.now.job.now) at.now.plan.now)
         → OnOk result (IsSelectedTo (job_of at.now.job.now) at.now.first at.now.count p.chains at.now.pass step work.new.lanes.items kept.new work.old.found work.new.found) }
     ensures remade { OnOk result (AreRemade at.now.count kept.old kept.new) }
-    ensures scratch { length work.new.scratch.items ≡ length work.old.scratch.items }
-    ensures levels { length work.new.levels.items ≡ length work.old.levels.items }
     ensures plain { IsPlainLoop (job_of at.now.job.now) → OnErr result ⊥ }
 {
     if kept[step as usize].is_made(work.found.limit) {

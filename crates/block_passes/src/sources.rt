@@ -1,23 +1,19 @@
 // The lanes that an action reads.
-ghost use Rattle.std.specs.Prelude.{◌≡◌, ◌<◌, ◌≤◌, ◌+◌, ℕ, IfSome, List, None, Some, length, slice_get, true};
-ghost use Rattle.std.specs.List.{AllByRecursion};
-ghost use Rattle.rdf_values.specs.Bookings.{columns_of};
+ghost use Rattle.std.specs.Prelude.{◌≡◌, ◌<◌, ◌+◌, ℕ, IfSome, None, Some, length, slice_get, true};
 ghost use Rattle.rdf_values.specs.Tables.{kind_at};
 ghost use Rattle.rdf_values.specs.declared.value.ColType.TheVariants as kind;
-ghost use Rattle.rdf_values.specs.declared.value.Value.{Value};
-ghost use Rattle.rdf_model.specs.Evaluation.{Gives, for_all};
-ghost use Rattle.rdf_model.specs.Laws.{FitsFeed};
+ghost use Rattle.rdf_model.specs.Evaluation.{for_all};
 ghost use Rattle.graph_numbers.specs.Sources.{source_value};
 ghost use Rattle.graph_numbers.specs.declared.source.Source.TheVariants as source;
 ghost use Rattle.block_cache.specs.Lanes.{LaneView, kinds_of};
 ghost use Rattle.expr_lanes.specs.Places.{is_in};
-ghost use Rattle.loop_keys.specs.Jobs.{Fits, job_graph, job_of};
-ghost use Rattle.loop_keys.specs.Keys.{AreKeys};
+ghost use Rattle.loop_keys.specs.Jobs.{job_of};
 ghost use Rattle.loop_keys.specs.Store.{row_of, site_in, source_at, version_in};
-ghost use Rattle.block_cache.specs.Blocks.{AreReady, HasColumn};
+ghost use Rattle.block_cache.specs.Blocks.{HasColumn};
 ghost use Rattle.block_passes.specs.Copying.{AreCopied, IsCopyOf};
 ghost use Rattle.block_passes.specs.Feeds.{AreLanesOf, CanGather, HasHeld, IsLaneOf};
 ghost use Rattle.block_passes.specs.Inputs.{AreAtHand, CanServe, IsAtHand, IsWhole};
+ghost use Rattle.block_passes.specs.Turns.{IsOver, IsTurn};
 
 use crate::copies::{Copied, Copies};
 use crate::turn::{ActionRead, Turn};
@@ -51,9 +47,7 @@ fn version_lane<'a: 's, 's>(
     version: u32,
     under: Option<u32>,
 ) -> FedLane<'s>
-    requires job { Fits at.now.job.now }
-    requires rows { AreKeys (job_graph (job_of at.now.job.now)) at.now.rows.now }
-    requires ready { AreReady (job_of at.now.job.now) at.now.first at.now.count lanes.now }
+    requires over { IsOver at.now lanes.now }
     requires can { (scratch levels : ℕ) × CanServe (job_of at.now.job.now) at.now.first under at.now.count (kinds_of lanes.now) at.now.cells.now scratch levels version }
     requires copied { IsCopyOf (job_of at.now.job.now) at.now.first under (kinds_of lanes.now) _selection.now version copied.now }
     ensures { (p : ℕ) → p < at.now.count → is_in p _selection.now ≡ true → IsAtHand (job_of at.now.job.now) lanes.now under p (source_at (job_of at.now.job.now) under version)
@@ -73,7 +67,7 @@ fn version_lane<'a: 's, 's>(
 pub(crate) fn cell_lane<'a>(at: &Turn<'a>, col: u32, _under: Option<u32>) -> FedLane<'a>
     requires there { col < length at.now.job.now.columns.now.table.columns }
     requires numbers { kind_at at.now.job.now.columns.now.table.columns col ≡ Some kind.Int → HasColumn (job_of at.now.job.now) at.now.first at.now.count at.now.cells.now col }
-    requires within { at.now.first + at.now.count ≤ length at.now.job.now.columns.now.table.rows }
+    requires turn { IsTurn at.now }
     ensures { (p : ℕ) → p < at.now.count
         → IsLaneOf (source_value {M = ⊥} (row_of (job_of at.now.job.now) (at.now.first + p)) (site_in (job_of at.now.job.now) (at.now.first + p) _under) (source.Cell col)) result p }
 {
@@ -95,9 +89,7 @@ pub(crate) fn lane_in_place<'a: 's, 's>(
     version: u32,
     under: Option<u32>,
 ) -> Option<FedLane<'s>>
-    requires job { Fits at.now.job.now }
-    requires rows { AreKeys (job_graph (job_of at.now.job.now)) at.now.rows.now }
-    requires ready { AreReady (job_of at.now.job.now) at.now.first at.now.count lanes.now }
+    requires over { IsOver at.now lanes.now }
     requires can { (scratch levels : ℕ) × CanServe (job_of at.now.job.now) at.now.first under at.now.count (kinds_of lanes.now) at.now.cells.now scratch levels version }
     ensures given { IfSome result (λ lane. (p : ℕ) → p < at.now.count → IsAtHand (job_of at.now.job.now) lanes.now under p (source_at (job_of at.now.job.now) under version)
         → IsLaneOf (version_in {M = ⊥} (job_of at.now.job.now) (at.now.first + p) under version) lane p) }
@@ -123,9 +115,7 @@ fn whole_lane<'a: 's, 's>(
     version: u32,
     under: Option<u32>,
 ) -> FedLane<'s>
-    requires job { Fits at.now.job.now }
-    requires rows { AreKeys (job_graph (job_of at.now.job.now)) at.now.rows.now }
-    requires ready { AreReady (job_of at.now.job.now) at.now.first at.now.count lanes.now }
+    requires over { IsOver at.now lanes.now }
     requires can { (scratch levels : ℕ) × CanServe (job_of at.now.job.now) at.now.first under at.now.count (kinds_of lanes.now) at.now.cells.now scratch levels version }
     requires whole { IsWhole (job_of at.now.job.now) under (kinds_of lanes.now) (source_at (job_of at.now.job.now) under version) }
     ensures { (p : ℕ) → p < at.now.count → IsAtHand (job_of at.now.job.now) lanes.now under p (source_at (job_of at.now.job.now) under version)
@@ -145,9 +135,7 @@ pub(crate) fn gather<'a: 's, 's>(
     copies: &'s Copies,
     own: &ActionRead<'_>,
 ) -> Sources<'s>
-    requires job { Fits at.now.job.now }
-    requires rows { AreKeys (job_graph (job_of at.now.job.now)) at.now.rows.now }
-    requires ready { AreReady (job_of at.now.job.now) at.now.first at.now.count lanes.now }
+    requires over { IsOver at.now lanes.now }
     requires can { CanGather (job_of at.now.job.now) at.now.first at.now.count (kinds_of lanes.now) at.now.cells.now own.now.kind.now own.now.inputs.now own.now.under }
     requires copied { AreCopied (job_of at.now.job.now) at.now.first own.now.under (kinds_of lanes.now) selection.now own.now.inputs.now copies.now }
     ensures { (p : ℕ) → p < at.now.count → is_in p selection.now ≡ true → AreAtHand (job_of at.now.job.now) lanes.now own.now.under own.now.inputs.now p

@@ -1,17 +1,14 @@
 // Whether what an action reads can be fed.
-ghost use Rattle.std.specs.Prelude.{◌≡◌, ◌<◌, ◌≤◌, ◌+◌, ℕ, Bool, IfOk, OnErr, OnOk, Some, length};
+ghost use Rattle.std.specs.Prelude.{◌≡◌, ◌<◌, ℕ, Bool, IfOk, OnErr, OnOk, Some};
 ghost use Rattle.expr_lanes.specs.Places.{EachPlace};
-ghost use Rattle.expr_lanes.specs.declared.TheConstants.{MAX_PLACES};
 ghost use Rattle.actions.specs.Batches.{places_of};
 ghost use Rattle.loop_keys.specs.Plain.{ArePlain};
-ghost use Rattle.loop_keys.specs.Jobs.{Fits, job_graph, job_of};
-ghost use Rattle.loop_keys.specs.Keys.{AreKeys};
-ghost use Rattle.block_cache.specs.Blocks.{AreReady};
+ghost use Rattle.loop_keys.specs.Jobs.{job_of};
 ghost use Rattle.block_cache.specs.Fills.{fault_over};
 ghost use Rattle.block_cache.specs.Lanes.{kinds_of};
 ghost use Rattle.block_passes.specs.Feeds.{CanGather, of_batch, unfed};
 ghost use Rattle.block_passes.specs.Inputs.{AreAtHand, ArePlainSources, IsServedTo};
-ghost use Rattle.block_passes.specs.Spends.{IsSettledAt};
+ghost use Rattle.block_passes.specs.Turns.{IsKnown, IsOver, IsSelected, KeepsRoom};
 
 use crate::copies::copy_inputs;
 use crate::in_place::lanes_in_place;
@@ -51,9 +48,7 @@ fn first_unfed_copy(
     selection: &Selection,
     own: &ActionRead<'_>,
 ) -> Result<Option<PlaceFault>, Memory>
-    requires job { Fits at.now.job.now }
-    requires rows { AreKeys (job_graph (job_of at.now.job.now)) at.now.rows.now }
-    requires ready { AreReady (job_of at.now.job.now) at.now.first at.now.count lanes.now }
+    requires over { IsOver at.now lanes.now }
     requires can { CanGather (job_of at.now.job.now) at.now.first at.now.count (kinds_of lanes.now) at.now.cells.now own.now.kind.now own.now.inputs.now own.now.under }
     requires inside { EachPlace selection.now (λ p. p < at.now.count) }
     requires hand { EachPlace selection.now (AreAtHand (job_of at.now.job.now) lanes.now own.now.under own.now.inputs.now) }
@@ -75,9 +70,7 @@ fn first_unfed(
     selection: &Selection,
     own: &ActionRead<'_>,
 ) -> Result<Option<PlaceFault>, Memory>
-    requires job { Fits at.now.job.now }
-    requires rows { AreKeys (job_graph (job_of at.now.job.now)) at.now.rows.now }
-    requires ready { AreReady (job_of at.now.job.now) at.now.first at.now.count lanes.now }
+    requires over { IsOver at.now lanes.now }
     requires can { CanGather (job_of at.now.job.now) at.now.first at.now.count (kinds_of lanes.now) at.now.cells.now own.now.kind.now own.now.inputs.now own.now.under }
     requires inside { EachPlace selection.now (λ p. p < at.now.count) }
     requires hand { EachPlace selection.now (AreAtHand (job_of at.now.job.now) lanes.now own.now.under own.now.inputs.now) }
@@ -103,20 +96,13 @@ pub(crate) fn test_feeding(
     to: &mut Kept,
     own: &ActionRead<'_>,
 ) -> Result<(), Memory>
-    requires job { Fits at.now.job.now }
-    requires rows { AreKeys (job_graph (job_of at.now.job.now)) at.now.rows.now }
-    requires ready { AreReady (job_of at.now.job.now) at.now.first at.now.count work.old.lanes.items }
+    requires known { IsKnown at.now work.old }
     requires can { CanGather (job_of at.now.job.now) at.now.first at.now.count (kinds_of work.old.lanes.items) at.now.cells.now own.now.kind.now own.now.inputs.now own.now.under }
-    requires few { at.now.first + at.now.count ≤ 1000000 }
-    requires limit { work.old.found.limit ≤ at.now.count }
-    requires made { to.old.limit ≡ Some work.old.found.limit }
-    requires inside { EachPlace to.old.places (λ p. p < work.old.found.limit) }
-    requires settled { (p : ℕ) → p < work.old.found.limit → IsSettledAt work.old.lanes.items p }
+    requires selected { IsSelected work.old.found.limit to.old }
     requires hand { EachPlace to.old.places (AreAtHand (job_of at.now.job.now) work.old.lanes.items own.now.under own.now.inputs.now) }
     ensures tested { OnOk result (IsServedTo (job_of at.now.job.now) at.now.first at.now.count (unfed (job_of at.now.job.now) at.now.first own.now.kind.now own.now.inputs.now own.now.under) at.now.pass to.old.places to.new work.old.lanes.items work.old.found work.new.found) }
     ensures lanes { work.new.lanes.items ≡ work.old.lanes.items }
-    ensures scratch { length work.new.scratch.items ≡ length work.old.scratch.items }
-    ensures levels { length work.new.levels.items ≡ length work.old.levels.items }
+    ensures room { KeepsRoom work.old work.new }
     ensures plain { (used : ℕ → Bool) → ArePlain (job_of at.now.job.now) used → ArePlainSources (job_of at.now.job.now) used own.now.under own.now.inputs.now → OnErr result ⊥ }
 {
     let _rising = to.places.as_slice();

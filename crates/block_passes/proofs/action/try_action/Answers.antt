@@ -7,11 +7,10 @@ use Rattle.block_cache.specs.Lanes.{LaneView, kinds_of}
 use Rattle.loop_keys.specs.Jobs.{job_of}
 use Rattle.block_passes.specs.Inputs.{CanServe}
 use Rattle.block_passes.specs.Selections.{IsMadeAt}
-use Rattle.block_passes.specs.Spends.{Spends}
 use Rattle.block_passes.specs.Tries.{IsPassTried}
 use Rattle.block_passes.proofs.Remaking.{made_set, remade_set, remade_then}
 use Rattle.block_passes.proofs.ServingInputs.{served_inside}
-use Rattle.block_passes.proofs.Spending.{spends_then}
+use Rattle.block_passes.proofs.Leaving.{leaves_kept, leaves_then}
 use Rattle.block_passes.proofs.StepCases.{kept_inside}
 use Rattle.block_passes.proofs.StepLaws.{same_step}
 use Rattle.block_passes.proofs.TriedAction.{action_tried, gathers, has_step, last_there, read_plain, to_demanded, to_inside, to_limit}
@@ -19,84 +18,76 @@ use Rattle.block_passes.proofs.PlainReads.{plain_reads}
 use Rattle.block_passes.proofs.action.try_action.Goals as goal
 
 pub last_step-last-requires : goal.last_step-last-requires
-last_step-last-requires g c = has_step (job_of c.args.at.now.job.now) c.requires.job.job c.args.at.now.first c.args.at.now.count c.args.at.now.pass c.args.at.now.plan.now c.requires.plan c.requires.within c.args.own.now.kind.now c.args.own.now.inputs.now c.args.own.now.under c.requires.action
+last_step-last-requires g c = has_step (job_of c.args.at.now.job.now) c.requires.turn.fits.job c.args.at.now.first c.args.at.now.count c.args.at.now.pass c.args.at.now.plan.now c.requires.turn.plan c.requires.turn.within c.args.own.now.kind.now c.args.own.now.inputs.now c.args.own.now.under c.requires.action
 
 pub select_again-requires-clause-step : goal.select_again-requires-clause-step
-select_again-requires-clause-step g c = last_there (job_of c.args.at.now.job.now) c.requires.job.job c.args.at.now.first c.args.at.now.count c.args.at.now.pass c.args.at.now.plan.now c.requires.plan c.requires.within c.args.own.now.kind.now c.args.own.now.inputs.now c.args.own.now.under c.requires.action c.last_step-last.result c.last_step-last.ensures
+select_again-requires-clause-step g c = last_there (job_of c.args.at.now.job.now) c.requires.turn.fits.job c.args.at.now.first c.args.at.now.count c.args.at.now.pass c.args.at.now.plan.now c.requires.turn.plan c.requires.turn.within c.args.own.now.kind.now c.args.own.now.inputs.now c.args.own.now.under c.requires.action c.last_step-last.result c.last_step-last.ensures
 
 pub bounds-kept-last : goal.bounds-kept-last
 bounds-kept-last g c =
-    kept_inside (job_of c.args.at.now.job.now) c.args.at.now.first c.select_again.new.work.found.limit c.requires.plan.chains c.args.at.now.plan.now.steps c.select_again.new.kept c.last_step-last.result c.requires.plan.steps (c.in-Ok.ensures.selected c.requires.plan).ready.kept_are (last_there (job_of c.args.at.now.job.now) c.requires.job.job c.args.at.now.first c.args.at.now.count c.args.at.now.pass c.args.at.now.plan.now c.requires.plan c.requires.within c.args.own.now.kind.now c.args.own.now.inputs.now c.args.own.now.under c.requires.action c.last_step-last.result c.last_step-last.ensures)
+    kept_inside (job_of c.args.at.now.job.now) c.args.at.now.first c.select_again.new.work.found.limit c.requires.turn.plan.chains c.args.at.now.plan.now.steps c.select_again.new.kept c.last_step-last.result c.requires.turn.plan.steps (c.in-Ok.ensures.selected c.requires.turn.plan).ready.kept_are (last_there (job_of c.args.at.now.job.now) c.requires.turn.fits.job c.args.at.now.first c.args.at.now.count c.args.at.now.pass c.args.at.now.plan.now c.requires.turn.plan c.requires.turn.within c.args.own.now.kind.now c.args.own.now.inputs.now c.args.own.now.under c.requires.action c.last_step-last.result c.last_step-last.ensures)
 
-pub serve_inputs-requires-clause-made : goal.serve_inputs-requires-clause-made
-serve_inputs-requires-clause-made g c =
-    let lt = kept_inside (job_of c.args.at.now.job.now) c.args.at.now.first c.select_again.new.work.found.limit c.requires.plan.chains c.args.at.now.plan.now.steps c.select_again.new.kept c.last_step-last.result c.requires.plan.steps (c.in-Ok.ensures.selected c.requires.plan).ready.kept_are (last_there (job_of c.args.at.now.job.now) c.requires.job.job c.args.at.now.first c.args.at.now.count c.args.at.now.pass c.args.at.now.plan.now c.requires.plan c.requires.within c.args.own.now.kind.now c.args.own.now.inputs.now c.args.own.now.under c.requires.action c.last_step-last.result c.last_step-last.ensures) in
+pub serve_inputs-requires-clause-selected : goal.serve_inputs-requires-clause-selected
+serve_inputs-requires-clause-selected g c =
+    let lt = kept_inside (job_of c.args.at.now.job.now) c.args.at.now.first c.select_again.new.work.found.limit c.requires.turn.plan.chains c.args.at.now.plan.now.steps c.select_again.new.kept c.last_step-last.result c.requires.turn.plan.steps (c.in-Ok.ensures.selected c.requires.turn.plan).ready.kept_are (last_there (job_of c.args.at.now.job.now) c.requires.turn.fits.job c.args.at.now.first c.args.at.now.count c.args.at.now.pass c.args.at.now.plan.now c.requires.turn.plan c.requires.turn.within c.args.own.now.kind.now c.args.own.now.inputs.now c.args.own.now.under c.requires.action c.last_step-last.result c.last_step-last.ensures) in
     let to = get_or c.select_again.new.kept c.last_step-last.result c.index-kept-last.result in
     let there = slice_get-get_or c.select_again.new.kept c.last_step-last.result c.index-kept-last.result lt in
-    to_limit (job_of c.args.at.now.job.now) c.requires.job.job c.args.at.now.first c.args.at.now.count c.args.at.now.pass c.args.at.now.plan.now c.requires.plan c.requires.within c.args.own.now.kind.now c.args.own.now.inputs.now c.args.own.now.under c.requires.action c.last_step-last.result c.last_step-last.ensures c.select_again.new.kept c.select_again.new.work.lanes.items c.args.work.now.found c.select_again.new.work.found (c.in-Ok.ensures.selected c.requires.plan) to there
-
-pub serve_inputs-requires-clause-inside : goal.serve_inputs-requires-clause-inside
-serve_inputs-requires-clause-inside g c =
-    let lt = kept_inside (job_of c.args.at.now.job.now) c.args.at.now.first c.select_again.new.work.found.limit c.requires.plan.chains c.args.at.now.plan.now.steps c.select_again.new.kept c.last_step-last.result c.requires.plan.steps (c.in-Ok.ensures.selected c.requires.plan).ready.kept_are (last_there (job_of c.args.at.now.job.now) c.requires.job.job c.args.at.now.first c.args.at.now.count c.args.at.now.pass c.args.at.now.plan.now c.requires.plan c.requires.within c.args.own.now.kind.now c.args.own.now.inputs.now c.args.own.now.under c.requires.action c.last_step-last.result c.last_step-last.ensures) in
-    let to = get_or c.select_again.new.kept c.last_step-last.result c.index-kept-last.result in
-    let there = slice_get-get_or c.select_again.new.kept c.last_step-last.result c.index-kept-last.result lt in
-    to_inside (job_of c.args.at.now.job.now) c.requires.job.job c.args.at.now.first c.args.at.now.count c.args.at.now.pass c.args.at.now.plan.now c.requires.plan c.requires.within c.args.own.now.kind.now c.args.own.now.inputs.now c.args.own.now.under c.requires.action c.last_step-last.result c.last_step-last.ensures c.select_again.new.kept c.select_again.new.work.lanes.items c.args.work.now.found c.select_again.new.work.found (c.in-Ok.ensures.selected c.requires.plan) to there
+    record {
+      made = to_limit (job_of c.args.at.now.job.now) c.requires.turn.fits.job c.args.at.now.first c.args.at.now.count c.args.at.now.pass c.args.at.now.plan.now c.requires.turn.plan c.requires.turn.within c.args.own.now.kind.now c.args.own.now.inputs.now c.args.own.now.under c.requires.action c.last_step-last.result c.last_step-last.ensures c.select_again.new.kept c.select_again.new.work.lanes.items c.args.work.now.found c.select_again.new.work.found (c.in-Ok.ensures.selected c.requires.turn.plan) to there;
+      inside = to_inside (job_of c.args.at.now.job.now) c.requires.turn.fits.job c.args.at.now.first c.args.at.now.count c.args.at.now.pass c.args.at.now.plan.now c.requires.turn.plan c.requires.turn.within c.args.own.now.kind.now c.args.own.now.inputs.now c.args.own.now.under c.requires.action c.last_step-last.result c.last_step-last.ensures c.select_again.new.kept c.select_again.new.work.lanes.items c.args.work.now.found c.select_again.new.work.found (c.in-Ok.ensures.selected c.requires.turn.plan) to there;
+    }
 
 pub serve_inputs-requires-clause-demanded : goal.serve_inputs-requires-clause-demanded
 serve_inputs-requires-clause-demanded g c =
-    let lt = kept_inside (job_of c.args.at.now.job.now) c.args.at.now.first c.select_again.new.work.found.limit c.requires.plan.chains c.args.at.now.plan.now.steps c.select_again.new.kept c.last_step-last.result c.requires.plan.steps (c.in-Ok.ensures.selected c.requires.plan).ready.kept_are (last_there (job_of c.args.at.now.job.now) c.requires.job.job c.args.at.now.first c.args.at.now.count c.args.at.now.pass c.args.at.now.plan.now c.requires.plan c.requires.within c.args.own.now.kind.now c.args.own.now.inputs.now c.args.own.now.under c.requires.action c.last_step-last.result c.last_step-last.ensures) in
+    let lt = kept_inside (job_of c.args.at.now.job.now) c.args.at.now.first c.select_again.new.work.found.limit c.requires.turn.plan.chains c.args.at.now.plan.now.steps c.select_again.new.kept c.last_step-last.result c.requires.turn.plan.steps (c.in-Ok.ensures.selected c.requires.turn.plan).ready.kept_are (last_there (job_of c.args.at.now.job.now) c.requires.turn.fits.job c.args.at.now.first c.args.at.now.count c.args.at.now.pass c.args.at.now.plan.now c.requires.turn.plan c.requires.turn.within c.args.own.now.kind.now c.args.own.now.inputs.now c.args.own.now.under c.requires.action c.last_step-last.result c.last_step-last.ensures) in
     let to = get_or c.select_again.new.kept c.last_step-last.result c.index-kept-last.result in
     let there = slice_get-get_or c.select_again.new.kept c.last_step-last.result c.index-kept-last.result lt in
-    to_demanded (job_of c.args.at.now.job.now) c.requires.job.job c.args.at.now.first c.args.at.now.count c.args.at.now.pass c.args.at.now.plan.now c.requires.plan c.requires.within c.args.own.now.kind.now c.args.own.now.inputs.now c.args.own.now.under c.requires.action c.last_step-last.result c.last_step-last.ensures c.select_again.new.kept c.select_again.new.work.lanes.items c.args.work.now.found c.select_again.new.work.found (c.in-Ok.ensures.selected c.requires.plan) to there
+    to_demanded (job_of c.args.at.now.job.now) c.requires.turn.fits.job c.args.at.now.first c.args.at.now.count c.args.at.now.pass c.args.at.now.plan.now c.requires.turn.plan c.requires.turn.within c.args.own.now.kind.now c.args.own.now.inputs.now c.args.own.now.under c.requires.action c.last_step-last.result c.last_step-last.ensures c.select_again.new.kept c.select_again.new.work.lanes.items c.args.work.now.found c.select_again.new.work.found (c.in-Ok.ensures.selected c.requires.turn.plan) to there
 
-pub returns-in-Err-serve_inputs-clause-spends : goal.returns-in-Err-serve_inputs-clause-spends
-returns-in-Err-serve_inputs-clause-spends g c = spends_then (job_of c.args.at.now.job.now) c.args.at.now.first c.args.at.now.count c.args.work.now.lanes.items c.select_again.new.work.lanes.items c.serve_inputs.new.work.lanes.items c.args.steps.now c.select_again.new.steps c.serve_inputs.new.steps c.select_again.ensures.spends c.serve_inputs.ensures.spends
+pub returns-in-Err-serve_inputs-clause-leaves : goal.returns-in-Err-serve_inputs-clause-leaves
+returns-in-Err-serve_inputs-clause-leaves g c = leaves_then _ _ _ _ _ _ _ c.select_again.ensures.leaves c.serve_inputs.ensures.leaves
 
 pub test_feeding-requires-clause-can : goal.test_feeding-requires-clause-can
 test_feeding-requires-clause-can g c =
-    gathers (job_of c.args.at.now.job.now) c.requires.job.job c.args.at.now.first c.args.at.now.count c.args.at.now.pass c.args.at.now.plan.now c.requires.plan c.requires.within c.args.own.now.kind.now c.args.own.now.inputs.now c.args.own.now.under c.requires.action (c.requires.ready c.requires.plan).ready.some (kinds_of c.serve_inputs.new.work.lanes.items) c.args.at.now.cells.now (length c.args.work.now.scratch.items) (length c.args.work.now.levels.items)
+    gathers (job_of c.args.at.now.job.now) c.requires.turn.fits.job c.args.at.now.first c.args.at.now.count c.args.at.now.pass c.args.at.now.plan.now c.requires.turn.plan c.requires.turn.within c.args.own.now.kind.now c.args.own.now.inputs.now c.args.own.now.under c.requires.action (c.requires.ready c.requires.turn.plan).ready.some (kinds_of c.serve_inputs.new.work.lanes.items) c.args.at.now.cells.now (length c.args.work.now.scratch.items) (length c.args.work.now.levels.items)
     (subst (λ (ks : List ColType). AllByRecursion (CanServe (job_of c.args.at.now.job.now) c.args.at.now.first c.args.own.now.under c.args.at.now.count ks c.args.at.now.cells.now (length c.args.work.now.scratch.items) (length c.args.work.now.levels.items)) c.args.own.now.inputs.now)
-    (sym (c.serve_inputs.ensures.spends.kinds ∙ c.select_again.ensures.spends.kinds)) c.requires.serve)
+    (sym (c.serve_inputs.ensures.leaves.spends.kinds ∙ c.select_again.ensures.leaves.spends.kinds)) c.requires.serve)
 
-pub test_feeding-requires-clause-inside : goal.test_feeding-requires-clause-inside
-test_feeding-requires-clause-inside g c =
-    served_inside (job_of c.args.at.now.job.now) c.args.at.now.first c.args.at.now.count _ c.args.at.now.pass _ c.serve_inputs.new.to c.serve_inputs.new.work.lanes.items c.select_again.new.work.found c.serve_inputs.new.work.found c.in-Ok-serve_inputs.ensures.served
+pub test_feeding-requires-clause-selected : goal.test_feeding-requires-clause-selected
+test_feeding-requires-clause-selected g c =
+    record { made = c.in-Ok-serve_inputs.ensures.served.its_limit; inside = served_inside (job_of c.args.at.now.job.now) c.args.at.now.first c.args.at.now.count _ c.args.at.now.pass _ c.serve_inputs.new.to c.serve_inputs.new.work.lanes.items c.select_again.new.work.found c.serve_inputs.new.work.found c.in-Ok-serve_inputs.ensures.served }
 
-pub returns-in-Ok-test_feeding-clause-spends : goal.returns-in-Ok-test_feeding-clause-spends
-returns-in-Ok-test_feeding-clause-spends g c =
-    subst (λ (ls : List LaneView). Spends (job_of c.args.at.now.job.now) c.args.at.now.first c.args.at.now.count c.args.work.now.lanes.items ls c.args.steps.now c.serve_inputs.new.steps) (sym c.test_feeding.ensures.lanes)
-    (spends_then (job_of c.args.at.now.job.now) c.args.at.now.first c.args.at.now.count c.args.work.now.lanes.items c.select_again.new.work.lanes.items c.serve_inputs.new.work.lanes.items c.args.steps.now c.select_again.new.steps c.serve_inputs.new.steps c.select_again.ensures.spends c.serve_inputs.ensures.spends)
+pub returns-in-Ok-test_feeding-clause-leaves : goal.returns-in-Ok-test_feeding-clause-leaves
+returns-in-Ok-test_feeding-clause-leaves g c = leaves_kept _ _ _ _ _ _ (leaves_then _ _ _ _ _ _ _ c.select_again.ensures.leaves c.serve_inputs.ensures.leaves) c.test_feeding.ensures.lanes c.test_feeding.ensures.room
 
-pub returns-in-Err-test_feeding-clause-spends : goal.returns-in-Err-test_feeding-clause-spends
-returns-in-Err-test_feeding-clause-spends g c =
-    subst (λ (ls : List LaneView). Spends (job_of c.args.at.now.job.now) c.args.at.now.first c.args.at.now.count c.args.work.now.lanes.items ls c.args.steps.now c.serve_inputs.new.steps) (sym c.test_feeding.ensures.lanes)
-    (spends_then (job_of c.args.at.now.job.now) c.args.at.now.first c.args.at.now.count c.args.work.now.lanes.items c.select_again.new.work.lanes.items c.serve_inputs.new.work.lanes.items c.args.steps.now c.select_again.new.steps c.serve_inputs.new.steps c.select_again.ensures.spends c.serve_inputs.ensures.spends)
+pub returns-in-Err-test_feeding-clause-leaves : goal.returns-in-Err-test_feeding-clause-leaves
+returns-in-Err-test_feeding-clause-leaves g c = leaves_kept _ _ _ _ _ _ (leaves_then _ _ _ _ _ _ _ c.select_again.ensures.leaves c.serve_inputs.ensures.leaves) c.test_feeding.ensures.lanes c.test_feeding.ensures.room
 
 pub returns-in-Ok-test_feeding-clause-tried : goal.returns-in-Ok-test_feeding-clause-tried
 returns-in-Ok-test_feeding-clause-tried g c = λ p.
-    let lt = kept_inside (job_of c.args.at.now.job.now) c.args.at.now.first c.select_again.new.work.found.limit p.chains c.args.at.now.plan.now.steps c.select_again.new.kept c.last_step-last.result p.steps (c.in-Ok.ensures.selected p).ready.kept_are (last_there (job_of c.args.at.now.job.now) c.requires.job.job c.args.at.now.first c.args.at.now.count c.args.at.now.pass c.args.at.now.plan.now p c.requires.within c.args.own.now.kind.now c.args.own.now.inputs.now c.args.own.now.under c.requires.action c.last_step-last.result c.last_step-last.ensures) in
+    let lt = kept_inside (job_of c.args.at.now.job.now) c.args.at.now.first c.select_again.new.work.found.limit p.chains c.args.at.now.plan.now.steps c.select_again.new.kept c.last_step-last.result p.steps (c.in-Ok.ensures.selected p).ready.kept_are (last_there (job_of c.args.at.now.job.now) c.requires.turn.fits.job c.args.at.now.first c.args.at.now.count c.args.at.now.pass c.args.at.now.plan.now p c.requires.turn.within c.args.own.now.kind.now c.args.own.now.inputs.now c.args.own.now.under c.requires.action c.last_step-last.result c.last_step-last.ensures) in
     let to = get_or c.select_again.new.kept c.last_step-last.result c.index-kept-last.result in
     let there = slice_get-get_or c.select_again.new.kept c.last_step-last.result c.index-kept-last.result lt in
     subst (λ (ls : List LaneView). IsPassTried (job_of c.args.at.now.job.now) c.args.at.now.first c.args.at.now.count p.chains c.args.at.now.pass ls (slice_set c.select_again.new.kept c.last_step-last.result c.test_feeding.new.to) c.args.work.now.found c.test_feeding.new.work.found) (sym c.test_feeding.ensures.lanes)
-    (action_tried (job_of c.args.at.now.job.now) c.requires.job.job c.args.at.now.first c.args.at.now.count c.args.at.now.pass c.args.at.now.plan.now p c.requires.within c.args.own.now.kind.now c.args.own.now.inputs.now c.args.own.now.under c.requires.action c.last_step-last.result c.last_step-last.ensures c.select_again.new.kept c.select_again.new.work.lanes.items c.args.work.now.found c.select_again.new.work.found (c.in-Ok.ensures.selected p) to there (c.requires.ready p).within c.serve_inputs.new.to c.test_feeding.new.to c.serve_inputs.new.work.lanes.items c.serve_inputs.new.work.found c.test_feeding.new.work.found
+    (action_tried (job_of c.args.at.now.job.now) c.requires.turn.fits.job c.args.at.now.first c.args.at.now.count c.args.at.now.pass c.args.at.now.plan.now p c.requires.turn.within c.args.own.now.kind.now c.args.own.now.inputs.now c.args.own.now.under c.requires.action c.last_step-last.result c.last_step-last.ensures c.select_again.new.kept c.select_again.new.work.lanes.items c.args.work.now.found c.select_again.new.work.found (c.in-Ok.ensures.selected p) to there (c.requires.ready p).within c.serve_inputs.new.to c.test_feeding.new.to c.serve_inputs.new.work.lanes.items c.serve_inputs.new.work.found c.test_feeding.new.work.found
     c.in-Ok-serve_inputs.ensures.served c.in-Ok-serve_inputs.ensures.held c.in-Ok-test_feeding.ensures.tested (slice_set c.select_again.new.kept c.last_step-last.result c.test_feeding.new.to) refl)
 
 pub returns-in-Ok-test_feeding-clause-remade : goal.returns-in-Ok-test_feeding-clause-remade
 returns-in-Ok-test_feeding-clause-remade g c =
     let a = c.in-Ok-test_feeding.ensures.tested.lowers.falls in
     let b = c.in-Ok-serve_inputs.ensures.served.lowers.falls in
-    let within = (c.in-Ok.ensures.selected c.requires.plan).ready.within in
+    let within = (c.in-Ok.ensures.selected c.requires.turn.plan).ready.within in
     remade_then c.args.at.now.count c.args.kept.now c.select_again.new.kept (slice_set c.select_again.new.kept c.last_step-last.result c.test_feeding.new.to) c.in-Ok.ensures.remade
     (remade_set c.args.at.now.count c.select_again.new.kept c.last_step-last.result c.test_feeding.new.to (slice_set c.select_again.new.kept c.last_step-last.result c.test_feeding.new.to) refl (c.test_feeding.new.work.found.limit, c.in-Ok-test_feeding.ensures.tested.its_limit, omega (arith, a, b, within)))
 
 pub returns-in-Ok-test_feeding-clause-made : goal.returns-in-Ok-test_feeding-clause-made
 returns-in-Ok-test_feeding-clause-made g c = λ l its.
-    let lt = kept_inside (job_of c.args.at.now.job.now) c.args.at.now.first c.select_again.new.work.found.limit c.requires.plan.chains c.args.at.now.plan.now.steps c.select_again.new.kept c.last_step-last.result c.requires.plan.steps (c.in-Ok.ensures.selected c.requires.plan).ready.kept_are (last_there (job_of c.args.at.now.job.now) c.requires.job.job c.args.at.now.first c.args.at.now.count c.args.at.now.pass c.args.at.now.plan.now c.requires.plan c.requires.within c.args.own.now.kind.now c.args.own.now.inputs.now c.args.own.now.under c.requires.action c.last_step-last.result c.last_step-last.ensures) in
+    let lt = kept_inside (job_of c.args.at.now.job.now) c.args.at.now.first c.select_again.new.work.found.limit c.requires.turn.plan.chains c.args.at.now.plan.now.steps c.select_again.new.kept c.last_step-last.result c.requires.turn.plan.steps (c.in-Ok.ensures.selected c.requires.turn.plan).ready.kept_are (last_there (job_of c.args.at.now.job.now) c.requires.turn.fits.job c.args.at.now.first c.args.at.now.count c.args.at.now.pass c.args.at.now.plan.now c.requires.turn.plan c.requires.turn.within c.args.own.now.kind.now c.args.own.now.inputs.now c.args.own.now.under c.requires.action c.last_step-last.result c.last_step-last.ensures) in
     let to = get_or c.select_again.new.kept c.last_step-last.result c.index-kept-last.result in
     let there = slice_get-get_or c.select_again.new.kept c.last_step-last.result c.index-kept-last.result lt in
     let a = c.in-Ok-test_feeding.ensures.tested.lowers.falls in
     let b = c.in-Ok-serve_inputs.ensures.served.lowers.falls in
-    let within = (c.in-Ok.ensures.selected c.requires.plan).ready.within in
+    let within = (c.in-Ok.ensures.selected c.requires.turn.plan).ready.within in
     let same : c.last_step-last.result ≡ l = same_step c.last_step-last.result l (sym c.last_step-last.ensures ∙ its) in
     subst (λ (n : ℕ). IsMadeAt c.args.at.now.count (slice_set c.select_again.new.kept c.last_step-last.result c.test_feeding.new.to) n) same
     (made_set c.args.at.now.count c.select_again.new.kept c.last_step-last.result c.test_feeding.new.to lt (c.test_feeding.new.work.found.limit, c.in-Ok-test_feeding.ensures.tested.its_limit, omega (arith, a, b, within)))
@@ -104,12 +95,12 @@ returns-in-Ok-test_feeding-clause-made g c = λ l its.
 pub returns-in-Err-serve_inputs-clause-plain : goal.returns-in-Err-serve_inputs-clause-plain
 returns-in-Err-serve_inputs-clause-plain g c = λ loop.
     c.in-Err-serve_inputs.ensures.plain loop.used loop.sites
-    (read_plain (job_of c.args.at.now.job.now) c.requires.job.job c.args.at.now.pass c.args.own.now.kind.now c.args.own.now.inputs.now c.args.own.now.under c.requires.action loop)
+    (read_plain (job_of c.args.at.now.job.now) c.requires.turn.fits.job c.args.at.now.pass c.args.own.now.kind.now c.args.own.now.inputs.now c.args.own.now.under c.requires.action loop)
 
 pub returns-in-Err-test_feeding-clause-plain : goal.returns-in-Err-test_feeding-clause-plain
 returns-in-Err-test_feeding-clause-plain g c = λ loop.
     let j = job_of c.args.at.now.job.now in
-    let within = c.requires.within in
-    let some = (c.requires.ready c.requires.plan).ready.some in
+    let within = c.requires.turn.within in
+    let some = (c.requires.ready c.requires.turn.plan).ready.some in
     c.in-Err-test_feeding.ensures.plain loop.used loop.sites
-    (plain_reads j c.requires.job.job c.args.at.now.first (omega (arith, within, some)) c.args.own.now.under loop c.args.at.now.pass c.args.own.now.kind.now c.args.own.now.inputs.now c.requires.action c.args.at.now.count (kinds_of c.args.work.now.lanes.items) c.args.at.now.cells.now (length c.args.work.now.scratch.items) (length c.args.work.now.levels.items) c.requires.serve)
+    (plain_reads j c.requires.turn.fits.job c.args.at.now.first (omega (arith, within, some)) c.args.own.now.under loop c.args.at.now.pass c.args.own.now.kind.now c.args.own.now.inputs.now c.requires.action c.args.at.now.count (kinds_of c.args.work.now.lanes.items) c.args.at.now.cells.now (length c.args.work.now.scratch.items) (length c.args.work.now.levels.items) c.requires.serve)

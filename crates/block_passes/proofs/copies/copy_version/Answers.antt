@@ -17,7 +17,7 @@ copy_vectors-requires-clause-vectors g c =
     let kinds = kinds_of c.args.lanes.now in
     let e = c.source_under.ensures ∙ c.in-Site.is in
     let there = subst (λ (y : Source). IsServable j c.args.at.now.first c.args.under c.args.at.now.count kinds c.args.at.now.cells.now c.requires.can.0 c.requires.can.1 y) e c.requires.can.2.1 in
-    let lane = lane_there j c.args.at.now.first c.args.at.now.count c.args.under c.in-Site.site there.0 c.args.lanes.now c.requires.ready in
+    let lane = lane_there j c.args.at.now.first c.args.at.now.count c.args.under c.in-Site.site there.0 c.args.lanes.now c.requires.over.ready in
     let got = got_kind c.args.lanes.now (key (job_graph j) c.in-Site.site c.args.under) lane.0 lane.1 in
     let is = got ∙ ap Some (sym (c.site_kind.ensures.its kinds there.1.kinds_are lane.0.kind got) ∙ c.in-Vect.is) in
     is
@@ -33,7 +33,7 @@ returns-in_err-copy_vectors-in-Vect-clause-whole g c = λ whole.
     let kinds = kinds_of c.args.lanes.now in
     let e = c.source_under.ensures ∙ c.in-Site.is in
     let there = subst (λ (y : Source). IsServable j c.args.at.now.first c.args.under c.args.at.now.count kinds c.args.at.now.cells.now c.requires.can.0 c.requires.can.1 y) e c.requires.can.2.1 in
-    let lane = lane_there j c.args.at.now.first c.args.at.now.count c.args.under c.in-Site.site there.0 c.args.lanes.now c.requires.ready in
+    let lane = lane_there j c.args.at.now.first c.args.at.now.count c.args.under c.in-Site.site there.0 c.args.lanes.now c.requires.over.ready in
     let got = got_kind c.args.lanes.now (key (job_graph j) c.in-Site.site c.args.under) lane.0 lane.1 in
     let is = got ∙ ap Some (sym (c.site_kind.ensures.its kinds there.1.kinds_are lane.0.kind got) ∙ c.in-Vect.is) in
     absurd (subst (λ (y : Source). IsWhole j c.args.under kinds y) e whole is)
@@ -62,7 +62,7 @@ returns-in_err-copy_vectors-in-Vect-clause-plain g c = λ used p source.
 
 pub copy_tagged-requires-clause-vectors : goal.copy_tagged-requires-clause-vectors
 copy_tagged-requires-clause-vectors g c = λ e its.
-    element_kind (job_of c.args.at.now.job.now) c.requires.job.job c.args.under c.args.version c.in-Element.site c.in-Element.place c.in-Element.tags (c.source_under.ensures ∙ c.in-Element.is) e its
+    element_kind (job_of c.args.at.now.job.now) c.requires.over.turn.fits.job c.args.under c.args.version c.in-Element.site c.in-Element.place c.in-Element.tags (c.source_under.ensures ∙ c.in-Element.is) e its
 
 pub returns-in_err-copy_tagged-in-Element-clause-plain : goal.returns-in_err-copy_tagged-in-Element-clause-plain
 returns-in_err-copy_tagged-in-Element-clause-plain g c = λ used p source.

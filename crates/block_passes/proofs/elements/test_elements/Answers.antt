@@ -8,13 +8,13 @@ use Rattle.block_passes.proofs.elements.test_elements.Goals as goal
 pub note-requires : goal.note-requires
 note-requires g c = λ x q.
     let i = fault_selected (element_fault (job_of c.args.at.now.job.now) c.args.at.now.first c.args.of.now.under c.args.of.now.site c.args.of.now.nth c.args.of.now.tags) c.args.to.now.places c.as_slice-rising.ensures.rising c.first_without-fault.result c.first_without-fault.ensures x q in
-    let l = c.requires.inside x.place i in
-    let le = c.requires.limit in
-    let few = c.requires.few in
+    let l = c.requires.selected.inside x.place i in
+    let le = c.requires.known.limit in
+    let few = c.requires.known.turn.few in
     omega (arith, l, le, few)
 
 pub returns-clause-tested : goal.returns-clause-tested
 returns-clause-tested g c =
     part_served (job_of c.args.at.now.job.now) c.args.at.now.first c.args.at.now.count (element_fault (job_of c.args.at.now.job.now) c.args.at.now.first c.args.of.now.under c.args.of.now.site c.args.of.now.nth c.args.of.now.tags) c.args.at.now.pass c.args.to.now c.narrow-made.new.self c.args.work.now.lanes.items c.args.work.now.found c.note.new.self
-    c.first_without-fault.result c.requires.ready c.requires.settled c.as_slice-rising.ensures.rising c.requires.inside c.first_without-fault.ensures c.note.ensures
-    c.requires.made (c.narrow-made.ensures.some c.args.work.now.found.limit c.requires.made).1
+    c.first_without-fault.result c.requires.known.ready c.requires.known.settled c.as_slice-rising.ensures.rising c.requires.selected.inside c.first_without-fault.ensures c.note.ensures
+    c.requires.selected.made (c.narrow-made.ensures.some c.args.work.now.found.limit c.requires.selected.made).1

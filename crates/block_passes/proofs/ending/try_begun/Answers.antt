@@ -13,13 +13,13 @@ pub returns-in-Err-clause-tried : goal.returns-in-Err-clause-tried
 returns-in-Err-clause-tried g c =
     let j = job_of c.args.at.now.job.now in
     tried_stopped j c.args.at.now.first c.args.at.now.count c.args.cluster c.args.tally.now c.args.tally.now c.args.steps.now c.try_passes.new.steps
-    (spent_few j c.args.at.now.first c.args.at.now.count c.args.work.now.lanes.items c.try_passes.new.work.lanes.items c.args.steps.now c.try_passes.new.steps c.requires.within c.requires.unknown c.try_passes.ensures.spends) stop.Memory tt
+    (spent_few j c.args.at.now.first c.args.at.now.count c.args.work.now.lanes.items c.try_passes.new.work.lanes.items c.args.steps.now c.try_passes.new.steps c.requires.turn.within c.requires.unknown c.try_passes.ensures.leaves.spends) stop.Memory tt
 
 pub returns-in-Some-clause-tried : goal.returns-in-Some-clause-tried
 returns-in-Some-clause-tried g c =
     let j = job_of c.args.at.now.job.now in
     tried_stopped j c.args.at.now.first c.args.at.now.count c.args.cluster c.args.tally.now c.args.tally.now c.args.steps.now c.try_passes.new.steps
-    (spent_few j c.args.at.now.first c.args.at.now.count c.args.work.now.lanes.items c.try_passes.new.work.lanes.items c.args.steps.now c.try_passes.new.steps c.requires.within c.requires.unknown c.try_passes.ensures.spends) (stop.Fault c.in-Some.fault)
+    (spent_few j c.args.at.now.first c.args.at.now.count c.args.work.now.lanes.items c.try_passes.new.work.lanes.items c.args.steps.now c.try_passes.new.steps c.requires.turn.within c.requires.unknown c.try_passes.ensures.leaves.spends) (stop.Fault c.in-Some.fault)
     (c.in-Ok.ensures.fault ∙ c.in-Some.is)
 
 pub take_in-requires-clause-serve : goal.take_in-requires-clause-serve
@@ -27,7 +27,7 @@ take_in-requires-clause-serve g c = (
   length c.args.work.now.scratch.items,
   length c.args.work.now.levels.items,
   subst (λ (ls : List LaneView). CanServeAll (job_of c.args.at.now.job.now) c.args.at.now.first c.args.at.now.count (kinds_of ls) c.args.at.now.cells.now (length c.args.work.now.scratch.items) (length c.args.work.now.levels.items)) (sym c.deref.ensures.value)
-      (subst (λ (ks : List ColType). CanServeAll (job_of c.args.at.now.job.now) c.args.at.now.first c.args.at.now.count ks c.args.at.now.cells.now (length c.args.work.now.scratch.items) (length c.args.work.now.levels.items)) (sym c.try_passes.ensures.spends.kinds) c.requires.serve),
+      (subst (λ (ks : List ColType). CanServeAll (job_of c.args.at.now.job.now) c.args.at.now.first c.args.at.now.count ks c.args.at.now.cells.now (length c.args.work.now.scratch.items) (length c.args.work.now.levels.items)) (sym c.try_passes.ensures.leaves.spends.kinds) c.requires.serve),
 )
 
 pub take_in-requires-clause-clear : goal.take_in-requires-clause-clear
@@ -40,14 +40,14 @@ pub returns-in-Ok-take_in-clause-tried : goal.returns-in-Ok-take_in-clause-tried
 returns-in-Ok-take_in-clause-tried g c =
     let j = job_of c.args.at.now.job.now in
     tried_clear j c.args.at.now.first c.args.at.now.count c.args.cluster c.args.tally.now c.take_in.new.tally c.args.steps.now c.try_passes.new.steps
-    (spent_few j c.args.at.now.first c.args.at.now.count c.args.work.now.lanes.items c.try_passes.new.work.lanes.items c.args.steps.now c.try_passes.new.steps c.requires.within c.requires.unknown c.try_passes.ensures.spends)
+    (spent_few j c.args.at.now.first c.args.at.now.count c.args.work.now.lanes.items c.try_passes.new.work.lanes.items c.args.steps.now c.try_passes.new.steps c.requires.turn.within c.requires.unknown c.try_passes.ensures.leaves.spends)
     (c.in-Ok.ensures.fault ∙ c.in_default.is) c.in-Ok-take_in.ensures.holds
 
 pub returns-in-Err-take_in-clause-tried : goal.returns-in-Err-take_in-clause-tried
 returns-in-Err-take_in-clause-tried g c =
     let j = job_of c.args.at.now.job.now in
     tried_stopped j c.args.at.now.first c.args.at.now.count c.args.cluster c.args.tally.now c.take_in.new.tally c.args.steps.now c.try_passes.new.steps
-    (spent_few j c.args.at.now.first c.args.at.now.count c.args.work.now.lanes.items c.try_passes.new.work.lanes.items c.args.steps.now c.try_passes.new.steps c.requires.within c.requires.unknown c.try_passes.ensures.spends) stop.Memory tt
+    (spent_few j c.args.at.now.first c.args.at.now.count c.args.work.now.lanes.items c.try_passes.new.work.lanes.items c.args.steps.now c.try_passes.new.steps c.requires.turn.within c.requires.unknown c.try_passes.ensures.leaves.spends) stop.Memory tt
 
 pub returns-in-Err-clause-plain : goal.returns-in-Err-clause-plain
 returns-in-Err-clause-plain g c = λ plain none e. c.in-Err.ensures.plain plain

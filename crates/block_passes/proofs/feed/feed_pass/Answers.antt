@@ -13,12 +13,12 @@ returns-in_default-clause-place g c = report_next (job_of c.args.at.now.job.now)
 pub feed_action-requires-clause-can : goal.feed_action-requires-clause-can
 feed_action-requires-clause-can g c =
     let s = c.requires.serve in
-    let h = c.requires.clear c.requires.plan in
-    gathers (job_of c.args.at.now.job.now) c.requires.job.job c.args.at.now.first c.args.at.now.count c.args.at.now.pass c.args.at.now.plan.now c.requires.plan h.ready.within c.in-Some.read.kind.now c.in-Some.read.inputs.now c.in-Some.read.under c.in-Some.ensures.action h.ready.some (kinds_of c.args.lanes.now) c.args.at.now.cells.now s.0 s.1 (s.2 c.args.at.now.pass c.in-Some.read.kind.now c.in-Some.read.inputs.now c.in-Some.read.under c.in-Some.ensures.action)
+    let h = c.requires.clear c.requires.turn.plan in
+    gathers (job_of c.args.at.now.job.now) c.requires.turn.fits.job c.args.at.now.first c.args.at.now.count c.args.at.now.pass c.args.at.now.plan.now c.requires.turn.plan h.ready.within c.in-Some.read.kind.now c.in-Some.read.inputs.now c.in-Some.read.under c.in-Some.ensures.action h.ready.some (kinds_of c.args.lanes.now) c.args.at.now.cells.now s.0 s.1 (s.2 c.args.at.now.pass c.in-Some.read.kind.now c.in-Some.read.inputs.now c.in-Some.read.under c.in-Some.ensures.action)
 
 pub feed_action-requires-clause-feedable : goal.feed_action-requires-clause-feedable
 feed_action-requires-clause-feedable g c = λ last its.
-    can_be_fed (job_of c.args.at.now.job.now) c.requires.job.job c.args.at.now.first c.args.at.now.count c.args.at.now.plan.now c.requires.plan c.args.lanes.now c.args.kept.now (c.requires.clear c.requires.plan) c.args.at.now.pass c.in-Some.read.kind.now c.in-Some.read.inputs.now c.in-Some.read.under c.in-Some.ensures.action last its
+    can_be_fed (job_of c.args.at.now.job.now) c.requires.turn.fits.job c.args.at.now.first c.args.at.now.count c.args.at.now.plan.now c.requires.turn.plan c.args.lanes.now c.args.kept.now (c.requires.clear c.requires.turn.plan) c.args.at.now.pass c.in-Some.read.kind.now c.in-Some.read.inputs.now c.in-Some.read.under c.in-Some.ensures.action last its
 
 pub returns-in_err-feed_action-clause-memory : goal.returns-in_err-feed_action-clause-memory
 returns-in_err-feed_action-clause-memory g c = λ whole none.
@@ -37,10 +37,10 @@ pub returns-in_err-feed_action-clause-plain : goal.returns-in_err-feed_action-cl
 returns-in_err-feed_action-clause-plain g c = λ loop none.
     let j = job_of c.args.at.now.job.now in
     let s = c.requires.serve in
-    let h = (c.requires.clear c.requires.plan).ready in
+    let h = (c.requires.clear c.requires.turn.plan).ready in
     let within = h.within in
     let some = h.some in
     let read = c.in-Some.ensures.action in
     absurd (takes_none j c.args.at.now.pass c.in-Some.read.kind.now c.in-Some.read.inputs.now c.in-Some.read.under read none
     (c.in_err-feed_action.ensures.plain loop.used loop.sites
-    (plain_reads j c.requires.job.job c.args.at.now.first (omega (arith, within, some)) c.in-Some.read.under loop c.args.at.now.pass c.in-Some.read.kind.now c.in-Some.read.inputs.now read c.args.at.now.count (kinds_of c.args.lanes.now) c.args.at.now.cells.now s.0 s.1 (s.2 c.args.at.now.pass c.in-Some.read.kind.now c.in-Some.read.inputs.now c.in-Some.read.under read))))
+    (plain_reads j c.requires.turn.fits.job c.args.at.now.first (omega (arith, within, some)) c.in-Some.read.under loop c.args.at.now.pass c.in-Some.read.kind.now c.in-Some.read.inputs.now read c.args.at.now.count (kinds_of c.args.lanes.now) c.args.at.now.cells.now s.0 s.1 (s.2 c.args.at.now.pass c.in-Some.read.kind.now c.in-Some.read.inputs.now c.in-Some.read.under read))))

@@ -5,17 +5,8 @@ use Rattle.block_passes.specs.Counting.{at_pass}
 use Rattle.block_passes.proofs.FedPasses.{amid_pass, fed_all}
 use Rattle.block_passes.proofs.feed.feed_passes.Goals as goal
 
-pub feed_pass-requires-clause-job : goal.feed_pass-requires-clause-job
-feed_pass-requires-clause-job g c = rw c.go_to.ensures c.requires.job
-
-pub feed_pass-requires-clause-rows : goal.feed_pass-requires-clause-rows
-feed_pass-requires-clause-rows g c = rw c.go_to.ensures c.requires.rows
-
-pub feed_pass-requires-clause-plan : goal.feed_pass-requires-clause-plan
-feed_pass-requires-clause-plan g c = rw c.go_to.ensures c.requires.plan
-
-pub feed_pass-requires-clause-small : goal.feed_pass-requires-clause-small
-feed_pass-requires-clause-small g c = rw c.go_to.ensures c.requires.small
+pub feed_pass-requires-clause-turn : goal.feed_pass-requires-clause-turn
+feed_pass-requires-clause-turn g c = rw c.go_to.ensures c.requires.turn
 
 pub feed_pass-requires-clause-serve : goal.feed_pass-requires-clause-serve
 feed_pass-requires-clause-serve g c = rw c.go_to.ensures c.requires.serve

@@ -6,13 +6,14 @@ use Rattle.block_cache.specs.Lanes.{kinds_of}
 use Rattle.loop_keys.specs.Jobs.{job_of}
 use Rattle.block_passes.specs.Inputs.{AreAtHand, IsServedTo, inputs_fault}
 use Rattle.block_passes.proofs.ServingInputs.{empty_list, first_demanded, first_plain, inputs_held, inputs_served, none_held, none_served, rest_can, rest_demanded, rest_inside}
-use Rattle.block_passes.proofs.Spending.{spends_none, spends_then}
+use Rattle.block_passes.proofs.Leaving.{leaves_then}
+use Rattle.block_passes.proofs.Spending.{spends_none}
 use Rattle.block_passes.proofs.inputs.+serve_each.Goals as goal
 
 pub returns-in_default-clause-served : goal.returns-in_default-clause-served
 returns-in_default-clause-served g t c =
     none_served (job_of c.args.at.now.job.now) c.args.at.now.first c.args.at.now.count c.args.under c.args.at.now.pass c.args.inputs.now (empty_list c.args.inputs.now c.in_default.ensures.cases) c.args.to.now c.args.work.now.lanes.items c.args.work.now.found
-    c.requires.ready c.requires.made c.requires.inside c.requires.settled
+    c.requires.known.ready c.requires.selected.made c.requires.selected.inside c.requires.known.settled
 
 pub serve_version-requires-clause-demanded : goal.serve_version-requires-clause-demanded
 serve_version-requires-clause-demanded g t c = λ p T i all.
@@ -23,12 +24,12 @@ serve_each-requires g t c κs within =
     let j = job_of c.args.at.now.job.now in
     let h = c.in-Ok.ensures.served in
     let falls = h.lowers.falls in
-    let limit = c.requires.limit in
+    let limit = c.requires.known.limit in
     let can = rest_can j c.args.at.now.first c.args.under c.args.inputs.now c.in-Some.rest.now c.in-Some.version.now c.in-Some.ensures.cases.0 c.args.at.now.count (kinds_of c.args.work.now.lanes.items) (kinds_of c.serve_version.new.work.lanes.items) c.args.at.now.cells.now
-    (length c.args.work.now.scratch.items) (length c.args.work.now.levels.items) (length c.serve_version.new.work.scratch.items) (length c.serve_version.new.work.levels.items) c.serve_version.ensures.spends.kinds c.serve_version.ensures.scratch c.serve_version.ensures.levels c.requires.can in
+    (length c.args.work.now.scratch.items) (length c.args.work.now.levels.items) (length c.serve_version.new.work.scratch.items) (length c.serve_version.new.work.levels.items) c.serve_version.ensures.leaves.spends.kinds c.serve_version.ensures.leaves.scratch c.serve_version.ensures.leaves.levels c.requires.can in
     let inside = rest_inside j c.args.at.now.first c.args.under c.args.inputs.now c.in-Some.rest.now c.in-Some.version.now c.in-Some.ensures.cases.0 c.args.at.now.count c.args.at.now.pass c.args.to.now.places c.serve_version.new.to c.args.work.now.lanes.items c.serve_version.new.work.lanes.items c.args.work.now.found c.serve_version.new.work.found h in
     let demanded = rest_demanded j c.args.at.now.first c.args.under c.args.inputs.now c.in-Some.rest.now c.in-Some.version.now c.in-Some.ensures.cases.0 c.args.at.now.count c.args.at.now.pass c.args.to.now.places c.serve_version.new.to c.args.work.now.lanes.items c.serve_version.new.work.lanes.items c.args.work.now.found c.serve_version.new.work.found h c.requires.demanded in
-    (search rules, (search rules, (c.requires.job, (c.requires.rows, (h.ready, (can, (c.requires.small, (c.requires.few, (omega (arith, falls, limit), (h.its_limit, (inside, (h.settled, demanded))))))))))))
+    (search rules, (search rules, (record { turn = c.requires.known.turn; ready = h.ready; limit = omega (arith, falls, limit); settled = h.settled }, (can, (record { made = h.its_limit; inside = inside }, demanded)))))
 
 pub returns-in-Ok-clause-served : goal.returns-in-Ok-clause-served
 returns-in-Ok-clause-served g t c =
@@ -51,10 +52,8 @@ returns-in-Ok-clause-held g t c =
     inputs_held j c.args.at.now.first c.args.under c.args.inputs.now c.in-Some.rest.now c.in-Some.version.now c.in-Some.ensures.cases.0 c.args.at.now.count c.args.at.now.pass c.args.to.now.places c.serve_version.new.to c.args.work.now.lanes.items c.serve_version.new.work.lanes.items c.args.work.now.found c.serve_version.new.work.found c.in-Ok.ensures.served c.serve_version.new.to c.serve_version.new.work.lanes.items c.serve_version.new.work.found none c.serve_version.new.steps c.serve_version.new.steps
     (spends_none j c.args.at.now.first c.args.at.now.count c.serve_version.new.work.lanes.items c.serve_version.new.steps) c.in-Ok.ensures.held (none_held j c.serve_version.new.work.lanes.items c.args.under c.in-Some.rest.now empty c.serve_version.new.to.places)
 
-pub returns-in-Ok-2-clause-spends : goal.returns-in-Ok-2-clause-spends
-returns-in-Ok-2-clause-spends g t c =
-    spends_then (job_of c.args.at.now.job.now) c.args.at.now.first c.args.at.now.count c.args.work.now.lanes.items c.serve_version.new.work.lanes.items c.serve_each.new.work.lanes.items c.args.steps.now c.serve_version.new.steps c.serve_each.new.steps
-    c.serve_version.ensures.spends c.serve_each.ensures.spends
+pub returns-in-Ok-2-clause-leaves : goal.returns-in-Ok-2-clause-leaves
+returns-in-Ok-2-clause-leaves g t c = leaves_then _ _ _ _ _ _ _ c.serve_version.ensures.leaves c.serve_each.ensures.leaves
 
 pub returns-in-Ok-2-clause-served : goal.returns-in-Ok-2-clause-served
 returns-in-Ok-2-clause-served g t c =
@@ -72,7 +71,7 @@ returns-in-Ok-2-clause-held g t c =
     (λ (w : IsServedTo j c.args.at.now.first c.args.at.now.count (inputs_fault j c.args.at.now.first c.args.under c.in-Some.rest.now) c.args.at.now.pass c.serve_version.new.to.places c.serve_each.new.to c.serve_each.new.work.lanes.items c.serve_version.new.work.found c.serve_each.new.work.found
     × EachPlace c.serve_each.new.to.places (AreAtHand j c.serve_each.new.work.lanes.items c.args.under c.in-Some.rest.now)).
     inputs_held j c.args.at.now.first c.args.under c.args.inputs.now c.in-Some.rest.now c.in-Some.version.now c.in-Some.ensures.cases.0 c.args.at.now.count c.args.at.now.pass c.args.to.now.places c.serve_version.new.to c.args.work.now.lanes.items c.serve_version.new.work.lanes.items c.args.work.now.found c.serve_version.new.work.found c.in-Ok.ensures.served
-    c.serve_each.new.to c.serve_each.new.work.lanes.items c.serve_each.new.work.found w.0 c.serve_version.new.steps c.serve_each.new.steps c.serve_each.ensures.spends c.in-Ok.ensures.held w.1)
+    c.serve_each.new.to c.serve_each.new.work.lanes.items c.serve_each.new.work.found w.0 c.serve_version.new.steps c.serve_each.new.steps c.serve_each.ensures.leaves.spends c.in-Ok.ensures.held w.1)
     (search rules)
 
 pub returns-in-Err-clause-plain : goal.returns-in-Err-clause-plain

@@ -9,12 +9,16 @@ use Rattle.block_passes.proofs.ElementsHeld.{element_held, element_served}
 use Rattle.block_passes.proofs.ServingInputs.{served_inside}
 use Rattle.block_passes.proofs.inputs.serve_element.Goals as goal
 
-pub test_elements-requires-clause-limit : goal.test_elements-requires-clause-limit
-test_elements-requires-clause-limit g c = let f = c.in-Ok.ensures.served.lowers.falls in let l = c.requires.limit in omega (arith, f, l)
+pub test_elements-requires-clause-known : goal.test_elements-requires-clause-known
+test_elements-requires-clause-known g c =
+    let served = c.in-Ok.ensures.served in
+    let f = served.lowers.falls in
+    let l = c.requires.known.limit in
+    record { turn = c.requires.known.turn; ready = served.ready; limit = omega (arith, f, l); settled = served.settled }
 
-pub test_elements-requires-clause-inside : goal.test_elements-requires-clause-inside
-test_elements-requires-clause-inside g c =
-    served_inside (job_of c.args.at.now.job.now) c.args.at.now.first c.args.at.now.count _ c.args.at.now.pass _ c.serve_site.new.to c.serve_site.new.work.lanes.items c.args.work.now.found c.serve_site.new.work.found c.in-Ok.ensures.served
+pub test_elements-requires-clause-selected : goal.test_elements-requires-clause-selected
+test_elements-requires-clause-selected g c =
+    record { made = c.in-Ok.ensures.served.its_limit; inside = served_inside (job_of c.args.at.now.job.now) c.args.at.now.first c.args.at.now.count _ c.args.at.now.pass _ c.serve_site.new.to c.serve_site.new.work.lanes.items c.args.work.now.found c.serve_site.new.work.found c.in-Ok.ensures.served }
 
 pub returns-in-Ok-clause-spent : goal.returns-in-Ok-clause-spent
 returns-in-Ok-clause-spent g c =
@@ -32,6 +36,6 @@ returns-in-Ok-clause-held g c =
     let j = job_of c.args.at.now.job.now in
     let a = c.in-Ok.ensures.served.lowers.falls in
     let b = c.test_elements.ensures.tested.lowers.falls in
-    let l = c.requires.limit in
+    let l = c.requires.known.limit in
     subst (λ (ls : List LaneView). EachPlace c.test_elements.new.to.places (λ p. IsAtHand j ls c.args.of.now.under p (from.Element c.args.of.now.site c.args.of.now.nth c.args.of.now.tags))) (sym c.test_elements.ensures.lanes)
     (element_held j c.args.at.now.first c.args.at.now.count c.args.of.now.under c.args.of.now.site c.args.of.now.nth c.args.of.now.tags c.args.at.now.pass c.args.to.now.places c.serve_site.new.to c.test_elements.new.to c.serve_site.new.work.lanes.items c.serve_site.new.work.lanes.items c.args.work.now.found c.serve_site.new.work.found c.test_elements.new.work.found c.in-Ok.ensures.served c.test_elements.ensures.tested c.requires.site (omega (arith, a, b, l)) c.in-Ok.ensures.held)

@@ -16,9 +16,9 @@ are_at_hand-requires-clause-can g c =
     )
 
 pub are_at_hand-requires-clause-inside : goal.are_at_hand-requires-clause-inside
-are_at_hand-requires-clause-inside g c = λ p i. let low = c.requires.inside p i in let le = c.requires.limit in omega (arith, low, le)
+are_at_hand-requires-clause-inside g c = λ p i. let low = c.requires.selected.inside p i in let le = c.requires.known.limit in omega (arith, low, le)
 
 pub returns-then-are_at_hand-clause-served : goal.returns-then-are_at_hand-clause-served
 returns-then-are_at_hand-clause-served g c =
     clear_served (job_of c.args.at.now.job.now) c.args.at.now.first c.args.at.now.count c.args.under c.args.at.now.pass c.args.inputs.now c.args.to.now c.args.work.now.lanes.items c.args.work.now.found
-    c.requires.ready c.requires.made c.requires.inside c.requires.settled (c.are_at_hand.ensures.clear c.if-are_at_hand.true)
+    c.requires.known.ready c.requires.selected.made c.requires.selected.inside c.requires.known.settled (c.are_at_hand.ensures.clear c.if-are_at_hand.true)

@@ -13,8 +13,8 @@ pub note-requires : goal.note-requires
 note-requires g c = λ x q.
     let i = fault_selected (site_fault (job_of c.args.at.now.job.now) c.args.at.now.first c.args.under c.args.site) c.args.to.now.places c.as_slice-rising.ensures.rising c.in-Ok.fault c.in-Ok.ensures.filled.fault x q in
     let l = c.requires.inside x.place i in
-    let le = c.requires.limit in
-    let few = c.requires.few in
+    let le = c.requires.known.limit in
+    let few = c.requires.known.turn.few in
     omega (arith, l, le, few)
 
 pub returns-in-Ok-clause-served : goal.returns-in-Ok-clause-served
@@ -26,6 +26,6 @@ returns-in-Ok-clause-served g c =
     let done =
     site_served j c.args.at.now.first c.args.at.now.count c.args.under c.args.site c.args.at.now.pass c.args.to.now.places c.fill_led.new.selection c.deref_mut.result.now c.fill_led.new.lanes _ _ c.args.work.now.found c.note.new.self c.in-Ok.fault
     c.in-Ok.ensures.spent c.in-Ok.ensures.filled c.in-Ok.ensures.settled c.as_slice-rising.ensures.rising c.requires.inside
-    (λ p lt. subst (λ (ls : List LaneView). IsSettledAt ls p) (sym c.deref_mut.ensures.value) (c.requires.settled p lt)) c.note.ensures
+    (λ p lt. subst (λ (ls : List LaneView). IsSettledAt ls p) (sym c.deref_mut.ensures.value) (c.requires.known.settled p lt)) c.note.ensures
     (record { limit = Some c.note.new.self.limit; places = c.fill_led.new.selection }) refl refl in
     subst (λ (ls : List LaneView). IsServedTo j c.args.at.now.first c.args.at.now.count (site_fault j c.args.at.now.first c.args.under c.args.site) c.args.at.now.pass c.args.to.now.places (record { limit = Some c.note.new.self.limit; places = c.fill_led.new.selection }) ls c.args.work.now.found c.note.new.self) (sym lanes) done

@@ -16,35 +16,43 @@ is_at_hand-requires-clause-can g c =
     )
 
 pub is_at_hand-requires-clause-inside : goal.is_at_hand-requires-clause-inside
-is_at_hand-requires-clause-inside g c = λ p i. let low = c.requires.inside p i in let le = c.requires.limit in omega (arith, low, le)
+is_at_hand-requires-clause-inside g c = λ p i. let low = c.requires.selected.inside p i in let le = c.requires.known.limit in omega (arith, low, le)
 
 pub returns-then-is_at_hand-clause-served : goal.returns-then-is_at_hand-clause-served
 returns-then-is_at_hand-clause-served g c =
     let j = job_of c.args.at.now.job.now in
     none_served j c.args.at.now.first c.args.at.now.count c.args.under (source_at j c.args.under c.args.version) c.args.at.now.pass c.args.to.now c.args.work.now.lanes.items c.args.work.now.found
-    c.requires.ready c.requires.made c.requires.inside c.requires.settled (c.is_at_hand.ensures.clear c.if-is_at_hand.true)
+    c.requires.known.ready c.requires.selected.made c.requires.selected.inside c.requires.known.settled (c.is_at_hand.ensures.clear c.if-is_at_hand.true)
 
 pub returns-in-Cell-clause-served : goal.returns-in-Cell-clause-served
 returns-in-Cell-clause-served g c =
     let j = job_of c.args.at.now.job.now in
     let e = c.source_under.ensures ∙ c.in-Cell.is in
     none_served j c.args.at.now.first c.args.at.now.count c.args.under (source_at j c.args.under c.args.version) c.args.at.now.pass c.args.to.now c.args.work.now.lanes.items c.args.work.now.found
-    c.requires.ready c.requires.made c.requires.inside c.requires.settled (column_clear j c.args.at.now.first c.args.under c.in-Cell.col (source_at j c.args.under c.args.version) e c.args.to.now.places)
+    c.requires.known.ready c.requires.selected.made c.requires.selected.inside c.requires.known.settled (column_clear j c.args.at.now.first c.args.under c.in-Cell.col (source_at j c.args.under c.args.version) e c.args.to.now.places)
 
-pub returns-in-Site-clause-spends : goal.returns-in-Site-clause-spends
-returns-in-Site-clause-spends g c =
+pub returns-in-Site-clause-leaves : goal.returns-in-Site-clause-leaves
+returns-in-Site-clause-leaves g c =
     let j = job_of c.args.at.now.job.now in
-    version_spends j c.args.at.now.first c.args.at.now.count c.args.under c.in-Site.site c.args.work.now.found.limit (source_at j c.args.under c.args.version) (c.source_under.ensures ∙ c.in-Site.is) c.args.to.now.places c.requires.limit c.requires.inside c.requires.demanded
-    c.args.work.now.lanes.items c.serve_site.new.work.lanes.items c.args.steps.now c.serve_site.new.steps c.serve_site.ensures.spent
+    record {
+      spends = version_spends j c.args.at.now.first c.args.at.now.count c.args.under c.in-Site.site c.args.work.now.found.limit (source_at j c.args.under c.args.version) (c.source_under.ensures ∙ c.in-Site.is) c.args.to.now.places c.requires.known.limit c.requires.selected.inside c.requires.demanded
+          c.args.work.now.lanes.items c.serve_site.new.work.lanes.items c.args.steps.now c.serve_site.new.steps c.serve_site.ensures.spent;
+      scratch = c.serve_site.ensures.room.scratch;
+      levels = c.serve_site.ensures.room.levels;
+    }
 
 pub returns-in-Site-clause-plain : goal.returns-in-Site-clause-plain
 returns-in-Site-clause-plain g c = λ used p source. c.serve_site.ensures.plain used p (subst (IsSourceIn used) (c.source_under.ensures ∙ c.in-Site.is) source)
 
-pub returns-in-Element-clause-spends : goal.returns-in-Element-clause-spends
-returns-in-Element-clause-spends g c =
+pub returns-in-Element-clause-leaves : goal.returns-in-Element-clause-leaves
+returns-in-Element-clause-leaves g c =
     let j = job_of c.args.at.now.job.now in
-    element_spends j c.args.at.now.first c.args.at.now.count c.args.under c.in-Element.site c.in-Element.place c.in-Element.tags c.args.work.now.found.limit (source_at j c.args.under c.args.version) (c.source_under.ensures ∙ c.in-Element.is) c.args.to.now.places c.requires.limit c.requires.inside c.requires.demanded
-    c.args.work.now.lanes.items c.serve_element.new.work.lanes.items c.args.steps.now c.serve_element.new.steps c.serve_element.ensures.spent
+    record {
+      spends = element_spends j c.args.at.now.first c.args.at.now.count c.args.under c.in-Element.site c.in-Element.place c.in-Element.tags c.args.work.now.found.limit (source_at j c.args.under c.args.version) (c.source_under.ensures ∙ c.in-Element.is) c.args.to.now.places c.requires.known.limit c.requires.selected.inside c.requires.demanded
+          c.args.work.now.lanes.items c.serve_element.new.work.lanes.items c.args.steps.now c.serve_element.new.steps c.serve_element.ensures.spent;
+      scratch = c.serve_element.ensures.room.scratch;
+      levels = c.serve_element.ensures.room.levels;
+    }
 
 pub returns-in-Element-clause-plain : goal.returns-in-Element-clause-plain
 returns-in-Element-clause-plain g c = λ used p source. c.serve_element.ensures.plain used p (subst (IsSourceIn used) (c.source_under.ensures ∙ c.in-Element.is) source)

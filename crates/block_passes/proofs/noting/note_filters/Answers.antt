@@ -14,16 +14,16 @@ note_counts-requires g c =
       facts_in (job_of c.args.at.now.job.now),
       b.0,
       at_filter b.1 c.loop-filter.filter,
-      can_note (job_of c.args.at.now.job.now) c.args.at.now.first c.args.at.now.count c.args.tally.now c.loop-filter.tally c.loop-filter.filter c.counts_of-counts.result c.loop-filter.invariant (filter_in (job_of c.args.at.now.job.now) c.args.at.now.job.now.graph.now c.requires.job.graph c.filters-filter-end.result c.loop-filter.filter c.filters-filter-end.ensures c.loop-filter-test.true) c.counts_of-counts.ensures b.0 b.1 b.2 b.3 b.4,
+      can_note (job_of c.args.at.now.job.now) c.args.at.now.first c.args.at.now.count c.args.tally.now c.loop-filter.tally c.loop-filter.filter c.counts_of-counts.result c.loop-filter.invariant (filter_in (job_of c.args.at.now.job.now) c.args.at.now.job.now.graph.now c.requires.turn.fits.graph c.filters-filter-end.result c.loop-filter.filter c.filters-filter-end.ensures c.loop-filter-test.true) c.counts_of-counts.ensures b.0 b.1 b.2 b.3 b.4,
     )
 
 pub loop-filter-preserved : goal.loop-filter-preserved
 loop-filter-preserved g c = λ watched s amid none holds.
     c.note_counts.ensures (facts_in (job_of c.args.at.now.job.now)) watched (at_filter s c.loop-filter.filter)
-    (can_note (job_of c.args.at.now.job.now) c.args.at.now.first c.args.at.now.count c.args.tally.now c.loop-filter.tally c.loop-filter.filter c.counts_of-counts.result c.loop-filter.invariant (filter_in (job_of c.args.at.now.job.now) c.args.at.now.job.now.graph.now c.requires.job.graph c.filters-filter-end.result c.loop-filter.filter c.filters-filter-end.ensures c.loop-filter-test.true) c.counts_of-counts.ensures watched s amid none holds)
+    (can_note (job_of c.args.at.now.job.now) c.args.at.now.first c.args.at.now.count c.args.tally.now c.loop-filter.tally c.loop-filter.filter c.counts_of-counts.result c.loop-filter.invariant (filter_in (job_of c.args.at.now.job.now) c.args.at.now.job.now.graph.now c.requires.turn.fits.graph c.filters-filter-end.result c.loop-filter.filter c.filters-filter-end.ensures c.loop-filter-test.true) c.counts_of-counts.ensures watched s amid none holds)
 
 pub returns : goal.returns
 returns g c = λ watched s amid none holds.
-    let all : c.filters-filter-end.result ≡ length (graph_filters (job_graph (job_of c.args.at.now.job.now))) = c.filters-filter-end.ensures ∙ ap (λ (v : GraphView). length (graph_filters v)) c.requires.job.graph in
+    let all : c.filters-filter-end.result ≡ length (graph_filters (job_graph (job_of c.args.at.now.job.now))) = c.filters-filter-end.ensures ∙ ap (λ (v : GraphView). length (graph_filters v)) c.requires.turn.fits.graph in
     let e : c.loop-filter.filter ≡ length (graph_filters (job_graph (job_of c.args.at.now.job.now))) = (let f = c.loop-filter-test.false in let l = c.loop-filter.auto.filter-end in omega (arith, f, l, all)) in
     subst (λ (n : ℕ). HoldsIn (facts_in (job_of c.args.at.now.job.now)) watched (at_filter s n) c.loop-filter.tally) e (c.loop-filter.invariant watched s amid none holds)

@@ -1,4 +1,4 @@
-use Rattle.std.proofs.Common.{arith, ◌≡◌, ◌+◌, below_more, ◌∙◌, List, None, length, refl, subst, sym, ℕ}
+use Rattle.std.proofs.Common.{arith, ◌≡◌, ◌+◌, below_more, List, None, length, refl, subst, sym, ℕ}
 use Rattle.rdf_values.specs.declared.value.ColType.{ColType}
 use Rattle.block_cache.specs.Lanes.{kinds_of}
 use Rattle.loop_keys.specs.Jobs.{job_of, passes_in}
@@ -7,43 +7,29 @@ use Rattle.block_passes.specs.Searches.{IsSearched}
 use Rattle.loop_keys.proofs.EntryLaws.{read_pass}
 use Rattle.block_passes.specs.Selections.{CanSelect}
 use Rattle.block_passes.specs.Tries.{CanServeAll, IsPassMade}
+use Rattle.block_passes.specs.Turns.{Leaves}
+use Rattle.block_passes.proofs.Leaving.{leaves_then}
 use Rattle.block_passes.proofs.PlanMade.{plan_made}
 use Rattle.block_passes.proofs.Remaking.{pass_stays}
 use Rattle.block_passes.proofs.SearchedPasses.{first_searched, next_searched}
-use Rattle.block_passes.proofs.Spending.{spends_then}
 use Rattle.block_passes.proofs.passes.try_passes.Goals as goal
 
-pub try_pass-requires-clause-job : goal.try_pass-requires-clause-job
-try_pass-requires-clause-job g c = rw c.go_to.ensures c.requires.job
-
-pub try_pass-requires-clause-rows : goal.try_pass-requires-clause-rows
-try_pass-requires-clause-rows g c = rw c.go_to.ensures c.requires.rows
-
-pub try_pass-requires-clause-small : goal.try_pass-requires-clause-small
-try_pass-requires-clause-small g c = rw c.go_to.ensures c.requires.small
-
-pub try_pass-requires-clause-few : goal.try_pass-requires-clause-few
-try_pass-requires-clause-few g c = rw c.go_to.ensures c.requires.few
-
-pub try_pass-requires-clause-within : goal.try_pass-requires-clause-within
-try_pass-requires-clause-within g c = rw c.go_to.ensures c.requires.within
-
-pub try_pass-requires-clause-plan : goal.try_pass-requires-clause-plan
-try_pass-requires-clause-plan g c = rw c.go_to.ensures c.requires.plan
+pub try_pass-requires-clause-turn : goal.try_pass-requires-clause-turn
+try_pass-requires-clause-turn g c = rw c.go_to.ensures c.requires.turn
 
 pub try_pass-requires-clause-can : goal.try_pass-requires-clause-can
 try_pass-requires-clause-can g c =
     rw c.go_to.ensures
-    (subst (λ (ks : List ColType). CanSelect (job_of c.args.at.now.job.now) c.args.at.now.first c.args.at.now.count c.args.at.now.plan.now ks c.args.at.now.cells.now (length c.loop-pass.work.scratch.items) (length c.loop-pass.work.levels.items)) (sym c.loop-pass.invariant.spends.kinds)
-    (subst (λ (n : ℕ). CanSelect (job_of c.args.at.now.job.now) c.args.at.now.first c.args.at.now.count c.args.at.now.plan.now (kinds_of c.args.work.now.lanes.items) c.args.at.now.cells.now n (length c.loop-pass.work.levels.items)) (sym c.loop-pass.invariant.scratch)
-    (subst (λ (n : ℕ). CanSelect (job_of c.args.at.now.job.now) c.args.at.now.first c.args.at.now.count c.args.at.now.plan.now (kinds_of c.args.work.now.lanes.items) c.args.at.now.cells.now (length c.args.work.now.scratch.items) n) (sym c.loop-pass.invariant.levels) c.requires.can)))
+    (subst (λ (ks : List ColType). CanSelect (job_of c.args.at.now.job.now) c.args.at.now.first c.args.at.now.count c.args.at.now.plan.now ks c.args.at.now.cells.now (length c.loop-pass.work.scratch.items) (length c.loop-pass.work.levels.items)) (sym c.loop-pass.invariant.leaves.spends.kinds)
+    (subst (λ (n : ℕ). CanSelect (job_of c.args.at.now.job.now) c.args.at.now.first c.args.at.now.count c.args.at.now.plan.now (kinds_of c.args.work.now.lanes.items) c.args.at.now.cells.now n (length c.loop-pass.work.levels.items)) (sym c.loop-pass.invariant.leaves.scratch)
+    (subst (λ (n : ℕ). CanSelect (job_of c.args.at.now.job.now) c.args.at.now.first c.args.at.now.count c.args.at.now.plan.now (kinds_of c.args.work.now.lanes.items) c.args.at.now.cells.now (length c.args.work.now.scratch.items) n) (sym c.loop-pass.invariant.leaves.levels) c.requires.can)))
 
 pub try_pass-requires-clause-serve : goal.try_pass-requires-clause-serve
 try_pass-requires-clause-serve g c =
     rw c.go_to.ensures
-    (subst (λ (ks : List ColType). CanServeAll (job_of c.args.at.now.job.now) c.args.at.now.first c.args.at.now.count ks c.args.at.now.cells.now (length c.loop-pass.work.scratch.items) (length c.loop-pass.work.levels.items)) (sym c.loop-pass.invariant.spends.kinds)
-    (subst (λ (n : ℕ). CanServeAll (job_of c.args.at.now.job.now) c.args.at.now.first c.args.at.now.count (kinds_of c.args.work.now.lanes.items) c.args.at.now.cells.now n (length c.loop-pass.work.levels.items)) (sym c.loop-pass.invariant.scratch)
-    (subst (λ (n : ℕ). CanServeAll (job_of c.args.at.now.job.now) c.args.at.now.first c.args.at.now.count (kinds_of c.args.work.now.lanes.items) c.args.at.now.cells.now (length c.args.work.now.scratch.items) n) (sym c.loop-pass.invariant.levels) c.requires.serve)))
+    (subst (λ (ks : List ColType). CanServeAll (job_of c.args.at.now.job.now) c.args.at.now.first c.args.at.now.count ks c.args.at.now.cells.now (length c.loop-pass.work.scratch.items) (length c.loop-pass.work.levels.items)) (sym c.loop-pass.invariant.leaves.spends.kinds)
+    (subst (λ (n : ℕ). CanServeAll (job_of c.args.at.now.job.now) c.args.at.now.first c.args.at.now.count (kinds_of c.args.work.now.lanes.items) c.args.at.now.cells.now n (length c.loop-pass.work.levels.items)) (sym c.loop-pass.invariant.leaves.scratch)
+    (subst (λ (n : ℕ). CanServeAll (job_of c.args.at.now.job.now) c.args.at.now.first c.args.at.now.count (kinds_of c.args.work.now.lanes.items) c.args.at.now.cells.now (length c.args.work.now.scratch.items) n) (sym c.loop-pass.invariant.leaves.levels) c.requires.serve)))
 
 pub try_pass-requires-clause-own : goal.try_pass-requires-clause-own
 try_pass-requires-clause-own g c =
@@ -53,25 +39,26 @@ try_pass-requires-clause-own g c =
 pub try_pass-requires-clause-ready : goal.try_pass-requires-clause-ready
 try_pass-requires-clause-ready g c = rw c.go_to.ensures (λ p. (c.loop-pass.invariant.searched p).ready)
 
-pub returns-in-Err-clause-spends : goal.returns-in-Err-clause-spends
-returns-in-Err-clause-spends g c =
-    let spends = rw c.go_to.ensures at c.try_pass.ensures.spends in
-    spends_then (job_of c.args.at.now.job.now) c.args.at.now.first c.args.at.now.count c.args.work.now.lanes.items c.loop-pass.work.lanes.items c.try_pass.new.work.lanes.items c.args.steps.now c.loop-pass.steps c.try_pass.new.steps c.loop-pass.invariant.spends spends
+pub returns-in-Err-clause-leaves : goal.returns-in-Err-clause-leaves
+returns-in-Err-clause-leaves g c =
+    let left = rw c.go_to.ensures at c.try_pass.ensures.leaves in
+    let leaves : Leaves c.args.at.now c.loop-pass.work c.try_pass.new.work c.loop-pass.steps c.try_pass.new.steps = record { spends = left.spends; scratch = left.scratch; levels = left.levels } in
+    leaves_then _ _ _ _ _ _ _ c.loop-pass.invariant.leaves leaves
 
 pub returns-in-Err-clause-plain : goal.returns-in-Err-clause-plain
 returns-in-Err-clause-plain g c = rw c.go_to.ensures at c.in-Err.ensures.plain
 
 pub loop-pass-preserved : goal.loop-pass-preserved
 loop-pass-preserved g c =
-    let spends = rw c.go_to.ensures at c.try_pass.ensures.spends in
+    let left = rw c.go_to.ensures at c.try_pass.ensures.leaves in
+    let spends = left.spends in
+    let leaves : Leaves c.args.at.now c.loop-pass.work c.try_pass.new.work c.loop-pass.steps c.try_pass.new.steps = record { spends = spends; scratch = left.scratch; levels = left.levels } in
     let tried = rw c.go_to.ensures at c.in-Ok.ensures.tried in
     let made = rw c.go_to.ensures at c.in-Ok.ensures.made in
     let remade = rw c.go_to.ensures at c.in-Ok.ensures.remade in
     record {
       same = rw c.go_to.ensures refl;
-      spends = spends_then (job_of c.args.at.now.job.now) c.args.at.now.first c.args.at.now.count c.args.work.now.lanes.items c.loop-pass.work.lanes.items c.try_pass.new.work.lanes.items c.args.steps.now c.loop-pass.steps c.try_pass.new.steps c.loop-pass.invariant.spends spends;
-      scratch = c.try_pass.ensures.scratch ∙ c.loop-pass.invariant.scratch;
-      levels = c.try_pass.ensures.levels ∙ c.loop-pass.invariant.levels;
+      leaves = leaves_then _ _ _ _ _ _ _ c.loop-pass.invariant.leaves leaves;
       searched = λ p. next_searched (job_of c.args.at.now.job.now) c.args.at.now.first c.args.at.now.count c.loop-pass.work.lanes.items c.try_pass.new.work.lanes.items c.loop-pass.steps c.try_pass.new.steps spends p.chains c.loop-pass.pass c.loop-pass.kept c.try_pass.new.kept c.loop-pass.work.found c.try_pass.new.work.found
           (c.loop-pass.invariant.searched p) (tried p);
       made = below_more (IsPassMade (job_of c.args.at.now.job.now) c.args.at.now.count c.args.at.now.plan.now c.try_pass.new.kept) c.loop-pass.pass
@@ -82,11 +69,11 @@ pub returns-clause-fault : goal.returns-clause-fault
 returns-clause-fault g c =
     let j = job_of c.args.at.now.job.now in
     let e : c.loop-pass.pass ≡ length (passes_in j) = (let f = c.loop-pass-test.false in let l = c.loop-pass.auto.pass-end in let n = c.loop_passes-passes.ensures.count in omega (arith, f, l, n)) in
-    first_searched j c.args.at.now.first c.args.at.now.count c.loop-pass.work.found c.requires.within
-    (subst (λ (n : ℕ). IsSearched (λ q i. pass_fault j (c.args.at.now.first + q) i) c.args.at.now.first c.args.at.now.count n c.loop-pass.work.found) e (c.loop-pass.invariant.searched c.requires.plan).searched)
+    first_searched j c.args.at.now.first c.args.at.now.count c.loop-pass.work.found c.requires.turn.within
+    (subst (λ (n : ℕ). IsSearched (λ q i. pass_fault j (c.args.at.now.first + q) i) c.args.at.now.first c.args.at.now.count n c.loop-pass.work.found) e (c.loop-pass.invariant.searched c.requires.turn.plan).searched)
 
 pub returns-clause-made : goal.returns-clause-made
 returns-clause-made g c =
     let j = job_of c.args.at.now.job.now in
-    plan_made j c.requires.job.job c.args.at.now.count c.args.at.now.plan.now c.requires.plan c.loop-pass.kept
+    plan_made j c.requires.turn.fits.job c.args.at.now.count c.args.at.now.plan.now c.requires.turn.plan c.loop-pass.kept
     (λ n lt. c.loop-pass.invariant.made n (let f = c.loop-pass-test.false in let l = c.loop-pass.auto.pass-end in let m = c.loop_passes-passes.ensures.count in omega (arith, f, l, m, lt)))

@@ -1,16 +1,14 @@
-use Rattle.std.proofs.Common.{◌≡◌, ◌<◌, length, ℕ}
+use Rattle.std.proofs.Common.{◌≡◌, ◌<◌, ℕ}
 use Rattle.loop_keys.specs.Jobs.{job_of}
 use Rattle.block_passes.specs.Plans.{IsPlan}
-use Rattle.block_passes.specs.Spends.{Spends}
 use Rattle.block_passes.specs.Tries.{IsPassMade, IsSearchedTo}
+use Rattle.block_passes.specs.Turns.{Leaves}
 use Rattle.block_passes.proofs.passes.try_passes.Given as goal
 
 abbrev pub invariant-loop-pass : goal.invariant-loop-pass
 invariant-loop-pass g l = record {
   same : l.turn ≡ record l.at { pass = l.turn.pass };
-  spends : Spends (job_of l.at.job.now) l.at.first l.at.count l.fn.work.lanes.items l.work.lanes.items l.fn.steps l.steps;
-  scratch : length l.work.scratch.items ≡ length l.fn.work.scratch.items;
-  levels : length l.work.levels.items ≡ length l.fn.work.levels.items;
+  leaves : Leaves l.at l.fn.work l.work l.fn.steps l.steps;
   searched : (p : IsPlan (job_of l.at.job.now) l.at.plan.now) → IsSearchedTo (job_of l.at.job.now) l.at.first l.at.count p.chains l.pass l.work.lanes.items l.kept l.work.found;
   made : (n : ℕ) → n < l.pass → IsPassMade (job_of l.at.job.now) l.at.count l.at.plan.now l.kept n;
 }

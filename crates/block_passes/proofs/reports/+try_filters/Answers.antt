@@ -5,14 +5,12 @@ use Rattle.loop_keys.specs.Jobs.{job_of}
 use Rattle.block_passes.specs.Selections.{AreRemade}
 use Rattle.block_passes.specs.Tries.{IsNamedMade, IsTriedTo, filters_fault}
 use Rattle.block_passes.proofs.Remaking.{both_ok, named_stays, remade_then}
-use Rattle.block_passes.proofs.Spending.{spends_then}
+use Rattle.block_passes.proofs.Leaving.{leaves_then}
 use Rattle.block_passes.proofs.TriedFilters.{filters_tried}
 use Rattle.block_passes.proofs.reports.+try_filters.Goals as goal
 
-pub returns-in-Ok-clause-spends : goal.returns-in-Ok-clause-spends
-returns-in-Ok-clause-spends g t c =
-    spends_then (job_of c.args.at.now.job.now) c.args.at.now.first c.args.at.now.count c.args.work.now.lanes.items c.try_filter.new.work.lanes.items c.try_filters.new.work.lanes.items c.args.steps.now c.try_filter.new.steps c.try_filters.new.steps
-    c.try_filter.ensures.spends c.try_filters.ensures.spends
+pub returns-in-Ok-clause-leaves : goal.returns-in-Ok-clause-leaves
+returns-in-Ok-clause-leaves g t c = leaves_then _ _ _ _ _ _ _ c.try_filter.ensures.leaves c.try_filters.ensures.leaves
 
 pub returns-in-Ok-clause-tried : goal.returns-in-Ok-clause-tried
 returns-in-Ok-clause-tried g t c = λ p.

@@ -7,7 +7,7 @@ use Rattle.block_passes.specs.Selections.{AreRemade, IsNextSelected, IsReadyBelo
 use Rattle.block_passes.specs.declared.kept.Kept.{Kept as KeptView}
 use Rattle.block_passes.specs.declared.steps.Step.TheVariants as step
 use Rattle.block_passes.proofs.Remaking.{remade_set, remade_then}
-use Rattle.block_passes.proofs.Spending.{spends_then}
+use Rattle.block_passes.proofs.Leaving.{leaves_then}
 use Rattle.block_passes.proofs.StepCases.{chain_at, filter_selected, kept_inside, narrowed_selected, set_same, was_made, was_not, whole_selected}
 use Rattle.block_passes.proofs.StepSelecting.{narrowed_made}
 use Rattle.block_passes.proofs.select.+select_step.Goals as goal
@@ -27,7 +27,7 @@ returns-then-narrow-clause-selected g t c = λ p.
 pub select_step-requires : goal.select_step-requires
 select_step-requires g t c κs within =
     let j = job_of c.args.at.now.job.now in
-    let plan = c.requires.plan in
+    let plan = c.requires.turn.plan in
     let lt = kept_inside j c.args.at.now.first c.args.work.now.found.limit plan.chains c.args.at.now.plan.now.steps c.args.kept.now c.args.step plan.steps (c.requires.ready plan).kept_are c.requires.step in
     let old = get_or c.args.kept.now c.args.step c.index-kept-step.result in
     let there = slice_get-get_or c.args.kept.now c.args.step c.index-kept-step.result lt in
@@ -35,37 +35,8 @@ select_step-requires g t c κs within =
     let same : slice_set c.args.kept.now c.args.step c.narrow.new.self ≡ c.args.kept.now = ap (slice_set c.args.kept.now c.args.step) was ∙ set_same c.args.kept.now c.args.step old there in
     let filter = plan.steps.each c.args.step (step.Filter c.in-Filter.parent c.in-Filter.site c.in-Filter.under) (c.step.ensures ∙ ap Some c.in-Filter.is) in
     let before = filter.before in
-    let small = c.requires.step in (
-      omega (arith, before, c.decreases),
-      (
-        search rules,
-        (
-          c.requires.job,
-          (
-            c.requires.rows,
-            (
-              c.requires.small,
-              (
-                c.requires.few,
-                (
-                  c.requires.within,
-                  (
-                    plan,
-                    (
-                      c.requires.can,
-                      (
-                        omega (arith, before, small),
-                        λ p. subst (λ (ks : List KeptView). IsReadyBelow j c.args.at.now.first c.args.at.now.count p.chains c.args.work.now.found.limit c.args.work.now.lanes.items ks) (sym same) (c.requires.ready p),
-                      ),
-                    ),
-                  ),
-                ),
-              ),
-            ),
-          ),
-        ),
-      ),
-    )
+    let small = c.requires.step in
+    (omega (arith, before, c.decreases), (search rules, (c.requires.turn, (c.requires.can, (omega (arith, before, small), λ p. subst (λ (ks : List KeptView). IsReadyBelow j c.args.at.now.first c.args.at.now.count p.chains c.args.work.now.found.limit c.args.work.now.lanes.items ks) (sym same) (c.requires.ready p))))))
 
 pub returns-in-Block-clause-selected : goal.returns-in-Block-clause-selected
 returns-in-Block-clause-selected g t c = λ p.
@@ -81,10 +52,8 @@ returns-in-Block-clause-selected g t c = λ p.
     (slice_set (slice_set c.args.kept.now c.args.step c.narrow.new.self) c.args.step c.select_first.new.self) c.args.work.now.found ready
     c.select_first.new.self c.select_first.ensures.limit c.select_first.ensures.places (ap (λ (ks : List KeptView). slice_set ks c.args.step c.select_first.new.self) same)
 
-pub returns-in-Ok-clause-spends : goal.returns-in-Ok-clause-spends
-returns-in-Ok-clause-spends g t c =
-    spends_then (job_of c.args.at.now.job.now) c.args.at.now.first c.args.at.now.count c.args.work.now.lanes.items c.select_step.new.work.lanes.items c.next_places.new.work.lanes.items c.args.steps.now c.select_step.new.steps c.next_places.new.steps
-    c.select_step.ensures.spends c.next_places.ensures.spends
+pub returns-in-Ok-clause-leaves : goal.returns-in-Ok-clause-leaves
+returns-in-Ok-clause-leaves g t c = leaves_then _ _ _ _ _ _ _ c.select_step.ensures.leaves c.next_places.ensures.leaves
 
 pub returns-in-Ok-clause-selected : goal.returns-in-Ok-clause-selected
 returns-in-Ok-clause-selected g t c = λ p.
@@ -100,7 +69,7 @@ returns-in-Ok-clause-selected g t c = λ p.
 pub returns-then-narrow-clause-remade : goal.returns-then-narrow-clause-remade
 returns-then-narrow-clause-remade g t c =
     let j = job_of c.args.at.now.job.now in
-    let plan = c.requires.plan in
+    let plan = c.requires.turn.plan in
     let ready = c.requires.ready plan in
     let within = ready.within in
     let lt = kept_inside j c.args.at.now.first c.args.work.now.found.limit plan.chains c.args.at.now.plan.now.steps c.args.kept.now c.args.step plan.steps ready.kept_are c.requires.step in
@@ -114,7 +83,7 @@ returns-then-narrow-clause-remade g t c =
 pub returns-in-Block-clause-remade : goal.returns-in-Block-clause-remade
 returns-in-Block-clause-remade g t c =
     let j = job_of c.args.at.now.job.now in
-    let plan = c.requires.plan in
+    let plan = c.requires.turn.plan in
     let ready = c.requires.ready plan in
     let within = ready.within in
     let lt = kept_inside j c.args.at.now.first c.args.work.now.found.limit plan.chains c.args.at.now.plan.now.steps c.args.kept.now c.args.step plan.steps ready.kept_are c.requires.step in
@@ -128,7 +97,7 @@ returns-in-Block-clause-remade g t c =
 pub returns-in-Ok-clause-remade : goal.returns-in-Ok-clause-remade
 returns-in-Ok-clause-remade g t c =
     let j = job_of c.args.at.now.job.now in
-    let plan = c.requires.plan in
+    let plan = c.requires.turn.plan in
     let ready = c.requires.ready plan in
     let within = ready.within in
     let lt = kept_inside j c.args.at.now.first c.args.work.now.found.limit plan.chains c.args.at.now.plan.now.steps c.args.kept.now c.args.step plan.steps ready.kept_are c.requires.step in

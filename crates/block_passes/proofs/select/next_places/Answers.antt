@@ -13,12 +13,12 @@ use Rattle.block_passes.proofs.select.next_places.Goals as goal
 
 pub filter_places-requires-clause-site : goal.filter_places-requires-clause-site
 filter_places-requires-clause-site g c =
-    let p = c.requires.plan in
+    let p = c.requires.turn.plan in
     let s = p.steps.each c.args.next.step (step.Filter c.args.next.parent c.args.next.filter.site c.args.next.filter.under) c.requires.step in
-    site_there (job_of c.args.at.now.job.now) c.requires.job.job (longer s.up c.args.next.filter.site c.args.next.filter.under) s.up.sites c.args.next.filter.site refl (p.tried c.args.next.step _ s.own)
+    site_there (job_of c.args.at.now.job.now) c.requires.turn.fits.job (longer s.up c.args.next.filter.site c.args.next.filter.under) s.up.sites c.args.next.filter.site refl (p.tried c.args.next.step _ s.own)
 
-pub filter_places-requires-clause-ready : goal.filter_places-requires-clause-ready
-filter_places-requires-clause-ready g c = (c.requires.ready c.requires.plan).ready
+pub filter_places-requires-clause-known : goal.filter_places-requires-clause-known
+filter_places-requires-clause-known g c = let r = c.requires.ready c.requires.turn.plan in record { turn = c.requires.turn; ready = r.ready; limit = r.within; settled = r.settled }
 
 pub filter_places-requires-clause-can : goal.filter_places-requires-clause-can
 filter_places-requires-clause-can g c = c.requires.can.each c.args.next.step c.args.next.parent c.args.next.filter.site c.args.next.filter.under c.requires.step
@@ -26,47 +26,45 @@ filter_places-requires-clause-can g c = c.requires.can.each c.args.next.step c.a
 pub filter_places-requires-clause-truth : goal.filter_places-requires-clause-truth
 filter_places-requires-clause-truth g c = c.requires.can.truths c.args.next.step c.args.next.parent c.args.next.filter.site c.args.next.filter.under c.requires.step
 
-pub filter_places-requires-clause-limit : goal.filter_places-requires-clause-limit
-filter_places-requires-clause-limit g c = (c.requires.ready c.requires.plan).within
-
-pub filter_places-requires-clause-settled : goal.filter_places-requires-clause-settled
-filter_places-requires-clause-settled g c = (c.requires.ready c.requires.plan).settled
-
 pub bounds-above-next : goal.bounds-above-next
 bounds-above-next g c =
-    let s = c.requires.plan.steps.each c.args.next.step (step.Filter c.args.next.parent c.args.next.filter.site c.args.next.filter.under) c.requires.step in
+    let s = c.requires.turn.plan.steps.each c.args.next.step (step.Filter c.args.next.parent c.args.next.filter.site c.args.next.filter.under) c.requires.step in
     let b = s.before in
     let l = c.requires.above in
     omega (arith, b, l)
 
 pub filter_places-requires-clause-inside : goal.filter_places-requires-clause-inside
 filter_places-requires-clause-inside g c =
-    let s = c.requires.plan.steps.each c.args.next.step (step.Filter c.args.next.parent c.args.next.filter.site c.args.next.filter.under) c.requires.step in
+    let s = c.requires.turn.plan.steps.each c.args.next.step (step.Filter c.args.next.parent c.args.next.filter.site c.args.next.filter.under) c.requires.step in
     let lt : c.args.next.parent < length c.args.above.now = (let b = s.before in let l = c.requires.above in omega (arith, b, l)) in
     let here = slice_get_read c.args.above.now (length c.args.above.now) c.args.next.parent c.index-above-next.result refl lt c.index-above-next.is in
-    from_inside (job_of c.args.at.now.job.now) c.requires.job.job c.args.at.now.first c.args.at.now.count c.args.at.now.pass c.args.at.now.plan.now c.requires.plan c.args.next.step c.args.next.parent c.args.next.filter.site c.args.next.filter.under c.requires.step
-    c.requires.within c.args.above.now c.args.own.now c.index-above-next.result here c.requires.above c.args.work.now.lanes.items c.args.work.now.found (c.requires.ready c.requires.plan)
+    from_inside (job_of c.args.at.now.job.now) c.requires.turn.fits.job c.args.at.now.first c.args.at.now.count c.args.at.now.pass c.args.at.now.plan.now c.requires.turn.plan c.args.next.step c.args.next.parent c.args.next.filter.site c.args.next.filter.under c.requires.step
+    c.requires.turn.within c.args.above.now c.args.own.now c.index-above-next.result here c.requires.above c.args.work.now.lanes.items c.args.work.now.found (c.requires.ready c.requires.turn.plan)
     (c.requires.made c.index-above-next.result (kept_at c.args.above.now c.args.own.now c.args.next.parent c.index-above-next.result here))
 
-pub returns-clause-spends : goal.returns-clause-spends
-returns-clause-spends g c =
-    let s = c.requires.plan.steps.each c.args.next.step (step.Filter c.args.next.parent c.args.next.filter.site c.args.next.filter.under) c.requires.step in
+pub returns-clause-leaves : goal.returns-clause-leaves
+returns-clause-leaves g c =
+    let s = c.requires.turn.plan.steps.each c.args.next.step (step.Filter c.args.next.parent c.args.next.filter.site c.args.next.filter.under) c.requires.step in
     let lt : c.args.next.parent < length c.args.above.now = (let b = s.before in let l = c.requires.above in omega (arith, b, l)) in
     let here = slice_get_read c.args.above.now (length c.args.above.now) c.args.next.parent c.index-above-next.result refl lt c.index-above-next.is in
-    next_spends (job_of c.args.at.now.job.now) c.requires.job.job c.args.at.now.first c.args.at.now.count c.args.at.now.pass c.args.at.now.plan.now c.requires.plan c.args.next.step c.args.next.parent c.args.next.filter.site c.args.next.filter.under c.requires.step
-    c.requires.within c.args.above.now c.args.own.now c.index-above-next.result here c.requires.above c.args.work.now.lanes.items c.args.work.now.found (c.requires.ready c.requires.plan)
-    (c.requires.made c.index-above-next.result (kept_at c.args.above.now c.args.own.now c.args.next.parent c.index-above-next.result here))
-    c.filter_places.new.work.lanes.items _ _ c.filter_places.ensures.spent
+    record {
+      spends = next_spends (job_of c.args.at.now.job.now) c.requires.turn.fits.job c.args.at.now.first c.args.at.now.count c.args.at.now.pass c.args.at.now.plan.now c.requires.turn.plan c.args.next.step c.args.next.parent c.args.next.filter.site c.args.next.filter.under c.requires.step
+          c.requires.turn.within c.args.above.now c.args.own.now c.index-above-next.result here c.requires.above c.args.work.now.lanes.items c.args.work.now.found (c.requires.ready c.requires.turn.plan)
+          (c.requires.made c.index-above-next.result (kept_at c.args.above.now c.args.own.now c.args.next.parent c.index-above-next.result here))
+          c.filter_places.new.work.lanes.items _ _ c.filter_places.ensures.spent;
+      scratch = c.filter_places.ensures.room.scratch;
+      levels = c.filter_places.ensures.room.levels;
+    }
 
 pub returns-clause-selected : goal.returns-clause-selected
 returns-clause-selected g c = λ p.
-    let s = c.requires.plan.steps.each c.args.next.step (step.Filter c.args.next.parent c.args.next.filter.site c.args.next.filter.under) c.requires.step in
+    let s = c.requires.turn.plan.steps.each c.args.next.step (step.Filter c.args.next.parent c.args.next.filter.site c.args.next.filter.under) c.requires.step in
     let lt : c.args.next.parent < length c.args.above.now = (let b = s.before in let l = c.requires.above in omega (arith, b, l)) in
     let here = slice_get_read c.args.above.now (length c.args.above.now) c.args.next.parent c.index-above-next.result refl lt c.index-above-next.is in
     on_ok_weaker c.filter_places.result
     (λ (h : IsFilteredTo (job_of c.args.at.now.job.now) c.args.at.now.first c.args.at.now.count c.args.next.filter.under c.args.next.filter.site c.args.at.now.pass c.index-above-next.result.places c.filter_places.new.to c.filter_places.new.work.lanes.items c.args.work.now.found c.filter_places.new.work.found).
-    next_selected (job_of c.args.at.now.job.now) c.requires.job.job c.args.at.now.first c.args.at.now.count c.args.at.now.pass c.args.at.now.plan.now p c.args.next.step c.args.next.parent c.args.next.filter.site c.args.next.filter.under c.requires.step
-    c.requires.within c.args.above.now c.args.own.now c.index-above-next.result here c.requires.above c.args.work.now.lanes.items c.args.work.now.found (c.requires.ready p)
+    next_selected (job_of c.args.at.now.job.now) c.requires.turn.fits.job c.args.at.now.first c.args.at.now.count c.args.at.now.pass c.args.at.now.plan.now p c.args.next.step c.args.next.parent c.args.next.filter.site c.args.next.filter.under c.requires.step
+    c.requires.turn.within c.args.above.now c.args.own.now c.index-above-next.result here c.requires.above c.args.work.now.lanes.items c.args.work.now.found (c.requires.ready p)
     (c.requires.made c.index-above-next.result (kept_at c.args.above.now c.args.own.now c.args.next.parent c.index-above-next.result here))
     c.filter_places.new.to _ c.filter_places.new.work.lanes.items c.filter_places.new.work.found h refl c.requires.own)
     c.filter_places.ensures.filtered
@@ -76,12 +74,12 @@ returns-clause-remade g c =
     on_ok_weaker c.filter_places.result
     (λ (h : IsFilteredTo (job_of c.args.at.now.job.now) c.args.at.now.first c.args.at.now.count c.args.next.filter.under c.args.next.filter.site c.args.at.now.pass c.index-above-next.result.places c.filter_places.new.to c.filter_places.new.work.lanes.items c.args.work.now.found c.filter_places.new.work.found).
     remade_behind c.args.at.now.count c.args.above.now c.args.own.now c.filter_places.new.to _ refl
-    (c.filter_places.new.work.found.limit, h.its_limit, (let falls = h.lowers.falls in let within = (c.requires.ready c.requires.plan).within in omega (arith, falls, within))))
+    (c.filter_places.new.work.found.limit, h.its_limit, (let falls = h.lowers.falls in let within = (c.requires.ready c.requires.turn.plan).within in omega (arith, falls, within))))
     c.filter_places.ensures.filtered
 
 pub returns-clause-plain : goal.returns-clause-plain
 returns-clause-plain g c = λ loop.
-    let p = c.requires.plan in
+    let p = c.requires.turn.plan in
     let s = p.steps.each c.args.next.step (step.Filter c.args.next.parent c.args.next.filter.site c.args.next.filter.under) c.requires.step in
     c.filter_places.ensures.plain loop.used loop.sites
-    (site_used (job_of c.args.at.now.job.now) c.requires.job.job (longer s.up c.args.next.filter.site c.args.next.filter.under) s.up.sites c.args.next.filter.site refl loop (p.tried c.args.next.step _ s.own))
+    (site_used (job_of c.args.at.now.job.now) c.requires.turn.fits.job (longer s.up c.args.next.filter.site c.args.next.filter.under) s.up.sites c.args.next.filter.site refl loop (p.tried c.args.next.step _ s.own))

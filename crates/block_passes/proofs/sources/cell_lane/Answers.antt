@@ -16,7 +16,7 @@ vects-requires g c =
 pub returns-in-Vect : goal.returns-in-Vect
 returns-in-Vect g c = λ p low.
     let rows = c.args.at.now.job.now.columns.now.table.rows in
-    let within = c.requires.within in
+    let within = c.requires.turn.within in
     let inside : c.args.at.now.first + p < length rows = omega (arith, low, within) in
     record {
       there = vector_there rows c.args.col c.vects.result.now c.vects.ensures (c.args.at.now.first + p) inside;

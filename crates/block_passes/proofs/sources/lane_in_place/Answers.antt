@@ -31,12 +31,12 @@ returns-in-Cell-clause-given g c = λ p low hand.
 pub key_lane-requires : goal.key_lane-requires
 key_lane-requires g c =
     let can = c.requires.can in
-    key_inside (job_of c.args.at.now.job.now) c.args.at.now.first c.args.at.now.count c.args.under (kinds_of c.args.lanes.now) c.args.at.now.cells.now can.0 can.1 _ can.2.1 c.in-Key.key (c.place.ensures ∙ c.in-Key.is) c.args.lanes.now c.requires.ready
+    key_inside (job_of c.args.at.now.job.now) c.args.at.now.first c.args.at.now.count c.args.under (kinds_of c.args.lanes.now) c.args.at.now.cells.now can.0 can.1 _ can.2.1 c.in-Key.key (c.place.ensures ∙ c.in-Key.is) c.args.lanes.now c.requires.over.ready
 
 pub returns-in-Key-clause-given : goal.returns-in-Key-clause-given
 returns-in-Key-clause-given g c =
     let can = c.requires.can in
-    lanes_give (job_of c.args.at.now.job.now) c.args.at.now.first c.args.at.now.count c.args.under (kinds_of c.args.lanes.now) c.args.at.now.cells.now can.0 can.1 _ can.2.1 c.in-Key.key (c.place.ensures ∙ c.in-Key.is) c.args.lanes.now c.requires.ready c.key_lane.result c.key_lane.ensures.given
+    lanes_give (job_of c.args.at.now.job.now) c.args.at.now.first c.args.at.now.count c.args.under (kinds_of c.args.lanes.now) c.args.at.now.cells.now can.0 can.1 _ can.2.1 c.in-Key.key (c.place.ensures ∙ c.in-Key.is) c.args.lanes.now c.requires.over.ready c.key_lane.result c.key_lane.ensures.given
 
 pub returns-in-Key-clause-whole : goal.returns-in-Key-clause-whole
 returns-in-Key-clause-whole g c = λ whole none.

@@ -9,16 +9,16 @@ use Rattle.block_passes.proofs.testing.test_feeding.Goals as goal
 pub note-requires : goal.note-requires
 note-requires g c = λ x q.
     let i = fault_selected (unfed (job_of c.args.at.now.job.now) c.args.at.now.first c.args.own.now.kind.now c.args.own.now.inputs.now c.args.own.now.under) c.args.to.now.places c.as_slice-rising.ensures.rising c.in_ok-fault.fault c.in_ok-fault.ensures.fault x q in
-    let l = c.requires.inside x.place i in
-    let le = c.requires.limit in
-    let few = c.requires.few in
+    let l = c.requires.selected.inside x.place i in
+    let le = c.requires.known.limit in
+    let few = c.requires.known.turn.few in
     omega (arith, l, le, few)
 
 pub returns-clause-tested : goal.returns-clause-tested
 returns-clause-tested g c =
     part_served (job_of c.args.at.now.job.now) c.args.at.now.first c.args.at.now.count (unfed (job_of c.args.at.now.job.now) c.args.at.now.first c.args.own.now.kind.now c.args.own.now.inputs.now c.args.own.now.under) c.args.at.now.pass c.args.to.now c.narrow-made.new.self c.args.work.now.lanes.items c.args.work.now.found c.note.new.self
-    c.in_ok-fault.fault c.requires.ready c.requires.settled c.as_slice-rising.ensures.rising c.requires.inside c.in_ok-fault.ensures.fault c.note.ensures
-    c.requires.made (c.narrow-made.ensures.some c.args.work.now.found.limit c.requires.made).1
+    c.in_ok-fault.fault c.requires.known.ready c.requires.known.settled c.as_slice-rising.ensures.rising c.requires.selected.inside c.in_ok-fault.ensures.fault c.note.ensures
+    c.requires.selected.made (c.narrow-made.ensures.some c.args.work.now.found.limit c.requires.selected.made).1
 
 pub returns-in_err-fault-clause-plain : goal.returns-in_err-fault-clause-plain
 returns-in_err-fault-clause-plain g c = λ used p sources. absurd (c.in_err-fault.ensures.plain used p sources)
@@ -26,7 +26,7 @@ returns-in_err-fault-clause-plain g c = λ used p sources. absurd (c.in_err-faul
 pub returns-then-own-lt2-clause-tested : goal.returns-then-own-lt2-clause-tested
 returns-then-own-lt2-clause-tested g c =
     part_served (job_of c.args.at.now.job.now) c.args.at.now.first c.args.at.now.count (unfed (job_of c.args.at.now.job.now) c.args.at.now.first c.args.own.now.kind.now c.args.own.now.inputs.now c.args.own.now.under) c.args.at.now.pass c.args.to.now c.args.to.now c.args.work.now.lanes.items c.args.work.now.found c.args.work.now.found
-    None c.requires.ready c.requires.settled c.as_slice-rising.ensures.rising c.requires.inside
+    None c.requires.known.ready c.requires.known.settled c.as_slice-rising.ensures.rising c.requires.selected.inside
     (none_over (unfed (job_of c.args.at.now.job.now) c.args.at.now.first c.args.own.now.kind.now c.args.own.now.inputs.now c.args.own.now.under) c.args.to.now.places
     (λ p. few_fed c.args.own.now.kind.now (version_in {M = ⊥} (job_of c.args.at.now.job.now) (c.args.at.now.first + p) c.args.own.now.under) c.args.own.now.inputs.now (omega arith)))
-    refl c.requires.made (inl (omega arith, refl))
+    refl c.requires.selected.made (inl (omega arith, refl))

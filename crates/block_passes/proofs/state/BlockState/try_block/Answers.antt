@@ -32,7 +32,7 @@ returns-clause-state g c =
     let is = with_items_is c.self.inside.kept c.try_begun.new.kept (omega (arith, len, many, same)) in
     state_stays (job_of c.args.job.now) (the_view c.self.inside) c.try_begun.new.work.lanes.items (length c.try_begun.new.work.scratch.items) (length c.try_begun.new.work.levels.items) c.try_begun.new.work.found (with_items c.self.inside.kept c.try_begun.new.kept).items
     (subst (λ (s : StateView). IsStateOf (job_of c.args.job.now) s) (sym c.self.view_is) c.begin.ensures.state)
-    c.try_begun.ensures.kinds c.try_begun.ensures.rooms c.try_begun.ensures.scratch c.try_begun.ensures.levels (ap length is ∙ many ∙ same)
+    c.try_begun.ensures.kinds c.try_begun.ensures.rooms c.try_begun.ensures.room.scratch c.try_begun.ensures.room.levels (ap length is ∙ many ∙ same)
 
 pub returns-clause-tried : goal.returns-clause-tried
 returns-clause-tried g c =
