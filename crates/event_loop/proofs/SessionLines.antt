@@ -1,5 +1,5 @@
 -- The lines of what a session filled.
-use Rattle.std.proofs.Common.{◌≡◌, ◌⊎◌, inl, inr, ℕ, zero, suc, ◌+◌, ◌<◌, ◌≤◌, ◌^◌, Bool, true, false, List, [], ◌∷◌, ◌++◌, length, map, Option, Some, None, refl, sym, ◌∙◌, ap, ap₂, subst, arith, if◌then◌else◌, append-nil, append_assoc}
+use Rattle.std.proofs.Common.{◌≡◌, ◌⊎◌, inl, inr, ℕ, ◌+◌, ◌<◌, ◌≤◌, ◌^◌, Bool, true, false, List, [], ◌∷◌, ◌++◌, length, map, Option, Some, None, refl, sym, ◌∙◌, ap, ap₂, subst, arith, if◌then◌else◌, append-nil, append_assoc}
 use Rattle.std.specs.Prelude.{Result, Ok, Err, OnOk, All, flat_map, option_map, slice_get, unwrap_or}
 use Rattle.std.proofs.lemmas.List.{length-map}
 use Rattle.lemmas.proofs.Places.{something_at}
