@@ -110,24 +110,54 @@ judge "the same with slots" 0 "n = 20000
 s = 199990000
 l = 19999"
 # Slots read such a table in pieces, and a cluster may stand in two of them. What is due is worked out by awk.
-awk 'BEGIN { print "x:int,v:vec,k:cut"
-    for (i = 0; i < 30000; i++) {
-        v = ""
-        for (j = 0; j < i % 4; j++) v = v (j ? ";" : "") i - j * 20000
-        print i * i % 70001 "," v "," (i % 9999 == 5)
-    } }' >pieces.csv
+make_pieces() { # ENTRIES
+    awk -v entries="$1" 'BEGIN { print "x:int,v:vec,k:cut"
+        for (i = 0; i < entries; i++) {
+            v = ""
+            for (j = 0; j < i % 4; j++) v = v (j ? ";" : "") i - j * 20000
+            print i * i % 70001 "," v "," (i % 9999 == 5)
+        } }'
+}
+due_to_pieces() { # TABLE
+    awk -F , 'NR > 1 {
+        n = split($2, v, ";"); load = 0
+        for (j = 1; j <= n; j++) load += v[j]
+        s += $1; all += load
+        if ($1 % 2000 == 7) { t = t " " $1; l = l " " load }
+    } END { printf "t =%s\nl =%s\ns = %.0f\nall = %.0f", t, l, s, all }' "$1"
+}
 printf 'd = df.Define("load", "Sum(v)")\nfew = d.Filter("x %% 2000 == 7")\nt = few.Take("x")\nl = few.Take("load")
 s = df.Sum("x")\nall = df.Sum("v")\nPrint(t)\nPrint(l)\nPrint(s)\nPrint(all)\n' >pieces.txt
-due=$(awk -F , 'NR > 1 {
-    n = split($2, v, ";"); load = 0
-    for (j = 1; j <= n; j++) load += v[j]
-    s += $1; all += load
-    if ($1 % 2000 == 7) { t = t " " $1; l = l " " load }
-} END { printf "t =%s\nl =%s\ns = %d\nall = %d", t, l, s, all }' pieces.csv)
+make_pieces 30000 >pieces.csv
+due=$(due_to_pieces pieces.csv)
 for slots in 1 2 3 5 16; do
     run pieces.txt pieces.csv --slots $slots --cluster 1777
     judge "a table in the pieces of $slots slots" 0 "$due"
 done
+# A file of 1 MB and more is read in parts side by side, which are cut anywhere: in a cell, or between CR and LF.
+make_pieces 250000 >parts.csv
+[ "$(wc -c <parts.csv)" -gt 4194304 ] || { echo "the table in parts is short"; failed=$((failed + 1)); }
+due=$(due_to_pieces parts.csv)
+awk '{ printf "%s\r\n", $0 }' parts.csv >crlf.csv
+awk -F , -v OFS=, 'NR == 150000 { $1 = "\"" $1 "\"" } { print }' parts.csv >quoted.csv
+awk 'NR > 1 { printf "\n" } { printf "%s", $0 }' parts.csv >open_end.csv
+for table in parts crlf quoted open_end; do
+    for slots in 1 2 3 5 16; do
+        run pieces.txt $table.csv --slots $slots
+        judge "$table.csv in parts by $slots slots" 0 "$due"
+    done
+done
+{ cat parts.csv; echo "x,,0"; } >bad_end.csv
+run pieces.txt bad_end.csv --slots 4
+judge "a bad cell at the end of the last part" 7 "table refused at entry 250000 field 0: B3 BadInt"
+if [ -e /dev/stdin ]; then
+    cat parts.csv | "$program" pieces.txt /dev/stdin --slots 4 >out 2>err
+    echo $? >status
+    judge "a table from a pipe, which has no length" 0 "$due"
+else
+    skip "a table from a pipe: there is no /dev/stdin"
+fi
+rm -f parts.csv crlf.csv quoted.csv open_end.csv bad_end.csv
 awk 'BEGIN { print "x:int"; for (i = 0; i < 20000; i++) print i; print "x" }' >long_bad.csv
 run sum.txt long_bad.csv
 judge "a bad cell at the end of a long table" 7 "table refused at entry 20000 field 0: B3 BadInt"
