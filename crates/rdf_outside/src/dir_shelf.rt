@@ -1,34 +1,16 @@
 // The files of a folder.
-ghost use Rattle.std.specs.Prelude.{None, [], ◌≡◌, ◌≤◌, ◌∷◌, ◌++◌, IfSome};
+ghost use Rattle.std.specs.Prelude.{None, [], ◌≡◌, ◌∷◌, ◌++◌};
 
 use crate::failed::Failed;
-use crate::ranges::read_ranges;
+use crate::file_parts::FileParts;
 use crate::shelf::{Shelf, TurnStop};
 use crate::std_answers::{open_answer, read_from};
 use crate::turns::Turns;
 use rdf_values::Bytes;
 use std::alloc::Global;
 use std::fs;
-use std::fs::OpenFile;
-use std::io::{Read, Seek};
 use std::rt::Files;
 use std::thread::Threads;
-
-// The length of the file, where none of it was read.
-fn whole_len<F: OpenFile + Seek>(file: &mut F, max: usize) -> Option<usize>
-    ensures { IfSome result (λ len. len ≤ max) }
-{
-    let Ok(0) = file.stream_position() else {
-        return None;
-    };
-    let Ok(metadata) = file.metadata() else {
-        return None;
-    };
-    if metadata.len() > max as u64 {
-        return None;
-    }
-    Some(metadata.len() as usize)
-}
 
 /// The files of the folder that the program runs in. It tells no bytes.
 #[derive(Drop)]
@@ -54,7 +36,10 @@ impl<'a, R: Files> DirShelf<'a, R> {
     }
 }
 
-impl<R: Files<File = fs::File>> Shelf for DirShelf<'_, R> {
+impl<R: Files> Shelf for DirShelf<'_, R>
+where
+    R::File: FileParts,
+{
     ghost use Rattle.rdf_outside.specs.Answers.{KeepsFound, ReadsOn};
     ghost use Rattle.rdf_outside.specs.Outside.{HasCause, ReadsFrom, TurnHasCause};
 
@@ -80,7 +65,7 @@ impl<R: Files<File = fs::File>> Shelf for DirShelf<'_, R> {
 
     fn read(&mut self, buf: &mut [u8]) -> Result<usize, Failed>
         ensures turns { self.new.turns.names ≡ self.old.turns.names }
-        ensures bytes { ReadsOn ⟦<fs::File as Read>⟧.remaining self.old.file self.new.file result buf.new }
+        ensures bytes { ReadsOn R.File.remaining self.old.file self.new.file result buf.new }
         ensures within { ReadsFrom None None result buf.new }
         ensures cause { HasCause self.old.faults self.new.faults result }
     {
@@ -90,7 +75,6 @@ impl<R: Files<File = fs::File>> Shelf for DirShelf<'_, R> {
         read_from(file, buf, &mut self.faults)
     }
 
-    // A range is read wherever the file's position is; so where one fails, the file can still be read from its start.
     fn read_side_by_side<T: Threads + Sync>(
         &mut self,
         rt: &T,
@@ -99,8 +83,7 @@ impl<R: Files<File = fs::File>> Shelf for DirShelf<'_, R> {
         slots: u32,
     ) -> Option<Vec<Bytes>> {
         let file = self.file.as_mut()?;
-        let len = whole_len(file, max)?;
-        let parts = read_ranges(rt, alloc, file, len, slots)?;
+        let parts = file.read_parts(rt, alloc, max, slots)?;
         self.file = None;
         Some(parts)
     }

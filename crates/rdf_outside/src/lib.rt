@@ -5,6 +5,7 @@
 mod call_list;
 mod dir_shelf;
 mod failed;
+mod file_parts;
 mod gate;
 mod memory_shelf;
 mod memory_sink;
@@ -19,6 +20,7 @@ mod word_list;
 
 pub use crate::dir_shelf::DirShelf;
 pub use crate::failed::Failed;
+pub use crate::file_parts::FileParts;
 pub use crate::gate::{Gate, OpenGate};
 pub use crate::memory_shelf::MemoryShelf;
 pub use crate::memory_sink::MemorySink;
