@@ -137,14 +137,14 @@ done
 # A file of 1 MB and more is read in parts side by side, which are cut anywhere: in a cell, or between CR and LF.
 make_pieces 250000 >parts.csv
 [ "$(wc -c <parts.csv)" -gt 4194304 ] || { echo "the table in parts is short"; failed=$((failed + 1)); }
-due=$(due_to_pieces parts.csv)
+due_to_parts=$(due_to_pieces parts.csv)
 awk '{ printf "%s\r\n", $0 }' parts.csv >crlf.csv
 awk -F , -v OFS=, 'NR == 150000 { $1 = "\"" $1 "\"" } { print }' parts.csv >quoted.csv
 awk 'NR > 1 { printf "\n" } { printf "%s", $0 }' parts.csv >open_end.csv
 for table in parts crlf quoted open_end; do
     for slots in 1 2 3 5 16; do
         run pieces.txt $table.csv --slots $slots
-        judge "$table.csv in parts by $slots slots" 0 "$due"
+        judge "$table.csv in parts by $slots slots" 0 "$due_to_parts"
     done
 done
 { cat parts.csv; echo "x,,0"; } >bad_end.csv
@@ -153,7 +153,7 @@ judge "a bad cell at the end of the last part" 7 "table refused at entry 250000 
 if [ -e /dev/stdin ]; then
     cat parts.csv | "$program" pieces.txt /dev/stdin --slots 4 >out 2>err
     echo $? >status
-    judge "a table from a pipe, which has no length" 0 "$due"
+    judge "a table from a pipe, which has no length" 0 "$due_to_parts"
 else
     skip "a table from a pipe: there is no /dev/stdin"
 fi
@@ -350,8 +350,11 @@ threads() {
     for slots in 1 3 16; do
         run_counted s.txt wide.csv --slots $slots
         judge "a wide table with $slots slots" 0 "n = 100000"
-        [ "$most" -gt 0 ] && [ "$most" -le $slots ] && [ $slots -eq 1 -o "$most" -gt 1 ] && echo "at most $slots threads" >out || echo "$most threads" >out
-        judge "threads of $slots slots" 0 "at most $slots threads"
+        # While several slots pack a table, one thread more gives its bytes back.
+        limit=$slots
+        [ $slots -eq 1 ] || limit=$((slots + 1))
+        [ "$most" -gt 0 ] && [ "$most" -le $limit ] && [ $slots -eq 1 -o "$most" -gt 1 ] && echo "at most $limit threads" >out || echo "$most threads" >out
+        judge "threads of $slots slots" 0 "at most $limit threads"
     done
     rm -f wide.csv
 }
