@@ -11,6 +11,7 @@ use crate::marked_pieces::MarkedPieces;
 use crate::parts::{Parts, whole_lines};
 use crate::refusal::TableRefusal;
 use crate::slots::{read_parts, read_table_in_slots};
+use crate::texts::Text;
 use columns::Columns;
 use rdf_values::{Bytes, Memory};
 use std::alloc::Global;
@@ -30,8 +31,26 @@ fn read_owned<R: Threads + Sync>(
     read_table_in_slots(rt, alloc, bytes.as_slice(), slots)
 }
 
-// The table's columns. The parts that it was read from go, with several slots while it is packed.
-fn pack_as_parts_go<R: Threads + Sync>(
+// Gives texts' bytes back, by at most so many threads.
+fn give_back<R: Threads + Sync>(rt: &R, mut texts: Vec<Text>, slots: u32) {
+    if slots < 2 {
+        return;
+    }
+    let Some(last) = texts.pop() else {
+        return;
+    };
+    let others = slots - 1;
+    join(
+        rt,
+        move ||
+            requires { IsSync R.row }
+        { give_back(rt, texts, others) },
+        move || drop(last),
+    );
+}
+
+// The table's columns. The parts that it was read from go before.
+fn pack_parts<R: Threads + Sync>(
     rt: &R,
     alloc: Global,
     marked: MarkedPieces,
@@ -43,19 +62,9 @@ fn pack_as_parts_go<R: Threads + Sync>(
     requires size { 1 ≤ size }
     ensures { IfOk result (λ columns. columns ≡ columns_over (record { table = marked.table; marks = marked.marks }) size) }
 {
-    if slots < 2 {
-        drop(parts);
-        return marked.into_columns(rt, alloc, size, slots);
-    }
-    let (columns, ()) = join(
-        rt,
-        move || -> Result<Columns, Memory>
-            requires { IsSync R.row × (1 ≤ size) × All (λ e. e < length marked.table.rows) marked.marks }
-            ensures { IfOk result (λ columns. columns ≡ columns_over (record { table = marked.table; marks = marked.marks }) size) }
-        { marked.into_columns(rt, alloc, size, slots) },
-        move || drop(parts),
-    );
-    columns
+    give_back(rt, parts.lines, slots);
+    drop(parts.last);
+    marked.into_columns(rt, alloc, size, slots)
 }
 
 /// The columns of the table that CSV bytes spell, given in parts that are cut anywhere. The table is cut at its marks into
@@ -77,7 +86,7 @@ pub fn read_columns<R: Threads + Sync>(
     if parts.len() > 1 {
         let parts = whole_lines(alloc, parts)?;
         let marked = read_parts(rt, alloc, &parts, slots)?;
-        return Ok(pack_as_parts_go(rt, alloc, marked, parts, size, slots)?);
+        return Ok(pack_parts(rt, alloc, marked, parts, size, slots)?);
     }
     let bytes = match parts.pop() {
         Some(bytes) => bytes,
