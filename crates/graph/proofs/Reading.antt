@@ -188,15 +188,6 @@ module _ (g : GraphView) (t : Tables) (r : Rows) (l : LoopTables) (w : List Bool
     pub kind_is : option_map (λ (x : ResultAt). kind_of_booking x.booked.booking) (slice_get (graph_results g) n) ≡ Some row.kind
     kind_is = of_mapped result_path (λ (p : ResultPath). p.kind) (graph_results g) r.results.items n row h.rows.results q
 
-    pub filters_is : option_map (λ (x : ResultAt). x.filters) (slice_get (graph_results g) n) ≡ Some row.filters
-    filters_is = of_mapped result_path (λ (p : ResultPath). p.filters) (graph_results g) r.results.items n row h.rows.results q
-
-    pub inputs_is : option_map (λ (x : ResultAt). x.inputs) (slice_get (graph_results g) n) ≡ Some row.inputs
-    inputs_is = of_mapped result_path (λ (p : ResultPath). p.inputs) (graph_results g) r.results.items n row h.rows.results q
-
-    pub covers_is : option_map (λ (x : ResultAt). x.covers) (slice_get (graph_results g) n) ≡ Some row.covers
-    covers_is = of_mapped result_path (λ (p : ResultPath). p.covers) (graph_results g) r.results.items n row h.rows.results q
-
   -- ---- Prints and loops
 
   pub run_count : length l.runs.items ≡ length (graph_prints g)

@@ -124,10 +124,6 @@ module _ (header : List Column) (names : FunctionNames) (before : List Statement
       go (Ok t) q = s.means name t q
       go (Err c) q = record { kind = only_unknown (kinds_in scope) name c q ∙ sym h; number = λ t k. cc (sym h ∙ k) }
 
-  same_known : (r : Result ColType GraphCause) (t u : ColType) → r ≡ Ok t → r ≡ Ok u → t ≡ u
-  same_known (Ok s) t u p q = let a : s ≡ t = cc p in let b : s ≡ u = cc q in sym a ∙ b
-  same_known (Err c) t u p q = cc p
-
   pub noted_added : (scope : List ScopeColumn) → IsScopeAt header names before node kinds scope → (e : ScopeColumn) → column_kind (kinds_in scope) e.name ≡ Err UnknownColumn
       → IsFound header names before node kinds e.name e.kind e.number → AreNoted header names before node kinds scope (scope ++ e ∷ []) (e.name ∷ [])
   noted_added scope s e new f = record {

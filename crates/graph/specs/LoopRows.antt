@@ -1,5 +1,5 @@
 -- The loops and Prints of a script, as they are listed while its lines are walked.
-use Rattle.std.specs.Prelude.{◌≡◌, ⊤, ℕ, zero, suc, Bool, true, false, List, [], ◌∷◌, ◌++◌, map, length, take, Option, Some, None, if◌then◌else◌, slice_get}
+use Rattle.std.specs.Prelude.{◌≡◌, ⊤, ◌≤◌, ℕ, zero, suc, Bool, true, false, List, [], ◌∷◌, ◌++◌, map, length, take, Option, Some, None, if◌then◌else◌, slice_get}
 use Rattle.rdf_values.specs.Bookings.{Booked, bookings, names_of, filled, has_variations, result_depends}
 use Rattle.rdf_values.specs.Names.{among, place}
 use Rattle.rdf_values.specs.Path.{variations}
@@ -90,3 +90,10 @@ pub record AreLoops (script before : List Statement) (t : LoopTables) : Type 0 w
 -- the results of the former are the first of the latter's
 abbrev pub BeginsWith : List Statement → List Statement → Type 0
 BeginsWith script before = take (length (bookings before)) (bookings script) ≡ bookings before
+
+-- the rows of a script's results, which are few, and the number of its variations
+pub record IsScriptRows (script : List Statement) (rs : List ResultRow) (n : ℕ) : Type 0 where
+  pub rows : AreRowsOf script (bookings script) rs
+  pub few_results : length rs ≤ 256
+  pub count : n ≡ length (variations script)
+  pub few : n ≤ 128

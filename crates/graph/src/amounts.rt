@@ -76,7 +76,7 @@ fn asks(statement: &Statement, name: &Name) -> bool
 }
 
 /// Whether the variations of the result are asked for.
-fn has_variations(before: &[Line], name: &Name) -> bool
+pub(crate) fn has_variations(before: &[Line], name: &Name) -> bool
     ensures { result ≡ has_variations (statements before.now) name.now }
 {
     let Some((last, rest)) = before.split_first() else {

@@ -11,6 +11,7 @@ ghost use Rattle.graph.specs.Lookups.{statements};
 use crate::booking::Booking;
 use crate::check::check_statement;
 use crate::refusal::GraphRefusal;
+use crate::statement_at::StatementAt;
 use crate::stop::Stop;
 use rdf_values::{Column, FnNames, Line, ListOf};
 use std::alloc::Global;
@@ -61,7 +62,13 @@ pub(crate) fn book_lines(
     ) {
         Err(stop) => Err(refusal_of(last, stop)),
         Ok(gain) => {
-            match booking.add(alloc, before, header, names, &last.statement, gain) {
+            let at = StatementAt {
+                header,
+                names,
+                lines: before,
+                counts: booking.counts(before, header, names),
+            };
+            match booking.add(alloc, &at, &last.statement, gain) {
                 Ok(()) => Ok(booking),
                 Err(_) => Err(GraphRefusal::Memory),
             }

@@ -1,17 +1,14 @@
 // The lists that grow while a script is booked, line by line.
-ghost use Rattle.std.specs.Prelude.{◌≡◌, ◌∷◌, ◌≤◌, ◌<◌, ◌+◌, [], length, ℕ, IfOk, OnOk};
+ghost use Rattle.std.specs.Prelude.{◌∷◌, ◌≤◌, [], length, IfOk, OnOk};
 ghost use Rattle.std.specs.List.{AllByRecursion};
 ghost use Rattle.rdf_values.specs.Bookable.{IsShort};
-ghost use Rattle.rdf_values.specs.Bookings.{named_before};
 ghost use Rattle.rdf_values.specs.Kinds.{FunctionNames};
-ghost use Rattle.rdf_values.specs.Path.{variations};
-ghost use Rattle.graph_numbers.specs.Versions.{version_count};
 ghost use Rattle.graph.specs.Gains.{IsGain};
 ghost use Rattle.graph.specs.Lookups.{statements};
-ghost use Rattle.graph.specs.SiteNumbers.{site_total};
 
 use crate::gain::Gain;
 use crate::rows::Rows;
+use crate::statement_at::StatementAt;
 use crate::tables::Tables;
 use crate::walks::named_count;
 use rdf_values::{Column, FnNames, Line, Memory, Statement};
@@ -34,7 +31,7 @@ pub struct Counts {
 }
 
 impl Booking {
-    ghost use Rattle.graph.specs.Bookings.{IsBooking};
+    ghost use Rattle.graph.specs.Bookings.{AreCounts, IsBooking};
 
     /// The lists before the first line.
     pub(crate) fn start(alloc: Global, header: &[Column]) -> Result<Booking, Memory>
@@ -47,16 +44,11 @@ impl Booking {
     }
 
     /// How much there is before the next statement.
-    fn counts(&self, before: &[Line], header: &[Column], names: &FnNames) -> Counts
+    pub(crate) fn counts(&self, before: &[Line], header: &[Column], names: &FnNames) -> Counts
         requires booking { IsBooking header.now names.now (statements before.now) self.now }
         requires short { AllByRecursion IsShort (statements before.now) }
         requires few { length before.now ≤ 256 }
-        ensures versions { result.versions ≡ version_count header.now (statements before.now) }
-        ensures few { result.versions ≤ 4294967295 }
-        ensures sites { result.sites ≡ site_total (statements before.now) }
-        ensures few_sites { result.sites ≤ 16777216 }
-        ensures variations { result.variations ≡ length (variations (statements before.now)) }
-        ensures named { result.named ≡ length (named_before (statements before.now)) }
+        ensures { AreCounts header.now (statements before.now) result }
     {
         let kinds = self.tables.kinds.as_slice();
         let sites = self.tables.sites.as_slice();
@@ -72,21 +64,16 @@ impl Booking {
     pub(crate) fn add(
         &mut self,
         alloc: Global,
-        before: &[Line],
-        header: &[Column],
-        names: &FnNames,
+        at: &StatementAt<'_>,
         statement: &Statement,
         gain: Gain,
     ) -> Result<(), Memory>
-        requires booking { IsBooking header.now names.now (statements before.now) self.old }
-        requires short { AllByRecursion IsShort (statement.now ∷ statements before.now) }
-        requires few { length before.now ≤ 256 }
-        requires gain { IsGain header.now names.now (statements before.now) statement.now gain }
-        ensures { OnOk result (IsBooking header.now names.now (statement.now ∷ statements before.now) self.new) }
+        requires booking { IsBooking at.now.header.now at.now.names.now (statements at.now.lines.now) self.old }
+        requires short { IsShort statement.now }
+        requires gain { IsGain at.now.header.now at.now.names.now (statements at.now.lines.now) statement.now gain }
+        ensures { OnOk result (IsBooking at.now.header.now at.now.names.now (statement.now ∷ statements at.now.lines.now) self.new) }
     {
-        let counts = self.counts(before, header, names);
-        self.rows.add(alloc, before, header, counts, statement)?;
-        self.tables
-            .add(alloc, before, header, names, statement, gain)
+        self.rows.add(alloc, at, statement)?;
+        self.tables.add(alloc, at, statement, gain)
     }
 }

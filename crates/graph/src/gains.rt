@@ -57,11 +57,9 @@ fn site_gain(alloc: Global, versions: &[VarSet], site: Checked) -> Result<Gain, 
     let sites = alone(alloc, site)?;
     let site_sets = sets_of(alloc, versions, sites.as_slice())?;
     Ok(Gain {
-        kinds: Vec::new(alloc),
-        version_sets: Vec::new(alloc),
         sites,
         site_sets,
-        results: Vec::new(alloc),
+        ..empty_gain(alloc)
     })
 }
 
@@ -78,7 +76,7 @@ fn column_gain(alloc: Global, versions: &[VarSet], site: Checked) -> Result<Gain
         version_sets,
         sites,
         site_sets,
-        results: Vec::new(alloc),
+        ..empty_gain(alloc)
     })
 }
 
@@ -218,7 +216,7 @@ fn varied_gain(
         version_sets,
         sites,
         site_sets,
-        results: Vec::new(alloc),
+        ..empty_gain(alloc)
     })
 }
 

@@ -14,7 +14,7 @@ use crate::book::{book_lines, reversed};
 use crate::booking::Booking;
 use crate::copies::{copy_header, copy_names};
 use crate::laws::{result_sets_are_dependence, site_sets_are_dependence};
-use crate::loops::{LoopTables, loop_tables, watched_results};
+use crate::loops::{LoopTables, ScriptRows, loop_tables, watched_results};
 use crate::refusal::GraphRefusal;
 use crate::rows::Rows;
 use crate::sources::source_of;
@@ -114,8 +114,13 @@ impl Graph {
         let functions = copy_names(alloc, names.as_slice())?;
         let all = lines.as_slice();
         let results = booking.tables.results.as_slice();
-        let count = booking.tables.variations.len();
-        let loops = loop_tables(alloc, all, all, results, count, results.len())?;
+        let variations = booking.tables.variations.len();
+        let script = ScriptRows {
+            lines: all,
+            results,
+            variations,
+        };
+        let loops = loop_tables(alloc, &script, all, results.len())?;
         let watched = watched_results(alloc, all, results)?;
         Ok(Graph {
             lines,

@@ -29,6 +29,7 @@ mod rows;
 mod set_lists;
 pub mod sets;
 mod sources;
+mod statement_at;
 pub mod stop;
 pub mod tables;
 pub mod var_refusal;

@@ -1,19 +1,29 @@
 // The event loops of a script and the loop that each Print runs.
 ghost use Rattle.std.specs.Prelude.{◌≡◌, ◌≤◌, ◌<◌, ◌+◌, ◌++◌, ◌∷◌, [], ℕ, Some, None, length, map, replicate, take, drop, ◌-◌, List, IfOk, IfSome, OnOk, MatchOption, if◌then◌else◌, slice_get};
-ghost use Rattle.rdf_values.specs.Bookings.{bookings, has_variations, is_watched};
+ghost use Rattle.rdf_values.specs.Bookings.{bookings, is_watched};
 ghost use Rattle.rdf_values.specs.Names.{same, place};
-ghost use Rattle.rdf_values.specs.Path.{variations};
 ghost use Rattle.graph_numbers.specs.Results.{numbered_pass};
-ghost use Rattle.graph.specs.LoopRows.{IsNoPrint, is_booking, AreNamedInTurn, members_from, AreRowsOf, passes_of_row, passes_of_rows, AreLoops, BeginsWith};
+ghost use Rattle.graph.specs.LoopRows.{IsNoPrint, is_booking, AreNamedInTurn, members_from, IsScriptRows, passes_of_row, passes_of_rows, AreLoops, BeginsWith};
+ghost use Rattle.graph.specs.OneProof.{script_rows-prop};
 ghost use Rattle.graph.specs.Lookups.{statements};
 ghost use Rattle.graph.specs.Sets.{has};
 
+use crate::amounts::has_variations;
 use crate::push::{push, push_many};
 use crate::result_row::ResultRow;
 use crate::var_set::VarSet;
 use graph_numbers::Pass;
 use rdf_values::{Line, ListOf, Memory, Name, Statement};
 use std::alloc::Global;
+
+/// A script's lines, the latest first, with the rows of its results and the number of its variations.
+#[derive(Clone, Copy)]
+pub(crate) struct ScriptRows<'a> {
+    pub(crate) lines: &'a [Line],
+    pub(crate) results: &'a [ResultRow],
+    pub(crate) variations: u32,
+    ghost are: { IsScriptRows (statements lines.now) results.now variations } by { script_rows-prop (statements lines.now) results.now variations },
+}
 
 /// The passes of each loop; for each Print the loop that it runs, its result, and the loop that fills it; and for each
 /// result that is filled its loop.
@@ -27,7 +37,7 @@ pub struct LoopTables {
 }
 
 impl LoopTables {
-    ghost use Rattle.graph.specs.LoopRows.{IsNamedInTurn, AreNamedInTurn, AreRowsOf, AreLoops, BeginsWith};
+    ghost use Rattle.graph.specs.LoopRows.{IsNamedInTurn};
     ghost use Rattle.rdf_values.specs.declared.statement.Statement.{Statement};
 
     /// No loops.
@@ -74,30 +84,24 @@ impl LoopTables {
         push(&mut self.filling, place)
     }
 
-    /// Adds a Print after the lines before it.
+    /// Adds a Print after the lines before it, of which so many book results.
     fn add_print(
         &mut self,
         alloc: Global,
-        all: &[Line],
+        script: &ScriptRows<'_>,
         before: &[Line],
-        name: &Name,
-        results: &[ResultRow],
-        count: u32,
         booked: usize,
+        name: &Name,
     ) -> Result<(), Memory>
         requires turn { IsNamedInTurn (statements before.now) (Statement.Print name.now) }
         requires named { AreNamedInTurn (statements before.now) }
-        requires begins { BeginsWith (statements all.now) (statements before.now) }
-        requires rows { AreRowsOf (statements all.now) (bookings (statements all.now)) results.now }
-        requires results { length results.now ≤ 256 }
-        requires count { count ≡ length (variations (statements all.now)) }
-        requires few { count ≤ 128 }
+        requires begins { BeginsWith (statements script.now.lines.now) (statements before.now) }
         requires booked { booked ≡ length (bookings (statements before.now)) }
         requires lines { length before.now ≤ 256 }
-        requires old { AreLoops (statements all.now) (statements before.now) self.old }
-        ensures { OnOk result (AreLoops (statements all.now) (Statement.Print name.now ∷ statements before.now) self.new) }
+        requires old { AreLoops (statements script.now.lines.now) (statements before.now) self.old }
+        ensures { OnOk result (AreLoops (statements script.now.lines.now) (Statement.Print name.now ∷ statements before.now) self.new) }
     {
-        let n = match number_of(results, name) {
+        let n = match number_of(script.results, name) {
             Some(n) => n,
             None => unreachable!(),
         };
@@ -106,37 +110,31 @@ impl LoopTables {
             let filler = number_at(self.fillers.as_slice(), n);
             self.add_again(n as u32, filler)
         } else {
-            let passes = waiting_passes(alloc, all, results, count, filled, booked)?;
+            let passes = waiting_passes(alloc, script, filled, booked)?;
             self.add_loop(passes, n as u32, booked - filled)
         }
     }
 
-    /// Adds a statement after the lines before it.
+    /// Adds a statement after the lines before it, of which so many book results.
     fn add_line(
         &mut self,
         alloc: Global,
-        all: &[Line],
+        script: &ScriptRows<'_>,
         before: &[Line],
-        statement: &Statement,
-        results: &[ResultRow],
-        count: u32,
         booked: usize,
+        statement: &Statement,
     ) -> Result<(), Memory>
         requires turn { IsNamedInTurn (statements before.now) statement.now }
         requires named { AreNamedInTurn (statements before.now) }
-        requires begins { BeginsWith (statements all.now) (statements before.now) }
-        requires rows { AreRowsOf (statements all.now) (bookings (statements all.now)) results.now }
-        requires results { length results.now ≤ 256 }
-        requires count { count ≡ length (variations (statements all.now)) }
-        requires few { count ≤ 128 }
+        requires begins { BeginsWith (statements script.now.lines.now) (statements before.now) }
         requires booked { booked ≡ length (bookings (statements before.now)) }
         requires lines { length before.now ≤ 256 }
-        requires old { AreLoops (statements all.now) (statements before.now) self.old }
-        ensures { OnOk result (AreLoops (statements all.now) (statement.now ∷ statements before.now) self.new) }
+        requires old { AreLoops (statements script.now.lines.now) (statements before.now) self.old }
+        ensures { OnOk result (AreLoops (statements script.now.lines.now) (statement.now ∷ statements before.now) self.new) }
     {
         match printed(statement) {
             None => Ok(()),
-            Some(name) => self.add_print(alloc, all, before, name, results, count, booked),
+            Some(name) => self.add_print(alloc, script, before, booked, name),
         }
     }
 }
@@ -160,50 +158,45 @@ fn booked_before(last: &Statement, booked: usize) -> usize
 /// The passes of the results from the first that isn't filled to the last that is booked.
 fn waiting_passes(
     alloc: Global,
-    all: &[Line],
-    results: &[ResultRow],
-    count: u32,
+    script: &ScriptRows<'_>,
     filled: usize,
     booked: usize,
 ) -> Result<ListOf<Pass>, Memory>
     requires order { filled ≤ booked }
-    requires within { booked ≤ length results.now }
-    requires results { length results.now ≤ 256 }
-    requires few { count ≤ 128 }
-    ensures { IfOk result (λ p. p ≡ passes_of_rows (statements all.now) count filled (take (booked - filled) (drop filled results.now))) }
+    requires within { booked ≤ length script.now.results.now }
+    ensures { IfOk result (λ p. p ≡ passes_of_rows (statements script.now.lines.now) script.now.variations filled (take (booked - filled) (drop filled script.now.results.now))) }
 {
     let mut passes = ListOf::new(alloc);
-    let open = &results[filled..booked];
-    push_passes(&mut passes, all, count, filled as u32, open)?;
+    let open = &script.results[filled..booked];
+    push_passes(
+        &mut passes,
+        script.lines,
+        script.variations,
+        filled as u32,
+        open,
+    )?;
     Ok(passes)
 }
 
-/// The loops of the lines, the latest first, of which so many book results; `all` are the script's, with the rows of their
-/// results and the number of their variations.
+/// The loops of lines of a script, the latest first, of which so many book results.
 pub(crate) fn loop_tables(
     alloc: Global,
-    all: &[Line],
+    script: &ScriptRows<'_>,
     lines: &[Line],
-    results: &[ResultRow],
-    count: u32,
     booked: usize,
 ) -> Result<LoopTables, Memory>
     requires named { AreNamedInTurn (statements lines.now) }
-    requires begins { BeginsWith (statements all.now) (statements lines.now) }
-    requires rows { AreRowsOf (statements all.now) (bookings (statements all.now)) results.now }
-    requires results { length results.now ≤ 256 }
-    requires count { count ≡ length (variations (statements all.now)) }
-    requires few { count ≤ 128 }
+    requires begins { BeginsWith (statements script.now.lines.now) (statements lines.now) }
     requires booked { booked ≡ length (bookings (statements lines.now)) }
     requires lines { length lines.now ≤ 256 }
-    ensures { IfOk result (AreLoops (statements all.now) (statements lines.now)) }
+    ensures { IfOk result (AreLoops (statements script.now.lines.now) (statements lines.now)) }
 {
     let Some((last, rest)) = lines.split_first() else {
         return Ok(LoopTables::new(alloc));
     };
     let below = booked_before(&last.statement, booked);
-    let mut tables = loop_tables(alloc, all, rest, results, count, below)?;
-    match tables.add_line(alloc, all, rest, &last.statement, results, count, below) {
+    let mut tables = loop_tables(alloc, script, rest, below)?;
+    match tables.add_line(alloc, script, rest, below, &last.statement) {
         Ok(()) => Ok(tables),
         Err(_) => Err(Memory),
     }
@@ -227,20 +220,6 @@ fn is_booking(statement: &Statement) -> bool
         statement,
         Statement::Action { .. } | Statement::Report { .. }
     )
-}
-
-/// Whether a line asks for the variations of the result.
-fn has_variations(lines: &[Line], name: &Name) -> bool
-    ensures { result ≡ has_variations (statements lines.now) name.now }
-{
-    let Some((last, rest)) = lines.split_first() else {
-        return false;
-    };
-    let own = match &last.statement {
-        Statement::VariationsFor { result } => result.is(name),
-        _ => false,
-    };
-    own || has_variations(rest, name)
 }
 
 /// Whether a line asks for partial results of the result.
@@ -330,17 +309,6 @@ pub(crate) fn watched_results(
 ) -> Result<Vec<bool>, Memory>
     ensures { IfOk result (λ w. w.items ≡ map (λ r. is_watched (statements all.now) r.name) results.now) }
 {
-    let mut watched = Vec::new(alloc);
-    push_watched(&mut watched, all, results)?;
-    Ok(watched)
-}
-
-fn push_watched(watched: &mut Vec<bool>, all: &[Line], results: &[ResultRow]) -> Result<(), Memory>
-    ensures { OnOk result (watched.new.items ≡ watched.old.items ++ map (λ r. is_watched (statements all.now) r.name) results.now) }
-{
-    let Some((first, rest)) = results.split_first() else {
-        return Ok(());
-    };
-    push(watched, is_watched(all, &first.name))?;
-    push_watched(watched, all, rest)
+    let watched = results.iter().map(|row| is_watched(all, &row.name));
+    Ok(watched.collect(alloc)?)
 }

@@ -1,20 +1,18 @@
 // The lists of versions, named filters and results that grow while a script is booked.
-ghost use Rattle.std.specs.Prelude.{◌≡◌, ◌≤◌, ◌<◌, ◌+◌, ◌++◌, ◌∷◌, [], ℕ, length, map, IfOk, OnOk};
-ghost use Rattle.rdf_values.specs.Bookable.{IsShort, AreShortValues, expression_count};
-ghost use Rattle.rdf_values.specs.Bookings.{named_before};
+ghost use Rattle.std.specs.Prelude.{◌≡◌, ◌≤◌, ◌+◌, ◌++◌, ◌∷◌, [], length, IfOk, OnOk};
+ghost use Rattle.rdf_values.specs.Bookable.{IsShort, AreShortValues};
 ghost use Rattle.rdf_values.specs.Kinds.{FunctionNames};
-ghost use Rattle.rdf_values.specs.Path.{variations};
-ghost use Rattle.graph_numbers.specs.Versions.{version_count};
+ghost use Rattle.graph_numbers.specs.Versions.{named_version};
+ghost use Rattle.graph.specs.OneProof.{short-prop};
 ghost use Rattle.graph.specs.Rows.{cell_rows, varied_row, varied_rows, version_rows, filter_rows, result_rows};
 ghost use Rattle.graph.specs.Lookups.{statements};
-ghost use Rattle.graph.specs.SiteNumbers.{site_total};
 
-use crate::booking::Counts;
 use crate::copies::copy_kind;
 use crate::push::push;
-use crate::walks::{covered, filter_sites, inputs_of, list_start, numbers, version_below};
+use crate::statement_at::StatementAt;
+use crate::walks::{covered, filter_sites, list_start, numbers};
 use graph_numbers::{ResultKind, Version};
-use rdf_values::{Column, Line, ListOf, Memory, Name, Statement, VaryValues};
+use rdf_values::{Column, ListOf, Memory, Name, Statement, VaryValues};
 use std::alloc::Global;
 
 /// What a result is, the sites of the filters above it, the versions that it reads, and the named filters that it covers.
@@ -46,22 +44,31 @@ fn push_cells(versions: &mut Vec<Version>, n: u32, header: &[Column]) -> Result<
     push_cells(versions, n + 1, rest)
 }
 
-/// The column at a place of a Vary, over the version below it.
-fn varied(
-    alloc: Global,
-    values: &VaryValues,
-    below: u32,
-    first: u32,
-    site: u32,
+/// How a Vary at a node changes its columns.
+#[derive(Clone, Copy)]
+struct Varied<'a> {
+    parent: &'a Name,
+    values: &'a VaryValues,
     tags: u32,
+    ghost short: { AreShortValues values.now } by { short-prop values.now },
+    ghost few: { tags ≤ 65536 },
+}
+
+/// The column at a place of a Vary, over the version below it.
+fn version_of(
+    alloc: Global,
+    at: &StatementAt<'_>,
+    vary: &Varied<'_>,
     i: usize,
+    column: &Name,
 ) -> Result<Version, Memory>
-    requires short { AreShortValues values.now }
-    requires sites { site ≤ 16777216 }
-    requires tags { tags ≤ 65536 }
-    ensures { IfOk result (λ v. v ≡ varied_row values.now below first site tags i) }
+    ensures { IfOk result (λ v. v ≡ varied_row vary.now.values.now (named_version at.now.header.now (statements at.now.lines.now) vary.now.parent.now column.now) at.now.counts.variations at.now.counts.sites vary.now.tags i) }
 {
-    match values {
+    let below = at.version_below(vary.parent, column);
+    let first = at.counts.variations;
+    let site = at.counts.sites;
+    let tags = vary.tags;
+    match vary.values {
         VaryValues::Lists(lists) => {
             let start = site + list_start(lists.as_slice(), i) as u32;
             let sites = numbers(alloc, start, tags)?;
@@ -91,49 +98,19 @@ fn varied(
 fn push_varied(
     alloc: Global,
     versions: &mut Vec<Version>,
-    before: &[Line],
-    header: &[Column],
-    counts: Counts,
-    parent: &Name,
-    values: &VaryValues,
-    tags: u32,
+    at: &StatementAt<'_>,
+    vary: &Varied<'_>,
     i: usize,
     columns: &[Name],
 ) -> Result<(), Memory>
-    requires all { counts.versions ≡ version_count header.now (statements before.now) }
-    requires few { counts.versions ≤ 4294967295 }
-    requires short { AreShortValues values.now }
-    requires sites { counts.sites ≤ 16777216 }
-    requires tags { tags ≤ 65536 }
-    requires places { i + length columns.now ≤ 65536 }
-    ensures { OnOk result (versions.new.items ≡ versions.old.items ++ varied_rows header.now (statements before.now) parent.now values.now counts.variations counts.sites tags i columns.now) }
+    requires { i + length columns.now ≤ 65536 }
+    ensures { OnOk result (versions.new.items ≡ versions.old.items ++ varied_rows at.now.header.now (statements at.now.lines.now) vary.now.parent.now vary.now.values.now at.now.counts.variations at.now.counts.sites vary.now.tags i columns.now) }
 {
     let Some((column, rest)) = columns.split_first() else {
         return Ok(());
     };
-    let below = version_below(before, header, counts.versions, parent, column);
-    let version = varied(
-        alloc,
-        values,
-        below,
-        counts.variations,
-        counts.sites,
-        tags,
-        i,
-    )?;
-    push(versions, version)?;
-    push_varied(
-        alloc,
-        versions,
-        before,
-        header,
-        counts,
-        parent,
-        values,
-        tags,
-        i + 1,
-        rest,
-    )
+    push(versions, version_of(alloc, at, vary, i, column)?)?;
+    push_varied(alloc, versions, at, vary, i + 1, rest)
 }
 
 impl Rows {
@@ -157,23 +134,20 @@ impl Rows {
     fn add_versions(
         &mut self,
         alloc: Global,
-        before: &[Line],
-        header: &[Column],
-        counts: Counts,
+        at: &StatementAt<'_>,
         statement: &Statement,
     ) -> Result<(), Memory>
-        requires all { counts.versions ≡ version_count header.now (statements before.now) }
-        requires few { counts.versions ≤ 4294967295 }
-        requires short { IsShort statement.now }
-        requires sites { counts.sites ≤ 16777216 }
-        ensures versions { OnOk result (self.new.versions.items ≡ self.old.versions.items ++ version_rows header.now (statements before.now) counts.variations counts.sites statement.now) }
+        requires { IsShort statement.now }
+        ensures versions { OnOk result (self.new.versions.items ≡ self.old.versions.items ++ version_rows at.now.header.now (statements at.now.lines.now) at.now.counts.variations at.now.counts.sites statement.now) }
         ensures filters { self.new.filters ≡ self.old.filters }
         ensures results { self.new.results ≡ self.old.results }
     {
         match statement {
             Statement::Define { .. } | Statement::Redefine { .. } => push(
                 &mut self.versions,
-                Version::Computed { site: counts.sites },
+                Version::Computed {
+                    site: at.counts.sites,
+                },
             ),
             Statement::Vary {
                 parent,
@@ -181,18 +155,14 @@ impl Rows {
                 values,
                 tags,
                 ..
-            } => push_varied(
-                alloc,
-                &mut self.versions,
-                before,
-                header,
-                counts,
-                parent,
-                values,
-                tags.len() as u32,
-                0,
-                columns.as_slice(),
-            ),
+            } => {
+                let vary = Varied {
+                    parent,
+                    values,
+                    tags: tags.len() as u32,
+                };
+                push_varied(alloc, &mut self.versions, at, &vary, 0, columns.as_slice())
+            }
             _ => Ok(()),
         }
     }
@@ -201,12 +171,10 @@ impl Rows {
     fn add_filter(
         &mut self,
         alloc: Global,
-        before: &[Line],
-        counts: Counts,
+        at: &StatementAt<'_>,
         statement: &Statement,
     ) -> Result<(), Memory>
-        requires { counts.sites ≡ site_total (statements before.now) }
-        ensures filters { OnOk result (self.new.filters.items ≡ self.old.filters.items ++ filter_rows (statements before.now) counts.sites statement.now) }
+        ensures filters { OnOk result (self.new.filters.items ≡ self.old.filters.items ++ filter_rows (statements at.now.lines.now) at.now.counts.sites statement.now) }
         ensures versions { self.new.versions ≡ self.old.versions }
         ensures results { self.new.results ≡ self.old.results }
     {
@@ -218,8 +186,9 @@ impl Rows {
         else {
             return Ok(());
         };
-        let mut sites = filter_sites(alloc, before, counts.sites, parent)?;
-        sites.push(counts.sites)?;
+        let own = at.counts.sites;
+        let mut sites = filter_sites(alloc, at.lines, own, parent)?;
+        sites.push(own)?;
         push(&mut self.filters, sites)
     }
 
@@ -227,25 +196,20 @@ impl Rows {
     fn add_result(
         &mut self,
         alloc: Global,
-        before: &[Line],
-        header: &[Column],
-        counts: Counts,
+        at: &StatementAt<'_>,
         statement: &Statement,
     ) -> Result<(), Memory>
-        requires all { counts.versions ≡ version_count header.now (statements before.now) }
-        requires few { counts.versions ≤ 4294967295 }
-        requires sites { counts.sites ≡ site_total (statements before.now) }
-        requires named { counts.named ≡ length (named_before (statements before.now)) }
-        ensures results { OnOk result (self.new.results.items ≡ self.old.results.items ++ result_rows header.now (statements before.now) statement.now) }
+        ensures results { OnOk result (self.new.results.items ≡ self.old.results.items ++ result_rows at.now.header.now (statements at.now.lines.now) statement.now) }
         ensures versions { self.new.versions ≡ self.old.versions }
         ensures filters { self.new.filters ≡ self.old.filters }
     {
+        let sites = at.counts.sites;
         match statement {
             Statement::Action { parent, kind, .. } => {
                 let row = ResultPath {
                     kind: ResultKind::Action(copy_kind(alloc, kind)?),
-                    filters: filter_sites(alloc, before, counts.sites, parent)?,
-                    inputs: inputs_of(alloc, before, header, counts.versions, parent, kind)?,
+                    filters: filter_sites(alloc, at.lines, sites, parent)?,
+                    inputs: at.inputs_of(alloc, parent, kind)?,
                     covers: ListOf::new(alloc),
                 };
                 push(&mut self.results, row)
@@ -253,9 +217,9 @@ impl Rows {
             Statement::Report { parent, .. } => {
                 let row = ResultPath {
                     kind: ResultKind::Report,
-                    filters: filter_sites(alloc, before, counts.sites, parent)?,
+                    filters: filter_sites(alloc, at.lines, sites, parent)?,
                     inputs: ListOf::new(alloc),
-                    covers: covered(alloc, before, counts.named, parent)?,
+                    covers: covered(alloc, at.lines, at.counts.named, parent)?,
                 };
                 push(&mut self.results, row)
             }
@@ -267,22 +231,14 @@ impl Rows {
     pub(crate) fn add(
         &mut self,
         alloc: Global,
-        before: &[Line],
-        header: &[Column],
-        counts: Counts,
+        at: &StatementAt<'_>,
         statement: &Statement,
     ) -> Result<(), Memory>
-        requires all { counts.versions ≡ version_count header.now (statements before.now) }
-        requires few { counts.versions ≤ 4294967295 }
-        requires short { IsShort statement.now }
-        requires few_sites { counts.sites ≤ 16777216 }
-        requires sites { counts.sites ≡ site_total (statements before.now) }
-        requires named { counts.named ≡ length (named_before (statements before.now)) }
-        requires variations { counts.variations ≡ length (variations (statements before.now)) }
-        ensures { OnOk result ((names : FunctionNames) → AreRows header.now names (statements before.now) self.old → AreRows header.now names (statement.now ∷ statements before.now) self.new) }
+        requires { IsShort statement.now }
+        ensures { OnOk result ((names : FunctionNames) → AreRows at.now.header.now names (statements at.now.lines.now) self.old → AreRows at.now.header.now names (statement.now ∷ statements at.now.lines.now) self.new) }
     {
-        self.add_versions(alloc, before, header, counts, statement)?;
-        self.add_filter(alloc, before, counts, statement)?;
-        self.add_result(alloc, before, header, counts, statement)
+        self.add_versions(alloc, at, statement)?;
+        self.add_filter(alloc, at, statement)?;
+        self.add_result(alloc, at, statement)
     }
 }

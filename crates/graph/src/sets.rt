@@ -84,7 +84,7 @@ pub fn own_site_total(statement: &Statement, most: usize) -> usize
 }
 
 /// Whether the statement is a Filter.
-fn is_filter(statement: &Statement) -> bool
+pub(crate) fn is_filter(statement: &Statement) -> bool
     ensures { result ≡ is_filter statement.now }
 {
     matches!(statement, Statement::Filter { .. })

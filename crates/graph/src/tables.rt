@@ -9,10 +9,11 @@ ghost use Rattle.graph.specs.VarSets.{AppendsSets};
 
 use crate::gain::Gain;
 use crate::result_row::ResultRow;
+use crate::statement_at::StatementAt;
 use crate::var_set::VarSet;
 use crate::variations::Variations;
 use expr_check::Checked;
-use rdf_values::{ColType, Column, FnNames, Line, Memory, Statement};
+use rdf_values::{ColType, Column, Memory, Statement};
 use std::alloc::Global;
 
 const MOST_VERSIONS: usize = 4294967295;
@@ -59,12 +60,10 @@ fn has_room(kinds: &[ColType], more: &[ColType]) -> bool
 fn add_variations(
     alloc: Global,
     known: &mut Variations,
-    before: &[Line],
-    header: &[Column],
-    names: &FnNames,
+    at: &StatementAt<'_>,
     statement: &Statement,
 ) -> Result<(), Memory>
-    requires { check names.now (scope_of header.now) (statements before.now) statement.now ≡ None }
+    requires { check at.now.names.now (scope_of at.now.header.now) (statements at.now.lines.now) statement.now ≡ None }
     ensures { OnOk result (known.new ≡ known.old ++ own_variations statement.now) }
 {
     match statement {
@@ -104,18 +103,16 @@ impl Tables {
     }
 
     /// Adds what an accepted statement adds. After want of memory the tables say nothing any more.
-    pub fn add(
+    pub(crate) fn add(
         &mut self,
         alloc: Global,
-        before: &[Line],
-        header: &[Column],
-        names: &FnNames,
+        at: &StatementAt<'_>,
         statement: &Statement,
         mut gain: Gain,
     ) -> Result<(), Memory>
-        requires tables { AreTables header.now names.now (statements before.now) self.old }
-        requires gain { IsGain header.now names.now (statements before.now) statement.now gain }
-        ensures { OnOk result (AreTables header.now names.now (statement.now ∷ statements before.now) self.new) }
+        requires tables { AreTables at.now.header.now at.now.names.now (statements at.now.lines.now) self.old }
+        requires gain { IsGain at.now.header.now at.now.names.now (statements at.now.lines.now) statement.now gain }
+        ensures { OnOk result (AreTables at.now.header.now at.now.names.now (statement.now ∷ statements at.now.lines.now) self.new) }
     {
         if !has_room(self.kinds.as_slice(), gain.kinds.as_slice()) {
             return Err(Memory);
@@ -125,13 +122,6 @@ impl Tables {
         self.sites.append(&mut gain.sites)?;
         self.site_sets.append(&mut gain.site_sets)?;
         self.results.append(&mut gain.results)?;
-        add_variations(
-            alloc,
-            &mut self.variations,
-            before,
-            header,
-            names,
-            statement,
-        )
+        add_variations(alloc, &mut self.variations, at, statement)
     }
 }

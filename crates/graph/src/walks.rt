@@ -1,17 +1,16 @@
 // What is found in the lines so far, the latest first: each function walks them as its definition does.
-ghost use Rattle.std.specs.Prelude.{◌≡◌, ◌≤◌, ◌<◌, ◌+◌, ◌++◌, ℕ, length, map, Some, option_map, slice_get, IfOk, OnOk};
+ghost use Rattle.std.specs.Prelude.{◌≡◌, ◌≤◌, ◌<◌, ◌+◌, length, Some, option_map, slice_get, IfOk};
 ghost use Rattle.rdf_values.specs.Bookable.{expression_count};
-ghost use Rattle.rdf_values.specs.Bookings.{columns_of, weight_column, named_before};
+ghost use Rattle.rdf_values.specs.Bookings.{named_before};
 ghost use Rattle.rdf_values.specs.Path.{path};
 ghost use Rattle.graph_numbers.specs.Sites.{list_start};
-ghost use Rattle.graph_numbers.specs.Versions.{version_count, named_version, version_at};
 ghost use Rattle.graph.specs.Rows.{count_from, labels, own_label, is_named, named_numbers, has_made, covered_numbers};
 ghost use Rattle.graph.specs.Lookups.{statements};
-ghost use Rattle.graph.specs.SiteNumbers.{site_total, own_number, is_filter, filter_numbers};
+ghost use Rattle.graph.specs.SiteNumbers.{site_total, filter_numbers};
 
-use crate::lookup::{made_from, named_version, target_of};
-use crate::sets::own_site_total;
-use rdf_values::{ActionKind, Column, Expr, Label, Line, ListOf, Memory, Name, Statement};
+use crate::lookup::made_from;
+use crate::sets::{is_filter, own_site_total};
+use rdf_values::{Expr, Label, Line, ListOf, Memory, Name, Statement};
 use std::alloc::Global;
 
 /// So many numbers from the first on.
@@ -40,38 +39,6 @@ pub(crate) fn list_start(lists: &[ListOf<Expr>], i: usize) -> usize
         return 0;
     };
     first.len() + list_start(rest, i - 1)
-}
-
-/// The version of a column that is no alias at a node, of so many.
-#[tactic(auto, using(crate::proofs::Walked::named_few))]
-pub(crate) fn version_below(
-    before: &[Line],
-    header: &[Column],
-    count: usize,
-    node: &Name,
-    name: &Name,
-) -> u32
-    requires all { count ≡ version_count header.now (statements before.now) }
-    requires few { count ≤ 4294967295 }
-    ensures { result ≡ named_version header.now (statements before.now) node.now name.now }
-{
-    named_version(before, header, count, node, name) as u32
-}
-
-/// The version of a column at a node, of so many.
-fn version_at(before: &[Line], header: &[Column], count: usize, node: &Name, name: &Name) -> u32
-    requires all { count ≡ version_count header.now (statements before.now) }
-    requires few { count ≤ 4294967295 }
-    ensures { result ≡ version_at header.now (statements before.now) node.now name.now }
-{
-    version_below(before, header, count, node, target_of(before, node, name))
-}
-
-/// Whether the statement is a Filter.
-fn is_filter(statement: &Statement) -> bool
-    ensures { result ≡ is_filter statement.now }
-{
-    matches!(statement, Statement::Filter { .. })
 }
 
 /// The sites of the filters above a node, head first, where there are so many sites.
@@ -206,56 +173,4 @@ pub(crate) fn covered(
     } else {
         numbers(alloc, 0, count)
     }
-}
-
-fn push_weight(
-    inputs: &mut ListOf<u32>,
-    before: &[Line],
-    header: &[Column],
-    count: usize,
-    node: &Name,
-    weight: &Option<Name>,
-) -> Result<(), Memory>
-    requires all { count ≡ version_count header.now (statements before.now) }
-    requires few { count ≤ 4294967295 }
-    ensures { OnOk result (inputs.new ≡ inputs.old ++ map (version_at header.now (statements before.now) node.now) (weight_column weight.now)) }
-{
-    match weight {
-        None => Ok(()),
-        Some(name) => inputs.push(version_at(before, header, count, node, name)),
-    }
-}
-
-/// The versions of the columns that an action reads at a node, in written order, of so many versions.
-pub(crate) fn inputs_of(
-    alloc: Global,
-    before: &[Line],
-    header: &[Column],
-    count: usize,
-    node: &Name,
-    kind: &ActionKind,
-) -> Result<ListOf<u32>, Memory>
-    requires all { count ≡ version_count header.now (statements before.now) }
-    requires few { count ≤ 4294967295 }
-    ensures { IfOk result (λ l. l ≡ map (version_at header.now (statements before.now) node.now) (columns_of kind.now)) }
-{
-    let mut inputs = ListOf::new(alloc);
-    match kind {
-        ActionKind::Count => {}
-        ActionKind::Sum(x)
-        | ActionKind::Min(x)
-        | ActionKind::Max(x)
-        | ActionKind::Take(x)
-        | ActionKind::Reduce(_, x) => inputs.push(version_at(before, header, count, node, x))?,
-        ActionKind::Histo1D { x, weight, .. } => {
-            inputs.push(version_at(before, header, count, node, x))?;
-            push_weight(&mut inputs, before, header, count, node, weight)?;
-        }
-        ActionKind::Histo2D { x, y, weight, .. } => {
-            inputs.push(version_at(before, header, count, node, x))?;
-            inputs.push(version_at(before, header, count, node, y))?;
-            push_weight(&mut inputs, before, header, count, node, weight)?;
-        }
-    }
-    Ok(inputs)
 }

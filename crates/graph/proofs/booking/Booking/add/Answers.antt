@@ -6,5 +6,5 @@ use Rattle.graph.proofs.booking.Booking.add.Goals as goal
 pub returns : goal.returns
 returns c =
     let after : Booking = record { tables = c.add-2.new.self; rows = c.add.new.self } in
-    booked_more c.args.header.now c.args.names.now (statements c.args.before.now) c.args.statement.now c.args.self.now after c.add-2.result c.requires.booking
-    (c.in_ok-add.ensures c.args.names.now) c.add-2.ensures
+    booked_more c.args.at.now.header.now c.args.at.now.names.now (statements c.args.at.now.lines.now) c.args.statement.now c.args.self.now after c.add-2.result c.requires.booking
+    (c.in_ok-add.ensures c.args.at.now.names.now) c.add-2.ensures

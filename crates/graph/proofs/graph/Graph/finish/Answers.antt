@@ -1,15 +1,21 @@
-use Rattle.std.proofs.Common.{◌∙◌}
+use Rattle.std.proofs.Common.{◌∙◌, ap, length, sym}
+use Rattle.rdf_values.specs.Path.{variations}
+use Rattle.graph.specs.Lookups.{statements}
 use Rattle.graph.proofs.Finished.{finish_named, finish_rows, finish_few, finish_count, finished}
 use Rattle.graph.proofs.graph.Graph.finish.Goals as goal
 
 pub loop_tables-requires-clause-named : goal.loop_tables-requires-clause-named
 loop_tables-requires-clause-named c = finish_named c.args.lines.items c.as_slice-all.result.now c.args.header.now c.args.names.now c.args.booking c.as_slice-results.result.now c.as_slice-all.ensures.value c.as_slice-results.ensures.value c.requires.graph c.requires.booking
 
-pub loop_tables-requires-clause-rows : goal.loop_tables-requires-clause-rows
-loop_tables-requires-clause-rows c = finish_rows c.args.lines.items c.as_slice-all.result.now c.args.header.now c.args.names.now c.args.booking c.as_slice-results.result.now c.as_slice-all.ensures.value c.as_slice-results.ensures.value c.requires.graph c.requires.booking c.result_sets_are_dependence.ensures
-
-pub loop_tables-requires-clause-results : goal.loop_tables-requires-clause-results
-loop_tables-requires-clause-results c = finish_few c.args.lines.items c.as_slice-all.result.now c.args.header.now c.args.names.now c.args.booking c.as_slice-results.result.now c.as_slice-all.ensures.value c.as_slice-results.ensures.value c.requires.graph c.requires.booking c.requires.few
+pub invariant_of-script : goal.invariant_of-script
+invariant_of-script c = record {
+  are = record {
+    rows = finish_rows c.args.lines.items c.as_slice-all.result.now c.args.header.now c.args.names.now c.args.booking c.as_slice-results.result.now c.as_slice-all.ensures.value c.as_slice-results.ensures.value c.requires.graph c.requires.booking c.result_sets_are_dependence.ensures;
+    few_results = finish_few c.args.lines.items c.as_slice-all.result.now c.args.header.now c.args.names.now c.args.booking c.as_slice-results.result.now c.as_slice-all.ensures.value c.as_slice-results.ensures.value c.requires.graph c.requires.booking c.requires.few;
+    count = c.len-variations.ensures.count ∙ ap length c.requires.booking.tables.variations ∙ ap (λ ls. length (variations (statements ls))) (sym c.as_slice-all.ensures.value);
+    few = c.len-variations.ensures.few;
+  };
+}
 
 pub loop_tables-requires-clause-booked : goal.loop_tables-requires-clause-booked
 loop_tables-requires-clause-booked c = finish_count c.args.lines.items c.as_slice-all.result.now c.args.header.now c.args.names.now c.args.booking c.as_slice-results.result.now c.as_slice-all.ensures.value c.as_slice-results.ensures.value c.requires.graph c.requires.booking

@@ -9,5 +9,5 @@ returns c =
     let few = c.has_room.ensures c.if-not-has_room.false in
     let a = ap (λ (xs : List ColType). length xs) c.as_slice.ensures.value in
     let b = ap (λ (xs : List ColType). length xs) c.as_slice-2.ensures.value in
-    added_if c.add_variations.result c.args.header.now c.args.names.now (statements c.args.before.now) c.args.statement.now c.args.self.now _ c.args.gain c.requires.tables c.requires.gain c.in_ok-append.ensures.items (omega (arith, few, a, b))
+    added_if c.add_variations.result c.args.at.now.header.now c.args.at.now.names.now (statements c.args.at.now.lines.now) c.args.statement.now c.args.self.now _ c.args.gain c.requires.tables c.requires.gain c.in_ok-append.ensures.items (omega (arith, few, a, b))
     c.in_ok-append-2.ensures.items c.in_ok-append-3.ensures.items c.in_ok-append-4.ensures.items c.in_ok-append-5.ensures.items c.add_variations.ensures
