@@ -133,28 +133,14 @@ module _ (test : ℕ → Bool) where
       here false e = right e
 
 module _ (c : ℕ → Outcome ℕ ℤ) (sel left : List ℕ) (o0 o1 : List ℤ) (s0 s1 : List Stopped) (first : Evaluated c sel left o0 o1 s0 s1) where
-  -- `c ? a : b`
-  pub choice : (a b : ℕ → Outcome ℕ ℤ) (others zeros last : List ℕ) (o2 o3 : List ℤ) (s2 s3 : List Stopped) → Evaluated a (filter (λ p. not (zero_at o1 p)) left) others o1 o2 s1 s2 → Evaluated b (filter (zero_at o1) left) zeros o2 o3 s2 s3
-      → last ≡ filter (λ p. is_in p others || is_in p zeros) left → Evaluated (λ p. c p >>= λ x. if is_zero x then b p else a p) sel last o0 o3 s0 s3
+  -- each side may take the number that the condition came to
+  pub choice : (a b : ℤ → ℕ → Outcome ℕ ℤ) (others zeros last : List ℕ) (o2 o3 : List ℤ) (s2 s3 : List Stopped) → Evaluated (λ p. a (at_place o1 p) p) (filter (λ p. not (zero_at o1 p)) left) others o1 o2 s1 s2
+      → Evaluated (λ p. b (at_place o2 p) p) (filter (zero_at o1) left) zeros o2 o3 s2 s3 → last ≡ filter (λ p. is_in p others || is_in p zeros) left → Evaluated (λ p. c p >>= λ x. if is_zero x then b x p else a x p) sel last o0 o3 s0 s3
   choice a b others zeros last o2 o3 s2 s3 second third joined =
-      in_turn c (λ p. c p >>= λ x. if is_zero x then b p else a p) (chosen (zero_at o1) a b) (λ p. through_bind (c p) (λ x. if is_zero x then b p else a p)) sel left last o0 o1 o3 s0 s1 s3 first.left_in first.joined
-      (parted (zero_at o1) a b left others zeros last o1 o2 o3 s1 s2 s3 second third joined) (λ p h. ap (λ v. v >>= λ x. if is_zero x then b p else a p) (sym (first.values p h))) first.others
-
-  -- `a && b`
-  pub conjunction : (b : ℕ → Outcome ℕ ℤ) (others last : List ℕ) (o2 : List ℤ) (s2 : List Stopped) → Evaluated b (filter (λ p. not (zero_at o1 p)) left) others o1 o2 s1 s2
-      → last ≡ filter (λ p. is_in p others || is_in p (filter (zero_at o1) left)) left → Evaluated (λ p. c p >>= λ x. if is_zero x then Gives x else b p) sel last o0 o2 s0 s2
-  conjunction b others last o2 s2 second joined =
-      in_turn c (λ p. c p >>= λ x. if is_zero x then Gives x else b p) (chosen (zero_at o1) b (λ p. Gives (at_place o2 p))) (λ p. through_bind (c p) (λ x. if is_zero x then Gives x else b p)) sel left last o0 o1 o2 s0 s1 s2 first.left_in first.joined
-      (parted (zero_at o1) b (λ p. Gives (at_place o2 p)) left others (filter (zero_at o1) left) last o1 o2 o2 s1 s2 s2 second (idle o2 (filter (zero_at o1) left) s2) joined)
+      in_turn c (λ p. c p >>= λ x. if is_zero x then b x p else a x p) (chosen (zero_at o1) (λ p. a (at_place o1 p) p) (λ p. b (at_place o2 p) p)) (λ p. through_bind (c p) (λ x. if is_zero x then b x p else a x p)) sel left last o0 o1 o3 s0 s1 s3
+      first.left_in first.joined (parted (zero_at o1) (λ p. a (at_place o1 p) p) (λ p. b (at_place o2 p) p) left others zeros last o1 o2 o3 s1 s2 s3 second third joined)
       (λ p h.
-      chosen_at (zero_at o1) b (λ q. Gives (at_place o2 q)) (λ q. Gives (at_place o1 q)) b p (λ e. ap Gives (second.others p (in_filter (λ q. not (zero_at o1 q)) p left ∙ ap (λ t. is_in p left && not t) e ∙ and_false (is_in p left)))) (λ e. refl)
-      ∙ ap (λ v. v >>= λ x. if is_zero x then Gives x else b p) (sym (first.values p h)))
+      chosen_at (zero_at o1) (λ q. a (at_place o1 q) q) (λ q. b (at_place o2 q) q) (λ q. b (at_place o1 q) q) (λ q. a (at_place o1 q) q) p
+      (λ e. ap (λ z. b z p) (second.others p (in_filter (λ q. not (zero_at o1 q)) p left ∙ ap (λ t. is_in p left && not t) e ∙ and_false (is_in p left)))) (λ e. refl)
+      ∙ ap (λ v. v >>= λ x. if is_zero x then b x p else a x p) (sym (first.values p h)))
       first.others
-
-  -- `a || b`
-  pub disjunction : (b : ℕ → Outcome ℕ ℤ) (zeros last : List ℕ) (o2 : List ℤ) (s2 : List Stopped) → Evaluated b (filter (zero_at o1) left) zeros o1 o2 s1 s2
-      → last ≡ filter (λ p. is_in p (filter (λ q. not (zero_at o1 q)) left) || is_in p zeros) left → Evaluated (λ p. c p >>= λ x. if is_zero x then b p else Gives x) sel last o0 o2 s0 s2
-  disjunction b zeros last o2 s2 second joined =
-      in_turn c (λ p. c p >>= λ x. if is_zero x then b p else Gives x) (chosen (zero_at o1) (λ p. Gives (at_place o1 p)) b) (λ p. through_bind (c p) (λ x. if is_zero x then b p else Gives x)) sel left last o0 o1 o2 s0 s1 s2 first.left_in first.joined
-      (parted (zero_at o1) (λ p. Gives (at_place o1 p)) b left (filter (λ q. not (zero_at o1 q)) left) zeros last o1 o1 o2 s1 s1 s2 (idle o1 (filter (λ q. not (zero_at o1 q)) left) s1) second joined)
-      (λ p h. ap (λ v. v >>= λ x. if is_zero x then b p else Gives x) (sym (first.values p h))) first.others

@@ -1,5 +1,5 @@
 -- The arguments of a call, each in a lane of its own.
-use Rattle.std.proofs.Common.{◌≡◌, ◌+◌, ℕ, ℤ, List, [], ◌∷◌, length, ◌∙◌, refl, ap, sym, cond, arith}
+use Rattle.std.proofs.Common.{◌≡◌, ◌+◌, ℕ, ℤ, List, [], ◌∷◌, take, ◌∙◌, refl, ap, sym, cond}
 use Rattle.rdf_model.specs.Evaluation.{Outcome, Gives, Faults, Needs, ◌>>=◌}
 use Rattle.expr_lanes.specs.declared.scratch.Scratch.{Scratch}
 use Rattle.expr_lanes.specs.declared.stopped.Stopped.{Stopped}
@@ -9,10 +9,9 @@ use Rattle.expr_lanes.proofs.Sequence.{come_told, come_in_turn, through_bind}
 
 -- ---- no arguments
 
--- of no arguments there is no lane
-pub gathered_none : (lanes : List Scratch) (sel : List ℕ) (stops : List Stopped) → length lanes ≡ 0 → HasCome (λ p. Gives []) sel sel (numbers_at lanes) stops stops
-gathered_none [] sel stops h = come_told (λ p. []) sel stops
-gathered_none (s ∷ lanes) sel stops h = absurd (omega (arith, h))
+-- no arguments come to no numbers, in no lane
+pub gathered_none : (lanes : List Scratch) (sel : List ℕ) (stops : List Stopped) → HasCome (λ p. Gives []) sel sel (numbers_at (take 0 lanes)) stops stops
+gathered_none lanes sel stops = come_told (λ p. []) sel stops
 
 -- ---- one more argument
 

@@ -1,9 +1,9 @@
 pub mod Agreement
 pub mod ByValue
 pub mod Choices
+pub mod Composed
 pub mod Dense
 pub mod Gathered
-pub mod Nodes
 pub mod PartSteps
 pub mod Ready
 pub mod Rising

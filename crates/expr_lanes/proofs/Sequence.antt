@@ -207,13 +207,6 @@ through_both (Gives x) r o = through_bind r (o x)
 through_both (Faults e) r o = refl
 through_both (Needs c) r o = refl
 
--- an operator of one side, which was evaluated into a lane
-pub one_side : (f : ℕ → Outcome ℕ ℤ) (o : ℤ → Outcome ℕ ℤ) (sel left last : List ℕ) (l0 l1 before after : List ℤ) (s0 s1 s2 : List Stopped)
-    → Evaluated f sel left l0 l1 s0 s1 → Evaluated (λ p. o (at_place l1 p)) left last before after s1 s2 → Evaluated (λ p. f p >>= o) sel last before after s0 s2
-one_side f o sel left last l0 l1 before after s0 s1 s2 first second =
-    in_turn f (λ p. f p >>= o) (λ p. o (at_place l1 p)) (λ p. through_bind (f p) o) sel left last before before after s0 s1 s2 first.left_in first.joined second
-    (λ p i. ap (λ v. v >>= o) (sym (first.values p i))) (λ p h. refl)
-
 -- an operator of two sides, which came to numbers
 pub two_sides : (f g : ℕ → Outcome ℕ ℤ) (o : ℤ → ℤ → Outcome ℕ ℤ) (sel left right last : List ℕ) (x y : ℕ → ℤ) (before after : List ℤ) (s0 s1 s2 s3 : List Stopped)
     → HasCome f sel left x s0 s1 → HasCome g left right y s1 s2 → Evaluated (λ p. o (x p) (y p)) right last before after s2 s3

@@ -33,9 +33,6 @@ pub record IsRest (all rest : List ℕ) : Type 0 where
   pub few : length rest ≤ length all
   pub same : length rest ≡ length all → rest ≡ all
 
-pub rest_of_itself : (all : List ℕ) → IsRest all all
-rest_of_itself all = record { few = omega arith; same = λ h. refl }
-
 pub rest_left : (f : ℕ → Outcome ℕ ℤ) (sel left : List ℕ) (before after : List ℤ) (stops more : List Stopped) → Evaluated f sel left before after stops more → IsRest sel left
 rest_left f sel left before after stops more e = record {
   few = omega (arith, ap (λ (l : List ℕ). length l) e.left_in, parts_of (λ p. is_given (f p)) sel);

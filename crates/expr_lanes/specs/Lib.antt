@@ -1,3 +1,5 @@
+pub mod Able
+pub mod Branches
 pub mod Depths
 pub mod Folds
 pub mod LaneInputs

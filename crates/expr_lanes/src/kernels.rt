@@ -1,13 +1,13 @@
 // What is computed at each place.
-ghost use Rattle.std.specs.Prelude.{◌≡◌, ◌<◌, ◌≤◌, ℕ, ℤ, length, pos, neg_ℤ, nat_abs};
-ghost use Rattle.rdf_model.specs.Evaluation.{Gives, number_operation, checked, mark as mark_of, is_zero};
+ghost use Rattle.std.specs.Prelude.{◌≡◌, ◌<◌, ◌≤◌, ℕ, ℤ, length, pos, nat_abs};
+ghost use Rattle.rdf_model.specs.Evaluation.{Gives, number_operation, checked};
 ghost use Rattle.expr_eval.specs.Answers.{number_outcome};
 ghost use Rattle.expr_lanes.specs.Places.{answered_at};
 
 use crate::kernel::Kernel;
 use crate::numbers::Numbers;
 use expr_eval::ScalarStop;
-use expr_eval::number::{absolute, mark, negate, operate};
+use expr_eval::number::{absolute, operate};
 use rdf_values::{BinOp, EntryFault};
 
 /// The number, or the stop that the fault is.
@@ -38,23 +38,6 @@ impl<'a, N: Numbers> Kernel for Copied<'a, N> {
     }
 }
 
-/// The numbers with the other sign.
-#[derive(Drop)]
-pub(crate) struct Negative<'a, N: Numbers> {
-    pub(crate) numbers: &'a N,
-}
-
-impl<'a, N: Numbers> Kernel for Negative<'a, N> {
-    ghost can = { λ s p. N.has s.numbers.now p };
-
-    ghost gives = { λ s p. checked (neg_ℤ (N.number s.numbers.now p)) };
-
-    #[inline(always)]
-    fn at(&self, place: u32) -> Result<i64, ScalarStop> {
-        stop_at_fault(negate(self.numbers.at(place)))
-    }
-}
-
 /// The numbers without their signs.
 #[derive(Drop)]
 pub(crate) struct Magnitude<'a, N: Numbers> {
@@ -69,23 +52,6 @@ impl<'a, N: Numbers> Kernel for Magnitude<'a, N> {
     #[inline(always)]
     fn at(&self, place: u32) -> Result<i64, ScalarStop> {
         stop_at_fault(absolute(self.numbers.at(place)))
-    }
-}
-
-/// The other truth values.
-#[derive(Drop)]
-pub(crate) struct Inverse<'a, N: Numbers> {
-    pub(crate) numbers: &'a N,
-}
-
-impl<'a, N: Numbers> Kernel for Inverse<'a, N> {
-    ghost can = { λ s p. N.has s.numbers.now p };
-
-    ghost gives = { λ s p. Gives (mark_of (is_zero (N.number s.numbers.now p))) };
-
-    #[inline(always)]
-    fn at(&self, place: u32) -> Result<i64, ScalarStop> {
-        Ok(mark(self.numbers.at(place) == 0))
     }
 }
 

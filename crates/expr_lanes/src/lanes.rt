@@ -11,41 +11,36 @@ ghost use Rattle.expr_lanes.specs.Places.{IsReady};
 ghost use Rattle.expr_lanes.specs.Values.{HasValues};
 
 use crate::MAX_PLACES;
-use crate::evaluation::eval_node;
+use crate::evaluation::Evaluation;
 use crate::lane_inputs::LaneInputs;
-use crate::scope::Scope;
+use crate::nodes::eval_node;
 use crate::scratch::Scratch;
 use crate::selection::Selection;
 use crate::stopped::Stopped;
 use arrayvec::ArrayVec;
-use entry_fns::FnList;
-use expr_check::Checked;
 use expr_eval::{Steps, callable};
 use std::sync::ledger::Ledger;
 
 /// Evaluates an expression at the selected places of a block, in a step each. The places that
 /// come to a value stay selected, and the lane then holds their values; each other place becomes a stop. It takes no memory.
 pub fn eval_lane<I: LaneInputs, L: Ledger>(
-    expr: &Checked,
-    inputs: &I,
-    functions: &FnList,
+    evaluation: &Evaluation<'_, I>,
     selection: &mut Selection,
     lane: &mut [i64],
     stops: &mut ArrayVec<Stopped, MAX_PLACES>,
     scratch: &mut [Scratch],
     steps: &mut Steps<L>,
 )
-    requires scalar { is_vector expr.now.kind ≡ false }
-    requires can { CanLane (I.can inputs.now) (I.can_tell inputs.now) expr.now.tree }
-    requires fit { (p : ℕ) → p < I.size inputs.now → All (λ c. FitsOutcome c.1 (I.look inputs.now p c.0)) expr.now.kinds }
-    requires calls { CallsFit (fn_names (functions_in functions.now)) expr.now.tree }
-    requires deep { depth expr.now.tree ≤ length scratch.old }
-    requires ready { IsReady (I.size inputs.now) selection.old lane.old stops.old.items }
-    ensures values { HasValues expr.now.kind (λ p. evaluate (I.look inputs.now p) (call_outcome (functions_in functions.now)) expr.now.tree) selection.old selection.new lane.old lane.new stops.old.items stops.new.items }
+    requires scalar { is_vector evaluation.now.expr.now.kind ≡ false }
+    requires can { CanLane (I.can evaluation.now.inputs.now) (I.can_tell evaluation.now.inputs.now) evaluation.now.expr.now.tree }
+    requires fit { (p : ℕ) → p < I.size evaluation.now.inputs.now → All (λ c. FitsOutcome c.1 (I.look evaluation.now.inputs.now p c.0)) evaluation.now.expr.now.kinds }
+    requires calls { CallsFit (fn_names (functions_in evaluation.now.functions.now)) evaluation.now.expr.now.tree }
+    requires deep { depth evaluation.now.expr.now.tree ≤ length scratch.old }
+    requires ready { IsReady (I.size evaluation.now.inputs.now) selection.old lane.old stops.old.items }
+    ensures values { HasValues evaluation.now.expr.now.kind (λ p. evaluate (I.look evaluation.now.inputs.now p) (call_outcome (functions_in evaluation.now.functions.now)) evaluation.now.expr.now.tree) selection.old selection.new lane.old lane.new stops.old.items stops.new.items }
     ensures steps { steps.new ≡ steps.old + length selection.old }
 {
     steps.add(selection.len() as u64);
-    let node = callable(expr, functions);
-    let scope = Scope { inputs, functions };
-    eval_node(node, &scope, selection, lane, stops, scratch)
+    let node = callable(evaluation.expr, evaluation.functions);
+    eval_node(node, evaluation, selection, lane, stops, scratch)
 }

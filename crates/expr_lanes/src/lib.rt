@@ -8,22 +8,24 @@
 mod able;
 mod arguments;
 mod columns;
-mod evaluation;
+pub mod evaluation;
 pub mod folds;
 mod kernel;
 mod kernels;
 pub mod lane_inputs;
 mod lanes;
 mod narrowing;
+mod nodes;
 mod numbers;
 mod operators;
 mod parting;
-mod scope;
+mod parts;
 pub mod scratch;
 pub mod selection;
 pub mod stopped;
 
 pub use crate::able::can_eval_lane;
+pub use crate::evaluation::Evaluation;
 pub use crate::folds::{Fold, FoldCall, fold_call};
 pub use crate::lane_inputs::{Known, LaneColumn, LaneInputs, LaneVectors};
 pub use crate::lanes::eval_lane;

@@ -1,0 +1,157 @@
+use Rattle.std.proofs.Common.{rules, arith, ◌≡◌, ◌<◌, ◌∙◌, sym, length, pos, None}
+use Rattle.rdf_values.specs.NumExprTree.{num_tree, num_trees}
+use Rattle.rdf_values.specs.Tree.{Lit, Bin}
+use Rattle.rdf_values.specs.declared.expr.BinOp.TheVariants as op
+use Rattle.expr_lanes.specs.declared.TheConstants.{MAX_PLACES}
+use Rattle.expr_lanes.specs.Able.{IsAble}
+use Rattle.expr_lanes.specs.Folds.{fold_read}
+use Rattle.expr_lanes.specs.Places.{IsReady, IsSelected}
+use Rattle.expr_lanes.proofs.Gathered.{gathered_none, gathered_more}
+use Rattle.expr_lanes.proofs.Choices.{idle}
+use Rattle.expr_lanes.proofs.Composed.{at_hand, has_at_hand, of_negative, of_inverse, negated, inverted, called, operated, chosen}
+use Rattle.expr_lanes.proofs.Ready.{selected_next, selected_after, selected_part, selected_other}
+use Rattle.expr_lanes.proofs.Sequence.{come_from, come_of, with_numbers}
+use Rattle.expr_lanes.proofs.Whole.{rest_left, whole}
+use Rattle.expr_lanes.proofs.nodes.+lanes.Goals as goal
+
+pub eval_side-returns-in-Some : goal.eval_side-returns-in-Some
+eval_side-returns-in-Some g t c =
+    record { come = at_hand _ _ _ _ _ c.in-Some.ensures c.requires.ready.selected.inside; has = has_at_hand _ _ _ _ c.in-Some.ensures c.requires.ready.selected.inside }
+
+pub eval_side-returns-in-None : goal.eval_side-returns-in-None
+eval_side-returns-in-None g t c =
+    let next : IsSelected (g.S.LaneInputs.size c.args.scope.now) c.eval_node.new.selection c.eval_node.new.stops.items = selected_after _ _ _ _ _ _ _ _ c.requires.ready.selected c.eval_node.ensures in
+    record { come = come_of _ _ _ _ _ _ _ c.eval_node.ensures; has = λ p h. omega (arith, next.inside p h, c.requires.ready.long) }
+
+pub eval_sides-eval_side-right-requires : goal.eval_sides-eval_side-right-requires
+eval_sides-eval_side-right-requires g t c =
+    let next : IsSelected (g.S.LaneInputs.size c.args.sides.now.scope.now) c.eval_side-left.new.selection c.eval_side-left.new.stops.items = selected_next _ _ _ _ _ _ _ c.requires.ready.selected c.eval_side-left.ensures.come in
+    let ready : IsReady (g.S.LaneInputs.size c.args.sides.now.scope.now) c.eval_side-left.new.selection c.args.level.now.right c.eval_side-left.new.stops.items = record { selected = next; long = omega (arith, next.small) } in
+    search rules
+
+pub eval_sides-combine_sides-requires-clause-left : goal.eval_sides-combine_sides-requires-clause-left
+eval_sides-combine_sides-requires-clause-left g t c =
+    λ p h. c.eval_side-left.ensures.has p (come_from _ _ _ _ _ _ c.eval_side-right.ensures.come p h)
+
+pub eval_sides-combine_sides-requires-clause-right : goal.eval_sides-combine_sides-requires-clause-right
+eval_sides-combine_sides-requires-clause-right g t c =
+    c.eval_side-right.ensures.has
+
+pub eval_sides-combine_sides-requires-clause-inside : goal.eval_sides-combine_sides-requires-clause-inside
+eval_sides-combine_sides-requires-clause-inside g t c =
+    let next : IsSelected (g.S.LaneInputs.size c.args.sides.now.scope.now) c.eval_side-left.new.selection c.eval_side-left.new.stops.items = selected_next _ _ _ _ _ _ _ c.requires.ready.selected c.eval_side-left.ensures.come in
+    let last : IsSelected (g.S.LaneInputs.size c.args.sides.now.scope.now) c.eval_side-right.new.selection c.eval_side-right.new.stops.items = selected_next _ _ _ _ _ _ _ next c.eval_side-right.ensures.come in
+    λ p h. omega (arith, last.inside p h, c.requires.ready.long)
+
+pub eval_sides-combine_sides-requires-clause-room : goal.eval_sides-combine_sides-requires-clause-room
+eval_sides-combine_sides-requires-clause-room g t c =
+    let next : IsSelected (g.S.LaneInputs.size c.args.sides.now.scope.now) c.eval_side-left.new.selection c.eval_side-left.new.stops.items = selected_next _ _ _ _ _ _ _ c.requires.ready.selected c.eval_side-left.ensures.come in
+    let last : IsSelected (g.S.LaneInputs.size c.args.sides.now.scope.now) c.eval_side-right.new.selection c.eval_side-right.new.stops.items = selected_next _ _ _ _ _ _ _ next c.eval_side-right.ensures.come in
+    last.room
+
+pub eval_sides-returns : goal.eval_sides-returns
+eval_sides-returns g t c =
+    operated _ _ _ _ _ _ _ _ _ _ _ _ _ _ _ c.requires.op c.eval_side-left.ensures.come c.eval_side-right.ensures.come c.combine_sides.ensures
+
+pub eval_choice-part-requires : goal.eval_choice-part-requires
+eval_choice-part-requires g t c =
+    let next : IsSelected (g.S.LaneInputs.size c.args.choice.now.scope.now) c.eval_node.new.selection c.eval_node.new.stops.items = selected_after _ _ _ _ _ _ _ _ c.requires.ready.selected c.eval_node.ensures in
+    record { inside = λ p h. omega (arith, next.inside p h, c.requires.ready.long) }
+
+pub eval_choice-eval_branch-requires : goal.eval_choice-eval_branch-requires
+eval_choice-eval_branch-requires g t c =
+    let next : IsSelected (g.S.LaneInputs.size c.args.choice.now.scope.now) c.eval_node.new.selection c.eval_node.new.stops.items = selected_after _ _ _ _ _ _ _ _ c.requires.ready.selected c.eval_node.ensures in
+    let half : IsSelected (g.S.LaneInputs.size c.args.choice.now.scope.now) c.part.new.others c.eval_node.new.stops.items = selected_part _ _ _ _ _ next c.part.ensures.others in
+    let ready : IsReady (g.S.LaneInputs.size c.args.choice.now.scope.now) c.part.new.others c.eval_node.new.lane c.eval_node.new.stops.items = record { selected = half; long = omega (arith, c.requires.ready.long) } in
+    search rules
+
+pub eval_choice-eval_branch-requires-2 : goal.eval_choice-eval_branch-requires-2
+eval_choice-eval_branch-requires-2 g t c =
+    let next : IsSelected (g.S.LaneInputs.size c.args.choice.now.scope.now) c.eval_node.new.selection c.eval_node.new.stops.items = selected_after _ _ _ _ _ _ _ _ c.requires.ready.selected c.eval_node.ensures in
+    let other : IsSelected (g.S.LaneInputs.size c.args.choice.now.scope.now) c.part.new.zeros c.eval_branch.new.stops.items = selected_other _ _ _ _ _ _ _ _ _ _ _ next c.part.ensures.zeros c.part.ensures.others c.eval_branch.ensures in
+    let ready : IsReady (g.S.LaneInputs.size c.args.choice.now.scope.now) c.part.new.zeros c.eval_branch.new.lane c.eval_branch.new.stops.items = record { selected = other; long = omega (arith, c.requires.ready.long) } in
+    search rules
+
+pub eval_choice-rejoin-requires-clause-inside : goal.eval_choice-rejoin-requires-clause-inside
+eval_choice-rejoin-requires-clause-inside g t c =
+    let next : IsSelected (g.S.LaneInputs.size c.args.choice.now.scope.now) c.eval_node.new.selection c.eval_node.new.stops.items = selected_after _ _ _ _ _ _ _ _ c.requires.ready.selected c.eval_node.ensures in
+    λ p h. let below : p < MAX_PLACES = omega (arith, next.inside p h, next.small) in omega arith
+
+pub eval_choice-rejoin-requires-clause-others_inside : goal.eval_choice-rejoin-requires-clause-others_inside
+eval_choice-rejoin-requires-clause-others_inside g t c =
+    let next : IsSelected (g.S.LaneInputs.size c.args.choice.now.scope.now) c.eval_node.new.selection c.eval_node.new.stops.items = selected_after _ _ _ _ _ _ _ _ c.requires.ready.selected c.eval_node.ensures in
+    let half : IsSelected (g.S.LaneInputs.size c.args.choice.now.scope.now) c.part.new.others c.eval_node.new.stops.items = selected_part _ _ _ _ _ next c.part.ensures.others in
+    let rest : IsSelected (g.S.LaneInputs.size c.args.choice.now.scope.now) c.eval_branch.new.selection c.eval_branch.new.stops.items = selected_after _ _ _ _ _ _ _ _ half c.eval_branch.ensures in
+    λ p h. let below : p < MAX_PLACES = omega (arith, rest.inside p h, rest.small) in omega arith
+
+pub eval_choice-rejoin-requires-clause-zeros_inside : goal.eval_choice-rejoin-requires-clause-zeros_inside
+eval_choice-rejoin-requires-clause-zeros_inside g t c =
+    let next : IsSelected (g.S.LaneInputs.size c.args.choice.now.scope.now) c.eval_node.new.selection c.eval_node.new.stops.items = selected_after _ _ _ _ _ _ _ _ c.requires.ready.selected c.eval_node.ensures in
+    let other : IsSelected (g.S.LaneInputs.size c.args.choice.now.scope.now) c.part.new.zeros c.eval_branch.new.stops.items = selected_other _ _ _ _ _ _ _ _ _ _ _ next c.part.ensures.zeros c.part.ensures.others c.eval_branch.ensures in
+    let rest : IsSelected (g.S.LaneInputs.size c.args.choice.now.scope.now) c.eval_branch-2.new.selection c.eval_branch-2.new.stops.items = selected_after _ _ _ _ _ _ _ _ other c.eval_branch-2.ensures in
+    λ p h. let below : p < MAX_PLACES = omega (arith, rest.inside p h, rest.small) in omega arith
+
+pub eval_choice-returns : goal.eval_choice-returns
+eval_choice-returns g t c =
+    chosen _ _ _ _ _ _ _ _ _ c.eval_node.ensures c.part.ensures.others c.part.ensures.zeros _ _ _ _ _ _ _ _ _ c.eval_branch.ensures c.eval_branch-2.ensures c.rejoin.ensures
+
+pub gather_more-eval_node-requires : goal.gather_more-eval_node-requires
+gather_more-eval_node-requires g t c =
+    let ready : IsReady (g.S.LaneInputs.size c.args.arguments.now.scope.now) c.args.selection.now c.args.level.now.left c.args.stops.now.items = record { selected = c.requires.ready; long = omega (arith, c.requires.ready.small) } in
+    search rules
+
+pub gather_more-gather-requires : goal.gather_more-gather-requires
+gather_more-gather-requires g t c =
+    let next : IsSelected (g.S.LaneInputs.size c.args.arguments.now.scope.now) c.eval_node.new.selection c.eval_node.new.stops.items = selected_after _ _ _ _ _ _ _ _ c.requires.ready c.eval_node.ensures in
+    search rules
+
+pub gather_more-returns : goal.gather_more-returns
+gather_more-returns g t c =
+    gathered_more _ _ _ _ _ _ _ _ _ _ _ c.eval_node.ensures c.gather.ensures
+
+pub gather-returns-in-End : goal.gather-returns-in-End
+gather-returns-in-End g t c =
+    rw c.in-End.is (gathered_none c.args.scratch.now c.args.selection.now c.args.stops.now.items)
+
+pub eval_choice-rejoin-requires-clause-whole : goal.eval_choice-rejoin-requires-clause-whole
+eval_choice-rejoin-requires-clause-whole g t c =
+    whole _ _ _ _ _ _ c.part.ensures.zeros c.part.ensures.others (rest_left _ _ _ _ _ _ _ c.eval_branch-2.ensures) (rest_left _ _ _ _ _ _ _ c.eval_branch.ensures)
+
+pub eval_branch-returns-in-Same : goal.eval_branch-returns-in-Same
+eval_branch-returns-in-Same g t c =
+    rw c.in-Same.is (idle c.args.lane.now c.args.selection.now c.args.stops.now.items)
+
+pub eval_call-call_lanes-requires-clause-inside : goal.eval_call-call_lanes-requires-clause-inside
+eval_call-call_lanes-requires-clause-inside g t c =
+    let next : IsSelected (g.S.LaneInputs.size c.args.called.now.scope.now) c.gather.new.selection c.gather.new.stops.items = selected_next _ _ _ _ _ _ _ c.requires.ready.selected c.gather.ensures in
+    λ p h. (omega (arith, next.inside p h, c.requires.ready.long), omega (arith, next.inside p h, next.small))
+
+pub eval_call-call_lanes-requires-clause-room : goal.eval_call-call_lanes-requires-clause-room
+eval_call-call_lanes-requires-clause-room g t c =
+    let next : IsSelected (g.S.LaneInputs.size c.args.called.now.scope.now) c.gather.new.selection c.gather.new.stops.items = selected_next _ _ _ _ _ _ _ c.requires.ready.selected c.gather.ensures in
+    next.room
+
+pub eval_call-returns-in-None : goal.eval_call-returns-in-None
+eval_call-returns-in-None g t c =
+    let scope = c.args.called.now.scope.now in
+    let none : fold_read c.args.called.now.callee (num_trees c.args.called.now.args.now) ≡ None = sym c.fold_call.ensures ∙ c.in-None.is in
+    called (g.S.LaneInputs.look scope) (g.S.Calls.functions scope) _ _ _ _ _ _ c.args.called.now.callee (num_trees c.args.called.now.args.now) none
+    (with_numbers _ _ _ _ _ _ _ _ _ _ _ c.gather.ensures.left_in c.gather.ensures.joined c.gather.ensures.values (rw c.args_length.ensures at c.call_lanes.ensures))
+
+pub eval_negative-eval_operator-requires : goal.eval_negative-eval_operator-requires
+eval_negative-eval_operator-requires g t c =
+    let able : IsAble (g.S.LaneInputs.can c.args.scope.now) (g.S.LaneInputs.can_tell c.args.scope.now) (g.S.Calls.functions c.args.scope.now) (length c.args.scratch.now) (Bin op.Sub (Lit (pos 0)) (num_tree c.args.right.now)) = of_negative _ _ _ _ _ c.requires.able in
+    search rules
+
+pub eval_negative-returns : goal.eval_negative-returns
+eval_negative-returns g t c =
+    negated (g.S.LaneInputs.look c.args.scope.now) (g.S.Calls.functions c.args.scope.now) _ _ _ _ _ _ (num_tree c.args.right.now) c.eval_operator.ensures
+
+pub eval_inverse-eval_operator-requires : goal.eval_inverse-eval_operator-requires
+eval_inverse-eval_operator-requires g t c =
+    let able : IsAble (g.S.LaneInputs.can c.args.scope.now) (g.S.LaneInputs.can_tell c.args.scope.now) (g.S.Calls.functions c.args.scope.now) (length c.args.scratch.now) (Bin op.Eq (num_tree c.args.left.now) (Lit (pos 0))) = of_inverse _ _ _ _ _ c.requires.able in
+    search rules
+
+pub eval_inverse-returns : goal.eval_inverse-returns
+eval_inverse-returns g t c =
+    inverted (g.S.LaneInputs.look c.args.scope.now) (g.S.Calls.functions c.args.scope.now) _ _ _ _ _ _ (num_tree c.args.left.now) c.eval_operator.ensures

@@ -1,0 +1,30 @@
+-- What an evaluation over a block asks of an expression.
+use Rattle.std.specs.Prelude.{ℕ, ◌+◌, ◌≤◌, List}
+use Rattle.rdf_values.specs.Functions.{Function}
+use Rattle.rdf_values.specs.Kinds.{args_count}
+use Rattle.rdf_values.specs.NumExprTree.{num_tree}
+use Rattle.rdf_values.specs.Tree.{NumTree, Trees}
+use Rattle.rdf_values.specs.declared.num_expr.Callee.{Callee}
+use Rattle.expr_eval.specs.CanCall.{CanCall, ArgumentsCanCall}
+use Rattle.expr_lanes.specs.declared.parts.Branch.{Branch}
+use Rattle.expr_lanes.specs.declared.parts.Branch.TheVariants.{Node, Same}
+use Rattle.expr_lanes.specs.Depths.{depth, depth_of_all}
+use Rattle.expr_lanes.specs.Folds.{CanLane, CanLaneAll}
+
+module _ (IsNumbers IsTold : ℕ → Type 0) (functions : List Function) (levels : ℕ) where
+  -- what it reads can be read, its calls can be made, and the levels of scratch are enough
+  pub record IsAble (e : NumTree) : Type 0 where
+    pub can : CanLane IsNumbers IsTold e
+    pub calls : CanCall functions e
+    pub deep : depth e ≤ levels
+
+  -- the same of the arguments of a call, each of which takes a level
+  pub record AreAble (args : Trees ℕ Callee) : Type 0 where
+    pub can : CanLaneAll IsNumbers IsTold args
+    pub calls : ArgumentsCanCall functions args
+    pub deep : args_count args + depth_of_all args ≤ levels
+
+  -- and of a side of a choice
+  abbrev pub IsAbleBranch : Branch → Type 0
+  IsAbleBranch (Node e) = IsAble (num_tree e.now)
+  IsAbleBranch Same = Unit {0}

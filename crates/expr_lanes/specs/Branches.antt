@@ -1,0 +1,19 @@
+-- The sides of choices.
+use Rattle.std.specs.Prelude.{ℕ, ℤ, List, if◌then◌else◌}
+use Rattle.rdf_values.specs.Functions.{Function}
+use Rattle.rdf_values.specs.NumExprTree.{num_tree}
+use Rattle.rdf_values.specs.Tree.{NumTree}
+use Rattle.rdf_values.specs.declared.value.Value.{Value}
+use Rattle.rdf_model.specs.Evaluation.{Outcome, Gives, ◌>>=◌, is_zero}
+use Rattle.expr_lanes.specs.declared.parts.Branch.{Branch}
+use Rattle.expr_lanes.specs.declared.parts.Branch.TheVariants.{Node, Same}
+use Rattle.expr_lanes.specs.Marks.{lane_at}
+
+-- what a side comes to at a place where the condition came to that number
+abbrev pub branch_at : (ℕ → ℕ → Outcome ℕ Value) → List Function → Branch → ℤ → ℕ → Outcome ℕ ℤ
+branch_at look functions (Node e) z p = lane_at look functions (num_tree e.now) p
+branch_at look functions Same z p = Gives z
+
+-- what a choice comes to at a place: where the condition is 0, and elsewhere
+abbrev pub choice_at : (ℕ → ℕ → Outcome ℕ Value) → List Function → NumTree → Branch → Branch → ℕ → Outcome ℕ ℤ
+choice_at look functions c zero other p = lane_at look functions c p >>= λ x. if is_zero x then branch_at look functions zero x p else branch_at look functions other x p
