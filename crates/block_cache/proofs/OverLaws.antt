@@ -7,7 +7,7 @@ use Rattle.std.proofs.lemmas.List.Elements.{All-set}
 use Rattle.std.proofs.lemmas.Option.{slice_get_within, get_or_from_slice_get}
 use Rattle.rdf_values.specs.declared.value.Value.{Value}
 use Rattle.rdf_values.specs.declared.value.ColType.{ColType}
-use Rattle.rdf_model.specs.Evaluation.{Outcome, Gives, evaluate, call_outcome}
+use Rattle.rdf_model.specs.Evaluation.{Outcome, Gives}
 use Rattle.rdf_model.specs.Laws.{FitsOutcome}
 use Rattle.expr_check.specs.NumKinds.{CheckedExpr}
 use Rattle.expr_lanes.specs.Places.{EachPlace, is_in}
@@ -23,7 +23,7 @@ use Rattle.block_cache.proofs.LaneSteps.{in_given}
 use Rattle.loop_keys.proofs.ColumnLaws.{can_evaluate}
 use Rattle.loop_keys.proofs.FillLaws.{written}
 use Rattle.loop_keys.proofs.RowLaws.{key_small}
-use Rattle.block_cache.specs.Blocks.{AreReady, CanRead, HasSource, IsBegunOver, IsTelling, IsTriedOver, cells_at, held_at, held_value}
+use Rattle.block_cache.specs.Blocks.{AreReady, CanRead, HasSource, IsBegunOver, IsTelling, IsTriedOver, cells_at, held_at, held_value, outcome_at}
 use Rattle.block_cache.proofs.BlockLaws.{cells_long, given_right, held_of_lane, lane_held, sound_alike, sound_below, tells, value_held}
 
 -- ---- a lane that is written
@@ -99,7 +99,7 @@ module _
 
     -- what was told at a place
     abbrev pub told : ℕ → Outcome ℕ Value
-    told p = evaluate (look_at j (first + p) u (cells_at keys (take place lanes) p)) (call_outcome j.dataset.fns) e.tree
+    told = outcome_at j first u (take place lanes) e.tree
 
     telling : (p : ℕ) → p < count → IsTelling j (first + p) u (cells_at keys (take place lanes) p) s (told p)
     telling p low = tells j job (first + p) u (cells_at keys (take place lanes) p) (sound_below j (first + p) keys place p lanes (ready.sound p low)) s e its
@@ -126,9 +126,9 @@ module _
 
     -- what an evaluation over them told
     pub told_below : (below : List LaneView) → take place lanes ≡ below → (sel left : List ℕ) (lane : LaneView) (stops more : List Stopped)
-        → IsEvaluated (λ p. evaluate (look_at j (first + p) u (cells_at keys below p)) (call_outcome j.dataset.fns) e.tree) sel left own lane stops more → IsEvaluated told sel left own lane stops more
+        → IsEvaluated (outcome_at j first u below e.tree) sel left own lane stops more → IsEvaluated told sel left own lane stops more
     told_below below is sel left lane stops more ev =
-        subst (λ (ls : List LaneView). IsEvaluated (λ p. evaluate (look_at j (first + p) u (cells_at keys ls p)) (call_outcome j.dataset.fns) e.tree) sel left own lane stops more) (sym is) ev
+        subst (λ (ls : List LaneView). IsEvaluated (outcome_at j first u ls e.tree) sel left own lane stops more) (sym is) ev
 
     module _ (sel left : List ℕ) (lane : LaneView) (stops more : List Stopped) (ev : IsEvaluated told sel left own lane stops more) (unknown : EachPlace sel (λ p. is_held own p ≡ false)) where
       selected : EachPlace left (λ p. is_in p sel ≡ true)

@@ -282,9 +282,6 @@ module _ (j : JobView) (job : IsJob j) (first : ℕ) (u : Option ℕ) (count s :
               room = (let e = ap (λ (l : List ℕ). length l) filled.left_is in let b = below_short under group in let r = turn_selected.room in omega (arith, e, b, r));
             }
 
-            pub open_inside : EachPlace open_places (λ p. p < count)
-            open_inside p i = h.inside p (h.among p i)
-
             pub left_lacks : EachPlace left (λ p. holds_at mid own p ≡ false)
             left_lacks p i = same_holds n lanes mid own p (later_keys j first u t group lanes mid spent.grown s p turn_lower inside) ∙ h.lacks p (group_open p (left_group p i))
 
@@ -439,9 +436,6 @@ module _ (j : JobView) (job : IsJob j) (first : ℕ) (u : Option ℕ) (count s :
   module _
       (sel : List ℕ) (before : List LaneView) (start : ℕ) (lanes : List LaneView) (fault : Option PlaceFault) (open_places needs : List ℕ) (now : ℕ) (h : IsUnderway j first u count s sel before start lanes fault open_places needs now)
     where
-      pub ended_spent : IsSpentOver j first u s sel before lanes start now
-      ended_spent = record { grown = h.grown; cost = omega (arith, h.paid) }
-
       module _ (none : length open_places ≡ 0) where
         all_held : EachPlace sel (λ p. is_below fault p ≡ true → holds_at lanes own p ≡ true)
         all_held p i low = go (holds_at lanes own p) refl

@@ -1,8 +1,7 @@
 -- The marks of a block, of which all may be set without being written.
-use Rattle.std.proofs.Common.{◌≡◌, ◌<◌, ◌≤◌, ◌+◌, ◌||◌, not, ℕ, zero, suc, Bool, true, false, inl, inr, List, [], ◌∷◌, length, get_or, set, ◌∙◌, refl, ap, sym, subst, arith, cond}
+use Rattle.std.proofs.Common.{◌≡◌, ◌<◌, ◌≤◌, ◌+◌, ◌||◌, not, ℕ, zero, suc, Bool, true, false, List, [], ◌∷◌, length, get_or, set, ◌∙◌, refl, ap, sym, subst, arith, cond}
 use Rattle.std.specs.Prelude.{count_by}
 use Rattle.std.specs.List.{range_with_len}
-use Rattle.std.proofs.lemmas.Bool.{cases_lt}
 use Rattle.std.proofs.lemmas.List.{take_all}
 use Rattle.std.proofs.lemmas.List.FromFn.{length-range_with_len, get_or-range_with_len}
 use Rattle.std.proofs.lemmas.List.Sums.{sum_by-cons}
@@ -13,13 +12,6 @@ use Rattle.block_cache.specs.BlockMarks.{AreWrittenMarks, IsBare, MarksView, mar
 use Rattle.block_cache.specs.declared.block_marks.Extent.{Extent}
 use Rattle.block_cache.specs.declared.block_marks.Extent.TheVariants as extent
 use Rattle.block_cache.proofs.Marking.{IsMarkedTo, mark_one, marked_all, marked_to_none, newly_all}
-
-neither : (a b : Bool) → a ≡ false → b ≡ false → (a || b) ≡ false
-neither a b h k = ap (λ c. c || b) h ∙ k
-
-outside : (a : Bool) → (a ≡ true → ⊥) → a ≡ false
-outside true h = absurd (h refl)
-outside false h = refl
 
 -- ---- a list with its first places marked
 
@@ -78,20 +70,6 @@ still_marked marks sel each p = go (is_in p sel) refl
 
 pub none_newly : (marks : List Bool) (sel : List ℕ) → EachPlace sel (λ p. is_marked marks p ≡ true) → count_by (λ b. b) marks ≡ count_by (λ b. b) marks + count_by (λ p. not (is_marked marks p)) sel
 none_newly marks sel each = let none = none_counted sel (λ p. not (is_marked marks p)) (λ p i. ap not (each p i)) in omega (arith, none)
-
--- ---- some of it is
-
-pub some_written : (count : ℕ) (written after : List Bool) (sel : List ℕ) → ((p : ℕ) → count ≤ p → is_marked written p ≡ false) → EachPlace sel (λ p. p < count) → ((p : ℕ) → is_marked after p ≡ (is_in p sel || is_marked written p)) → count ≤ length after → AreWrittenMarks extent.Some count after
-some_written count written after sel behind inside marked within = record {
-  within = within;
-  behind = λ p far. marked p ∙ neither (is_in p sel) (is_marked written p) (outside (is_in p sel) (λ i. let low : p < count = inside p i in omega (arith, low, far))) (behind p far);
-  bare = tt;
-}
-
--- ---- a block that begins
-
-pub cleared : (count : ℕ) (written after : List Bool) → ((p : ℕ) → count ≤ p → is_marked written p ≡ false) → ((p : ℕ) → p < count → is_marked after p ≡ false) → ((p : ℕ) → count ≤ p → is_marked after p ≡ is_marked written p) → (p : ℕ) → is_marked after p ≡ false
-cleared count written after behind first rest p = elim (cases_lt p count) [ inl low ↦ first p low | inr far ↦ rest p far ∙ behind p far ]
 
 -- ---- as they are seen
 

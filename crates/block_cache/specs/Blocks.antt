@@ -1,12 +1,13 @@
 -- What is held of the entries of a block.
 use Rattle.std.specs.Prelude.{◌≡◌, ◌<◌, ◌≤◌, ◌+◌, ◌-◌, ◌++◌, ℕ, ℤ, false, List, length, map, take, replicate, All, Option, Some, if◌then◌else◌, slice_get, slice_set}
 use Rattle.rdf_values.specs.Tables.{kind_at}
+use Rattle.rdf_values.specs.Tree.{NumTree}
 use Rattle.rdf_values.specs.declared.value.ColType.{ColType}
 use Rattle.rdf_values.specs.declared.value.ColType.TheVariants as kind
 use Rattle.rdf_values.specs.declared.value.Value.{Value}
 use Rattle.rdf_values.specs.declared.value.Value.TheVariants as val
 use Rattle.rdf_model.specs.ColumnValues.{tag_element}
-use Rattle.rdf_model.specs.Evaluation.{Outcome, Gives, Faults, Needs, ◌>>=◌}
+use Rattle.rdf_model.specs.Evaluation.{Outcome, Gives, Faults, Needs, call_outcome, evaluate, ◌>>=◌}
 use Rattle.expr_check.specs.NumKinds.{CheckedExpr, is_vector}
 use Rattle.expr_lanes.specs.Depths.{depth}
 use Rattle.expr_lanes.specs.declared.stopped.Stopped.{Stopped}
@@ -17,7 +18,7 @@ use Rattle.expr_lanes.specs.Places.{at_place}
 use Rattle.block_cache.specs.Lanes.{IsBegun, IsEvaluated, LaneView, is_held, value_of}
 use Rattle.loop_keys.specs.Jobs.{JobView, job_graph}
 use Rattle.loop_keys.specs.Keys.{key, key_count}
-use Rattle.loop_keys.specs.Store.{IsMissing, IsReadable, IsSound, MeetsAt, row_in, site_in, source_at}
+use Rattle.loop_keys.specs.Store.{IsMissing, IsReadable, IsSound, MeetsAt, look_at, row_in, site_in, source_at}
 use Rattle.loop_keys.specs.declared.held.Held.{Held}
 use Rattle.loop_keys.specs.declared.held.Held.TheVariants as held
 
@@ -83,6 +84,10 @@ abbrev pub element_of : Outcome ℕ Value → ℕ → ℕ → Outcome ℕ Value
 element_of o k tags = o >>= tag_element tags k
 
 -- ---- one evaluation of a site over a block
+
+-- what a site's tree comes to at a place, by the lanes of the first keys
+abbrev pub outcome_at : JobView → ℕ → Option ℕ → List LaneView → NumTree → ℕ → Outcome ℕ Value
+outcome_at j first u lanes tree p = evaluate (look_at j (first + p) u (cells_at (key_count (job_graph j)) lanes p)) (call_outcome j.dataset.fns) tree
 
 -- a lane for each key, in a block of so many places, one at least, whose entries are of the table; and what is held is right
 pub record AreReady (j : JobView) (first count : ℕ) (lanes : List LaneView) : Type 0 where

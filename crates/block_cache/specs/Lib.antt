@@ -3,8 +3,11 @@ pub mod Blocks
 pub mod EachPlace
 pub mod Faults
 pub mod Fills
+pub mod ForSites
 pub mod Lanes
 pub mod Leads
+pub mod OneProof
+pub mod OverBlocks
 pub mod Sizes
 pub mod Turns
 pub mod Values

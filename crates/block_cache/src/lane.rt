@@ -19,10 +19,10 @@ use crate::place_values::PlaceValues;
 use crate::values::Values;
 use crate::vectors::Vectors;
 use arrayvec::ArrayVec;
-use entry_fns::FnList;
-use expr_check::Checked;
 use expr_eval::{Input, Steps};
-use expr_lanes::{LaneColumn, LaneInputs, MAX_PLACES, Scratch, Selection, Stopped, eval_lane};
+use expr_lanes::{
+    Evaluation, LaneColumn, LaneInputs, MAX_PLACES, Scratch, Selection, Stopped, eval_lane,
+};
 use rdf_values::{ColType, Memory};
 use std::alloc::Global;
 use std::marker::Model;
@@ -151,31 +151,27 @@ impl Lane {
     /// the lane holds the value; each other place becomes a stop.
     pub fn evaluate<I: LaneInputs, L: Ledger>(
         &mut self,
-        expr: &Checked,
-        inputs: &I,
-        functions: &FnList,
+        evaluation: &Evaluation<'_, I>,
         selection: &mut Selection,
         stops: &mut ArrayVec<Stopped, MAX_PLACES>,
         scratch: &mut [Scratch],
         steps: &mut Steps<L>,
     )
-        requires kind { expr.now.kind ≡ self.old.kind }
+        requires kind { evaluation.now.expr.now.kind ≡ self.old.kind }
         requires scalar { is_vector self.old.kind ≡ false }
-        requires can { CanLane (I.can inputs.now) (I.can_tell inputs.now) expr.now.tree }
-        requires fit { (p : ℕ) → p < I.size inputs.now → All (λ c. FitsOutcome c.1 (I.look inputs.now p c.0)) expr.now.kinds }
-        requires calls { CallsFit (fn_names (functions_in functions.now)) expr.now.tree }
-        requires deep { depth expr.now.tree ≤ length scratch.old }
-        requires block { I.size inputs.now ≡ self.old.count }
+        requires can { CanLane (I.can evaluation.now.inputs.now) (I.can_tell evaluation.now.inputs.now) evaluation.now.expr.now.tree }
+        requires fit { (p : ℕ) → p < I.size evaluation.now.inputs.now → All (λ c. FitsOutcome c.1 (I.look evaluation.now.inputs.now p c.0)) evaluation.now.expr.now.kinds }
+        requires calls { CallsFit (fn_names (functions_in evaluation.now.functions.now)) evaluation.now.expr.now.tree }
+        requires deep { depth evaluation.now.expr.now.tree ≤ length scratch.old }
+        requires block { I.size evaluation.now.inputs.now ≡ self.old.count }
         requires selected { IsSelected self.old.count selection.old stops.old.items }
         requires unknown { EachPlace selection.old (λ p. is_held self.old p ≡ false) }
-        ensures evaluated { IsEvaluated (λ p. evaluate_at (I.look inputs.now p) (call_outcome (functions_in functions.now)) expr.now.tree) selection.old selection.new self.old self.new stops.old.items stops.new.items }
+        ensures evaluated { IsEvaluated (λ p. evaluate_at (I.look evaluation.now.inputs.now p) (call_outcome (functions_in evaluation.now.functions.now)) evaluation.now.expr.now.tree) selection.old selection.new self.old self.new stops.old.items stops.new.items }
         ensures steps { steps.new ≡ steps.old + length selection.old }
     {
         self.tried.mark(selection);
         eval_lane(
-            expr,
-            inputs,
-            functions,
+            evaluation,
             selection,
             &mut self.values.numbers,
             stops,

@@ -6,7 +6,8 @@
 #![tactic(auto)]
 
 mod able;
-pub mod attempt;
+mod attempt;
+pub mod block;
 mod block_marks;
 pub mod cells;
 mod each_place;
@@ -25,6 +26,7 @@ pub mod sizes;
 mod values;
 mod vectors;
 mod view;
+pub mod wanted;
 mod whole;
 
 pub use crate::lane::Lane;

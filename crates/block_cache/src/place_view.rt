@@ -1,5 +1,5 @@
 // The columns of an evaluation at one place of a block, by what is held.
-ghost use Rattle.std.specs.Prelude.{◌≡◌, ◌<◌, ◌≤◌, ◌+◌, ℕ, ℤ, List, Some, length, slice_get};
+ghost use Rattle.std.specs.Prelude.{◌≡◌, ◌<◌, ◌+◌, ℕ, ℤ, List, Some, length, slice_get};
 ghost use Rattle.rdf_values.specs.Tables.{kind_at};
 ghost use Rattle.rdf_values.specs.declared.value.ColType.TheVariants as kind;
 ghost use Rattle.expr_lanes.specs.Places.{at_place};
@@ -8,13 +8,12 @@ ghost use Rattle.rdf_model.specs.ColumnValues.{tag_element};
 ghost use Rattle.expr_eval.specs.Inputs.{input_outcome};
 ghost use Rattle.graph_numbers.specs.Sources.{cell_value};
 ghost use Rattle.block_cache.specs.Lanes.{LaneView};
-ghost use Rattle.loop_keys.specs.Jobs.{Fits, job_graph, job_of};
-ghost use Rattle.loop_keys.specs.Keys.{IsRow, key_count};
-ghost use Rattle.loop_keys.specs.Store.{held_in, held_or_need, look_at, row_in};
-ghost use Rattle.block_cache.specs.Blocks.{CanRead, HasColumn, cells_at, element_of};
+ghost use Rattle.loop_keys.specs.Store.{held_in, held_or_need, row_in};
+ghost use Rattle.block_cache.specs.Blocks.{cells_at, element_of};
+ghost use Rattle.block_cache.specs.OverBlocks.{HasNumbersOver, IsReadOver, look_over};
 
 use crate::Lane;
-use crate::attempt::Block;
+use crate::block::Block;
 use crate::cells::CellLane;
 use expr_eval::{Input, Inputs};
 use loop_keys::reading::place as place_of;
@@ -30,11 +29,9 @@ pub(crate) struct PlaceView<'a> {
 }
 
 impl<'a> Inputs for PlaceView<'a> {
-    ghost can = { λ v c. Fits v.block.now.at.now.job.now × IsRow (job_graph (job_of v.block.now.at.now.job.now)) v.block.now.at.now.under v.block.now.at.now.row.now
-        × (v.place < v.block.now.count) × (v.block.now.at.now.entry + v.block.now.count ≤ length v.block.now.at.now.job.now.columns.now.table.rows)
-        × CanRead (job_of v.block.now.at.now.job.now) v.block.now.at.now.entry v.block.now.at.now.under v.block.now.count v.lanes.now v.block.now.cells.now c };
+    ghost can = { λ v c. (v.place < v.block.now.count) × IsReadOver v.block.now v.lanes.now c };
 
-    ghost look = { λ v c. look_at (job_of v.block.now.at.now.job.now) (v.block.now.at.now.entry + v.place) v.block.now.at.now.under (cells_at (key_count (job_graph (job_of v.block.now.at.now.job.now))) v.lanes.now v.place) c };
+    ghost look = { λ v c. look_over v.block.now v.lanes.now v.place c };
 
     fn at(&self, col: u32) -> Input<'_> {
         look(self.block, self.lanes, self.place, col)
@@ -48,12 +45,9 @@ pub(crate) fn look<'a: 's, 's>(
     place: u32,
     version: u32,
 ) -> Input<'s>
-    requires job { Fits block.now.at.now.job.now }
-    requires row { IsRow (job_graph (job_of block.now.at.now.job.now)) block.now.at.now.under block.now.at.now.row.now }
     requires place { place < block.now.count }
-    requires within { block.now.at.now.entry + block.now.count ≤ length block.now.at.now.job.now.columns.now.table.rows }
-    requires version { CanRead (job_of block.now.at.now.job.now) block.now.at.now.entry block.now.at.now.under block.now.count lanes.now block.now.cells.now version }
-    ensures { input_outcome version result ≡ look_at (job_of block.now.at.now.job.now) (block.now.at.now.entry + place) block.now.at.now.under (cells_at (key_count (job_graph (job_of block.now.at.now.job.now))) lanes.now place) version }
+    requires version { IsReadOver block.now lanes.now version }
+    ensures { input_outcome version result ≡ look_over block.now lanes.now place version }
 {
     match place_of(block.at, version) {
         Place::Cell { col } => cell(block, place, col),
@@ -68,11 +62,9 @@ pub(crate) fn look<'a: 's, 's>(
 
 /// The value of a column at a place: a number as it was loaded, or the elements where the table has them.
 fn cell<'a>(block: &Block<'a>, place: u32, col: u32) -> Input<'a>
-    requires job { Fits block.now.at.now.job.now }
     requires place { place < block.now.count }
-    requires within { block.now.at.now.entry + block.now.count ≤ length block.now.at.now.job.now.columns.now.table.rows }
     requires column { col < length block.now.at.now.job.now.columns.now.table.columns }
-    requires loaded { kind_at block.now.at.now.job.now.columns.now.table.columns col ≡ Some kind.Int → HasColumn (job_of block.now.at.now.job.now) block.now.at.now.entry block.now.count block.now.cells.now col }
+    requires loaded { kind_at block.now.at.now.job.now.columns.now.table.columns col ≡ Some kind.Int → HasNumbersOver block.now col }
     ensures { (c : ℕ) → input_outcome c result ≡ cell_value (slice_get (row_in block.now.at.now.job.now.columns.now.table.rows (block.now.at.now.entry + place)) col) }
 {
     let columns = block.at.job.columns;

@@ -1,14 +1,12 @@
 // The columns of an evaluation over a block, by what is held.
-ghost use Rattle.std.specs.Prelude.{◌≡◌, ◌<◌, ◌≤◌, ◌+◌, ℕ, length, slice_get, IfSome};
+ghost use Rattle.std.specs.Prelude.{◌<◌, ◌+◌, ℕ, length, slice_get, IfSome};
 ghost use Rattle.expr_lanes.specs.LaneInputs.{IsVectorAt};
 ghost use Rattle.graph_numbers.specs.Sources.{cell_value};
-ghost use Rattle.loop_keys.specs.Jobs.{Fits, job_graph, job_of};
-ghost use Rattle.loop_keys.specs.Keys.{IsRow, key_count};
-ghost use Rattle.loop_keys.specs.Store.{look_at, row_in};
-ghost use Rattle.block_cache.specs.Blocks.{CanRead, CanReadWhole, cells_at};
+ghost use Rattle.loop_keys.specs.Store.{row_in};
+ghost use Rattle.block_cache.specs.OverBlocks.{IsReadOver, IsWholeOver, look_over};
 
 use crate::Lane;
-use crate::attempt::Block;
+use crate::block::Block;
 use crate::place_view::look;
 use crate::whole::is_read_whole;
 use expr_eval::{Input, ScalarStop};
@@ -27,14 +25,11 @@ pub(crate) struct BlockView<'a> {
 impl<'a> LaneInputs for BlockView<'a> {
     ghost size = { λ v. v.block.now.count };
 
-    ghost can = { λ v c. Fits v.block.now.at.now.job.now × IsRow (job_graph (job_of v.block.now.at.now.job.now)) v.block.now.at.now.under v.block.now.at.now.row.now
-        × CanReadWhole (job_of v.block.now.at.now.job.now) v.block.now.at.now.entry v.block.now.at.now.under v.block.now.count v.lanes.now v.block.now.cells.now c };
+    ghost can = { λ v c. IsWholeOver v.block.now v.lanes.now c };
 
-    ghost can_tell = { λ v c. Fits v.block.now.at.now.job.now × IsRow (job_graph (job_of v.block.now.at.now.job.now)) v.block.now.at.now.under v.block.now.at.now.row.now
-        × (v.block.now.at.now.entry + v.block.now.count ≤ length v.block.now.at.now.job.now.columns.now.table.rows)
-        × CanRead (job_of v.block.now.at.now.job.now) v.block.now.at.now.entry v.block.now.at.now.under v.block.now.count v.lanes.now v.block.now.cells.now c };
+    ghost can_tell = { λ v c. IsReadOver v.block.now v.lanes.now c };
 
-    ghost look = { λ v p c. look_at (job_of v.block.now.at.now.job.now) (v.block.now.at.now.entry + p) v.block.now.at.now.under (cells_at (key_count (job_graph (job_of v.block.now.at.now.job.now))) v.lanes.now p) c };
+    ghost look = { λ v p c. look_over v.block.now v.lanes.now p c };
 
     fn column(&self, col: u32) -> LaneColumn<'_> {
         match place(self.block.at, col) {
@@ -66,11 +61,8 @@ impl<'a> LaneInputs for BlockView<'a> {
 
 /// The vectors of a version that is one of the table's columns.
 fn table_vectors<'a>(block: &Block<'a>, _lanes: &[Lane], version: u32) -> Option<LaneVectors<'a>>
-    requires job { Fits block.now.at.now.job.now }
-    requires row { IsRow (job_graph (job_of block.now.at.now.job.now)) block.now.at.now.under block.now.at.now.row.now }
-    requires within { block.now.at.now.entry + block.now.count ≤ length block.now.at.now.job.now.columns.now.table.rows }
-    requires version { CanRead (job_of block.now.at.now.job.now) block.now.at.now.entry block.now.at.now.under block.now.count _lanes.now block.now.cells.now version }
-    ensures { IfSome result (λ l. (p : ℕ) → p < block.now.count → IsVectorAt l.vectors.now (l.first + p) (look_at (job_of block.now.at.now.job.now) (block.now.at.now.entry + p) block.now.at.now.under (cells_at (key_count (job_graph (job_of block.now.at.now.job.now))) _lanes.now p) version)) }
+    requires version { IsReadOver block.now _lanes.now version }
+    ensures { IfSome result (λ l. (p : ℕ) → p < block.now.count → IsVectorAt l.vectors.now (l.first + p) (look_over block.now _lanes.now p version)) }
 {
     match place(block.at, version) {
         Place::Cell { col } => column_vectors(block, col),
@@ -80,7 +72,6 @@ fn table_vectors<'a>(block: &Block<'a>, _lanes: &[Lane], version: u32) -> Option
 
 /// The vectors of a column of the table, if it has vectors.
 fn column_vectors<'a>(block: &Block<'a>, col: u32) -> Option<LaneVectors<'a>>
-    requires within { block.now.at.now.entry + block.now.count ≤ length block.now.at.now.job.now.columns.now.table.rows }
     requires column { col < length block.now.at.now.job.now.columns.now.table.columns }
     ensures { IfSome result (λ l. (p : ℕ) → p < block.now.count → IsVectorAt l.vectors.now (l.first + p) (cell_value (slice_get (row_in block.now.at.now.job.now.columns.now.table.rows (block.now.at.now.entry + p)) col))) }
 {

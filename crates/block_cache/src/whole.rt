@@ -4,12 +4,10 @@ ghost use Rattle.rdf_values.specs.Tables.{kind_at};
 ghost use Rattle.rdf_values.specs.declared.value.ColType.TheVariants as kind;
 ghost use Rattle.expr_check.specs.NumKinds.{is_vector};
 ghost use Rattle.block_cache.specs.Lanes.{LaneView};
-ghost use Rattle.loop_keys.specs.Jobs.{Fits, job_graph, job_of};
-ghost use Rattle.loop_keys.specs.Keys.{IsRow};
-ghost use Rattle.block_cache.specs.Blocks.{CanRead, CanReadWhole};
+ghost use Rattle.block_cache.specs.OverBlocks.{IsReadOver, IsWholeOver};
 
 use crate::Lane;
-use crate::attempt::Block;
+use crate::block::Block;
 use columns::Columns;
 use loop_keys::reading::place;
 use loop_keys::rows::Place;
@@ -33,9 +31,8 @@ fn is_number_lane(lanes: &[Lane], key: usize) -> bool
 
 /// Whether a version can be read at all places at once.
 pub(crate) fn is_read_whole(block: &Block<'_>, lanes: &[Lane], version: u32) -> bool
-    requires row { IsRow (job_graph (job_of block.now.at.now.job.now)) block.now.at.now.under block.now.at.now.row.now }
-    requires can { CanRead (job_of block.now.at.now.job.now) block.now.at.now.entry block.now.at.now.under block.now.count lanes.now block.now.cells.now version }
-    ensures { result ≡ true → CanReadWhole (job_of block.now.at.now.job.now) block.now.at.now.entry block.now.at.now.under block.now.count lanes.now block.now.cells.now version }
+    requires can { IsReadOver block.now lanes.now version }
+    ensures { result ≡ true → IsWholeOver block.now lanes.now version }
 {
     match place(block.at, version) {
         Place::Cell { col } => is_number_column(block.at.job.columns, col),

@@ -20,7 +20,7 @@ invariant_of-self g c =
     let numbers = written c.self.inside.values.numbers.len c.eval_lane.new.lane c.deref_mut.result.now c.self.inside.values.numbers.items c.eval_lane.auto.lane c.deref_mut.ensures.len in
     let same : c.self.inside.held.count ≡ c.args.self.now.count = ap (λ (v : LaneView). v.count) c.self.view_is in
     let inside : EachPlace c.args.selection.now (λ p. p < c.self.inside.held.count) = λ p h. subst (λ (n : ℕ). p < n) (sym same) (c.requires.selected.inside p h) in
-    let kind : c.args.expr.now.kind ≡ c.self.inside.kind = c.requires.kind ∙ sym (ap (λ (v : LaneView). v.kind) c.self.view_is) in
+    let kind : c.args.evaluation.now.expr.now.kind ≡ c.self.inside.kind = c.requires.kind ∙ sym (ap (λ (v : LaneView). v.kind) c.self.view_is) in
     let come = come_as _ _ _ _ _ _ _ _ _ _ kind c.deref_mut.ensures.value c.eval_lane.ensures.values in
     let unknown : EachPlace c.args.selection.now (λ p. is_marked c.self.inside.held.marks p ≡ false) = λ p h. ap (λ (v : LaneView). is_marked v.held p) c.self.view_is ∙ c.requires.unknown p h in
     let scalar : is_vector c.self.inside.kind ≡ false = ap (λ (v : LaneView). is_vector v.kind) c.self.view_is ∙ c.requires.scalar in
@@ -33,7 +33,7 @@ invariant_of-self g c =
 pub returns-clause-evaluated : goal.returns-clause-evaluated
 returns-clause-evaluated g c =
     let numbers = written c.self.inside.values.numbers.len c.eval_lane.new.lane c.deref_mut.result.now c.self.inside.values.numbers.items c.eval_lane.auto.lane c.deref_mut.ensures.len in
-    let kind : c.args.expr.now.kind ≡ c.self.inside.kind = c.requires.kind ∙ sym (ap (λ (v : LaneView). v.kind) c.self.view_is) in
+    let kind : c.args.evaluation.now.expr.now.kind ≡ c.self.inside.kind = c.requires.kind ∙ sym (ap (λ (v : LaneView). v.kind) c.self.view_is) in
     let come = come_as _ _ _ _ _ _ _ _ _ _ kind c.deref_mut.ensures.value c.eval_lane.ensures.values in
     let scalar : is_vector c.self.inside.kind ≡ false = ap (λ (v : LaneView). is_vector v.kind) c.self.view_is ∙ c.requires.scalar in
     rw (numbers, c.mark-2.ensures.count, sym c.self.view_is)
