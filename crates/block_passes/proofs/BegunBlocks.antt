@@ -1,5 +1,5 @@
 -- A block that begins with what a slot reserves.
-use Rattle.std.proofs.Common.{if◌then◌else◌, ◌≡◌, ℕ, zero, suc, ◌+◌, ◌<◌, ◌≤◌, ℤ, true, false, List, [], ◌∷◌, length, All, get_or, Option, Some, None, refl, sym, ◌∙◌, ap, subst, arith, slice_get}
+use Rattle.std.proofs.Common.{if◌then◌else◌, ◌≡◌, ℕ, ◌+◌, ◌<◌, ◌≤◌, true, false, List, [], ◌∷◌, length, All, Option, Some, None, refl, sym, ◌∙◌, ap, subst, arith, slice_get}
 use Rattle.std.proofs.lemmas.List.{length-map}
 use Rattle.std.proofs.lemmas.List.Elements.{All-weaker}
 use Rattle.std.proofs.lemmas.Option.{get_or_from_slice_get, slice_get_within}
@@ -8,7 +8,7 @@ use Rattle.rdf_values.specs.EachColumn.{EachColumn}
 use Rattle.rdf_values.specs.Path.{history}
 use Rattle.rdf_values.specs.declared.value.ColType.{ColType}
 use Rattle.rdf_model.proofs.KnownColumns.{each_weaker}
-use Rattle.block_cache.specs.Lanes.{AreUnknown, HaveRoom, IsUnknown, LaneView, is_tried, kinds_of, room_of, rooms_of, value_of}
+use Rattle.block_cache.specs.Lanes.{AreUnknown, HaveRoom, IsUnknown, LaneView, is_tried, kinds_of, value_of}
 use Rattle.block_cache.specs.Sizes.{size_for}
 use Rattle.expr_lanes.specs.declared.TheConstants.{MAX_PLACES}
 use Rattle.graph_numbers.specs.Graphs.{GraphView, graph_sites, graph_under}
@@ -35,7 +35,6 @@ use Rattle.block_passes.specs.Selections.{CanSelect, IsReadyBelow}
 use Rattle.block_passes.specs.Spends.{IsSettledAt}
 use Rattle.block_passes.specs.States.{AreDeepEnough, AreLoaded, HaveCells, HaveKinds, IsBegunBlock, IsStateOf, StateView}
 use Rattle.block_passes.specs.Steps.{IsFilterStep, longer}
-use Rattle.block_passes.specs.declared.found.Found.{Found}
 use Rattle.block_passes.specs.declared.kept.Kept.{Kept}
 use Rattle.block_passes.specs.declared.steps.Step.TheVariants as step
 use Rattle.block_passes.proofs.FilterKinds.{filter_kind}
@@ -48,24 +47,6 @@ use Rattle.block_passes.proofs.SitesThere.{site_there}
 
 pub all_get : {A : Type 0} (P : A → Type 0) (xs : List A) → All P xs → (k : ℕ) (x : A) → slice_get xs k ≡ Some x → P x
 all_get P xs all k x at = subst P (get_or_from_slice_get xs k x x at) (all k x (slice_get_within xs k x at))
-
-pub all_rooms : (size : ℕ) (before after : List LaneView) → rooms_of after ≡ rooms_of before → HaveRoom size before → HaveRoom size after
-all_rooms size before after same rooms k d low =
-    let at = room_at after k d low in
-    let long : length before ≡ length after = sym (length-map before room_of) ∙ sym (ap length same) ∙ length-map after room_of in
-    let other = room_at before k d (omega (arith, low, long)) in
-    one (room_of (get_or after k d)) (room_of (get_or before k d)) (sym at ∙ ap (λ rs. slice_get rs k) same ∙ other) ∙ rooms k d (omega (arith, low, long))
-  where
-    one : (x y : ℕ) → ◌≡◌ {A = Option ℕ} (Some x) (Some y) → x ≡ y
-    one x y e = cc e
-
-    room_at : (ls : List LaneView) (k : ℕ) (d : LaneView) → k < length ls → slice_get (rooms_of ls) k ≡ Some (room_of (get_or ls k d))
-    room_at [] k d low = absurd (omega (arith, low))
-    room_at (l ∷ ls) zero d low = refl
-    room_at (l ∷ ls) (suc k) d low = room_at ls k d (omega (arith, low))
-
-pub same_many : (before after : List LaneView) → kinds_of after ≡ kinds_of before → length after ≡ length before
-same_many before after same = sym (length-map after (λ (l : LaneView). l.kind)) ∙ ap length same ∙ length-map before (λ (l : LaneView). l.kind)
 
 -- ---- nothing is known
 
@@ -94,31 +75,6 @@ module _ (count : ℕ) (lanes : List LaneView) (unknown : AreUnknown count lanes
       each = λ u s inside.
           subst (λ (h : Held). IsRight (site_in j (first + p) u s) h) (sym (held_of_lane (key_count (job_graph j)) lanes p (key (job_graph j) s u) ∙ nothing_held (key (job_graph j) s u) p)) tt;
     };
-  }
-
--- ---- the state
-
-module _ (j : JobView) (s : StateView) (state : IsStateOf j s) (cells : List (List ℤ)) (many_cells : length cells ≡ length s.cells) (cell_room : HaveCells s.size cells) (lanes : List LaneView) (kinds : kinds_of lanes ≡ kinds_of s.lanes)
-    (rooms : rooms_of lanes ≡ rooms_of s.lanes) (found : Found) (kept : List Kept) (many_kept : length kept ≡ length s.kept) where
-  -- with as much of each
-  abbrev pub now : StateView
-  now = record { size = s.size; plan = s.plan; rows = s.rows; cells = cells; lanes = lanes; scratch = s.scratch; levels = s.levels; found = found; kept = kept }
-
-  pub state_now : IsStateOf j now
-  state_now = record {
-    size = state.size;
-    least = state.least;
-    most = state.most;
-    plan = state.plan;
-    rows = state.rows;
-    cells = many_cells ∙ state.cells;
-    cell_room = cell_room;
-    lanes = same_many s.lanes lanes kinds ∙ state.lanes;
-    kinds = subst (λ (ks : List ColType). HaveKinds (job_graph j) (length (graph_sites (job_graph j))) ks) (sym kinds) state.kinds;
-    lane_room = all_rooms s.size s.lanes lanes rooms state.lane_room;
-    scratch = state.scratch;
-    levels = state.levels;
-    kept = many_kept ∙ state.kept;
   }
 
 -- all that is made for the graph of a job

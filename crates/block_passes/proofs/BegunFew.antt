@@ -19,6 +19,7 @@ use Rattle.block_cache.specs.Fills.{begun_at, begun_count}
 use Rattle.block_passes.specs.Blocks.{block_demands, entries_from}
 use Rattle.block_passes.specs.Spends.{Spends}
 use Rattle.block_passes.proofs.FirstFaults.{row_in_block}
+use Rattle.std.proofs.lemmas.List.{length-take}
 
 -- ---- the marks of a lane
 
@@ -58,10 +59,7 @@ taken_mark (b ∷ bs) (suc n) zero e = e
 taken_mark (b ∷ bs) (suc n) (suc p) e = taken_mark bs n p e
 
 taken_short : (bs : List Bool) (n : ℕ) → length (take n bs) ≤ n
-taken_short [] zero = omega arith
-taken_short [] (suc n) = omega arith
-taken_short (b ∷ bs) zero = omega arith
-taken_short (b ∷ bs) (suc n) = let r = taken_short bs n in omega (arith, r)
+taken_short bs n = let e = length-take n bs in omega (arith, e)
 
 -- ---- of all lanes the places of a block
 

@@ -1,5 +1,5 @@
 -- The counts of named filters are sizes of selections.
-use Rattle.std.proofs.Common.{◌≡◌, ◌<◌, ◌+◌, ◌⊎◌, inl, inr, ℕ, true, false, List, [], ◌∷◌, ◌++◌, length, map, Option, Some, None, refl, sym, ◌∙◌, ap, subst, arith, get_or, slice_get}
+use Rattle.std.proofs.Common.{◌≡◌, ◌<◌, ◌+◌, ℕ, true, false, List, [], ◌∷◌, ◌++◌, length, map, Option, Some, None, refl, sym, ◌∙◌, ap, subst, arith, get_or, slice_get}
 use Rattle.std.specs.List.{filter, range_with_len}
 use Rattle.std.proofs.lemmas.List.{length-map}
 use Rattle.std.proofs.lemmas.Option.{slice_get-get_or, slice_get_within}
@@ -30,6 +30,7 @@ use Rattle.block_passes.specs.declared.kept.Kept.{Kept}
 use Rattle.block_passes.specs.declared.plan.NamedSteps.{NamedSteps}
 use Rattle.loop_keys.proofs.Covered.{covered_count}
 use Rattle.block_passes.proofs.Feeding.{counts, uncovered_counts}
+use Rattle.block_passes.proofs.Parts.{last_through}
 
 module _ (j : JobView) (first count : ℕ) (s : BlockStage) (amid : IsAmid j first count s) where
   -- the places of a chain that has these sites under nominal or a variation
@@ -37,12 +38,8 @@ module _ (j : JobView) (first count : ℕ) (s : BlockStage) (amid : IsAmid j fir
     made : IsMade j first last.chain count count m.places
     made = are.each k count last.chain m last.its at whole
 
-    alike_by : (c : Chain) → c.sites ≡ sites → (c.sites ≡ []) ⊎ (c.under ≡ u) → (e : ℕ) → through_chain j e c ≡ through_sites (site_in j e u) sites
-    alike_by c same (inl none) e = ap (through_sites (site_in j e c.under)) none ∙ ap (through_sites (site_in j e u)) (sym none ∙ same)
-    alike_by c same (inr under) e = ap (λ (v : Option ℕ). through_sites (site_in j e v) c.sites) under ∙ ap (through_sites (site_in j e u)) same
-
     alike : (e : ℕ) → through_chain j e last.chain ≡ through_sites (site_in j e u) sites
-    alike = alike_by last.chain last.sites last.alike
+    alike = last_through j chains sites u k last
 
     pub its_places : m.places ≡ filter (λ q. is_true (through_sites (site_in j (amid.lo + s.entries + q) u) sites)) (range_with_len 0 s.block)
     its_places =

@@ -29,6 +29,7 @@ use Rattle.loop_keys.proofs.ReportTies.{has_filter}
 use Rattle.block_passes.specs.Demands.{Demands, IsDemandedAt}
 use Rattle.block_passes.specs.Plans.{IsActionOf, IsTried}
 use Rattle.block_passes.specs.Steps.{Chain}
+use Rattle.block_passes.proofs.SitesThere.{not_empty}
 
 module _ (j : JobView) (job : IsJob j) (entry : ℕ) (row : List Value) (here : slice_get j.dataset.rows entry ≡ Some row) (T : ℕ → Bool) (all : HasAllDemands j entry T) where
   same_row : row ≡ row_of j entry
@@ -116,10 +117,6 @@ module _ (j : JobView) (job : IsJob j) (entry : ℕ) (row : List Value) (here : 
   pub step_demanded : (c : Chain) → IsTried j c → (up : List ℕ) (s : ℕ) → c.sites ≡ up ++ s ∷ [] → is_true (through_sites (site_in j entry c.under) up) ≡ true → Demands j entry c.under T s
   step_demanded c tried_by up s e passed = go tried_by
     where
-      none : (up : List ℕ) → up ++ s ∷ [] ≡ [] → ⊥
-      none [] q = cc q
-      none (x ∷ xs) q = cc q
-
       at_under : (u v : Option ℕ) (path rest : List ℕ) → c.under ≡ v → path ≡ c.sites ++ rest → (D : ℕ → Bool) → IsDemandedAt j entry v T D → HasTried j entry v path D → Demands j entry c.under T s
       at_under u v path rest same begins D at h =
           let at_c : IsDemandedAt j entry c.under T D = subst (λ (w : Option ℕ). IsDemandedAt j entry w T D) (sym same) at in
@@ -127,7 +124,7 @@ module _ (j : JobView) (job : IsJob j) (entry : ℕ) (row : List Value) (here : 
           (D, at_c, tried_at D (site_in j entry c.under) up rest s (subst (λ (p : List ℕ). HasTried j entry c.under p D) (begin_split path c up rest s e begins) h_c) passed)
 
       go : IsTried j c → Demands j entry c.under T s
-      go (inl q) = absurd (none up (sym e ∙ q))
+      go (inl q) = absurd (not_empty up s (sym e ∙ q))
       go (inr (inl p)) =
           let w = pass_set p.pass p.numbered p.result p.kind p.action in
           at_under c.under p.numbered.variation p.result.filters p.begins.rest p.begins.its_under p.begins.begins w.0 w.1 w.2.0

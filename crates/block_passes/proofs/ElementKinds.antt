@@ -1,38 +1,31 @@
 -- The site of an element is one of vectors.
-use Rattle.std.proofs.Common.{◌≡◌, ◌⊎◌, inl, inr, ℕ, zero, suc, ◌+◌, List, [], ◌∷◌, length, Option, Some, None, refl, sym, ◌∙◌, ap, subst, arith, nat_eq, option_map, slice_get}
-use Rattle.lemmas.proofs.Places.{kept_at}
+use Rattle.std.proofs.Common.{◌≡◌, ◌⊎◌, inl, inr, ℕ, zero, suc, ◌+◌, List, [], ◌∷◌, length, Option, Some, None, refl, sym, ap, subst, nat_eq, slice_get}
 use Rattle.rdf_values.specs.Kinds.{FunctionNames, kind_of, scope_of}
 use Rattle.rdf_values.specs.Functions.{fn_names}
-use Rattle.rdf_values.specs.Path.{history}
-use Rattle.rdf_values.specs.Verdict.{AreAccepted, expect_kind, scope_at}
+use Rattle.rdf_values.specs.Path.{history, Under}
+use Rattle.rdf_values.specs.Verdict.{AreAccepted, expect_kind, scope_at, check_vector_column, refuse_unless}
 use Rattle.rdf_values.specs.declared.column.Column.{Column}
 use Rattle.rdf_values.specs.declared.graph_cause.GraphCause.TheVariants as cause
 use Rattle.rdf_values.specs.declared.statement.Statement.{Statement}
 use Rattle.rdf_values.specs.declared.value.ColType.TheVariants as kind
 use Rattle.rdf_model.specs.Demanded.{site_at}
-use Rattle.rdf_model.proofs.Accepted.{both_none, kind_expected}
+use Rattle.rdf_model.proofs.Accepted.{both_none, checked_of}
 use Rattle.expr_check.specs.NumKinds.{CheckedExpr}
-use Rattle.rdf_values.specs.Path.{Under}
 use Rattle.rdf_values.specs.declared.vary_values.VaryValues.{VaryValues}
 use Rattle.rdf_values.specs.declared.vary_values.VaryValues.TheVariants.{Lists, Vector}
 use Rattle.rdf_values.specs.declared.statement.Statement.TheVariants.{Define, Redefine, Vary}
-use Rattle.rdf_values.specs.Verdict.{check_vector_column, refuse_unless}
-use Rattle.rdf_model.proofs.Accepted.{checked_of}
 use Rattle.rdf_model.specs.ColumnValues.{own_place}
 use Rattle.graph_numbers.specs.Graphs.{IsSiteExpr, graph_under}
-use Rattle.graph_numbers.specs.Sites.{SiteAt, own_sites, site_count, site_in, sites}
+use Rattle.graph_numbers.specs.Sites.{site_count}
 use Rattle.graph_numbers.specs.Sources.{cell_sources, own_source, own_sources, source_in, sources, varied_sources}
 use Rattle.graph_numbers.specs.Versions.{named_version}
 use Rattle.graph_numbers.specs.declared.source.Source.{Source}
 use Rattle.graph_numbers.specs.declared.source.Source.TheVariants as from
-use Rattle.graph_numbers.proofs.Extending.{further, itself}
-use Rattle.graph_numbers.proofs.Listed.{next_at, of_joined}
-use Rattle.graph_numbers.proofs.Placing.{IsPlaced}
+use Rattle.graph_numbers.proofs.Listed.{of_joined}
 use Rattle.loop_keys.specs.Jobs.{IsJob, JobView, job_graph}
 use Rattle.loop_keys.specs.Store.{source_at}
 use Rattle.loop_keys.proofs.EvaluateLaws.{accepted_of}
-use Rattle.block_passes.proofs.FilterKinds.{placed_kind}
-use Rattle.block_passes.proofs.StepLaws.{same_step}
+use Rattle.block_passes.proofs.FilterKinds.{IsSiteOf, first_site, further_site, kind_of_site}
 
 of_some : (xs : List Source) (c t k tags : ℕ) → source_in xs c ≡ from.Element t k tags → slice_get xs c ≡ Some (from.Element t k tags)
 of_some [] c t k tags h = cc h
@@ -41,21 +34,8 @@ of_some (x ∷ xs) (suc c) t k tags h = of_some xs c t k tags h
 
 module _ (header : List Column) (names : FunctionNames) where
   -- the site is there, of an expression that was accepted as one of vectors
-  record IsVectorSite (before : List Statement) (s : ℕ) : Type 0 where
-    pub x : SiteAt
-    pub at : slice_get (sites header names before) s ≡ Some x
-    pub place : IsPlaced header names before s x
-    pub vectors : place.kind ≡ kind.Vect
-
-  further_site : (before : List Statement) (t : Statement) (s : ℕ) → IsVectorSite before s → IsVectorSite (t ∷ before) s
-  further_site before t s h =
-      let p = h.place in
-      record {
-        x = h.x;
-        at = kept_at (sites header names before) (own_sites header names before t) s h.x h.at;
-        place = record { earlier = p.earlier; parent = p.parent; site = p.site; expr = p.expr; kind = p.kind; is = p.is; extends = further t p.extends; start = p.start; accepted = p.accepted; typed = p.typed };
-        vectors = h.vectors;
-      }
+  abbrev IsVectorSite : List Statement → ℕ → Type 0
+  IsVectorSite before s = IsSiteOf header names kind.Vect before s
 
   own_site : (before : List Statement) (node parent : List ℕ) (columns : List (List ℕ)) (expr : _) (tags : _) (vary : _) → AreAccepted names (scope_of header) (Vary node parent columns (Vector expr) tags vary ∷ before)
       → IsVectorSite (Vary node parent columns (Vector expr) tags vary ∷ before) (site_count header names before)
@@ -64,24 +44,7 @@ module _ (header : List Column) (names : FunctionNames) where
       let p = both_none (refuse_unless (nat_eq (length columns) 1) cause.WrongCount)
       (expect_kind kind.Vect (kind_of (scope_at names (scope_of header) before parent) names expr) ∷ check_vector_column (scope_at names (scope_of header) before parent) columns ∷ []) c.1 in
       let q = both_none (expect_kind kind.Vect (kind_of (scope_at names (scope_of header) before parent) names expr)) (check_vector_column (scope_at names (scope_of header) before parent) columns ∷ []) p.1 in
-      let n : site_count header names before ≡ length (sites header names before) + 0 = omega arith in
-      record {
-        x = site_in header names before parent (site_at node) expr;
-        at = next_at (sites header names before) (own_sites header names before (Vary node parent columns (Vector expr) tags vary)) 0 _ n;
-        place = record {
-          earlier = before;
-          parent = parent;
-          site = site_at node;
-          expr = expr;
-          kind = kind.Vect;
-          is = refl;
-          extends = further (Vary node parent columns (Vector expr) tags vary) itself;
-          start = omega arith;
-          accepted = good.1;
-          typed = kind_expected kind.Vect _ q.0;
-        };
-        vectors = refl;
-      }
+      first_site header names kind.Vect before (Vary node parent columns (Vector expr) tags vary) parent (site_at node) expr refl good.1 q.0
 
   module _ (u : Under) where
     no_cell : (n : ℕ) (cs : List Column) (c t k tags : ℕ) → slice_get (cell_sources n cs) c ≡ Some (from.Element t k tags) → ⊥
@@ -127,7 +90,7 @@ module _ (header : List Column) (names : FunctionNames) where
     of_elements : (before : List Statement) → AreAccepted names (scope_of header) before → OfVectors before before
     of_elements [] good c t k tags h = absurd (no_cell 0 header c t k tags h)
     of_elements (s ∷ before) good c t k tags h =
-        go (λ d n m l q. further_site before s n (of_elements before good.1 d n m l q))
+        go (λ d n m l q. further_site header names kind.Vect before s n (of_elements before good.1 d n m l q))
         (of_joined (sources header names u before) (own_sources header names u before (sources header names u before) s) c (from.Element t k tags) h)
       where
         go : OfVectors before (s ∷ before) → (slice_get (sources header names u before) c ≡ Some (from.Element t k tags))
@@ -141,5 +104,4 @@ element_kind j job u c t k tags is e its =
     let h =
     of_elements j.dataset.columns (fn_names j.dataset.fns) (graph_under (job_graph j) u) (history j.script) (accepted_of j job) c t k tags
     (of_some (sources j.dataset.columns (fn_names j.dataset.fns) (graph_under (job_graph j) u) (history j.script)) c t k tags is) in
-    let tree : h.x.tree ≡ e.tree = same_step h.x.tree e.tree (sym (ap (option_map (λ (y : SiteAt). y.tree)) h.at) ∙ its.tree) in
-    placed_kind j.dataset.columns (fn_names j.dataset.fns) (history j.script) t h.x h.place e tree its.kinds its.typed ∙ h.vectors
+    kind_of_site j kind.Vect t h e its

@@ -1,12 +1,9 @@
 -- Elements of a site's vector, where the site's value is held.
-use Rattle.std.proofs.Common.{if◌then◌else◌, ◌≡◌, ◌⊎◌, inl, inr, ℤ, get_or, option_map, Result, ℕ, ◌+◌, ◌<◌, ◌≤◌, Bool, true, false, ◌&&◌, List, [], Option, None, Some, refl, sym, ◌∙◌, ap, subst, arith, slice_get, nat_lt, length, pos}
+use Rattle.std.proofs.Common.{if◌then◌else◌, ◌≡◌, ◌⊎◌, inl, inr, ℤ, get_or, option_map, Result, ℕ, ◌+◌, ◌<◌, ◌≤◌, Bool, true, List, [], Option, None, Some, refl, sym, ◌∙◌, ap, subst, arith, slice_get, length, pos}
 use Rattle.std.specs.Prelude.{nat_abs, slice_index_or}
-use Rattle.std.specs.List.{filter}
-use Rattle.std.proofs.lemmas.Option.{slice_get-get_or}
+use Rattle.std.proofs.lemmas.Option.{slice_get-get_or, slice_get_read}
 use Rattle.rdf_values.specs.Tables.{kind_at}
 use Rattle.rdf_values.specs.declared.column.Column.{Column}
-use Rattle.std.proofs.lemmas.Bool.Decides.{Decides-ltb}
-use Rattle.lemmas.proofs.Booleans.{and_true, both_true}
 use Rattle.lemmas.proofs.Places.{something_at}
 use Rattle.rdf_values.specs.declared.fault.EntryFault.{EntryFault}
 use Rattle.rdf_values.specs.declared.value.ColType.{ColType}
@@ -21,32 +18,30 @@ use Rattle.rdf_model.proofs.Missing.{alike_is, tag_alike}
 use Rattle.expr_eval.specs.Inputs.{input_outcome}
 use Rattle.expr_eval.specs.declared.inputs.Input.{Input}
 use Rattle.expr_eval.specs.declared.inputs.Input.TheVariants as told
-use Rattle.graph_numbers.specs.Graphs.{graph_sites}
+use Rattle.graph_numbers.specs.Graphs.{graph_sites, IsSiteExpr}
 use Rattle.graph_numbers.specs.declared.source.Source.TheVariants as from
-use Rattle.expr_lanes.specs.Places.{EachPlace, at_place, is_in}
+use Rattle.expr_lanes.specs.Places.{EachPlace, at_place}
 use Rattle.block_cache.specs.Values.{value_for}
 use Rattle.loop_keys.proofs.RowLaws.{key_small}
 use Rattle.block_cache.specs.Lanes.{LaneView, is_held, kinds_of, value_of}
 use Rattle.loop_keys.specs.Jobs.{JobView, job_graph}
 use Rattle.loop_keys.specs.Keys.{key, key_count}
-use Rattle.loop_keys.specs.Store.{IsRight, held_element, held_in, site_in}
-use Rattle.loop_keys.specs.Store.{is_held as is_known}
+use Rattle.loop_keys.specs.Store.{IsRight, held_element, held_in, site_in, is_held as is_known}
 use Rattle.loop_keys.specs.declared.held.Held.{Held}
 use Rattle.loop_keys.specs.declared.held.Held.TheVariants as held
 use Rattle.block_cache.specs.Blocks.{AreReady, cells_at, held_value}
-use Rattle.block_cache.specs.Fills.{holds_at, lane_holds, site_fault}
+use Rattle.block_cache.specs.Fills.{holds_at, lane_holds, site_fault, AreSiteKinds}
 use Rattle.block_cache.proofs.BlockLaws.{held_of_lane, lane_held, right_value, value_told}
 use Rattle.block_cache.proofs.CanTries.{got_kind}
 use Rattle.block_cache.proofs.OverLaws.{held_true}
 use Rattle.block_passes.specs.Copying.{IsNumberOf}
 use Rattle.block_passes.specs.Inputs.{IsAtHand, IsServedTo, element_fault}
-use Rattle.block_passes.specs.Searches.{where_in}
 use Rattle.block_passes.specs.declared.found.Found.{Found}
 use Rattle.block_passes.specs.declared.kept.Kept.{Kept}
-use Rattle.block_passes.proofs.FaultsOver.{in_filtered}
-use Rattle.block_passes.proofs.PlaceLists.{filter_twice}
-use Rattle.block_passes.proofs.Searching.{both_lower, lowers_as, or_else}
+use Rattle.block_passes.proofs.Searching.{or_else}
 use Rattle.block_passes.proofs.Spending.{known_is}
+use Rattle.block_passes.proofs.Serving.{left_in, served_then}
+use Rattle.expr_check.specs.NumKinds.{CheckedExpr}
 
 tag_told : (tags n : ℕ) (v : Value) → tag_element {M = ℕ} tags n v ≡ with_needs (tag_element {M = ⊥} tags n v)
 tag_told tags n v = alike_is _ _ (tag_alike ⊥ ℕ [] [] [] tags n v)
@@ -172,6 +167,16 @@ fault_is o k e = ap fault_in e
 pub lane_there : (j : JobView) (first count : ℕ) (u : Option ℕ) (s : ℕ) → s < length (graph_sites (job_graph j)) → (lanes : List LaneView) → AreReady j first count lanes → (l : LaneView) × (slice_get lanes (key (job_graph j) s u) ≡ Some l)
 lane_there j first count u s inside lanes ready = something_at lanes (key (job_graph j) s u) (let small = key_small (job_graph j) s u inside in let many = ready.many in omega (arith, small, many))
 
+pub lane_of_kind : (j : JobView) (first count : ℕ) (u : Option ℕ) (s : ℕ) → s < length (graph_sites (job_graph j)) → (lanes : List LaneView) → AreReady j first count lanes → (e : CheckedExpr) → IsSiteExpr (job_graph j) s e → AreSiteKinds (job_graph j) (kinds_of lanes)
+    → slice_get (kinds_of lanes) (key (job_graph j) s u) ≡ Some e.kind
+lane_of_kind j first count u s inside lanes ready e its kinds =
+    let l = lane_there j first count u s inside lanes ready in
+    let got = got_kind lanes (key (job_graph j) s u) l.0 l.1 in
+    got ∙ ap Some (sym (kinds s u e l.0.kind its got))
+
+pub lane_read : (j : JobView) (first count : ℕ) (u : Option ℕ) (s : ℕ) (lanes : List LaneView) → AreReady j first count lanes → (k : ℕ) (l : LaneView) → k ≡ key (job_graph j) s u → k < key_count (job_graph j) → l ≡ get_or lanes k l → slice_get lanes (key (job_graph j) s u) ≡ Some l
+lane_read j first count u s lanes ready k l is small at = let many = ready.many in ap (slice_get lanes) (sym is) ∙ slice_get_read lanes (length lanes) k l refl (omega (arith, small, many)) at
+
 -- the kind of a column
 pub kind_got : (cs now : List Column) → now ≡ cs → (i : ℕ) → i < length cs → (d : Column) (t : ColType) → (get_or now i d).kind ≡ t → kind_at cs i ≡ Some t
 kind_got cs now e i lt d t is = ap (option_map (λ (c : Column). c.kind)) (slice_get-get_or cs i d lt) ∙ ap (λ (xs : List Column). Some (get_or xs i d).kind) (sym e) ∙ ap Some is
@@ -186,50 +191,16 @@ element_or (Needs m) tags n = elim m [ ]
 
 module _ (j : JobView) (first count : ℕ) (u : Option ℕ) (s n tags pass : ℕ) (sel : List ℕ) (mid to : Kept) (between lanes : List LaneView) (f0 f1 f2 : Found)
     (h : IsServedTo j first count (site_fault j first u s) pass sel mid between f0 f1) (k : IsServedTo j first count (element_fault j first u s n tags) pass mid.places to lanes f1 f2) where
-  mid_in : (p : ℕ) → is_in p mid.places ≡ (is_in p sel && nat_lt p f1.limit)
-  mid_in p = ap (is_in p) h.left ∙ in_filtered (λ q. nat_lt q f1.limit) p sel
-
-  same_below : (p : ℕ) → p < f1.limit → where_in (element_fault j first u s n tags) mid.places p ≡ where_in (element_fault j first u s n tags) sel p
-  same_below p lt = ap (λ b. if b then element_fault j first u s n tags p else None) (mid_in p ∙ ap (λ b. is_in p sel && b) ((Decides-ltb p f1.limit).1 lt) ∙ and_true (is_in p sel))
-
-  split : (p : ℕ) → or_else (where_in (site_fault j first u s) sel p) (where_in (element_fault j first u s n tags) sel p) ≡ where_in (element_fault j first u s n tags) sel p
-  split p = go (is_in p sel)
-    where
-      go : (b : Bool) → or_else (if b then site_fault j first u s p else None) (if b then element_fault j first u s n tags p else None) ≡ (if b then element_fault j first u s n tags p else None)
-      go true = element_or (site_in {M = ⊥} j (first + p) u s) tags n
-      go false = refl
-
-  below : (x : ℕ) → (nat_lt x f1.limit && nat_lt x f2.limit) ≡ nat_lt x f2.limit
-  below x = go (nat_lt x f2.limit) refl
-    where
-      none : (b : Bool) → (b && false) ≡ false
-      none true = refl
-      none false = refl
-
-      go : (b : Bool) → nat_lt x f2.limit ≡ b → (nat_lt x f1.limit && b) ≡ b
-      go true q = and_true (nat_lt x f1.limit) ∙ (let l = (Decides-ltb x f2.limit).0 q in let f = k.lowers.falls in (Decides-ltb x f1.limit).1 (omega (arith, l, f)))
-      go false q = none (nat_lt x f1.limit)
-
   pub element_served : IsServedTo j first count (element_fault j first u s n tags) pass sel to lanes f0 f2
-  element_served = record {
-    ready = k.ready;
-    settled = k.settled;
-    lowers =
-        lowers_as (λ p. or_else (where_in (site_fault j first u s) sel p) (where_in (element_fault j first u s n tags) sel p)) (where_in (element_fault j first u s n tags) sel) first pass f0 f2
-        (λ p lt. split p)
-        (both_lower (where_in (site_fault j first u s) sel) (where_in (element_fault j first u s n tags) sel) first pass f0 f1 f2 h.lowers
-        (lowers_as (where_in (element_fault j first u s n tags) mid.places) (where_in (element_fault j first u s n tags) sel) first pass f1 f2 same_below k.lowers));
-    its_limit = k.its_limit;
-    left =
-        k.left ∙ ap (filter (λ p. nat_lt p f2.limit)) h.left ∙ filter_twice (λ p. nat_lt p f1.limit) (λ p. nat_lt p f2.limit) sel
-        ∙ (λ i. filter (λ x. below x i) sel);
-  }
+  element_served =
+      served_then j first count (site_fault j first u s) (element_fault j first u s n tags) pass sel mid to between lanes f0 f1 f2 h k (element_fault j first u s n tags)
+      (λ p. element_or (site_in {M = ⊥} j (first + p) u s) tags n)
 
   -- the elements that are left are at hand
   pub element_held : s < length (graph_sites (job_graph j)) → f2.limit ≤ count → EachPlace mid.places (λ p. holds_at lanes (key (job_graph j) s u) p ≡ true) → EachPlace to.places (λ p. IsAtHand j lanes u p (from.Element s n tags))
   element_held inside le holds p i =
-      let was = both_true (is_in p mid.places) (nat_lt p f2.limit) (sym (ap (is_in p) k.left ∙ in_filtered (λ q. nat_lt q f2.limit) p mid.places) ∙ i) in
-      let lt : p < f2.limit = (Decides-ltb p f2.limit).0 was.1 in
+      let was = left_in j first count (site_fault j first u s) (element_fault j first u s n tags) pass sel mid to between lanes f0 f1 f2 h k p i in
+      let lt = was.1 in
       let clear : element_fault j first u s n tags p ≡ None = sym (ap (λ b. if b then element_fault j first u s n tags p else None) was.0) ∙ k.lowers.clear p lt in
       let v = given_none (site_in {M = ⊥} j (first + p) u s >>= tag_element tags n) clear in
       hand_given j first count u s inside lanes k.ready p (omega (arith, lt, le)) n tags (holds p was.0) v.0 v.1

@@ -11,6 +11,8 @@ use Rattle.block_cache.specs.declared.faults.PlaceFault.{PlaceFault}
 use Rattle.block_passes.specs.Searches.{Lowers, noted, where_in}
 use Rattle.block_passes.specs.declared.found.Found.{Found}
 use Rattle.block_passes.proofs.Searching.{fault_lowers, none_lowers}
+use Rattle.lemmas.proofs.Booleans.{and_false, and_left, or_true}
+use Rattle.block_cache.proofs.LaneSteps.{filter_all}
 
 -- ---- places of selections
 
@@ -22,32 +24,14 @@ in_filtered f p (q ∷ sel) = go (f q) refl (nat_eq p q) refl (in_filtered f p s
     go true h true i next = ap (λ x. x || is_in p (filter f sel)) i ∙ sym (ap f (eq_says p q i) ∙ h)
     go true h false i next = ap (λ x. x || is_in p (filter f sel)) i ∙ next
     go false h false i next = next
-    go false h true i next = next ∙ ap (λ x. is_in p sel && x) (ap f (eq_says p q i) ∙ h) ∙ none (is_in p sel) ∙ sym (ap f (eq_says p q i) ∙ h)
-      where
-        none : (x : Bool) → (x && false) ≡ false
-        none true = refl
-        none false = refl
+    go false h true i next = next ∙ ap (λ x. is_in p sel && x) (ap f (eq_says p q i) ∙ h) ∙ and_false (is_in p sel) ∙ sym (ap f (eq_says p q i) ∙ h)
 
 -- a place below is in the selection of the first places that pass a test where it passes
 pub in_chosen : (f : ℕ → Bool) (p n : ℕ) → p < n → is_in p (filter f (range_with_len 0 n)) ≡ f p
 in_chosen f p n lt = in_filtered f p (range_with_len 0 n) ∙ ap (λ x. x && f p) (first_in_range n p lt)
 
 pub chosen_below : (f : ℕ → Bool) (p n : ℕ) → is_in p (filter f (range_with_len 0 n)) ≡ true → p < n
-chosen_below f p n h = below_range n p (both (is_in p (range_with_len 0 n)) (f p) (sym (in_filtered f p (range_with_len 0 n)) ∙ h))
-  where
-    both : (a b : Bool) → (a && b) ≡ true → a ≡ true
-    both true b q = refl
-    both false b q = cc q
-
-pub kept_whole : (f : ℕ → Bool) (sel : List ℕ) → EachPlace sel (λ p. f p ≡ true) → filter f sel ≡ sel
-kept_whole f [] h = refl
-kept_whole f (p ∷ sel) h =
-    ap (λ b. cond b (p ∷ filter f sel) (filter f sel)) (h p (ap (λ b. b || is_in p sel) ((Decides-eqb p p).1 refl)))
-    ∙ ap (λ l. p ∷ l) (kept_whole f sel (λ q i. h q (ap (λ b. nat_eq q p || b) i ∙ one (nat_eq q p))))
-  where
-    one : (b : Bool) → (b || true) ≡ true
-    one true = refl
-    one false = refl
+chosen_below f p n h = below_range n p (and_left (is_in p (range_with_len 0 n)) (f p) (sym (in_filtered f p (range_with_len 0 n)) ∙ h))
 
 -- ---- the first fault
 
@@ -56,10 +40,6 @@ module _ (f : ℕ → Option EntryFault) where
   abbrev pub IsOver : List ℕ → Option PlaceFault → Type 0
   IsOver sel None = EachPlace sel (λ p. f p ≡ None)
   IsOver sel (Some x) = (is_in x.place sel ≡ true) × (f x.place ≡ Some x.kind) × EachPlace sel (λ q. q < x.place → f q ≡ None)
-
-  or_true : (a : Bool) → (a || true) ≡ true
-  or_true true = refl
-  or_true false = refl
 
   first_or_rest : (p q : ℕ) (sel : List ℕ) → is_in q (p ∷ sel) ≡ true → (q ≡ p) ⊎ (is_in q sel ≡ true)
   first_or_rest p q sel h = go (nat_eq q p) refl h
@@ -112,7 +92,7 @@ module _ (f : ℕ → Option EntryFault) where
 
   -- left are those below the limit
   pub left_below : (sel : List ℕ) (first pass : ℕ) (s : Found) (o : Option PlaceFault) → EachPlace sel (λ p. p < s.limit) → below_fault o sel ≡ filter (λ p. nat_lt p (noted first pass s o).limit) sel
-  left_below sel first pass s None inside = sym (kept_whole (λ p. nat_lt p s.limit) sel (λ p i. (Decides-ltb p s.limit).1 (inside p i)))
+  left_below sel first pass s None inside = sym (filter_all (λ p. nat_lt p s.limit) sel (λ p i. (Decides-ltb p s.limit).1 (inside p i)))
   left_below sel first pass s (Some x) inside = refl
 
 -- it is at one of the places

@@ -42,7 +42,7 @@ use Rattle.block_passes.specs.Plans.{IsActionOf}
 use Rattle.block_passes.proofs.FirstFaults.{get_dropped, row_in_block}
 use Rattle.block_passes.proofs.Parts.{through_more}
 use Rattle.block_passes.proofs.PlaceLists.{filter_alike, flat_filtered_range, flat_first}
-use Rattle.block_passes.proofs.StepLaws.{same_step}
+use Rattle.loop_keys.proofs.PassNumbers.{some_same}
 
 -- ---- outcomes
 
@@ -97,7 +97,7 @@ module _ (j : JobView) (s : BlockStage) (span : Span) (its : slice_get (job_span
   left_at : {A : Type 0} (f : List Value → A) (q : ℕ) (x : A) → q < s.block → slice_get (rows_left f) q ≡ Some x → x ≡ f (row_of j (entry_at q))
   left_at f q x lt h =
       let e : span.lo + (s.entries + q) ≡ entry_at q = omega arith in
-      same_step x (f (row_of j (entry_at q)))
+      some_same x (f (row_of j (entry_at q)))
       (sym h ∙ ap (λ l. slice_get l q) (left_is f) ∙ get_dropped s.entries (slice_range (map f j.dataset.rows) span.lo span.hi) q
       ∙ row_in_block (map f j.dataset.rows) span.lo span.hi (s.entries + q) (omega (arith, lt, within)) ∙ ap (slice_get (map f j.dataset.rows)) e
       ∙ mapped_at f j.dataset.rows (entry_at q) (row_of j (entry_at q)) (row_here q lt))
@@ -164,7 +164,7 @@ module _ (j : JobView) (s : BlockStage) (span : Span) (its : slice_get (job_span
 
   module _ (job : IsJob j) (f : ℕ) (x : FilterAt) (here : slice_get (graph_filters (job_graph j)) f ≡ Some x) where
     says : (b : Bool) → slice_get (covered_in j) f ≡ Some b → is_covered (passes_in j) x.at ≡ b
-    says b h = same_step (is_covered (passes_in j) x.at) b (sym (cover_at j job f x here) ∙ h)
+    says b h = some_same (is_covered (passes_in j) x.at) b (sym (cover_at j job f x here) ∙ h)
 
     abbrev reach_at : ℕ → Option Reach
     reach_at q = slice_get (reaches_of j.dataset (passes_in j) (named_before (history j.script)) (row_of j (entry_at q))) f

@@ -1,5 +1,5 @@
 -- The sites of filters come to truth values.
-use Rattle.std.proofs.Common.{◌≡◌, ◌⊎◌, inl, inr, ℕ, zero, suc, ◌+◌, Bool, true, false, List, [], ◌∷◌, ◌++◌, map, length, All, Option, Some, None, Result, Ok, Err, refl, sym, ◌∙◌, ap, subst, append_assoc, arith, nat_eq, option_map, slice_get, if◌then◌else◌}
+use Rattle.std.proofs.Common.{◌≡◌, ◌⊎◌, inl, inr, ℕ, zero, suc, ◌+◌, Bool, true, false, List, [], ◌∷◌, ◌++◌, map, length, All, Option, Some, None, Result, Ok, Err, refl, sym, ◌∙◌, ap, subst, arith, nat_eq, option_map, slice_get, if◌then◌else◌}
 use Rattle.std.specs.Prelude.{IsOk}
 use Rattle.std.specs.List.{AllByRecursion}
 use Rattle.std.proofs.lemmas.Bool.Decides.{Decides-eqb}
@@ -20,7 +20,7 @@ use Rattle.rdf_values.specs.declared.statement.Statement.{Statement}
 use Rattle.rdf_values.specs.declared.statement.Statement.TheVariants.{Action, Filter, Report}
 use Rattle.rdf_values.specs.declared.value.ColType.{ColType}
 use Rattle.rdf_values.specs.declared.value.ColType.TheVariants as kind
-use Rattle.rdf_model.specs.Demanded.{site_at}
+use Rattle.rdf_model.specs.Demanded.{site_at, Site}
 use Rattle.rdf_model.proofs.Accepted.{both_none, kind_expected}
 use Rattle.expr_check.specs.NumKinds.{CheckedExpr, IsWellTyped, callee_shape, number_kind}
 use Rattle.expr_check.proofs.Callees.{callee_shape-callee}
@@ -39,8 +39,9 @@ use Rattle.loop_keys.specs.Jobs.{IsJob, JobView, job_graph}
 use Rattle.loop_keys.proofs.EvaluateLaws.{accepted_of}
 use Rattle.block_passes.specs.Plans.{IsTried}
 use Rattle.block_passes.specs.Steps.{Chain}
-use Rattle.block_passes.proofs.SitesThere.{all_at, not_empty}
-use Rattle.block_passes.proofs.StepLaws.{same_step}
+use Rattle.block_passes.proofs.SitesThere.{in_list, not_empty}
+use Rattle.rdf_values.specs.Tree.{NamedTree}
+use Rattle.loop_keys.proofs.PassNumbers.{some_same}
 
 -- ---- the kinds of versions, as an expression lists them
 
@@ -110,28 +111,44 @@ module _ (header : List Column) (names : FunctionNames) where
           (each (columns_in p.expr) (columns_known (column_kind (scope_at names (scope_of header) p.earlier p.parent)) (shape_of names) p.expr p.kind p.typed)))
           ∙ p.typed
 
-  -- ---- the sites of filters
+  -- ---- sites whose expressions were accepted as of a kind
 
-  -- the site is there, of an expression that was accepted as one of truth values
-  pub record IsFilterSite (before : List Statement) (s : ℕ) : Type 0 where
+  pub record IsSiteOf (t : ColType) (before : List Statement) (s : ℕ) : Type 0 where
     pub x : SiteAt
     pub at : slice_get (sites header names before) s ≡ Some x
     pub place : IsPlaced header names before s x
-    pub truth : place.kind ≡ kind.Bool
+    pub its_kind : place.kind ≡ t
 
-  further_site : (before : List Statement) (t : Statement) (s : ℕ) → IsFilterSite before s → IsFilterSite (t ∷ before) s
-  further_site before t s h =
+  pub further_site : (t : ColType) (before : List Statement) (next : Statement) (s : ℕ) → IsSiteOf t before s → IsSiteOf t (next ∷ before) s
+  further_site t before next s h =
       let p = h.place in
       record {
         x = h.x;
-        at = kept_at (sites header names before) (own_sites header names before t) s h.x h.at;
-        place = record { earlier = p.earlier; parent = p.parent; site = p.site; expr = p.expr; kind = p.kind; is = p.is; extends = further t p.extends; start = p.start; accepted = p.accepted; typed = p.typed };
-        truth = h.truth;
+        at = kept_at (sites header names before) (own_sites header names before next) s h.x h.at;
+        place = record { earlier = p.earlier; parent = p.parent; site = p.site; expr = p.expr; kind = p.kind; is = p.is; extends = further next p.extends; start = p.start; accepted = p.accepted; typed = p.typed };
+        its_kind = h.its_kind;
       }
+
+  -- a statement's first site
+  pub first_site : (t : ColType) (before : List Statement) (next : Statement) (parent : List ℕ) (site : Site) (expr : NamedTree) → slice_get (own_sites header names before next) 0 ≡ Some (site_in header names before parent site expr)
+      → AreAccepted names (scope_of header) before → expect_kind t (kind_of (scope_at names (scope_of header) before parent) names expr) ≡ None → IsSiteOf t (next ∷ before) (site_count header names before)
+  first_site t before next parent site expr first good typed =
+      let n : site_count header names before ≡ length (sites header names before) + 0 = omega arith in
+      record {
+        x = site_in header names before parent site expr;
+        at = next_at (sites header names before) (own_sites header names before next) 0 _ n ∙ first;
+        place = record { earlier = before; parent = parent; site = site; expr = expr; kind = t; is = refl; extends = further next itself; start = omega arith; accepted = good; typed = kind_expected t _ typed };
+        its_kind = refl;
+      }
+
+  -- ---- the sites of filters
+
+  abbrev pub IsFilterSite : List Statement → ℕ → Type 0
+  IsFilterSite before s = IsSiteOf kind.Bool before s
 
   further_sites : (before : List Statement) (t : Statement) (ss : List ℕ) → AllByRecursion (IsFilterSite before) ss → AllByRecursion (IsFilterSite (t ∷ before)) ss
   further_sites before t [] h = tt
-  further_sites before t (s ∷ ss) h = (further_site before t s h.0, further_sites before t ss h.1)
+  further_sites before t (s ∷ ss) h = (further_site kind.Bool before t s h.0, further_sites before t ss h.1)
 
   one_more : (P : ℕ → Type 0) (ss : List ℕ) (s : ℕ) → AllByRecursion P ss → P s → AllByRecursion P (ss ++ s ∷ [])
   one_more P [] s h p = (p, tt)
@@ -141,24 +158,7 @@ module _ (header : List Column) (names : FunctionNames) where
   own_site before node parent expr label good =
       let p = both_none (check_node before node parent) (expect_kind kind.Bool (kind_of (scope_at names (scope_of header) before parent) names expr) ∷ []) good.0 in
       let q = both_none (expect_kind kind.Bool (kind_of (scope_at names (scope_of header) before parent) names expr)) [] p.1 in
-      let n : site_count header names before ≡ length (sites header names before) + 0 = omega arith in
-      record {
-        x = site_in header names before parent (site_at node) expr;
-        at = next_at (sites header names before) (own_sites header names before (Filter node parent expr label)) 0 _ n;
-        place = record {
-          earlier = before;
-          parent = parent;
-          site = site_at node;
-          expr = expr;
-          kind = kind.Bool;
-          is = refl;
-          extends = further (Filter node parent expr label) itself;
-          start = omega arith;
-          accepted = good.1;
-          typed = kind_expected kind.Bool _ q.0;
-        };
-        truth = refl;
-      }
+      first_site kind.Bool before (Filter node parent expr label) parent (site_at node) expr refl good.1 q.0
 
   -- a statement's own filter, and those above it
   with_own : (before : List Statement) (s : Statement) (ss : List ℕ) → AreAccepted names (scope_of header) (s ∷ before) → AllByRecursion (IsFilterSite before) ss
@@ -221,27 +221,27 @@ module _ (header : List Column) (names : FunctionNames) where
       go next (inl q) = further_sites before s r.filters (next q)
       go next (inr q) = own s q.0 good q.2
 
+-- the kind of such a site of a job's graph
+pub kind_of_site : (j : JobView) (t : ColType) (s : ℕ) → IsSiteOf j.dataset.columns (fn_names j.dataset.fns) t (history j.script) s → (e : CheckedExpr) → IsSiteExpr (job_graph j) s e → e.kind ≡ t
+kind_of_site j t s h e its =
+    let tree : h.x.tree ≡ e.tree = some_same h.x.tree e.tree (sym (ap (option_map (λ (y : SiteAt). y.tree)) h.at) ∙ its.tree) in
+    placed_kind j.dataset.columns (fn_names j.dataset.fns) (history j.script) s h.x h.place e tree its.kinds its.typed ∙ h.its_kind
+
 -- ---- the filters that a loop tries
 
 module _ (j : JobView) (job : IsJob j) (c : Chain) (up : List ℕ) (s : ℕ) (e : c.sites ≡ up ++ s ∷ []) where
   abbrev IsTruth : ℕ → Type 0
   IsTruth t = IsFilterSite j.dataset.columns (fn_names j.dataset.fns) (history j.script) t
 
-  in_path : (path rest : List ℕ) → path ≡ c.sites ++ rest → AllByRecursion IsTruth path → IsTruth s
-  in_path path rest h all = all_at IsTruth up rest s (subst (λ (p : List ℕ). AllByRecursion IsTruth p) (h ∙ ap (λ l. l ++ rest) e ∙ append_assoc up (s ∷ []) rest) all)
-
   -- the last filter of a chain that is tried
   filter_site : IsTried j c → IsTruth s
   filter_site (inl q) = absurd (not_empty up s (sym e ∙ q))
   filter_site (inr (inl p)) =
-      in_path p.result.filters p.begins.rest p.begins.begins
+      in_list j job c up s e IsTruth p.result.filters p.begins.rest p.begins.begins
       (result_filters j.dataset.columns (fn_names j.dataset.fns) (history j.script) (accepted_of j job) p.numbered.result p.result p.action.its_result)
   filter_site (inr (inr f)) =
-      in_path f.named.sites f.begins.rest f.begins.begins (named_filters j.dataset.columns (fn_names j.dataset.fns) (history j.script) (accepted_of j job) f.filter f.named f.its_filter)
+      in_list j job c up s e IsTruth f.named.sites f.begins.rest f.begins.begins (named_filters j.dataset.columns (fn_names j.dataset.fns) (history j.script) (accepted_of j job) f.filter f.named f.its_filter)
 
   -- comes to truth values
   pub filter_kind : IsTried j c → (x : CheckedExpr) → IsSiteExpr (job_graph j) s x → x.kind ≡ kind.Bool
-  filter_kind tried x its =
-      let h = filter_site tried in
-      let tree : h.x.tree ≡ x.tree = same_step h.x.tree x.tree (sym (ap (option_map (λ (y : SiteAt). y.tree)) h.at) ∙ its.tree) in
-      placed_kind j.dataset.columns (fn_names j.dataset.fns) (history j.script) s h.x h.place x tree its.kinds its.typed ∙ h.truth
+  filter_kind tried x its = kind_of_site j kind.Bool s (filter_site tried) x its

@@ -1,5 +1,5 @@
 -- How many entries the next block has, entry by entry.
-use Rattle.std.proofs.Common.{◌≡◌, ◌⊎◌, inl, inr, ℕ, ℤ, zero, suc, ◌+◌, ◌-◌, ◌*◌, ◌<◌, ◌≤◌, Bool, true, false, ◌&&◌, List, [], ◌∷◌, length, map, min, take, drop, Option, Some, refl, sym, ◌∙◌, ap, subst, arith, slice_get, if◌then◌else◌}
+use Rattle.std.proofs.Common.{◌≡◌, ◌⊎◌, inl, inr, ℕ, ℤ, zero, suc, ◌+◌, ◌-◌, ◌*◌, ◌<◌, ◌≤◌, Bool, true, false, ◌&&◌, List, [], ◌∷◌, length, map, min, take, drop, Some, refl, sym, ◌∙◌, ap, subst, arith, slice_get, if◌then◌else◌}
 use Rattle.std.specs.Prelude.{nat_le, option_and_then, option_map, slice_range}
 use Rattle.std.specs.List.{sum_by}
 use Rattle.std.proofs.lemmas.Bool.{le-leb, le-ltb, lt-leb, lt-ltb}
@@ -15,6 +15,9 @@ use Rattle.rdf_values.specs.declared.value.Value.TheVariants as val
 use Rattle.loop_pieces.proofs.Places.{range_none}
 use Rattle.block_laws.specs.Blocks.{elements_in, first_length, more_fit, one_more_fits, row_elements}
 use Rattle.block_laws.proofs.BlockCuts.{plain_first}
+use Rattle.std.proofs.lemmas.List.{take_all}
+use Rattle.rdf_values.proofs.Rows.{fits_length}
+use Rattle.loop_keys.proofs.PassNumbers.{some_same}
 
 -- ---- the cells of an entry
 
@@ -23,18 +26,12 @@ row_fits cols [] e row h at = cc at
 row_fits cols (r ∷ rs) zero row h at = let s : r ≡ row = cc at in subst (FitsRow cols) s h.0
 row_fits cols (r ∷ rs) (suc e) row h at = row_fits cols rs e row h.1 at
 
-fits_at : (cols : List Column) (row : List Value) (i : ℕ) → FitsRow cols row → i < length cols → (c : Column) × (v : Value) × (slice_get cols i ≡ Some c) × (slice_get row i ≡ Some v) × FitsColumn c.kind v
+pub fits_at : (cols : List Column) (row : List Value) (i : ℕ) → FitsRow cols row → i < length cols → (c : Column) × (v : Value) × (slice_get cols i ≡ Some c) × (slice_get row i ≡ Some v) × FitsColumn c.kind v
 fits_at [] [] i h lt = absurd (omega (arith, lt))
 fits_at [] (v ∷ vs) i h lt = elim h [ ]
 fits_at (c ∷ cs) [] i h lt = elim h [ ]
 fits_at (c ∷ cs) (v ∷ vs) zero h lt = (c, v, refl, refl, h.0)
 fits_at (c ∷ cs) (v ∷ vs) (suc i) h lt = fits_at cs vs i h.1 (omega (arith, lt))
-
-many_cells : (cols : List Column) (row : List Value) → FitsRow cols row → length row ≡ length cols
-many_cells [] [] h = refl
-many_cells [] (v ∷ vs) h = elim h [ ]
-many_cells (c ∷ cs) [] h = elim h [ ]
-many_cells (c ∷ cs) (v ∷ vs) h = ap suc (many_cells cs vs h.1)
 
 no_elements : (v : Value) → FitsKind kind.Int v → elements_in v ≡ 0
 no_elements (val.Int z) h = refl
@@ -45,9 +42,6 @@ no_truths : (v : Value) → FitsKind kind.Bool v → elements_in v ≡ 0
 no_truths (val.Int z) h = refl
 no_truths (val.Bool b) h = refl
 no_truths (val.Vect zs) h = elim h [ ]
-
-some_same : {A : Type 0} (a b : A) → ◌≡◌ {A = Option A} (Some a) (Some b) → a ≡ b
-some_same a b e = cc e
 
 none_taken : (row : List Value) → sum_by elements_in (take 0 row) ≡ 0
 none_taken [] = refl
@@ -65,12 +59,6 @@ take_next (x ∷ xs) (suc i) v at =
     let a = sum_by-cons elements_in x (take (suc i) xs) in
     let b = sum_by-cons elements_in x (take i xs) in
     let c = take_next xs i v at in omega (arith, a, b, c)
-
-take_whole : (row : List Value) (i : ℕ) → length row ≤ i → take i row ≡ row
-take_whole [] zero le = refl
-take_whole [] (suc i) le = refl
-take_whole (x ∷ xs) zero le = absurd (omega (arith, le))
-take_whole (x ∷ xs) (suc i) le = ap (λ l. x ∷ l) (take_whole xs i (omega (arith, le)))
 
 module _ (t : TableView) (table : IsTable t) (e i : ℕ) (inside : i < length t.columns) where
   -- a cell of another column than one of vectors has no elements
@@ -108,7 +96,7 @@ module _ (t : TableView) (table : IsTable t) (e i : ℕ) (inside : i < length t.
       omega (arith, so_far, a, b, d)
 
 pub all_cells : (t : TableView) → IsTable t → (e : ℕ) (row : List Value) → slice_get t.rows e ≡ Some row → (i : ℕ) → length t.columns ≤ i → sum_by elements_in (take i row) ≡ sum_by elements_in row
-all_cells t table e row here i le = let m = many_cells t.columns row (row_fits t.columns t.rows e row table.fit here) in ap (sum_by elements_in) (take_whole row i (omega (arith, m, le)))
+all_cells t table e row here i le = let m = fits_length t.columns row (row_fits t.columns t.rows e row table.fit here) in ap (sum_by elements_in) (take_all i row (omega (arith, m, le)))
 
 -- ---- the entries of a block
 

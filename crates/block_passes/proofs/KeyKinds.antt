@@ -22,7 +22,7 @@ use Rattle.loop_keys.proofs.KeptKeys.{members_all}
 use Rattle.loop_keys.proofs.KeyLaws.{keys_next, slot_small}
 use Rattle.block_cache.specs.Fills.{AreSiteKinds}
 use Rattle.block_passes.specs.States.{HaveKinds}
-use Rattle.block_passes.proofs.StepLaws.{same_step}
+use Rattle.loop_keys.proofs.PassNumbers.{some_same}
 
 -- ---- a site has one kind
 
@@ -37,7 +37,7 @@ module _ (all : List ColType) where
   same_pairs (k ∷ ks) (l ∷ ls) e h i =
       let number : k.0 ≡ l.0 = cc e in
       let rest : map (λ (c : ℕ × ColType). c.0) ks ≡ map (λ (c : ℕ × ColType). c.0) ls = cc e in
-      let kind : k.1 ≡ l.1 = same_step k.1 l.1 (sym h.0 ∙ ap (slice_get all) number ∙ i.0) in
+      let kind : k.1 ≡ l.1 = some_same k.1 l.1 (sym h.0 ∙ ap (slice_get all) number ∙ i.0) in
       let tails = same_pairs ks ls rest h.1 i.1 in
       λ x. (number x, kind x) ∷ tails x
 
@@ -48,7 +48,7 @@ one_kind g s e d its other = same (sym its.typed.typed ∙ (λ i. num_kind (pair
     same q = cc q
 
     trees : e.tree ≡ d.tree
-    trees = same_step e.tree d.tree (sym its.tree ∙ other.tree)
+    trees = some_same e.tree d.tree (sym its.tree ∙ other.tree)
 
     pairs : e.kinds ≡ d.kinds
     pairs =
@@ -117,4 +117,4 @@ expr_inside g t e its = go (slice_get (graph_sites g) t) refl its.tree
 pub site_kinds : (g : GraphView) (kinds : List ColType) → HaveKinds g (length (graph_sites g)) kinds → AreSiteKinds g kinds
 site_kinds g kinds have t w e k its got =
     let h = have t w (expr_inside g t e its) in
-    one_kind g t e h.0 its h.1 ∙ same_step h.0.kind k (sym h.2 ∙ got)
+    one_kind g t e h.0 its h.1 ∙ some_same h.0.kind k (sym h.2 ∙ got)

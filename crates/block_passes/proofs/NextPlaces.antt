@@ -1,7 +1,7 @@
 -- One more filter of a step, over the selections of all steps.
 use Rattle.std.proofs.Common.{◌≡◌, ◌⊎◌, inl, inr, ℕ, zero, suc, ◌+◌, ◌<◌, ◌≤◌, List, [], ◌∷◌, ◌++◌, length, length-append, Option, None, Some, refl, sym, ◌∙◌, ap, subst, arith, slice_get, if◌then◌else◌}
 use Rattle.std.specs.Prelude.{slice_set}
-use Rattle.lemmas.proofs.Places.{kept_at}
+use Rattle.lemmas.proofs.Places.{kept_at, set_length}
 use Rattle.rdf_model.specs.Results.{fault_in, is_true}
 use Rattle.expr_lanes.specs.Places.{EachPlace, is_in}
 use Rattle.block_cache.specs.Lanes.{LaneView}
@@ -19,8 +19,8 @@ use Rattle.block_passes.specs.declared.kept.Kept.{Kept}
 use Rattle.block_passes.specs.declared.steps.Step.TheVariants as step
 use Rattle.block_passes.proofs.FaultsOver.{chosen_below, in_chosen}
 use Rattle.block_passes.proofs.Searching.{lowers_as, none_lowers}
-use Rattle.block_passes.proofs.StepLaws.{same_step}
 use Rattle.block_passes.proofs.StepSelecting.{kept_lower, step_made, step_spends}
+use Rattle.loop_keys.proofs.PassNumbers.{some_same}
 
 -- ---- lists in two parts
 
@@ -35,10 +35,6 @@ set_behind (w ∷ xs) ys y (suc k) x h = go (set_behind xs ys y k x h)
     go : (slice_get (xs ++ ys) k ≡ Some x) ⊎ ((k ≡ length xs) × (x ≡ y)) → (slice_get (xs ++ ys) k ≡ Some x) ⊎ ((suc k ≡ suc (length xs)) × (x ≡ y))
     go (inl q) = inl q
     go (inr q) = inr (ap (λ n. suc n) q.0, q.1)
-
-set_length : {A : Type 0} (ys : List A) (y : A) → length (slice_set ys 0 y) ≡ length ys
-set_length [] y = refl
-set_length (z ∷ ys) y = refl
 
 set_there : {A : Type 0} (xs ys : List A) (y : A) → 0 < length ys → slice_get (xs ++ slice_set ys 0 y) (length xs) ≡ Some y
 set_there [] [] y h = absurd (omega (arith, h))
@@ -90,7 +86,7 @@ module _ (j : JobView) (job : IsJob j) (first count pass : ℕ) (plan : PlanView
       many = (
           let a = length-append above now in
           let b = length-append above own in
-          let c = ap length written ∙ set_length own to in
+          let c = ap length written ∙ set_length own 0 to in
           let m = ready.kept_are.many in
           omega (arith, a, b, c, m));
       each = λ i made c x q r l. one i made c x q l (set_behind above own to i x (ap (λ ks. slice_get (above ++ ks) i) (sym written) ∙ r));
@@ -100,8 +96,8 @@ module _ (j : JobView) (job : IsJob j) (first count pass : ℕ) (plan : PlanView
         one i made c x q l (inl r) = (kept_lower j first p.chains f1.limit f2.limit (above ++ own) falls ready.kept_are).each i made c x q r l
         one i made c x q l (inr r) =
             let at : i ≡ k = r.0 ∙ many in
-            let chain : longer s.up site u ≡ c = same_step (longer s.up site u) c (sym s.own ∙ ap (slice_get p.chains) (sym at) ∙ q) in
-            let limit : f2.limit ≡ made = same_step f2.limit made (sym h.its_limit ∙ ap (λ (y : Kept). y.limit) (sym r.1) ∙ l) in
+            let chain : longer s.up site u ≡ c = some_same (longer s.up site u) c (sym s.own ∙ ap (slice_get p.chains) (sym at) ∙ q) in
+            let limit : f2.limit ≡ made = some_same f2.limit made (sym h.its_limit ∙ ap (λ (y : Kept). y.limit) (sym r.1) ∙ l) in
             subst (λ (y : Chain). IsMade j first y f2.limit made x.places) chain
             (subst (λ (n : ℕ). IsMade j first (longer s.up site u) f2.limit n x.places) limit
             (subst (λ (y : Kept). IsMade j first (longer s.up site u) f2.limit f2.limit y.places) (sym r.1) own_made))
@@ -109,8 +105,8 @@ module _ (j : JobView) (job : IsJob j) (first count pass : ℕ) (plan : PlanView
     pub next_selected : 0 < length own → IsNextSelected j first count p.chains pass k parent site u after (above ++ now) f1 f2
     next_selected some = record {
       ready = record { ready = h.ready; settled = h.settled; kept_are = kept_now; within = (let a = falls in let b = ready.within in omega (arith, a, b)) };
-      lowers = λ c q. subst (λ (y : Chain). Lowers (λ n. where_passed (through_chain j (first + n) y) (fault_in (truth_in j (first + n) u site))) first pass f1 f2) (same_step s.up c (sym s.its_up ∙ q)) part;
+      lowers = λ c q. subst (λ (y : Chain). Lowers (λ n. where_passed (through_chain j (first + n) y) (fault_in (truth_in j (first + n) u site))) first pass f1 f2) (some_same s.up c (sym s.its_up ∙ q)) part;
       made = λ x q. (
-          let e : to ≡ x = same_step to x (sym (set_there above own to some) ∙ ap (λ ks. slice_get (above ++ ks) (length above)) (sym written) ∙ ap (slice_get (above ++ now)) many ∙ q) in
+          let e : to ≡ x = some_same to x (sym (set_there above own to some) ∙ ap (λ ks. slice_get (above ++ ks) (length above)) (sym written) ∙ ap (slice_get (above ++ now)) many ∙ q) in
           ap (λ (y : Kept). y.limit) (sym e) ∙ h.its_limit);
     }

@@ -1,5 +1,5 @@
 -- A pass in parts, by numbers: its filters one after another, the versions that it reads, and whether their values can be fed.
-use Rattle.std.proofs.Common.{if◌then◌else◌, ◌≡◌, ℕ, Bool, true, false, ◌&&◌, List, [], ◌∷◌, ◌++◌, Option, None, Some, refl, sym, ◌∙◌, ap, slice_get}
+use Rattle.std.proofs.Common.{if◌then◌else◌, ◌≡◌, ℕ, Bool, true, false, ◌&&◌, List, [], ◌∷◌, ◌++◌, Option, None, Some, refl, sym, ◌∙◌, ap, slice_get, ◌⊎◌, inl, inr}
 use Rattle.rdf_values.specs.Spread.{feed_fault}
 use Rattle.rdf_values.specs.declared.action.ActionKind.{ActionKind}
 use Rattle.rdf_values.specs.declared.fault.EntryFault.{EntryFault}
@@ -12,6 +12,10 @@ use Rattle.graph_numbers.specs.Outcomes.{action_numbers, report_numbers, through
 use Rattle.graph_numbers.specs.Results.{FilterAt, ResultAt}
 use Rattle.block_passes.specs.Parts.{feeding_fault, where_passed}
 use Rattle.block_passes.proofs.Searching.{or_else}
+use Rattle.loop_keys.specs.Jobs.{JobView}
+use Rattle.loop_keys.specs.Store.{site_in}
+use Rattle.block_passes.specs.Plans.{IsLast, through_chain}
+use Rattle.block_passes.specs.Steps.{Chain}
 
 -- ---- one filter
 
@@ -117,3 +121,13 @@ where_split (Gives true) a b = refl
 where_split (Gives false) a b = refl
 where_split (Faults k) a b = refl
 where_split (Needs m) a b = elim m [ ]
+
+-- ---- the filters of a chain
+
+-- under the variation that it has, if it has filters
+pub chain_through : (j : JobView) (c : Chain) (u : Option ℕ) → (c.sites ≡ []) ⊎ (c.under ≡ u) → (e : ℕ) → through_chain j e c ≡ through_sites (site_in {M = ⊥} j e u) c.sites
+chain_through j c u (inl none) e = ap (through_sites (site_in {M = ⊥} j e c.under)) none ∙ sym (ap (through_sites (site_in {M = ⊥} j e u)) none)
+chain_through j c u (inr under) e = ap (λ (v : Option ℕ). through_sites (site_in {M = ⊥} j e v) c.sites) under
+
+pub last_through : (j : JobView) (chains : List Chain) (path : List ℕ) (u : Option ℕ) (k : ℕ) (last : IsLast chains path u k) (e : ℕ) → through_chain j e last.chain ≡ through_sites (site_in {M = ⊥} j e u) path
+last_through j chains path u k last e = chain_through j last.chain u last.alike e ∙ ap (through_sites (site_in {M = ⊥} j e u)) last.sites

@@ -3,6 +3,7 @@ use Rattle.std.proofs.Common.{◌≡◌, ℕ, zero, suc, ◌+◌, ◌<◌, ◌�
 use Rattle.std.specs.Prelude.{flat_map, slice_get, Some}
 use Rattle.std.specs.List.{filter, range_with_len}
 use Rattle.lemmas.proofs.Orders.{lt_false, lt_true}
+use Rattle.lemmas.proofs.Booleans.{and_false, and_true}
 
 -- ---- filters
 
@@ -26,13 +27,9 @@ filter_alike p q (suc n) a h =
 below_from : (p : ℕ → Bool) (limit n a : ℕ) → limit ≤ a → filter (λ i. p i && nat_lt i limit) (range_with_len a n) ≡ []
 below_from p limit zero a h = refl
 below_from p limit (suc n) a h =
-    let none : (p a && nat_lt a limit) ≡ false = ap (λ b. p a && b) (lt_false a limit h) ∙ both_false (p a) in
+    let none : (p a && nat_lt a limit) ≡ false = ap (λ b. p a && b) (lt_false a limit h) ∙ and_false (p a) in
     ap (λ b. cond b (a ∷ filter (λ i. p i && nat_lt i limit) (range_with_len (a + 1) n)) (filter (λ i. p i && nat_lt i limit) (range_with_len (a + 1) n))) none
     ∙ below_from p limit n (a + 1) (omega (arith, h))
-  where
-    both_false : (b : Bool) → (b && false) ≡ false
-    both_false true = refl
-    both_false false = refl
 
 first_below : (p : ℕ → Bool) (m n a : ℕ) → m ≤ n → filter (λ i. p i && nat_lt i (a + m)) (range_with_len a n) ≡ filter p (range_with_len a m)
 first_below p zero n a h = below_from p (a + 0) n a (omega arith)
@@ -42,10 +39,6 @@ first_below p (suc m) (suc n) a h =
     let e : a + suc m ≡ a + 1 + m = omega arith in
     let rest = ap (λ k. filter (λ i. p i && nat_lt i k) (range_with_len (a + 1) n)) e ∙ first_below p m n (a + 1) (omega (arith, h)) in
     (λ i. cond (here i) (a ∷ rest i) (rest i))
-  where
-    and_true : (b : Bool) → (b && true) ≡ b
-    and_true true = refl
-    and_true false = refl
 
 pub narrowed : (p : ℕ → Bool) (limit n : ℕ) → limit ≤ n → filter (λ i. nat_lt i limit) (filter p (range_with_len 0 n)) ≡ filter p (range_with_len 0 limit)
 narrowed p limit n h =

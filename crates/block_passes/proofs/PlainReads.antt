@@ -1,5 +1,5 @@
 -- What the actions of a loop without vectors read.
-use Rattle.std.proofs.Common.{◌≡◌, ◌⊎◌, inl, inr, ℕ, Bool, zero, suc, ◌+◌, ◌<◌, true, false, List, [], ◌∷◌, length, map, option_map, Option, Some, refl, sym, ◌∙◌, ap, subst, arith, slice_get}
+use Rattle.std.proofs.Common.{◌≡◌, ◌⊎◌, inl, inr, ℕ, Bool, zero, suc, ◌+◌, ◌<◌, true, false, List, [], ◌∷◌, length, map, option_map, Option, Some, refl, sym, ◌∙◌, ap, subst, slice_get}
 use Rattle.std.specs.Prelude.{get_or, unwrap_or}
 use Rattle.std.specs.List.{AllByRecursion}
 use Rattle.std.proofs.lemmas.List.Elements.{recursion_from_All}
@@ -43,6 +43,7 @@ use Rattle.loop_keys.proofs.PlainLaws.{plain_expr}
 use Rattle.loop_keys.proofs.TableLaws.{not_stored}
 use Rattle.block_passes.specs.Inputs.{ArePlainSources, CanServe, IsPlainSource, IsServable}
 use Rattle.block_passes.specs.Tries.{IsReadOf}
+use Rattle.block_passes.proofs.FirstLengths.{fits_at as cell_fits}
 
 -- ---- a site without vectors
 
@@ -96,12 +97,6 @@ module _ (d : Dataset) (row : List Value) (u : Under) (fits : FitsRow d.columns 
 
 -- ---- a column that a version without vectors is given by
 
-cell_there : (cs : List Column) (row : List Value) (col : ℕ) → FitsRow cs row → col < length cs → (c : Column) × (v : Value) × (slice_get cs col ≡ Some c) × (slice_get row col ≡ Some v) × FitsKind c.kind v
-cell_there [] row col h lt = absurd (omega (arith, lt))
-cell_there (c ∷ cs) [] col h lt = elim h [ ]
-cell_there (c ∷ cs) (v ∷ vs) zero h lt = (c, v, refl, refl, h.0.0)
-cell_there (c ∷ cs) (v ∷ vs) (suc col) h lt = cell_there cs vs col h.1 (omega (arith, lt))
-
 both_fit : (t k : ColType) (v : Value) → FitsKind t v → FitsKind k v → is_vector t ≡ false → (k ≡ kind.Bool → ⊥) → k ≡ kind.Int
 both_fit t kind.Int v f g scalar nb = refl
 both_fit t kind.Bool v f g scalar nb = absurd (nb refl)
@@ -122,9 +117,9 @@ module _ (j : JobView) (job : IsJob j) (first : ℕ) (within : first < length j.
 
   cell_int : (col : ℕ) (t : ColType) → is_vector t ≡ false → col < length j.dataset.columns → FitsOutcome t (source_value {M = ℕ} (row_of j first) (site_in j first u) (from.Cell col)) → kind_at j.dataset.columns col ≡ Some kind.Int
   cell_int col t scalar lt fit =
-      let c = cell_there j.dataset.columns (row_of j first) col row_fits lt in
+      let c = cell_fits j.dataset.columns (row_of j first) col row_fits lt in
       ap (option_map (λ (x : Column). x.kind)) c.2
-      ∙ ap Some (both_fit t c.0.kind c.1 (subst (λ (o : Option Value). FitsOutcome {M = ℕ} t (cell_value o)) c.3 fit) c.4 scalar
+      ∙ ap Some (both_fit t c.0.kind c.1 (subst (λ (o : Option Value). FitsOutcome {M = ℕ} t (cell_value o)) c.3 fit) c.4.0 scalar
       (λ b. not_stored j.dataset.columns j.dataset.columns refl job.table.header.distinct col lt c.0 (stored_kind col c.0 c.2 ∙ b)))
     where
       stored_kind : (col : ℕ) (c : Column) → slice_get j.dataset.columns col ≡ Some c → (get_or j.dataset.columns col c).kind ≡ c.kind

@@ -14,7 +14,7 @@ use Rattle.block_passes.specs.Tries.{IsNamedMade, IsPassMade, IsPlanMade}
 use Rattle.block_passes.specs.declared.kept.Kept.{Kept}
 use Rattle.block_passes.specs.declared.plan.NamedSteps.{NamedSteps}
 use Rattle.block_passes.proofs.PlanSteps.{covered_is}
-use Rattle.block_passes.proofs.StepLaws.{same_step}
+use Rattle.loop_keys.proofs.PassNumbers.{some_same}
 
 all_at : (P : ℕ → Type 0) (xs : List ℕ) (k x : ℕ) → AllByRecursion P xs → slice_get xs k ≡ Some x → P x
 all_at P [] k x h e = cc e
@@ -34,10 +34,10 @@ module _ (j : JobView) (job : IsJob j) (count : ℕ) (plan : PlanView) (p : IsPl
   covered_of : (f : ℕ) (x : FilterAt) → slice_get (graph_filters (job_graph j)) f ≡ Some x → (s : NamedSteps) → slice_get plan.filters f ≡ Some (Some s) → IsCovered j f
   covered_of f x its s named =
       let w = p.filters f x its in
-      let same : w.0 ≡ Some s = same_step w.0 (Some s) (sym w.1 ∙ named) in
+      let same : w.0 ≡ Some s = some_same w.0 (Some s) (sym w.1 ∙ named) in
       let planned = subst (λ (o : Option NamedSteps). IsPlannedFilter j p.chains f x o) same w.2 in
       let is = covered_is j job f (slice_get_within (graph_filters (job_graph j)) f x its) (list_any (is_covering (graph_results (job_graph j)) f) (numbered_passes j)) refl in
-      covered_there j f (same_step (list_any (is_covering (graph_results (job_graph j)) f) (numbered_passes j)) true (sym is ∙ planned.0))
+      covered_there j f (some_same (list_any (is_covering (graph_results (job_graph j)) f) (numbered_passes j)) true (sym is ∙ planned.0))
 
   pub plan_made : IsPlanMade j count plan kept
   plan_made = record {

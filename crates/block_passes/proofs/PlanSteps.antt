@@ -15,7 +15,7 @@ use Rattle.graph_numbers.specs.declared.result_kind.ResultKind.{ResultKind}
 use Rattle.graph_numbers.specs.declared.result_kind.ResultKind.TheVariants as what
 use Rattle.loop_keys.specs.Caches.{numbered_in}
 use Rattle.loop_keys.specs.Jobs.{IsJob, JobView, job_graph, passes_in}
-use Rattle.loop_keys.proofs.PassNumbers.{result_inside, result_there}
+use Rattle.loop_keys.proofs.PassNumbers.{result_inside, result_there, some_same}
 use Rattle.loop_keys.specs.Plans.{covered_in}
 use Rattle.loop_keys.specs.Turns.{is_covering, numbered_passes}
 use Rattle.loop_keys.proofs.Covered.{cover_at, cover_is, passes_count}
@@ -25,7 +25,7 @@ use Rattle.block_passes.specs.Steps.{AreSteps, Chain, IsLed, IsStep, IsStepped, 
 use Rattle.block_passes.specs.declared.plan.NamedSteps.{NamedSteps}
 use Rattle.block_passes.specs.declared.steps.Step.{Step}
 use Rattle.block_passes.specs.declared.steps.Step.TheVariants as step
-use Rattle.block_passes.proofs.StepLaws.{get_joined, same_step}
+use Rattle.block_passes.proofs.StepLaws.{get_joined}
 
 -- ---- more chains
 
@@ -67,7 +67,7 @@ module _ (j : JobView) (n : ℕ) (m : NumberedPass) (its : numbered_in j n ≡ S
 
   kind_is : kind ≡ kind_of_booking r.booked.booking
   kind_is =
-      same_step kind (kind_of_booking r.booked.booking)
+      some_same kind (kind_of_booking r.booked.booking)
       (sym q ∙ ap (λ (v : GraphView). option_map (λ (x : ResultAt). kind_of_booking x.booked.booking) (slice_get (graph_results v) m.result)) e ∙ ap (option_map (λ (x : ResultAt). kind_of_booking x.booked.booking)) there_is)
 
   pub pass_led : (l : ActionKind) → kind ≡ what.Action l → (path : List ℕ) → option_map (λ (x : ResultAt). x.filters) (slice_get (graph_results g) m.result) ≡ Some path
@@ -76,13 +76,13 @@ module _ (j : JobView) (n : ℕ) (m : NumberedPass) (its : numbered_in j n ≡ S
     where
       its_path : path ≡ r.filters
       its_path =
-          same_step path r.filters
+          some_same path r.filters
           (sym p ∙ ap (λ (v : GraphView). option_map (λ (x : ResultAt). x.filters) (slice_get (graph_results v) m.result)) e ∙ ap (option_map (λ (x : ResultAt). x.filters)) there_is)
 
       each : (a : NumberedPass) (s : ResultAt) (t : ActionKind) → IsActionOf j n a s t → IsLast (chains ++ led.more) s.filters a.variation k
       each a s t act =
-          let same_pass : m ≡ a = same_step m a (sym its ∙ act.its_pass) in
-          let same_result : r ≡ s = same_step r s (sym there_is ∙ ap (λ (x : NumberedPass). slice_get (graph_results (job_graph j)) x.result) same_pass ∙ act.its_result) in
+          let same_pass : m ≡ a = some_same m a (sym its ∙ act.its_pass) in
+          let same_result : r ≡ s = some_same r s (sym there_is ∙ ap (λ (x : NumberedPass). slice_get (graph_results (job_graph j)) x.result) same_pass ∙ act.its_result) in
           let path_is : path ≡ s.filters = its_path ∙ ap (λ (x : ResultAt). x.filters) same_result in
           let under_is : m.variation ≡ a.variation = ap (λ (x : NumberedPass). x.variation) same_pass in
           record { chain = led.last; its = led.its; sites = led.sites ∙ path_is; alike = subst (λ (u : Option ℕ). (led.last.sites ≡ []) ⊎ (led.last.under ≡ u)) under_is led.alike }
@@ -112,8 +112,8 @@ module _ (j : JobView) (n : ℕ) (m : NumberedPass) (its : numbered_in j n ≡ S
     where
       none : (a : NumberedPass) (s : ResultAt) (t : ActionKind) → IsActionOf j n a s t → ⊥
       none a s t act =
-          let same_pass : m ≡ a = same_step m a (sym its ∙ act.its_pass) in
-          let same_result : r ≡ s = same_step r s (sym there_is ∙ ap (λ (x : NumberedPass). slice_get (graph_results (job_graph j)) x.result) same_pass ∙ act.its_result) in
+          let same_pass : m ≡ a = some_same m a (sym its ∙ act.its_pass) in
+          let same_result : r ≡ s = some_same r s (sym there_is ∙ ap (λ (x : NumberedPass). slice_get (graph_results (job_graph j)) x.result) same_pass ∙ act.its_result) in
           let w : what.Report ≡ what.Action t = sym of ∙ kind_is ∙ ap (λ (x : ResultAt). kind_of_booking x.booked.booking) same_result ∙ ap kind_of_booking act.booking in
           cc w
 
@@ -151,7 +151,7 @@ module _ (j : JobView) (job : IsJob j) (f : ℕ) (covered : slice_get (covered_i
     where
       go : (o : Option FilterAt) → slice_get (graph_filters (job_graph j)) f ≡ o → option_map (λ (x : FilterAt). x.sites) o ≡ Some path → (x : FilterAt) × (slice_get (graph_filters (job_graph j)) f ≡ Some x) × (x.sites ≡ path)
       go None s w = cc w
-      go (Some x) s w = (x, s, same_step x.sites path w)
+      go (Some x) s w = (x, s, some_same x.sites path w)
 
   of_filter : (c : Chain) (rest : List ℕ) → c.under ≡ None → path ≡ c.sites ++ rest → IsTried j c
   of_filter c rest u w = inr (inr (record {
@@ -178,7 +178,7 @@ module _ (j : JobView) (job : IsJob j) (f : ℕ) (covered : slice_get (covered_i
 
       named : (x : FilterAt) → slice_get (graph_filters (job_graph j)) f ≡ Some x → IsNamed ((chains ++ led.more) ++ stepped.more) x (record { above = above; own = own })
       named x q =
-          let same : found.0 ≡ x = same_step found.0 x (sym found.1 ∙ q) in
+          let same : found.0 ≡ x = some_same found.0 x (sym found.1 ∙ q) in
           let its_sites : x.sites ≡ path = ap (λ (y : FilterAt). y.sites) (sym same) ∙ found.2 in
           record {
             up = up;

@@ -14,7 +14,7 @@ use Rattle.block_passes.specs.declared.kept.Kept.{Kept}
 use Rattle.block_passes.specs.declared.plan.NamedSteps.{NamedSteps}
 use Rattle.block_passes.proofs.NextPlaces.{set_behind}
 use Rattle.block_passes.proofs.StepCases.{set_other}
-use Rattle.block_passes.proofs.StepLaws.{same_step}
+use Rattle.loop_keys.proofs.PassNumbers.{some_same}
 
 module _ (count : ℕ) where
   pub remade_then : (a b c : List Kept) → AreRemade count a b → AreRemade count b c → AreRemade count a c
@@ -49,7 +49,7 @@ module _ (count : ℕ) where
       go (inr q) = q
 
   pub made_set : (kept : List Kept) (k : ℕ) (x : Kept) → k < length kept → IsMadeBelow count x → IsMadeAt count (slice_set kept k x) k
-  made_set kept k x lt made m e = subst (λ (y : Kept). IsMadeBelow count y) (same_step x m (sym (set_at kept k x lt) ∙ e)) made
+  made_set kept k x lt made m e = subst (λ (y : Kept). IsMadeBelow count y) (some_same x m (sym (set_at kept k x lt) ∙ e)) made
 
   -- a step that was selected
   pub made_selected : (j : JobView) (first : ℕ) (chains : List Chain) (pass k : ℕ) (lanes : List LaneView) (kept : List Kept) (old new : Found) → IsSelectedTo j first count chains pass k lanes kept old new → IsMadeAt count kept k

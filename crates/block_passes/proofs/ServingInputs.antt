@@ -1,8 +1,8 @@
 -- Filling what an action reads, one version after another.
-use Rattle.std.proofs.Common.{if◌then◌else◌, ◌≡◌, ℕ, ◌+◌, ◌<◌, Bool, true, false, ◌&&◌, List, [], ◌∷◌, Option, None, Some, refl, sym, ◌∙◌, ap, subst, arith, nat_lt, ℤ, length}
-use Rattle.std.specs.List.{filter, AllByRecursion}
+use Rattle.std.proofs.Common.{if◌then◌else◌, ◌≡◌, ℕ, ◌+◌, ◌<◌, Bool, true, ◌&&◌, List, [], ◌∷◌, Option, None, sym, ◌∙◌, ap, subst, nat_lt, ℤ}
+use Rattle.std.specs.List.{AllByRecursion}
 use Rattle.std.proofs.lemmas.Bool.Decides.{Decides-ltb}
-use Rattle.lemmas.proofs.Booleans.{and_true, both_true}
+use Rattle.lemmas.proofs.Booleans.{both_true}
 use Rattle.rdf_values.specs.declared.fault.EntryFault.{EntryFault}
 use Rattle.rdf_values.specs.declared.value.ColType.{ColType}
 use Rattle.rdf_values.specs.declared.value.Value.{Value}
@@ -19,19 +19,18 @@ use Rattle.loop_keys.specs.Plain.{ArePlainVersions}
 use Rattle.loop_keys.specs.Store.{IsSourceIn, held_element, held_in, source_at, version_in, is_held as is_known}
 use Rattle.loop_keys.specs.declared.held.Held.{Held}
 use Rattle.loop_keys.specs.Turns.{HasAllDemands}
-use Rattle.block_cache.specs.Blocks.{AreReady, cells_at}
+use Rattle.block_cache.specs.Blocks.{cells_at}
 use Rattle.block_cache.specs.Fills.{holds_at}
 use Rattle.block_passes.specs.Inputs.{AreAtHand, CanServe, DemandsInputs, DemandsSource, IsAtHand, IsServedTo, inputs_fault, source_fault}
-use Rattle.block_passes.specs.Searches.{Lowers, where_in}
-use Rattle.block_passes.specs.Spends.{IsSettledAt, Spends}
+use Rattle.block_passes.specs.Spends.{Spends}
 use Rattle.block_passes.specs.declared.found.Found.{Found}
 use Rattle.block_passes.specs.declared.kept.Kept.{Kept}
 use Rattle.block_passes.proofs.ElementsHeld.{known_held}
-use Rattle.block_passes.proofs.FaultsOver.{in_filtered, kept_whole, selected_or_none}
+use Rattle.block_passes.proofs.FaultsOver.{in_filtered}
 use Rattle.block_passes.proofs.Parts.{inputs_fault as all_fault}
-use Rattle.block_passes.proofs.PlaceLists.{filter_twice}
-use Rattle.block_passes.proofs.Searching.{both_lower, lowers_as, none_lowers, or_else}
+use Rattle.block_passes.proofs.Searching.{or_else}
 use Rattle.block_passes.proofs.Spending.{known_is}
+use Rattle.block_passes.proofs.Serving.{left_in, served_then}
 
 -- what is held stays so
 pub still_held : (j : JobView) (first count : ℕ) (before after : List LaneView) (start end : ℕ) → Spends j first count before after start end → (k p : ℕ) → holds_at before k p ≡ true → holds_at after k p ≡ true
@@ -64,31 +63,9 @@ pub served_inside : (j : JobView) (first count : ℕ) (part : ℕ → Option Ent
 served_inside j first count part pass sel to lanes old new h q i =
     (Decides-ltb q new.limit).0 (both_true (is_in q sel) (nat_lt q new.limit) (sym (ap (is_in q) h.left ∙ in_filtered (λ x. nat_lt x new.limit) q sel) ∙ i)).1
 
-pub empty_list : (xs : List ℕ) → length xs ≡ 0 → xs ≡ []
-empty_list [] h = refl
-empty_list (x ∷ xs) h = absurd (omega (arith, h))
-
--- what faults at no selected place lowers nothing
-pub clear_served : (j : JobView) (first count : ℕ) (u : Option ℕ) (pass : ℕ) (inputs : List ℕ) (to : Kept) (lanes : List LaneView) (s : Found)
-    → AreReady j first count lanes → to.limit ≡ Some s.limit → EachPlace to.places (λ p. p < s.limit) → ((p : ℕ) → p < s.limit → IsSettledAt lanes p)
-    → EachPlace to.places (λ p. inputs_fault j first u inputs p ≡ None) → IsServedTo j first count (inputs_fault j first u inputs) pass to.places to lanes s s
-clear_served j first count u pass inputs to lanes s ready made inside settled clear = record {
-  ready = ready;
-  settled = settled;
-  lowers = none_lowers (where_in (inputs_fault j first u inputs) to.places) first pass s (λ p lt. selected_or_none (inputs_fault j first u inputs) to.places p (clear p));
-  its_limit = made;
-  left = sym (kept_whole (λ p. nat_lt p s.limit) to.places (λ p i. (Decides-ltb p s.limit).1 (inside p i)));
-}
-
 -- none are read
 pub none_clear : (j : JobView) (first : ℕ) (u : Option ℕ) (inputs : List ℕ) → inputs ≡ [] → (sel : List ℕ) → EachPlace sel (λ p. inputs_fault j first u inputs p ≡ None)
 none_clear j first u inputs e sel p i = ap (λ l. inputs_fault j first u l p) e
-
-pub none_served : (j : JobView) (first count : ℕ) (u : Option ℕ) (pass : ℕ) (inputs : List ℕ) → inputs ≡ [] → (to : Kept) (lanes : List LaneView) (s : Found)
-    → AreReady j first count lanes → to.limit ≡ Some s.limit → EachPlace to.places (λ p. p < s.limit) → ((p : ℕ) → p < s.limit → IsSettledAt lanes p)
-    → IsServedTo j first count (inputs_fault j first u inputs) pass to.places to lanes s s
-none_served j first count u pass inputs e to lanes s ready made inside settled =
-    clear_served j first count u pass inputs to lanes s ready made inside settled (none_clear j first u inputs e to.places)
 
 pub none_held : (j : JobView) (lanes : List LaneView) (u : Option ℕ) (inputs : List ℕ) → inputs ≡ [] → (sel : List ℕ) → EachPlace sel (AreAtHand j lanes u inputs)
 none_held j lanes u inputs e sel p i = subst (λ (l : List ℕ). AreAtHand j lanes u l p) (sym e) tt
@@ -150,47 +127,13 @@ module _ (j : JobView) (first : ℕ) (u : Option ℕ) (inputs cs : List ℕ) (c 
         (w.0, w.1, none_given (version_in j (first + p) u c) (HasInputs (λ s. w.0 s ≡ true) (source_at j u) (version_in j (first + p) u) cs) clear w.2.1)
 
     module _ (to : Kept) (lanes : List LaneView) (f2 : Found) (k : IsServedTo j first count (inputs_fault j first u cs) pass mid.places to lanes f1 f2) where
-      same_below : (p : ℕ) → p < f1.limit → where_in (inputs_fault j first u cs) mid.places p ≡ where_in (inputs_fault j first u cs) sel p
-      same_below p lt =
-          ap (λ b. if b then inputs_fault j first u cs p else None) (mid_in p ∙ ap (λ b. is_in p sel && b) ((Decides-ltb p f1.limit).1 lt) ∙ and_true (is_in p sel))
-
-      split : (p : ℕ) → or_else (where_in (source_fault j first u (source_at j u c)) sel p) (where_in (inputs_fault j first u cs) sel p) ≡ where_in (inputs_fault j first u (c ∷ cs)) sel p
-      split p = go (is_in p sel)
-        where
-          go : (b : Bool) → or_else (if b then source_fault j first u (source_at j u c) p else None) (if b then inputs_fault j first u cs p else None) ≡ (if b then inputs_fault j first u (c ∷ cs) p else None)
-          go true = sym (all_fault (version_in j (first + p) u) c cs)
-          go false = refl
-
-      both : Lowers (where_in (inputs_fault j first u (c ∷ cs)) sel) first pass f0 f2
-      both =
-          lowers_as (λ p. or_else (where_in (source_fault j first u (source_at j u c)) sel p) (where_in (inputs_fault j first u cs) sel p)) (where_in (inputs_fault j first u (c ∷ cs)) sel) first pass f0 f2
-          (λ p lt. split p)
-          (both_lower (where_in (source_fault j first u (source_at j u c)) sel) (where_in (inputs_fault j first u cs) sel) first pass f0 f1 f2 h.lowers
-          (lowers_as (where_in (inputs_fault j first u cs) mid.places) (where_in (inputs_fault j first u cs) sel) first pass f1 f2 same_below k.lowers))
-
-      below : (x : ℕ) → (nat_lt x f1.limit && nat_lt x f2.limit) ≡ nat_lt x f2.limit
-      below x = go (nat_lt x f2.limit) refl
-        where
-          go : (b : Bool) → nat_lt x f2.limit ≡ b → (nat_lt x f1.limit && b) ≡ b
-          go true q = and_true (nat_lt x f1.limit) ∙ (let l = (Decides-ltb x f2.limit).0 q in let f = k.lowers.falls in (Decides-ltb x f1.limit).1 (omega (arith, l, f)))
-          go false q = none (nat_lt x f1.limit)
-            where
-              none : (b : Bool) → (b && false) ≡ false
-              none true = refl
-              none false = refl
-
-      left_both : to.places ≡ filter (λ p. nat_lt p f2.limit) sel
-      left_both =
-          k.left ∙ ap (filter (λ p. nat_lt p f2.limit)) h.left ∙ filter_twice (λ p. nat_lt p f1.limit) (λ p. nat_lt p f2.limit) sel
-          ∙ (λ i. filter (λ x. below x i) sel)
-
       pub inputs_served : IsServedTo j first count (inputs_fault j first u inputs) pass sel to lanes f0 f2
       inputs_served =
-          subst (λ (l : List ℕ). IsServedTo j first count (inputs_fault j first u l) pass sel to lanes f0 f2) (sym e)
-          (record { ready = k.ready; settled = k.settled; lowers = both; its_limit = k.its_limit; left = left_both })
+          served_then j first count (source_fault j first u (source_at j u c)) (inputs_fault j first u cs) pass sel mid to between lanes f0 f1 f2 h k (inputs_fault j first u inputs)
+          (λ p. sym (all_fault (version_in j (first + p) u) c cs) ∙ ap (λ l. inputs_fault j first u l p) (sym e))
 
       pub inputs_held : (start end : ℕ) → Spends j first count between lanes start end → EachPlace mid.places (λ p. IsAtHand j between u p (source_at j u c)) → EachPlace to.places (AreAtHand j lanes u cs) → EachPlace to.places (AreAtHand j lanes u inputs)
       inputs_held start end spends one rest p i =
-          let was = both_true (is_in p mid.places) (nat_lt p f2.limit) (sym (ap (is_in p) k.left ∙ in_filtered (λ q. nat_lt q f2.limit) p mid.places) ∙ i) in
+          let was = left_in j first count (source_fault j first u (source_at j u c)) (inputs_fault j first u cs) pass sel mid to between lanes f0 f1 f2 h k p i in
           subst (λ (l : List ℕ). AreAtHand j lanes u l p) (sym e)
           (still_at_hand j first count between lanes start end spends u p (source_at j u c) (one p was.0), rest p i)

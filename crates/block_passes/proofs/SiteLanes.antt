@@ -14,35 +14,25 @@ use Rattle.graph_numbers.specs.declared.source.Source.{Source}
 use Rattle.graph_numbers.specs.declared.source.Source.TheVariants as from
 use Rattle.actions.specs.Batches.{truth_of}
 use Rattle.actions.specs.declared.lane.Lane.{Lane}
-use Rattle.block_cache.specs.Lanes.{LaneView, is_held, kinds_of, value_of}
+use Rattle.block_cache.specs.Lanes.{LaneView, kinds_of, value_of}
 use Rattle.loop_keys.specs.Jobs.{JobView, job_graph}
-use Rattle.loop_keys.specs.Keys.{key, key_count, key_under, place_of}
-use Rattle.loop_keys.specs.Store.{IsRight, held_in, row_of, site_in}
-use Rattle.loop_keys.specs.declared.held.Held.{Held}
+use Rattle.loop_keys.specs.Keys.{key, key_under, place_of}
+use Rattle.loop_keys.specs.Store.{row_of, site_in}
 use Rattle.loop_keys.specs.declared.rows.Place.TheVariants as stands
 use Rattle.loop_keys.proofs.RowLaws.{key_small}
-use Rattle.block_cache.specs.Blocks.{AreReady, cells_at}
-use Rattle.block_cache.specs.Fills.{holds_at, lane_holds}
-use Rattle.block_cache.proofs.BlockLaws.{held_of_lane, lane_held, right_value}
+use Rattle.block_cache.specs.Blocks.{AreReady}
+use Rattle.block_cache.specs.Fills.{holds_at}
 use Rattle.block_cache.proofs.CanTries.{got_kind}
 use Rattle.block_cache.proofs.Knowns.{held_no_fault}
-use Rattle.block_cache.proofs.OverLaws.{held_true}
 use Rattle.block_passes.specs.Feeds.{HasHeld, IsLaneOf}
 use Rattle.block_passes.specs.Inputs.{IsAtHand, IsServable, IsWhole, source_fault}
+use Rattle.block_passes.proofs.ElementsHeld.{lane_gives as site_gives}
 
 -- a mark counts as true alike
 same_truth : (z : ℤ) → is_set z ≡ truth_of z
 same_truth (pos zero) = refl
 same_truth (pos (suc n)) = refl
 same_truth (negsuc n) = refl
-
--- what is held of a site is its value
-module _ (j : JobView) (first count : ℕ) (u : Option ℕ) (s : ℕ) (inside : s < length (graph_sites (job_graph j))) (lanes : List LaneView) (ready : AreReady j first count lanes) (l : LaneView) (at : slice_get lanes (key (job_graph j) s u) ≡ Some l) where
-  pub gives_value : (p : ℕ) → p < count → holds_at lanes (key (job_graph j) s u) p ≡ true → site_in {M = ⊥} j (first + p) u s ≡ Gives (value_of l p)
-  gives_value p low holds =
-      let held : is_held l p ≡ true = ap (λ o. lane_holds o p) (sym at) ∙ holds in
-      let cell : held_in (cells_at (key_count (job_graph j)) lanes p) (key (job_graph j) s u) ≡ lane_held (Some l) p = held_of_lane (key_count (job_graph j)) lanes p (key (job_graph j) s u) ∙ ap (λ o. lane_held o p) at in
-      right_value (site_in j (first + p) u s) (value_of l p) (subst (λ (h : Held). IsRight (site_in j (first + p) u s) h) (cell ∙ held_true l p held) ((ready.sound p low).each u s inside))
 
 -- a lane of numbers or truths has what is held of its key
 module _ (lanes : List LaneView) (k : ℕ) (r : LaneView) (its : slice_get lanes k ≡ Some r) (numbers : List ℤ) (are : numbers ≡ r.numbers) (long : r.count ≤ length numbers) where
@@ -105,7 +95,7 @@ module _ (j : JobView) (first count : ℕ) (u : Option ℕ) (kinds : List ColTyp
       let holds : holds_at lanes (key (job_graph j) site_is.0 u) p ≡ true = subst (IsAtHand j lanes u p) site_is.1 hand in
       record {
         there = has_p.0;
-        value = ap (source_value {M = ⊥} (row_of j (first + p)) (site_in j (first + p) u)) site_is.1 ∙ gives_value j first count u site_is.0 site_inside lanes ready l at p low holds ∙ ap Gives (sym has_p.1);
+        value = ap (source_value {M = ⊥} (row_of j (first + p)) (site_in j (first + p) u)) site_is.1 ∙ site_gives j first count u site_is.0 site_inside lanes ready p low l at holds ∙ ap Gives (sym has_p.1);
       }
 
   pub lanes_give : (lanes : List LaneView) → AreReady j first count lanes → (o : Option Lane) → ((l : LaneView) → slice_get lanes k ≡ Some l → IfSome o (HasHeld l))

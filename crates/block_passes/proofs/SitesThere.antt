@@ -24,11 +24,8 @@ not_empty [] s q = cc q
 not_empty (x ∷ xs) s q = cc q
 
 module _ (j : JobView) (job : IsJob j) (c : Chain) (up : List ℕ) (s : ℕ) (e : c.sites ≡ up ++ s ∷ []) where
-  in_list : (P : ℕ → Type 0) (path rest : List ℕ) → path ≡ c.sites ++ rest → AllByRecursion P path → P s
+  pub in_list : (P : ℕ → Type 0) (path rest : List ℕ) → path ≡ c.sites ++ rest → AllByRecursion P path → P s
   in_list P path rest h all = all_at P up rest s (subst (λ (p : List ℕ). AllByRecursion P p) (h ∙ ap (λ l. l ++ rest) e ∙ append_assoc up (s ∷ []) rest) all)
-
-  in_path : (path rest : List ℕ) → path ≡ c.sites ++ rest → AllByRecursion (λ t. t < length (graph_sites (job_graph j))) path → s < length (graph_sites (job_graph j))
-  in_path path rest h all = in_list (λ t. t < length (graph_sites (job_graph j))) path rest h all
 
   -- the last filter of a chain that is tried is a site of the graph
   pub site_there : IsTried j c → s < length (graph_sites (job_graph j))
@@ -37,8 +34,8 @@ module _ (j : JobView) (job : IsJob j) (c : Chain) (up : List ℕ) (s : ℕ) (e 
       let u = graph_under (job_graph j) p.numbered.variation in
       let sound = subst (λ (b : Booking). IsSoundBooking j.dataset u (history j.script) p.result b) p.action.booking
       (result_sound j.dataset u (history j.script) (history j.script) (accepted_of j job) itself p.numbered.result p.result p.action.its_result) in
-      in_path p.result.filters p.begins.rest p.begins.begins sound.filters
-  site_there (inr (inr f)) = in_path f.named.sites f.begins.rest f.begins.begins (filters_below j.dataset.columns (fn_names j.dataset.fns) (history j.script) f.filter f.named f.its_filter)
+      in_list (λ t. t < length (graph_sites (job_graph j))) p.result.filters p.begins.rest p.begins.begins sound.filters
+  site_there (inr (inr f)) = in_list (λ t. t < length (graph_sites (job_graph j))) f.named.sites f.begins.rest f.begins.begins (filters_below j.dataset.columns (fn_names j.dataset.fns) (history j.script) f.filter f.named f.its_filter)
 
   -- and of a loop without vectors it is one of the sites without vectors
   pub site_used : (loop : IsPlainLoop j) → IsTried j c → loop.used s ≡ true

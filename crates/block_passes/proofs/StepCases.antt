@@ -17,8 +17,8 @@ use Rattle.block_passes.specs.declared.found.Found.{Found}
 use Rattle.block_passes.specs.declared.kept.Kept.{Kept}
 use Rattle.block_passes.specs.declared.steps.Step.{Step}
 use Rattle.block_passes.proofs.Searching.{both_lower, lowers_as, none_lowers, or_else}
-use Rattle.block_passes.proofs.StepLaws.{same_step}
 use Rattle.block_passes.proofs.StepSelecting.{narrowed_made, own_fault, whole_made}
+use Rattle.loop_keys.proofs.PassNumbers.{some_same}
 
 -- ---- a selection that is written
 
@@ -50,15 +50,15 @@ module _ (j : JobView) (first count : ℕ) (chains : List Chain) (pass k : ℕ) 
       };
       within = ready.within;
     };
-    lowers = λ d q. none_lowers (λ p. fault_in (through_chain j (first + p) d)) first pass s (λ p lt. ap (λ (y : Chain). fault_in (through_chain j (first + p) y)) (same_step d c (sym q ∙ its)) ∙ made.clear p lt);
-    made = λ y q. (let e : x ≡ y = same_step x y (sym (set_at kept k x inside) ∙ ap (λ ks. slice_get ks k) (sym written) ∙ q) in ap (λ (z : Kept). z.limit) (sym e) ∙ limit);
+    lowers = λ d q. none_lowers (λ p. fault_in (through_chain j (first + p) d)) first pass s (λ p lt. ap (λ (y : Chain). fault_in (through_chain j (first + p) y)) (some_same d c (sym q ∙ its)) ∙ made.clear p lt);
+    made = λ y q. (let e : x ≡ y = some_same x y (sym (set_at kept k x inside) ∙ ap (λ ks. slice_get ks k) (sym written) ∙ q) in ap (λ (z : Kept). z.limit) (sym e) ∙ limit);
   }
     where
       one : (i m : ℕ) (d : Chain) (y : Kept) → slice_get chains i ≡ Some d → y.limit ≡ Some m → (slice_get kept i ≡ Some y) ⊎ ((i ≡ k) × (y ≡ x)) → IsMade j first d s.limit m y.places
       one i m d y q l (inl r) = ready.kept_are.each i m d y q r l
       one i m d y q l (inr r) =
-          let chain : c ≡ d = same_step c d (sym its ∙ ap (slice_get chains) (sym r.0) ∙ q) in
-          let same : s.limit ≡ m = same_step s.limit m (sym limit ∙ ap (λ (z : Kept). z.limit) (sym r.1) ∙ l) in
+          let chain : c ≡ d = some_same c d (sym its ∙ ap (slice_get chains) (sym r.0) ∙ q) in
+          let same : s.limit ≡ m = some_same s.limit m (sym limit ∙ ap (λ (z : Kept). z.limit) (sym r.1) ∙ l) in
           subst (λ (a : Chain). IsMade j first a s.limit m y.places) chain
           (subst (λ (n : ℕ). IsMade j first c s.limit n y.places) same (subst (λ (z : Kept). IsMade j first c s.limit s.limit z.places) (sym r.1) made))
 
@@ -81,7 +81,7 @@ pub filter_selected : (j : JobView) (first count : ℕ) (chains : List Chain) (p
 filter_selected j first count chains pass k parent site u step mid after between now a b c h n = record {
   ready = n.ready;
   lowers = λ d q.
-      subst (λ (x : Chain). Lowers (λ p. fault_in (through_chain j (first + p) x)) first pass a c) (same_step (longer step.up site u) d (sym step.own ∙ q))
+      subst (λ (x : Chain). Lowers (λ p. fault_in (through_chain j (first + p) x)) first pass a c) (some_same (longer step.up site u) d (sym step.own ∙ q))
       (lowers_as (λ p. or_else (fault_in (through_chain j (first + p) step.up)) (where_passed (through_chain j (first + p) step.up) (fault_in (truth_in j (first + p) u site)))) (λ p. fault_in (through_chain j (first + p) (longer step.up site u))) first pass a c
       (λ p lt. own_fault j first step.up site u step.alike p)
       (both_lower (λ p. fault_in (through_chain j (first + p) step.up)) (λ p. where_passed (through_chain j (first + p) step.up) (fault_in (truth_in j (first + p) u site))) first pass a b c (h.lowers step.up step.its_up) (n.lowers step.up step.its_up)));

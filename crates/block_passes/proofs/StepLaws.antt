@@ -1,12 +1,13 @@
 -- How steps are added.
 use Rattle.std.proofs.Common.{◌≡◌, ◌⊎◌, inl, inr, ℕ, zero, suc, ◌+◌, ◌<◌, ◌≤◌, List, [], ◌∷◌, ◌++◌, length, length-append, take, drop, Option, None, Some, refl, sym, ◌∙◌, ap, subst, arith, append_assoc}
 use Rattle.std.specs.Prelude.{slice_get}
-use Rattle.std.proofs.lemmas.List.{append-nil}
+use Rattle.std.proofs.lemmas.List.{append-nil, take_all}
 use Rattle.std.proofs.lemmas.Option.{slice_get_within}
 use Rattle.lemmas.proofs.Places.{before_or_last, kept_at, last_at}
 use Rattle.block_passes.specs.Steps.{AreSteps, Chain, IsBegin, IsFilterStep, IsLed, IsStep, IsStepped, longer}
 use Rattle.block_passes.specs.declared.steps.Step.{Step}
 use Rattle.block_passes.specs.declared.steps.Step.TheVariants as step
+use Rattle.loop_keys.proofs.PassNumbers.{some_same}
 
 -- ---- lists that grow
 
@@ -22,15 +23,12 @@ pub step_kept : (chains more : List Chain) (k : ℕ) (x : Step) → IsStep chain
 step_kept chains more k step.Block h = kept_at chains more k _ h
 step_kept chains more k (step.Filter parent site u) h = record { before = h.before; up = h.up; its_up = kept_at chains more parent h.up h.its_up; alike = h.alike; own = kept_at chains more k _ h.own }
 
-pub same_step : {A : Type 0} (x y : A) → ◌≡◌ {A = Option A} (Some x) (Some y) → x ≡ y
-same_step x y e = cc e
-
 module _ (chains : List Chain) (steps : List Step) (are : AreSteps chains steps) (parent site : ℕ) (u : Option ℕ) (up : Chain) (its : slice_get chains parent ≡ Some up) (alike : (up.sites ≡ []) ⊎ (up.under ≡ u)) where
   -- the step is there
   pub found : (now : List Step) (k : ℕ) → now ≡ steps → slice_get steps k ≡ Some (step.Filter parent site u) → IsStepped chains (longer up site u) now k
   found now k e h =
       let s = are.each k (step.Filter parent site u) h in
-      let same : s.up ≡ up = same_step s.up up (sym s.its_up ∙ its) in
+      let same : s.up ≡ up = some_same s.up up (sym s.its_up ∙ its) in
       let none : chains ++ [] ≡ chains = append-nil chains in
       record {
         more = [];
@@ -49,7 +47,7 @@ module _ (chains : List Chain) (steps : List Step) (are : AreSteps chains steps)
   }
     where
       only : (i : ℕ) (d : Chain) → slice_get (longer up site u ∷ []) i ≡ Some d → d ≡ longer up site u
-      only zero d q = same_step d (longer up site u) (sym q)
+      only zero d q = some_same d (longer up site u) (sym q)
       only (suc i) d q = cc q
 
       own : IsFilterStep (chains ++ longer up site u ∷ []) (length steps) parent site u
@@ -83,12 +81,6 @@ take_drop : (n : ℕ) (xs : List ℕ) → xs ≡ take n xs ++ drop n xs
 take_drop zero xs = refl
 take_drop (suc n) [] = refl
 take_drop (suc n) (x ∷ xs) = ap (λ l. x ∷ l) (take_drop n xs)
-
-take_whole : (n : ℕ) (xs : List ℕ) → length xs ≤ n → take n xs ≡ xs
-take_whole zero [] h = refl
-take_whole zero (x ∷ xs) h = absurd (omega (arith, h))
-take_whole (suc n) [] h = refl
-take_whole (suc n) (x ∷ xs) h = ap (λ l. x ∷ l) (take_whole n xs (omega (arith, h)))
 
 -- so many filters of the path have steps
 pub record IsOnPath (chains : List Chain) (path : List ℕ) (u : Option ℕ) (steps : List Step) (i k : ℕ) : Type 0 where
@@ -135,7 +127,7 @@ path_goes_on chains path u steps now i k next site at here h =
         subst (λ (c : Chain). IsBegin path u c) (sym e) (record { its_under = refl; rest = drop (i + 1) path; begins = take_drop (i + 1) path ∙ ap (λ l. l ++ drop (i + 1) path) (sym front) })
 
 pub path_ends : (chains : List Chain) (path : List ℕ) (u : Option ℕ) (steps : List Step) (i k : ℕ) → IsOnPath chains path u steps i k → length path ≤ i → IsLed chains path u steps k
-path_ends chains path u steps i k at h = record { more = at.more; are = at.are; last = at.last; its = at.its; sites = at.sites ∙ take_whole i path h; alike = at.alike; only = at.only }
+path_ends chains path u steps i k at h = record { more = at.more; are = at.are; last = at.last; its = at.its; sites = at.sites ∙ take_all i path h; alike = at.alike; only = at.only }
 
 -- the last step is there
 pub last_there : (chains : List Chain) (path : List ℕ) (u : Option ℕ) (steps : List Step) (i k : ℕ) → IsOnPath chains path u steps i k → k < length steps

@@ -23,7 +23,7 @@ use Rattle.block_passes.specs.declared.found.Found.{Found}
 use Rattle.block_passes.specs.declared.kept.Kept.{Kept}
 use Rattle.block_passes.proofs.Demanding.{step_demanded}
 use Rattle.block_passes.proofs.FaultsOver.{chosen_below, in_chosen}
-use Rattle.block_passes.proofs.Parts.{step_fault, step_true, truth_fault}
+use Rattle.block_passes.proofs.Parts.{step_fault, step_true, truth_fault, chain_through}
 use Rattle.block_passes.proofs.PlaceLists.{all_pass, filter_twice, narrowed}
 use Rattle.block_passes.proofs.Searching.{both_lower, lowers_as, or_else}
 use Rattle.block_passes.proofs.Spending.{spends_filled}
@@ -31,11 +31,7 @@ use Rattle.block_passes.proofs.Spending.{spends_filled}
 module _ (j : JobView) (first : ℕ) (up : Chain) (site : ℕ) (u : Option ℕ) (alike : (up.sites ≡ []) ⊎ (up.under ≡ u)) where
   -- the filters above come to the same under the step's own variation
   up_alike : (p : ℕ) → through_chain j (first + p) up ≡ through_sites (site_in j (first + p) u) up.sites
-  up_alike p = go alike
-    where
-      go : (up.sites ≡ []) ⊎ (up.under ≡ u) → through_chain j (first + p) up ≡ through_sites (site_in j (first + p) u) up.sites
-      go (inl e) = ap (through_sites (site_in {M = ⊥} j (first + p) up.under)) e ∙ sym (ap (through_sites (site_in {M = ⊥} j (first + p) u)) e)
-      go (inr e) = ap (λ (w : Option ℕ). through_sites (site_in {M = ⊥} j (first + p) w) up.sites) e
+  up_alike p = chain_through j up u alike (first + p)
 
   pub own_fault : (p : ℕ) → or_else (fault_in (through_chain j (first + p) up)) (where_passed (through_chain j (first + p) up) (fault_in (truth_in j (first + p) u site))) ≡ fault_in (through_chain j (first + p) (longer up site u))
   own_fault p =

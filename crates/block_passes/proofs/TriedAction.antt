@@ -1,5 +1,5 @@
 -- An action's pass, tried part by part.
-use Rattle.std.proofs.Common.{◌≡◌, ◌⊎◌, inl, inr, ℕ, ◌+◌, ◌<◌, ◌≤◌, ℤ, Bool, true, false, List, [], ◌∷◌, length, Option, None, Some, refl, sym, ◌∙◌, ap, subst, arith, slice_get, nat_lt, if◌then◌else◌}
+use Rattle.std.proofs.Common.{◌≡◌, ℕ, ◌+◌, ◌<◌, ◌≤◌, ℤ, Bool, true, false, List, [], ◌∷◌, length, Option, None, Some, refl, sym, ◌∙◌, ap, subst, arith, slice_get, nat_lt, if◌then◌else◌}
 use Rattle.std.specs.Prelude.{slice_set}
 use Rattle.std.specs.List.{filter, AllByRecursion}
 use Rattle.std.proofs.lemmas.Option.{slice_get_within}
@@ -36,12 +36,12 @@ use Rattle.block_passes.specs.declared.found.Found.{Found}
 use Rattle.block_passes.specs.declared.kept.Kept.{Kept}
 use Rattle.block_passes.proofs.Demanding.{pass_set}
 use Rattle.block_passes.proofs.FaultsOver.{chosen_below, in_chosen}
-use Rattle.block_passes.proofs.Parts.{action_fault, where_split}
+use Rattle.block_passes.proofs.Parts.{action_fault, where_split, last_through}
 use Rattle.block_passes.proofs.PlaceLists.{narrowed}
 use Rattle.block_passes.proofs.Searching.{both_lower, lowers_as, or_else}
 use Rattle.block_passes.proofs.StepCases.{written_selected}
-use Rattle.block_passes.proofs.StepLaws.{same_step}
 use Rattle.block_passes.proofs.StepSelecting.{kept_lower}
+use Rattle.loop_keys.proofs.PassNumbers.{some_same}
 
 if_passed : (o : Outcome ⊥ Bool) (X : Type 0) → is_true o ≡ true → IfPassed o X → X
 if_passed (Gives true) X h x = x
@@ -93,17 +93,13 @@ module _ (j : JobView) (job : IsJob j) (first count pass : ℕ) (plan : PlanView
 
   module _ (last : ℕ) (its : slice_get plan.passes pass ≡ Some last) where
     is_last : IsLast p.chains r.filters m.variation last
-    is_last = let w = p.passes pass m r k own.action in subst (λ (n : ℕ). IsLast p.chains r.filters m.variation n) (same_step w.0 last (sym w.1 ∙ its)) w.2
+    is_last = let w = p.passes pass m r k own.action in subst (λ (n : ℕ). IsLast p.chains r.filters m.variation n) (some_same w.0 last (sym w.1 ∙ its)) w.2
 
     pub last_there : last < length plan.steps
     last_there = let l = slice_get_within p.chains last is_last.chain is_last.its in let e = p.steps.many in omega (arith, l, e)
 
     through_is : (e : ℕ) → through_chain j e is_last.chain ≡ through_sites (site_in {M = ⊥} j e m.variation) r.filters
-    through_is e = go is_last.alike
-      where
-        go : (is_last.chain.sites ≡ []) ⊎ (is_last.chain.under ≡ m.variation) → through_chain j e is_last.chain ≡ through_sites (site_in {M = ⊥} j e m.variation) r.filters
-        go (inl q) = ap (through_sites (site_in {M = ⊥} j e is_last.chain.under)) q ∙ sym (ap (through_sites (site_in {M = ⊥} j e m.variation)) (sym is_last.sites ∙ q))
-        go (inr q) = (λ i. through_sites (site_in {M = ⊥} j e (q i)) (is_last.sites i))
+    through_is e = last_through j p.chains r.filters m.variation last is_last e
 
     abbrev passes_at : ℕ → Bool
     passes_at q = is_true (through_chain j (first + q) is_last.chain)
@@ -200,8 +196,8 @@ module _ (j : JobView) (job : IsJob j) (first count pass : ℕ) (plan : PlanView
         all_read m2 r2 k2 of2 q lt passed =
             let falls = t.lowers.falls in
             let below : q < f2.limit = omega (arith, lt, falls) in
-            let e1 : m ≡ m2 = same_step m m2 (sym own.action.its_pass ∙ of2.its_pass) in
-            let e2 : r ≡ r2 = same_step r r2 (sym own.action.its_result ∙ ap (λ (n : NumberedPass). slice_get (graph_results (job_graph j)) n.result) e1 ∙ of2.its_result) in
+            let e1 : m ≡ m2 = some_same m m2 (sym own.action.its_pass ∙ of2.its_pass) in
+            let e2 : r ≡ r2 = some_same r r2 (sym own.action.its_result ∙ ap (λ (n : NumberedPass). slice_get (graph_results (job_graph j)) n.result) e1 ∙ of2.its_result) in
             let passed_own : is_true (through_sites (site_in {M = ⊥} j (first + q) m.variation) r.filters) ≡ true = (λ i. is_true (through_sites (site_in {M = ⊥} j (first + q) (e1 i).variation) (e2 i).filters)) ∙ passed in
             let inside : is_in q to2.places ≡ true = ap (is_in q) is_second ∙ in_chosen passes_at q f2.limit below ∙ ap is_true (through_is (first + q)) ∙ passed_own in
             subst (λ (n : NumberedPass). AreAtHand j lanes2 n.variation r2.inputs q) e1

@@ -1,5 +1,5 @@
 -- Named filters, tried one after another.
-use Rattle.std.proofs.Common.{◌≡◌, ◌⊎◌, inl, inr, ℕ, ◌+◌, ◌<◌, ◌≤◌, true, false, List, [], ◌∷◌, length, Option, None, Some, refl, sym, ◌∙◌, ap, subst, arith, slice_get, nat_eq}
+use Rattle.std.proofs.Common.{◌≡◌, ℕ, ◌+◌, ◌<◌, ◌≤◌, true, false, List, ◌∷◌, length, Option, None, Some, refl, sym, ◌∙◌, ap, subst, arith, slice_get, nat_eq}
 use Rattle.std.specs.List.{list_any}
 use Rattle.std.proofs.lemmas.Bool.Decides.{Decides-eqb}
 use Rattle.std.proofs.lemmas.Option.{slice_get_within}
@@ -21,17 +21,17 @@ use Rattle.loop_keys.specs.Plans.{covered_in}
 use Rattle.loop_keys.specs.Turns.{IsReportPass, covers_of, is_covering, numbered_passes, pass_fault}
 use Rattle.loop_keys.proofs.ReportTies.{contained_at, filter_there, report_fault as its_fault}
 use Rattle.block_passes.specs.Parts.{where_passed}
-use Rattle.block_passes.specs.Plans.{IsActionOf, IsLast, IsNamed, IsPlan, IsPlannedFilter, PlanView, through_chain}
+use Rattle.block_passes.specs.Plans.{IsActionOf, IsNamed, IsPlan, IsPlannedFilter, PlanView, through_chain}
 use Rattle.block_passes.specs.Selections.{IsSelectedTo}
 use Rattle.block_passes.specs.Steps.{Chain}
 use Rattle.block_passes.specs.Tries.{IsPassTried, IsTriedTo, filter_fault, filters_fault}
 use Rattle.block_passes.specs.declared.found.Found.{Found}
 use Rattle.block_passes.specs.declared.kept.Kept.{Kept}
 use Rattle.block_passes.specs.declared.plan.NamedSteps.{NamedSteps}
-use Rattle.block_passes.proofs.Parts.{report_fault, step_fault}
+use Rattle.block_passes.proofs.Parts.{report_fault, step_fault, last_through}
 use Rattle.block_passes.proofs.PlanSteps.{covered_is}
 use Rattle.block_passes.proofs.Searching.{both_lower, lowers_as, or_else}
-use Rattle.block_passes.proofs.StepLaws.{same_step}
+use Rattle.loop_keys.proofs.PassNumbers.{some_same}
 
 or_else_same : (a b : Option EntryFault) → or_else a (or_else a b) ≡ or_else a b
 or_else_same None b = refl
@@ -64,15 +64,15 @@ module _ (j : JobView) (job : IsJob j) (f : ℕ) (covered : IsCovered j f) where
 
     pub never_none : slice_get plan.filters f ≡ Some None → ⊥
     never_none e =
-        let same : planned.0 ≡ None = same_step planned.0 None (sym planned.1 ∙ e) in
+        let same : planned.0 ≡ None = some_same planned.0 None (sym planned.1 ∙ e) in
         let no : slice_get (covered_in j) f ≡ Some false = subst (λ (o : Option NamedSteps). IsPlannedFilter j p.chains f there.0 o) same planned.2 in
-        let bad : true ≡ false = same_step true false (sym is_covered ∙ no) in
+        let bad : true ≡ false = some_same true false (sym is_covered ∙ no) in
         cc bad
 
     module _ (s : NamedSteps) (its : slice_get plan.filters f ≡ Some (Some s)) where
       named : IsNamed p.chains there.0 s
       named =
-          let same : planned.0 ≡ Some s = same_step planned.0 (Some s) (sym planned.1 ∙ its) in
+          let same : planned.0 ≡ Some s = some_same planned.0 (Some s) (sym planned.1 ∙ its) in
           let w = subst (λ (o : Option NamedSteps). IsPlannedFilter j p.chains f there.0 o) same planned.2 in w.1
 
       pub own_there : s.own < length plan.steps
@@ -81,18 +81,10 @@ module _ (j : JobView) (job : IsJob j) (f : ℕ) (covered : IsCovered j f) where
       pub above_there : s.above < length plan.steps
       above_there = let l = slice_get_within p.chains s.above named.above.chain named.above.its in let e = p.steps.many in omega (arith, l, e)
 
-      module _ (path : List ℕ) (k : ℕ) (last : IsLast p.chains path None k) (e : ℕ) where
-        through_last : through_chain j e last.chain ≡ through_sites (site_in {M = ⊥} j e None) path
-        through_last = go last.alike
-          where
-            go : (last.chain.sites ≡ []) ⊎ (last.chain.under ≡ None) → through_chain j e last.chain ≡ through_sites (site_in {M = ⊥} j e None) path
-            go (inl q) = ap (through_sites (site_in {M = ⊥} j e last.chain.under)) q ∙ sym (ap (through_sites (site_in {M = ⊥} j e None)) (sym last.sites ∙ q))
-            go (inr q) = (λ i. through_sites (site_in {M = ⊥} j e (q i)) (last.sites i))
-
       both_faults : (e : ℕ) → or_else (fault_in (through_chain j e named.above.chain)) (fault_in (through_chain j e named.own.chain)) ≡ fault_in (through_filter (site_in {M = ⊥} j e None) (slice_get (graph_filters (job_graph j)) f))
       both_faults e =
-          let own = through_last there.0.sites s.own named.own e ∙ ap (through_sites (site_in {M = ⊥} j e None)) named.sites in
-          (λ i. or_else (fault_in (through_last named.up s.above named.above e i)) (fault_in (own i)))
+          let own = last_through j p.chains there.0.sites None s.own named.own e ∙ ap (through_sites (site_in {M = ⊥} j e None)) named.sites in
+          (λ i. or_else (fault_in (last_through j p.chains named.up None s.above named.above e i)) (fault_in (own i)))
           ∙ ap (or_else (fault_in (through_sites (site_in {M = ⊥} j e None) named.up))) (step_fault (site_in j e None) named.up named.site)
           ∙ or_else_same (fault_in (through_sites (site_in {M = ⊥} j e None) named.up)) (where_passed (through_sites (site_in {M = ⊥} j e None) named.up) (fault_in (site_in {M = ⊥} j e None named.site)))
           ∙ sym (step_fault (site_in j e None) named.up named.site)
@@ -125,16 +117,16 @@ filters_tried j first count chains pass filters fs f e lanes after kept now a b 
 -- its pass is not an action's
 pub no_action : (j : JobView) (pass own : ℕ) (rep : IsReportPass j pass own) (m : NumberedPass) (r : ResultAt) (k : ActionKind) → IsActionOf j pass m r k → ⊥
 no_action j pass own rep m r k of =
-    let e1 : rep.numbered ≡ m = same_step rep.numbered m (sym rep.its_pass ∙ of.its_pass) in
-    let e2 : rep.result ≡ r = same_step rep.result r (sym rep.there_is ∙ ap (slice_get (graph_results (job_graph j))) (sym rep.its_result) ∙ ap (λ (n : NumberedPass). slice_get (graph_results (job_graph j)) n.result) e1 ∙ of.its_result) in
+    let e1 : rep.numbered ≡ m = some_same rep.numbered m (sym rep.its_pass ∙ of.its_pass) in
+    let e2 : rep.result ≡ r = some_same rep.result r (sym rep.there_is ∙ ap (slice_get (graph_results (job_graph j))) (sym rep.its_result) ∙ ap (λ (n : NumberedPass). slice_get (graph_results (job_graph j)) n.result) e1 ∙ of.its_result) in
     let bad : ReportOn rep.filters ≡ ActionAt k of.at = sym rep.report ∙ ap (λ (x : ResultAt). x.booked.booking) e2 ∙ of.booking in
     cc bad
 
 -- it is one report's
 pub same_report : (j : JobView) (pass own other : ℕ) (rep : IsReportPass j pass own) (rep2 : IsReportPass j pass other) → rep.result ≡ rep2.result
 same_report j pass own other rep rep2 =
-    let e1 : rep.numbered ≡ rep2.numbered = same_step rep.numbered rep2.numbered (sym rep.its_pass ∙ rep2.its_pass) in
-    same_step rep.result rep2.result
+    let e1 : rep.numbered ≡ rep2.numbered = some_same rep.numbered rep2.numbered (sym rep.its_pass ∙ rep2.its_pass) in
+    some_same rep.result rep2.result
     (sym rep.there_is ∙ ap (slice_get (graph_results (job_graph j))) (sym rep.its_result) ∙ ap (λ (n : NumberedPass). slice_get (graph_results (job_graph j)) n.result) e1 ∙ ap (slice_get (graph_results (job_graph j))) rep2.its_result ∙ rep2.there_is)
 
 -- its pass was tried

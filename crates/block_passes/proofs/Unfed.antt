@@ -1,5 +1,5 @@
 -- The first place at which an action can't be fed what it reads.
-use Rattle.std.proofs.Common.{◌≡◌, inl, inr, ℕ, ◌<◌, Bool, true, false, ◌||◌, List, [], ◌∷◌, length, Option, None, Some, refl, sym, ◌∙◌, ap, subst, arith, nat_eq, nat_lt}
+use Rattle.std.proofs.Common.{◌≡◌, inl, inr, ℕ, ◌<◌, ◌||◌, List, [], ◌∷◌, length, Option, None, Some, refl, sym, ◌∙◌, ap, subst, arith, nat_eq, nat_lt}
 use Rattle.std.specs.Prelude.{All}
 use Rattle.std.specs.List.{filter, range_with_len}
 use Rattle.std.proofs.lemmas.Bool.Decides.{Decides-eqb, Decides-ltb}
@@ -28,7 +28,9 @@ use Rattle.block_passes.specs.Selections.{IsNarrowed}
 use Rattle.block_passes.specs.Spends.{IsSettledAt}
 use Rattle.block_passes.specs.declared.found.Found.{Found}
 use Rattle.block_passes.specs.declared.kept.Kept.{Kept}
-use Rattle.block_passes.proofs.FaultsOver.{kept_whole, over_lowers}
+use Rattle.block_passes.proofs.FaultsOver.{over_lowers}
+use Rattle.lemmas.proofs.Booleans.{or_true}
+use Rattle.block_cache.proofs.LaneSteps.{filter_all}
 
 -- ---- places
 
@@ -41,10 +43,6 @@ all_places P [] h = All-nil P
 all_places P (p ∷ sel) h =
     All-cons P p sel (h p (ap (λ b. b || is_in p sel) ((Decides-eqb p p).1 refl)))
     (all_places P sel (λ q i. h q (ap (λ b. nat_eq q p || b) i ∙ or_true (nat_eq q p))))
-  where
-    or_true : (b : Bool) → (b || true) ≡ true
-    or_true true = refl
-    or_true false = refl
 
 -- ---- the first fault
 
@@ -58,10 +56,6 @@ unfed_over k s f (p ∷ sel) h =
     before_later p (feed_fault k (values_at s p)) (first_fault_in k s sel)
     ∙ ap (λ o. fault_before p o (of_batch (first_fault_in k s sel))) (h p (ap (λ b. b || is_in p sel) ((Decides-eqb p p).1 refl)))
     ∙ ap (fault_before p (f p)) (unfed_over k s f sel (λ q i. h q (ap (λ b. nat_eq q p || b) i ∙ or_true (nat_eq q p))))
-  where
-    or_true : (b : Bool) → (b || true) ≡ true
-    or_true true = refl
-    or_true false = refl
 
 -- ---- it lowers the limit
 
@@ -77,7 +71,7 @@ module _ (j : JobView) (first count : ℕ) (f : ℕ → Option EntryFault) (pass
       let falls = lowered.falls in
       let same : old.limit ≡ new.limit = omega (arith, le, falls) in (
         ap (λ (x : Kept). x.limit) n.1 ∙ made ∙ ap Some same,
-        ap (λ (x : Kept). x.places) n.1 ∙ sym (kept_whole (λ p. nat_lt p new.limit) to.places (λ p i. (Decides-ltb p new.limit).1 (let l = inside p i in omega (arith, l, same)))),
+        ap (λ (x : Kept). x.places) n.1 ∙ sym (filter_all (λ p. nat_lt p new.limit) to.places (λ p i. (Decides-ltb p new.limit).1 (let l = inside p i in omega (arith, l, same)))),
       )
   left_of made (inr n) = (n.1, n.2)
 

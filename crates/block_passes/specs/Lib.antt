@@ -6,6 +6,7 @@ pub mod Counting
 pub mod Demands
 pub mod Fed
 pub mod Feeds
+pub mod InTurn
 pub mod Inputs
 pub mod Laws
 pub mod Parts

@@ -4,8 +4,7 @@ use Rattle.rdf_values.specs.Bookings.{Pass}
 use Rattle.rdf_values.specs.declared.fault.EntryFault.{EntryFault}
 use Rattle.rdf_values.specs.declared.fault.Fault.{Fault}
 use Rattle.rdf_values.specs.declared.value.Value.{Value}
-use Rattle.rdf_model.specs.Results.{Dataset}
-use Rattle.rdf_model.specs.Results.{fault_at as fault_in_pass}
+use Rattle.rdf_model.specs.Results.{Dataset, fault_at as fault_in_pass}
 use Rattle.expr_lanes.specs.Places.{is_in}
 use Rattle.block_cache.specs.declared.faults.PlaceFault.{PlaceFault}
 use Rattle.block_passes.specs.declared.found.Found.{Found}

@@ -1,14 +1,9 @@
 // Trying an action's pass over a block.
-ghost use Rattle.std.specs.Prelude.{◌≡◌, ◌<◌, ℕ, OnOk, Some, length, slice_get, OnErr};
+ghost use Rattle.std.specs.Prelude.{◌≡◌, ◌<◌, ℕ, OnOk, Some, slice_get, OnErr};
 ghost use Rattle.std.specs.List.{AllByRecursion};
-ghost use Rattle.block_cache.specs.Lanes.{kinds_of};
-ghost use Rattle.loop_keys.specs.Caches.{IsPlainLoop};
-ghost use Rattle.loop_keys.specs.Jobs.{job_of};
-ghost use Rattle.block_passes.specs.Inputs.{CanServe};
-ghost use Rattle.block_passes.specs.Plans.{IsPlan};
-ghost use Rattle.block_passes.specs.Selections.{AreRemade, CanSelect, IsMadeAt, IsReadyBelow};
-ghost use Rattle.block_passes.specs.Tries.{IsPassTried, IsReadOf};
+ghost use Rattle.block_passes.specs.Selections.{AreRemade, IsMadeAt};
 ghost use Rattle.block_passes.specs.Turns.{IsTurn, Leaves};
+ghost use Rattle.block_passes.specs.InTurn.{CanSelectInTurn, CanServeInTurn, IsPassTriedInTurn, IsPlainTurn, IsPlanOfTurn, IsReadInTurn, IsReadyInTurn};
 
 use crate::inputs::serve_inputs;
 use crate::kept::Kept;
@@ -28,16 +23,16 @@ pub(crate) fn try_action<L: Ledger>(
     steps: &mut Steps<L>,
 ) -> Result<(), Memory>
     requires turn { IsTurn at.now }
-    requires can { CanSelect (job_of at.now.job.now) at.now.first at.now.count at.now.plan.now (kinds_of work.old.lanes.items) at.now.cells.now (length work.old.scratch.items) (length work.old.levels.items) }
-    requires serve { AllByRecursion (CanServe (job_of at.now.job.now) at.now.first own.now.under at.now.count (kinds_of work.old.lanes.items) at.now.cells.now (length work.old.scratch.items) (length work.old.levels.items)) own.now.inputs.now }
-    requires action { IsReadOf (job_of at.now.job.now) at.now.pass own.now.kind.now own.now.inputs.now own.now.under }
-    requires ready { (p : IsPlan (job_of at.now.job.now) at.now.plan.now) → IsReadyBelow (job_of at.now.job.now) at.now.first at.now.count p.chains work.old.found.limit work.old.lanes.items kept.old }
+    requires can { CanSelectInTurn at.now work.old }
+    requires serve { AllByRecursion (CanServeInTurn at.now own.now.under work.old) own.now.inputs.now }
+    requires action { IsReadInTurn at.now own.now }
+    requires ready { (p : IsPlanOfTurn at.now) → IsReadyInTurn at.now p.chains work.old.found.limit work.old.lanes.items kept.old }
     ensures leaves { Leaves at.now work.old work.new steps.old steps.new }
-    ensures tried { (p : IsPlan (job_of at.now.job.now) at.now.plan.now)
-        → OnOk result (IsPassTried (job_of at.now.job.now) at.now.first at.now.count p.chains at.now.pass work.new.lanes.items kept.new work.old.found work.new.found) }
+    ensures tried { (p : IsPlanOfTurn at.now)
+        → OnOk result (IsPassTriedInTurn at.now p.chains work.new.lanes.items kept.new work.old.found work.new.found) }
     ensures remade { OnOk result (AreRemade at.now.count kept.old kept.new) }
     ensures made { OnOk result ((last : ℕ) → slice_get at.now.plan.now.passes at.now.pass ≡ Some last → IsMadeAt at.now.count kept.new last) }
-    ensures plain { IsPlainLoop (job_of at.now.job.now) → OnErr result ⊥ }
+    ensures plain { IsPlainTurn at.now → OnErr result ⊥ }
 {
     let last = at.plan.last_step(at.pass);
     match select_again(at, work, kept, last, steps) {

@@ -1,7 +1,6 @@
 // What is copied of the versions that an action reads, where it can't read them in place.
 ghost use Rattle.std.specs.Prelude.{◌≡◌, ◌<◌, ◌+◌, ℕ, Bool, ℤ, List, IfOk, OnErr, OnOk, Some, length, slice_get, slice_index_or, slice_set, true};
 ghost use Rattle.std.specs.List.{AllByRecursion};
-ghost use Rattle.rdf_values.specs.declared.value.ColType.{ColType as KindOf};
 ghost use Rattle.rdf_values.specs.declared.value.ColType.TheVariants as kind;
 ghost use Rattle.rdf_values.specs.declared.value.Value.TheVariants as val;
 ghost use Rattle.rdf_model.specs.Evaluation.{Gives};
@@ -11,14 +10,15 @@ ghost use Rattle.graph_numbers.specs.Sources.{source_value};
 ghost use Rattle.expr_lanes.specs.Places.{EachPlace};
 ghost use Rattle.block_cache.specs.Lanes.{kinds_of};
 ghost use Rattle.loop_keys.specs.Plain.{ArePlain};
-ghost use Rattle.loop_keys.specs.Jobs.{job_graph, job_of};
+ghost use Rattle.loop_keys.specs.Jobs.{job_graph};
 ghost use Rattle.loop_keys.specs.Keys.{key as key_of};
-ghost use Rattle.loop_keys.specs.Store.{row_of, site_in, source_at};
+ghost use Rattle.loop_keys.specs.Store.{row_of, site_in};
 ghost use Rattle.graph_numbers.specs.declared.source.Source.TheVariants as source;
-ghost use Rattle.block_cache.specs.Fills.{AreSiteKinds, holds_at};
-ghost use Rattle.block_passes.specs.Copying.{AreCopied, GivesNumber, GivesVector, HasVector, IsCopyOf};
-ghost use Rattle.block_passes.specs.Inputs.{AreAtHand, ArePlainSources, AreWhole, CanServe, IsAtHand, IsPlainSource, IsWhole};
+ghost use Rattle.block_cache.specs.Fills.{holds_at};
+ghost use Rattle.block_passes.specs.Copying.{GivesNumber, GivesVector, HasVector};
+ghost use Rattle.block_passes.specs.Inputs.{IsAtHand, IsPlainSource, IsWhole};
 ghost use Rattle.block_passes.specs.Turns.{IsOver, IsTurn};
+ghost use Rattle.block_passes.specs.InTurn.{AreCopiedInTurn, AreHeldInTurn, ArePlainInTurn, AreWholeInTurn, CanServeWith, IsCopyInTurn, source_in_turn, turn_job};
 
 use crate::elements::{SiteElement, element_at};
 use crate::inputs::source_under;
@@ -27,7 +27,7 @@ use block_cache::Lane;
 use expr_eval::Input;
 use expr_lanes::Selection;
 use graph_numbers::Source;
-use loop_keys::reading::{Reading, expression, key};
+use loop_keys::reading::{Reading, key};
 use loop_keys::rows::row_at;
 use rdf_values::{ColType, Memory, Span};
 use std::alloc::Global;
@@ -97,11 +97,11 @@ fn site_vector<'s>(
     place: u32,
 ) -> &'s [i64]
     requires over { IsOver at.now lanes.now }
-    requires site { site < length (graph_sites (job_graph (job_of at.now.job.now))) }
-    requires vectors { slice_get (kinds_of lanes.now) (key_of (job_graph (job_of at.now.job.now)) site under) ≡ Some kind.Vect }
+    requires site { site < length (graph_sites (job_graph (turn_job at.now))) }
+    requires vectors { slice_get (kinds_of lanes.now) (key_of (job_graph (turn_job at.now)) site under) ≡ Some kind.Vect }
     requires inside { place < at.now.count }
-    requires held { holds_at lanes.now (key_of (job_graph (job_of at.now.job.now)) site under) place ≡ true }
-    ensures { site_in {M = ⊥} (job_of at.now.job.now) (at.now.first + place) under site ≡ Gives (val.Vect result.now) }
+    requires held { holds_at lanes.now (key_of (job_graph (turn_job at.now)) site under) place ≡ true }
+    ensures { site_in {M = ⊥} (turn_job at.now) (at.now.first + place) under site ≡ Gives (val.Vect result.now) }
 {
     let reading = Reading {
         job: at.job,
@@ -124,11 +124,11 @@ fn copy_vectors(
     under: Option<u32>,
 ) -> Result<CopiedVectors, Memory>
     requires over { IsOver at.now lanes.now }
-    requires site { site < length (graph_sites (job_graph (job_of at.now.job.now))) }
-    requires vectors { slice_get (kinds_of lanes.now) (key_of (job_graph (job_of at.now.job.now)) site under) ≡ Some kind.Vect }
+    requires site { site < length (graph_sites (job_graph (turn_job at.now))) }
+    requires vectors { slice_get (kinds_of lanes.now) (key_of (job_graph (turn_job at.now)) site under) ≡ Some kind.Vect }
     requires inside { EachPlace selection.now (λ p. p < at.now.count) }
-    requires held { EachPlace selection.now (λ p. holds_at lanes.now (key_of (job_graph (job_of at.now.job.now)) site under) p ≡ true) }
-    ensures { IfOk result (λ v. EachPlace selection.now (λ p. GivesVector v.elements.items v.spans.items p (site_in {M = ⊥} (job_of at.now.job.now) (at.now.first + p) under site))) }
+    requires held { EachPlace selection.now (λ p. holds_at lanes.now (key_of (job_graph (turn_job at.now)) site under) p ≡ true) }
+    ensures { IfOk result (λ v. EachPlace selection.now (λ p. GivesVector v.elements.items v.spans.items p (site_in {M = ⊥} (turn_job at.now) (at.now.first + p) under site))) }
 {
     let mut vectors = CopiedVectors::new(at.plan.alloc(), at.count)?;
     let places = selection.as_slice();
@@ -142,10 +142,10 @@ fn copy_vectors(
 /// The element of a site's vector at a place where it is at hand.
 fn given_at(at: &Turn<'_>, lanes: &[Lane], of: &SiteElement, place: u32) -> i64
     requires over { IsOver at.now lanes.now }
-    requires site { of.now.site < length (graph_sites (job_graph (job_of at.now.job.now))) }
+    requires site { of.now.site < length (graph_sites (job_graph (turn_job at.now))) }
     requires inside { place < at.now.count }
-    requires hand { IsAtHand (job_of at.now.job.now) lanes.now of.now.under place (source.Element of.now.site of.now.nth of.now.tags) }
-    ensures { source_value {M = ⊥} (row_of (job_of at.now.job.now) (at.now.first + place)) (site_in (job_of at.now.job.now) (at.now.first + place) of.now.under) (source.Element of.now.site of.now.nth of.now.tags) ≡ Gives (val.Int result) }
+    requires hand { IsAtHand (turn_job at.now) lanes.now of.now.under place (source.Element of.now.site of.now.nth of.now.tags) }
+    ensures { source_value {M = ⊥} (row_of (turn_job at.now) (at.now.first + place)) (site_in (turn_job at.now) (at.now.first + place) of.now.under) (source.Element of.now.site of.now.nth of.now.tags) ≡ Gives (val.Int result) }
 {
     match element_at(at, lanes, of, place) {
         Ok(number) => number,
@@ -169,10 +169,10 @@ fn copy_elements(
     of: &SiteElement,
 ) -> Result<Vec<i64>, Memory>
     requires over { IsOver at.now lanes.now }
-    requires site { of.now.site < length (graph_sites (job_graph (job_of at.now.job.now))) }
+    requires site { of.now.site < length (graph_sites (job_graph (turn_job at.now))) }
     requires inside { EachPlace selection.now (λ p. p < at.now.count) }
-    requires hand { EachPlace selection.now (λ p. IsAtHand (job_of at.now.job.now) lanes.now of.now.under p (source.Element of.now.site of.now.nth of.now.tags)) }
-    ensures { IfOk result (λ v. EachPlace selection.now (λ p. GivesNumber v.items p (source_value {M = ⊥} (row_of (job_of at.now.job.now) (at.now.first + p)) (site_in (job_of at.now.job.now) (at.now.first + p) of.now.under) (source.Element of.now.site of.now.nth of.now.tags)))) }
+    requires hand { EachPlace selection.now (λ p. IsAtHand (turn_job at.now) lanes.now of.now.under p (source.Element of.now.site of.now.nth of.now.tags)) }
+    ensures { IfOk result (λ v. EachPlace selection.now (λ p. GivesNumber v.items p (source_value {M = ⊥} (row_of (turn_job at.now) (at.now.first + p)) (site_in (turn_job at.now) (at.now.first + p) of.now.under) (source.Element of.now.site of.now.nth of.now.tags)))) }
 {
     let mut numbers = vec![in at.plan.alloc(); 0; at.count as usize]?;
     let places = selection.as_slice();
@@ -184,20 +184,13 @@ fn copy_elements(
 }
 
 /// Of which kind a site's values are.
-fn site_kind(at: &Turn<'_>, site: u32, under: Option<u32>) -> ColType
+fn site_kind(at: &Turn<'_>, site: u32) -> ColType
     requires turn { IsTurn at.now }
-    requires site { site < length (graph_sites (job_graph (job_of at.now.job.now))) }
-    ensures expr { (e : CheckedExpr) × IsSiteExpr (job_graph (job_of at.now.job.now)) site e × (result ≡ e.kind) }
-    ensures its { (kinds : List KindOf) → AreSiteKinds (job_graph (job_of at.now.job.now)) kinds → (k : KindOf) → slice_get kinds (key_of (job_graph (job_of at.now.job.now)) site under) ≡ Some k → result ≡ k }
-    ensures plain { (used : ℕ → Bool) → ArePlain (job_of at.now.job.now) used → used site ≡ true → result ≡ kind.Vect → ⊥ }
+    requires site { site < length (graph_sites (job_graph (turn_job at.now))) }
+    ensures expr { (e : CheckedExpr) × IsSiteExpr (job_graph (turn_job at.now)) site e × (result ≡ e.kind) }
+    ensures plain { (used : ℕ → Bool) → ArePlain (turn_job at.now) used → used site ≡ true → result ≡ kind.Vect → ⊥ }
 {
-    let reading = Reading {
-        job: at.job,
-        row: row_at(at.rows, at.job.graph, under),
-        entry: at.first,
-        under,
-    };
-    expression(&reading, site).kind()
+    at.job.graph.site(site).kind()
 }
 
 /// Copies the elements of a site's vector likewise, where its values are vectors.
@@ -208,14 +201,14 @@ fn copy_tagged(
     of: &SiteElement,
 ) -> Result<Vec<i64>, Memory>
     requires over { IsOver at.now lanes.now }
-    requires site { of.now.site < length (graph_sites (job_graph (job_of at.now.job.now))) }
-    requires vectors { (e : CheckedExpr) → IsSiteExpr (job_graph (job_of at.now.job.now)) of.now.site e → e.kind ≡ kind.Vect }
+    requires site { of.now.site < length (graph_sites (job_graph (turn_job at.now))) }
+    requires vectors { (e : CheckedExpr) → IsSiteExpr (job_graph (turn_job at.now)) of.now.site e → e.kind ≡ kind.Vect }
     requires inside { EachPlace selection.now (λ p. p < at.now.count) }
-    requires hand { EachPlace selection.now (λ p. IsAtHand (job_of at.now.job.now) lanes.now of.now.under p (source.Element of.now.site of.now.nth of.now.tags)) }
-    ensures copied { IfOk result (λ v. EachPlace selection.now (λ p. GivesNumber v.items p (source_value {M = ⊥} (row_of (job_of at.now.job.now) (at.now.first + p)) (site_in (job_of at.now.job.now) (at.now.first + p) of.now.under) (source.Element of.now.site of.now.nth of.now.tags)))) }
-    ensures plain { (used : ℕ → Bool) → ArePlain (job_of at.now.job.now) used → used of.now.site ≡ true → OnErr result ⊥ }
+    requires hand { EachPlace selection.now (λ p. IsAtHand (turn_job at.now) lanes.now of.now.under p (source.Element of.now.site of.now.nth of.now.tags)) }
+    ensures copied { IfOk result (λ v. EachPlace selection.now (λ p. GivesNumber v.items p (source_value {M = ⊥} (row_of (turn_job at.now) (at.now.first + p)) (site_in (turn_job at.now) (at.now.first + p) of.now.under) (source.Element of.now.site of.now.nth of.now.tags)))) }
+    ensures plain { (used : ℕ → Bool) → ArePlain (turn_job at.now) used → used of.now.site ≡ true → OnErr result ⊥ }
 {
-    match site_kind(at, of.site, of.under) {
+    match site_kind(at, of.site) {
         ColType::Vect => copy_elements(at, lanes, selection, of),
         ColType::Int | ColType::Bool => unreachable!(),
     }
@@ -230,16 +223,16 @@ fn copy_version(
     under: Option<u32>,
 ) -> Result<Copied, Memory>
     requires over { IsOver at.now lanes.now }
-    requires can { (scratch levels : ℕ) × CanServe (job_of at.now.job.now) at.now.first under at.now.count (kinds_of lanes.now) at.now.cells.now scratch levels version }
+    requires can { (scratch levels : ℕ) × CanServeWith at.now under lanes.now scratch levels version }
     requires inside { EachPlace selection.now (λ p. p < at.now.count) }
-    requires hand { EachPlace selection.now (λ p. IsAtHand (job_of at.now.job.now) lanes.now under p (source_at (job_of at.now.job.now) under version)) }
-    ensures copied { IfOk result (IsCopyOf (job_of at.now.job.now) at.now.first under (kinds_of lanes.now) selection.now version) }
-    ensures whole { IsWhole (job_of at.now.job.now) under (kinds_of lanes.now) (source_at (job_of at.now.job.now) under version) → OnErr result ⊥ }
-    ensures plain { (used : ℕ → Bool) → ArePlain (job_of at.now.job.now) used → IsPlainSource (job_of at.now.job.now) used (source_at (job_of at.now.job.now) under version) → OnErr result ⊥ }
+    requires hand { EachPlace selection.now (λ p. IsAtHand (turn_job at.now) lanes.now under p (source_in_turn at.now under version)) }
+    ensures copied { IfOk result (IsCopyInTurn at.now under lanes.now selection.now version) }
+    ensures whole { IsWhole (turn_job at.now) under (kinds_of lanes.now) (source_in_turn at.now under version) → OnErr result ⊥ }
+    ensures plain { (used : ℕ → Bool) → ArePlain (turn_job at.now) used → IsPlainSource (turn_job at.now) used (source_in_turn at.now under version) → OnErr result ⊥ }
 {
     match source_under(at, version, under) {
         Source::Cell { .. } => Ok(Copied::Whole),
-        Source::Site { site } => match site_kind(at, site, under) {
+        Source::Site { site } => match site_kind(at, site) {
             ColType::Int | ColType::Bool => Ok(Copied::Whole),
             ColType::Vect => Ok(Copied::Vectors(copy_vectors(at, lanes, selection, site, under)?)),
         },
@@ -264,12 +257,12 @@ fn copy_input(
     nth: usize,
 ) -> Result<Copied, Memory>
     requires over { IsOver at.now lanes.now }
-    requires can { (scratch levels : ℕ) × AllByRecursion (CanServe (job_of at.now.job.now) at.now.first own.now.under at.now.count (kinds_of lanes.now) at.now.cells.now scratch levels) own.now.inputs.now }
+    requires can { (scratch levels : ℕ) × AllByRecursion (CanServeWith at.now own.now.under lanes.now scratch levels) own.now.inputs.now }
     requires inside { EachPlace selection.now (λ p. p < at.now.count) }
-    requires hand { EachPlace selection.now (AreAtHand (job_of at.now.job.now) lanes.now own.now.under own.now.inputs.now) }
-    ensures copied { nth < length own.now.inputs.now → IfOk result (IsCopyOf (job_of at.now.job.now) at.now.first own.now.under (kinds_of lanes.now) selection.now (slice_index_or own.now.inputs.now nth 0)) }
-    ensures whole { AreWhole (job_of at.now.job.now) own.now.under (kinds_of lanes.now) own.now.inputs.now → OnErr result ⊥ }
-    ensures plain { (used : ℕ → Bool) → ArePlain (job_of at.now.job.now) used → ArePlainSources (job_of at.now.job.now) used own.now.under own.now.inputs.now → OnErr result ⊥ }
+    requires hand { EachPlace selection.now (AreHeldInTurn at.now own.now lanes.now) }
+    ensures copied { nth < length own.now.inputs.now → IfOk result (IsCopyInTurn at.now own.now.under lanes.now selection.now (slice_index_or own.now.inputs.now nth 0)) }
+    ensures whole { AreWholeInTurn at.now own.now lanes.now → OnErr result ⊥ }
+    ensures plain { (used : ℕ → Bool) → ArePlain (turn_job at.now) used → ArePlainInTurn at.now own.now used → OnErr result ⊥ }
 {
     match own.inputs.get(nth) {
         Some(version) => copy_version(at, lanes, selection, *version, own.under),
@@ -285,12 +278,12 @@ pub(crate) fn copy_inputs(
     own: &ActionRead<'_>,
 ) -> Result<Copies, Memory>
     requires over { IsOver at.now lanes.now }
-    requires can { (scratch levels : ℕ) × AllByRecursion (CanServe (job_of at.now.job.now) at.now.first own.now.under at.now.count (kinds_of lanes.now) at.now.cells.now scratch levels) own.now.inputs.now }
+    requires can { (scratch levels : ℕ) × AllByRecursion (CanServeWith at.now own.now.under lanes.now scratch levels) own.now.inputs.now }
     requires inside { EachPlace selection.now (λ p. p < at.now.count) }
-    requires hand { EachPlace selection.now (AreAtHand (job_of at.now.job.now) lanes.now own.now.under own.now.inputs.now) }
-    ensures copied { IfOk result (AreCopied (job_of at.now.job.now) at.now.first own.now.under (kinds_of lanes.now) selection.now own.now.inputs.now) }
-    ensures whole { AreWhole (job_of at.now.job.now) own.now.under (kinds_of lanes.now) own.now.inputs.now → OnErr result ⊥ }
-    ensures plain { (used : ℕ → Bool) → ArePlain (job_of at.now.job.now) used → ArePlainSources (job_of at.now.job.now) used own.now.under own.now.inputs.now → OnErr result ⊥ }
+    requires hand { EachPlace selection.now (AreHeldInTurn at.now own.now lanes.now) }
+    ensures copied { IfOk result (AreCopiedInTurn at.now own.now lanes.now selection.now) }
+    ensures whole { AreWholeInTurn at.now own.now lanes.now → OnErr result ⊥ }
+    ensures plain { (used : ℕ → Bool) → ArePlain (turn_job at.now) used → ArePlainInTurn at.now own.now used → OnErr result ⊥ }
 {
     let first = copy_input(at, lanes, selection, own, 0)?;
     let second = copy_input(at, lanes, selection, own, 1)?;

@@ -6,13 +6,13 @@ ghost use Rattle.graph_numbers.specs.Graphs.{graph_sites};
 ghost use Rattle.graph_numbers.specs.Sources.{source_value};
 ghost use Rattle.graph_numbers.specs.declared.source.Source.TheVariants as source;
 ghost use Rattle.expr_lanes.specs.Places.{EachPlace};
-ghost use Rattle.loop_keys.specs.Jobs.{job_graph, job_of};
+ghost use Rattle.loop_keys.specs.Jobs.{job_graph};
 ghost use Rattle.loop_keys.specs.Keys.{key as key_of};
 ghost use Rattle.loop_keys.specs.Store.{row_of, site_in};
 ghost use Rattle.block_cache.specs.Fills.{fault_over, holds_at};
 ghost use Rattle.block_passes.specs.Copying.{IsNumberOf};
-ghost use Rattle.block_passes.specs.Inputs.{IsServedTo, element_fault};
 ghost use Rattle.block_passes.specs.Turns.{IsKnown, IsOver, IsSelected, KeepsRoom};
+ghost use Rattle.block_passes.specs.InTurn.{IsServedInTurn, element_fault_in_turn, turn_job};
 
 use crate::kept::Kept;
 use crate::turn::{Turn, Work};
@@ -54,10 +54,10 @@ pub(crate) fn element_at(
     place: u32,
 ) -> Result<i64, EntryFault>
     requires over { IsOver at.now lanes.now }
-    requires site { of.now.site < length (graph_sites (job_graph (job_of at.now.job.now))) }
+    requires site { of.now.site < length (graph_sites (job_graph (turn_job at.now))) }
     requires inside { place < at.now.count }
-    requires held { holds_at lanes.now (key_of (job_graph (job_of at.now.job.now)) of.now.site of.now.under) place ≡ true }
-    ensures { IsNumberOf (source_value {M = ⊥} (row_of (job_of at.now.job.now) (at.now.first + place)) (site_in (job_of at.now.job.now) (at.now.first + place) of.now.under) (source.Element of.now.site of.now.nth of.now.tags)) result }
+    requires held { holds_at lanes.now (key_of (job_graph (turn_job at.now)) of.now.site of.now.under) place ≡ true }
+    ensures { IsNumberOf (source_value {M = ⊥} (row_of (turn_job at.now) (at.now.first + place)) (site_in (turn_job at.now) (at.now.first + place) of.now.under) (source.Element of.now.site of.now.nth of.now.tags)) result }
 {
     let reading = Reading {
         job: at.job,
@@ -80,10 +80,10 @@ fn first_without(
     of: &SiteElement,
 ) -> Option<PlaceFault>
     requires over { IsOver at.now lanes.now }
-    requires site { of.now.site < length (graph_sites (job_graph (job_of at.now.job.now))) }
+    requires site { of.now.site < length (graph_sites (job_graph (turn_job at.now))) }
     requires inside { EachPlace selection.now (λ p. p < at.now.count) }
-    requires held { EachPlace selection.now (λ p. holds_at lanes.now (key_of (job_graph (job_of at.now.job.now)) of.now.site of.now.under) p ≡ true) }
-    ensures { result ≡ fault_over (element_fault (job_of at.now.job.now) at.now.first of.now.under of.now.site of.now.nth of.now.tags) selection.now }
+    requires held { EachPlace selection.now (λ p. holds_at lanes.now (key_of (job_graph (turn_job at.now)) of.now.site of.now.under) p ≡ true) }
+    ensures { result ≡ fault_over (element_fault_in_turn at.now of.now) selection.now }
 {
     let places = selection.as_slice();
     for i in 0..places.len() {
@@ -99,11 +99,11 @@ fn first_without(
 /// Tests whether there is an element for each tag at the selected places, where the site's value is held: the first at which there isn't
 /// lowers the limit, below which the places are left.
 pub(crate) fn test_elements(at: &Turn<'_>, work: &mut Work, to: &mut Kept, of: &SiteElement)
-    requires site { of.now.site < length (graph_sites (job_graph (job_of at.now.job.now))) }
+    requires site { of.now.site < length (graph_sites (job_graph (turn_job at.now))) }
     requires known { IsKnown at.now work.old }
     requires selected { IsSelected work.old.found.limit to.old }
-    requires held { EachPlace to.old.places (λ p. holds_at work.old.lanes.items (key_of (job_graph (job_of at.now.job.now)) of.now.site of.now.under) p ≡ true) }
-    ensures tested { IsServedTo (job_of at.now.job.now) at.now.first at.now.count (element_fault (job_of at.now.job.now) at.now.first of.now.under of.now.site of.now.nth of.now.tags) at.now.pass to.old.places to.new work.old.lanes.items work.old.found work.new.found }
+    requires held { EachPlace to.old.places (λ p. holds_at work.old.lanes.items (key_of (job_graph (turn_job at.now)) of.now.site of.now.under) p ≡ true) }
+    ensures tested { IsServedInTurn at.now (element_fault_in_turn at.now of.now) to.old.places to.new work.old.lanes.items work.old.found work.new.found }
     ensures lanes { work.new.lanes.items ≡ work.old.lanes.items }
     ensures room { KeepsRoom work.old work.new }
 {

@@ -6,20 +6,16 @@ ghost use Rattle.expr_lanes.specs.Places.{EachPlace};
 ghost use Rattle.block_cache.specs.Lanes.{kinds_of};
 ghost use Rattle.cluster_tally.specs.Blocks.{BlockStage, HoldsIn, pass_done};
 ghost use Rattle.actions.specs.Holding.{IsTake};
-ghost use Rattle.loop_keys.specs.Caches.{IsPlainLoop, numbered_in};
+ghost use Rattle.loop_keys.specs.Caches.{numbered_in};
 ghost use Rattle.loop_keys.specs.Plain.{ArePlain};
-ghost use Rattle.loop_keys.specs.Jobs.{job_of, passes_in};
+ghost use Rattle.loop_keys.specs.Jobs.{passes_in};
 ghost use Rattle.loop_keys.specs.Entries.{IsNoTake, facts_in};
 ghost use Rattle.loop_keys.specs.Turns.{actions_before};
-ghost use Rattle.block_passes.specs.Clear.{IsClear};
-ghost use Rattle.block_passes.specs.Counting.{IsAmid, at_pass};
-ghost use Rattle.block_passes.specs.Fed.{CanFeedAny, IsFeedable};
-ghost use Rattle.block_passes.specs.Feeds.{CanGather};
-ghost use Rattle.block_passes.specs.Plans.{IsPlan};
+ghost use Rattle.block_passes.specs.Counting.{at_pass};
 ghost use Rattle.block_passes.specs.Selections.{AreKept};
-ghost use Rattle.block_passes.specs.Inputs.{AreAtHand, ArePlainSources, AreWhole};
-ghost use Rattle.block_passes.specs.Tries.{AreAllWhole, CanServeAll, IsReadOf};
+ghost use Rattle.block_passes.specs.Tries.{AreAllWhole};
 ghost use Rattle.block_passes.specs.Turns.{IsOver, IsTurn};
+ghost use Rattle.block_passes.specs.InTurn.{AreHeldInTurn, ArePlainInTurn, AreWholeInTurn, CanFeedInTurn, CanGatherInTurn, CanServeAllWith, IsAmidTurn, IsClearInTurn, IsFeedableInTurn, IsPlainTurn, IsPlanOfTurn, IsReadInTurn, turn_job};
 
 use crate::copies::copy_inputs;
 use crate::in_place::lanes_in_place;
@@ -54,14 +50,14 @@ fn feed_copies(
     to: FedPass,
 ) -> Result<(), Memory>
     requires over { IsOver at.now lanes.now }
-    requires can { CanGather (job_of at.now.job.now) at.now.first at.now.count (kinds_of lanes.now) at.now.cells.now own.now.kind.now own.now.inputs.now own.now.under }
+    requires can { CanGatherInTurn at.now own.now lanes.now }
     requires inside { EachPlace selection.now (λ p. p < at.now.count) }
-    requires hand { EachPlace selection.now (AreAtHand (job_of at.now.job.now) lanes.now own.now.under own.now.inputs.now) }
-    requires feed { (f : LoopFacts) × (watched : List ℕ) × (s : BlockStage) × CanFeedAny (job_of at.now.job.now) at.now.first at.now.count lanes.now own.now.kind.now own.now.inputs.now own.now.under selection.now f watched s tally.old to.place to.cluster }
-    ensures holds { (f : LoopFacts) (watched : List ℕ) (s : BlockStage) → CanFeedAny (job_of at.now.job.now) at.now.first at.now.count lanes.now own.now.kind.now own.now.inputs.now own.now.under selection.now f watched s tally.old to.place to.cluster
+    requires hand { EachPlace selection.now (AreHeldInTurn at.now own.now lanes.now) }
+    requires feed { (f : LoopFacts) × (watched : List ℕ) × (s : BlockStage) × CanFeedInTurn at.now own.now lanes.now selection.now f watched s tally.old to.place to.cluster }
+    ensures holds { (f : LoopFacts) (watched : List ℕ) (s : BlockStage) → CanFeedInTurn at.now own.now lanes.now selection.now f watched s tally.old to.place to.cluster
         → OnOk result (HoldsIn f watched (pass_done s) tally.new) }
-    ensures memory { AreWhole (job_of at.now.job.now) own.now.under (kinds_of lanes.now) own.now.inputs.now → OnErr result (IsTake own.now.kind.now) }
-    ensures plain { (used : ℕ → Bool) → ArePlain (job_of at.now.job.now) used → ArePlainSources (job_of at.now.job.now) used own.now.under own.now.inputs.now → OnErr result (IsTake own.now.kind.now) }
+    ensures memory { AreWholeInTurn at.now own.now lanes.now → OnErr result (IsTake own.now.kind.now) }
+    ensures plain { (used : ℕ → Bool) → ArePlain (turn_job at.now) used → ArePlainInTurn at.now own.now used → OnErr result (IsTake own.now.kind.now) }
 {
     let copies = copy_inputs(at, lanes, selection, own)?;
     let places = batch_places(selection);
@@ -79,17 +75,17 @@ pub(crate) fn feed_action(
     to: FedPass,
 ) -> Result<(), Memory>
     requires over { IsOver at.now lanes.now }
-    requires own { IsReadOf (job_of at.now.job.now) at.now.pass own.now.kind.now own.now.inputs.now own.now.under }
-    requires place { to.place ≡ actions_before (job_of at.now.job.now) at.now.pass }
-    requires can { CanGather (job_of at.now.job.now) at.now.first at.now.count (kinds_of lanes.now) at.now.cells.now own.now.kind.now own.now.inputs.now own.now.under }
-    requires kept { (p : IsPlan (job_of at.now.job.now) at.now.plan.now) → AreKept (job_of at.now.job.now) at.now.first p.chains at.now.count kept.now }
+    requires own { IsReadInTurn at.now own.now }
+    requires place { to.place ≡ actions_before (turn_job at.now) at.now.pass }
+    requires can { CanGatherInTurn at.now own.now lanes.now }
+    requires kept { (p : IsPlanOfTurn at.now) → AreKept (turn_job at.now) at.now.first p.chains at.now.count kept.now }
     requires feedable { (last : ℕ) → slice_get at.now.plan.now.passes at.now.pass ≡ Some last
-        → IsFeedable (job_of at.now.job.now) at.now.first at.now.count lanes.now kept.now last own.now.kind.now own.now.inputs.now own.now.under }
-    requires begin { (watched : List ℕ) × (s : BlockStage) × IsAmid (job_of at.now.job.now) at.now.first at.now.count s × (s.cluster ≡ to.cluster) × (s.passes ≡ to.place) × HoldsIn (facts_in (job_of at.now.job.now)) watched s tally.old }
-    ensures holds { (watched : List ℕ) (s : BlockStage) → IsAmid (job_of at.now.job.now) at.now.first at.now.count s → s.cluster ≡ to.cluster → s.passes ≡ to.place → HoldsIn (facts_in (job_of at.now.job.now)) watched s tally.old
-        → OnOk result (HoldsIn (facts_in (job_of at.now.job.now)) watched (pass_done s) tally.new) }
-    ensures memory { AreWhole (job_of at.now.job.now) own.now.under (kinds_of lanes.now) own.now.inputs.now → OnErr result (IsTake own.now.kind.now) }
-    ensures plain { (used : ℕ → Bool) → ArePlain (job_of at.now.job.now) used → ArePlainSources (job_of at.now.job.now) used own.now.under own.now.inputs.now → OnErr result (IsTake own.now.kind.now) }
+        → IsFeedableInTurn at.now own.now lanes.now kept.now last }
+    requires begin { (watched : List ℕ) × (s : BlockStage) × IsAmidTurn at.now s × (s.cluster ≡ to.cluster) × (s.passes ≡ to.place) × HoldsIn (facts_in (turn_job at.now)) watched s tally.old }
+    ensures holds { (watched : List ℕ) (s : BlockStage) → IsAmidTurn at.now s → s.cluster ≡ to.cluster → s.passes ≡ to.place → HoldsIn (facts_in (turn_job at.now)) watched s tally.old
+        → OnOk result (HoldsIn (facts_in (turn_job at.now)) watched (pass_done s) tally.new) }
+    ensures memory { AreWholeInTurn at.now own.now lanes.now → OnErr result (IsTake own.now.kind.now) }
+    ensures plain { (used : ℕ → Bool) → ArePlain (turn_job at.now) used → ArePlainInTurn at.now own.now used → OnErr result (IsTake own.now.kind.now) }
 {
     let last = at.plan.last_step(at.pass);
     let selection = &kept[last as usize].places;
@@ -113,17 +109,17 @@ fn feed_pass(
     to: FedPass,
 ) -> Result<u32, Memory>
     requires turn { IsTurn at.now }
-    requires serve { (scratch levels : ℕ) × CanServeAll (job_of at.now.job.now) at.now.first at.now.count (kinds_of lanes.now) at.now.cells.now scratch levels }
-    requires clear { (p : IsPlan (job_of at.now.job.now) at.now.plan.now) → IsClear (job_of at.now.job.now) at.now.first at.now.count p.chains at.now.plan.now lanes.now kept.now }
-    requires own { numbered_in (job_of at.now.job.now) at.now.pass ≡ Some own }
+    requires serve { (scratch levels : ℕ) × CanServeAllWith at.now lanes.now scratch levels }
+    requires clear { (p : IsPlanOfTurn at.now) → IsClearInTurn at.now p.chains lanes.now kept.now }
+    requires own { numbered_in (turn_job at.now) at.now.pass ≡ Some own }
     requires few { at.now.pass < 4294967295 }
-    requires place { to.place ≡ actions_before (job_of at.now.job.now) at.now.pass }
-    requires begin { (watched : List ℕ) × (s : BlockStage) × IsAmid (job_of at.now.job.now) at.now.first at.now.count s × (s.cluster ≡ to.cluster) × (s.passes ≡ to.place) × HoldsIn (facts_in (job_of at.now.job.now)) watched s tally.old }
-    ensures place { IfOk result (λ next. next ≡ actions_before (job_of at.now.job.now) (at.now.pass + 1)) }
-    ensures holds { IfOk result (λ next. (watched : List ℕ) (s : BlockStage) → IsAmid (job_of at.now.job.now) at.now.first at.now.count s → s.cluster ≡ to.cluster → s.passes ≡ to.place → HoldsIn (facts_in (job_of at.now.job.now)) watched s tally.old
-        → HoldsIn (facts_in (job_of at.now.job.now)) watched (at_pass s next) tally.new) }
-    ensures memory { AreAllWhole (job_of at.now.job.now) (kinds_of lanes.now) → All IsNoTake (kinds_in (passes_in (job_of at.now.job.now))) → OnErr result ⊥ }
-    ensures plain { IsPlainLoop (job_of at.now.job.now) → All IsNoTake (kinds_in (passes_in (job_of at.now.job.now))) → OnErr result ⊥ }
+    requires place { to.place ≡ actions_before (turn_job at.now) at.now.pass }
+    requires begin { (watched : List ℕ) × (s : BlockStage) × IsAmidTurn at.now s × (s.cluster ≡ to.cluster) × (s.passes ≡ to.place) × HoldsIn (facts_in (turn_job at.now)) watched s tally.old }
+    ensures place { IfOk result (λ next. next ≡ actions_before (turn_job at.now) (at.now.pass + 1)) }
+    ensures holds { IfOk result (λ next. (watched : List ℕ) (s : BlockStage) → IsAmidTurn at.now s → s.cluster ≡ to.cluster → s.passes ≡ to.place → HoldsIn (facts_in (turn_job at.now)) watched s tally.old
+        → HoldsIn (facts_in (turn_job at.now)) watched (at_pass s next) tally.new) }
+    ensures memory { AreAllWhole (turn_job at.now) (kinds_of lanes.now) → All IsNoTake (kinds_in (passes_in (turn_job at.now))) → OnErr result ⊥ }
+    ensures plain { IsPlainTurn at.now → All IsNoTake (kinds_in (passes_in (turn_job at.now))) → OnErr result ⊥ }
 {
     let Some(read) = action_read(at.job, own, at.pass) else {
         return Ok(to.place);
@@ -141,13 +137,13 @@ pub(crate) fn feed_passes(
     cluster: u32,
 ) -> Result<(), Memory>
     requires turn { IsTurn at.now }
-    requires serve { (scratch levels : ℕ) × CanServeAll (job_of at.now.job.now) at.now.first at.now.count (kinds_of lanes.now) at.now.cells.now scratch levels }
-    requires clear { (p : IsPlan (job_of at.now.job.now) at.now.plan.now) → IsClear (job_of at.now.job.now) at.now.first at.now.count p.chains at.now.plan.now lanes.now kept.now }
-    requires begin { (watched : List ℕ) × (s : BlockStage) × IsAmid (job_of at.now.job.now) at.now.first at.now.count s × (s.cluster ≡ cluster) × (s.passes ≡ 0) × HoldsIn (facts_in (job_of at.now.job.now)) watched s tally.old }
-    ensures holds { (watched : List ℕ) (s : BlockStage) → IsAmid (job_of at.now.job.now) at.now.first at.now.count s → s.cluster ≡ cluster → s.passes ≡ 0 → HoldsIn (facts_in (job_of at.now.job.now)) watched s tally.old
-        → OnOk result (HoldsIn (facts_in (job_of at.now.job.now)) watched (at_pass s (length (kinds_in (passes_in (job_of at.now.job.now))))) tally.new) }
-    ensures memory { AreAllWhole (job_of at.now.job.now) (kinds_of lanes.now) → All IsNoTake (kinds_in (passes_in (job_of at.now.job.now))) → OnErr result ⊥ }
-    ensures plain { IsPlainLoop (job_of at.now.job.now) → All IsNoTake (kinds_in (passes_in (job_of at.now.job.now))) → OnErr result ⊥ }
+    requires serve { (scratch levels : ℕ) × CanServeAllWith at.now lanes.now scratch levels }
+    requires clear { (p : IsPlanOfTurn at.now) → IsClearInTurn at.now p.chains lanes.now kept.now }
+    requires begin { (watched : List ℕ) × (s : BlockStage) × IsAmidTurn at.now s × (s.cluster ≡ cluster) × (s.passes ≡ 0) × HoldsIn (facts_in (turn_job at.now)) watched s tally.old }
+    ensures holds { (watched : List ℕ) (s : BlockStage) → IsAmidTurn at.now s → s.cluster ≡ cluster → s.passes ≡ 0 → HoldsIn (facts_in (turn_job at.now)) watched s tally.old
+        → OnOk result (HoldsIn (facts_in (turn_job at.now)) watched (at_pass s (length (kinds_in (passes_in (turn_job at.now))))) tally.new) }
+    ensures memory { AreAllWhole (turn_job at.now) (kinds_of lanes.now) → All IsNoTake (kinds_in (passes_in (turn_job at.now))) → OnErr result ⊥ }
+    ensures plain { IsPlainTurn at.now → All IsNoTake (kinds_in (passes_in (turn_job at.now))) → OnErr result ⊥ }
 {
     let mut place = 0;
     let passes = loop_passes(at.job);

@@ -1,10 +1,8 @@
 // The lanes that an action reads, where all of them are read in place: nearly always.
 ghost use Rattle.std.specs.Prelude.{◌≡◌, ℤ, ℕ, List, None, Some, length, true};
 ghost use Rattle.rdf_values.specs.declared.action.ActionKind.TheVariants as action;
-ghost use Rattle.block_cache.specs.Lanes.{kinds_of};
-ghost use Rattle.loop_keys.specs.Jobs.{job_of};
-ghost use Rattle.block_passes.specs.Feeds.{AreInPlace, CanGather};
 ghost use Rattle.block_passes.specs.Turns.{IsOver};
+ghost use Rattle.block_passes.specs.InTurn.{AreInPlaceInTurn, CanGatherInTurn};
 
 use crate::sources::lane_in_place;
 use crate::turn::{ActionRead, Turn};
@@ -21,9 +19,9 @@ fn one_in_place<'a: 's, 's>(
     to: &mut Sources<'s>,
 ) -> bool
     requires over { IsOver at.now lanes.now }
-    requires can { CanGather (job_of at.now.job.now) at.now.first at.now.count (kinds_of lanes.now) at.now.cells.now own.now.kind.now own.now.inputs.now own.now.under }
+    requires can { CanGatherInTurn at.now own.now lanes.now }
     requires one { length own.now.inputs.now ≡ 1 }
-    ensures { result ≡ true → AreInPlace (job_of at.now.job.now) at.now.first at.now.count lanes.now own.now.kind.now own.now.inputs.now own.now.under to.new }
+    ensures { result ≡ true → AreInPlaceInTurn at.now own.now lanes.now to.new }
 {
     let Some(x) = lane_in_place(at, lanes, own.inputs[0], own.under) else {
         return false;
@@ -41,9 +39,9 @@ fn weighted_in_place<'a: 's, 's>(
     to: &mut Sources<'s>,
 ) -> bool
     requires over { IsOver at.now lanes.now }
-    requires can { CanGather (job_of at.now.job.now) at.now.first at.now.count (kinds_of lanes.now) at.now.cells.now own.now.kind.now own.now.inputs.now own.now.under }
+    requires can { CanGatherInTurn at.now own.now lanes.now }
     requires kind { (edges : List ℤ) × (x w : List ℕ) × (own.now.kind.now ≡ action.Histo1D edges x (Some w)) }
-    ensures { result ≡ true → AreInPlace (job_of at.now.job.now) at.now.first at.now.count lanes.now own.now.kind.now own.now.inputs.now own.now.under to.new }
+    ensures { result ≡ true → AreInPlaceInTurn at.now own.now lanes.now to.new }
 {
     let Some(x) = lane_in_place(at, lanes, own.inputs[0], own.under) else {
         return false;
@@ -64,9 +62,9 @@ fn pair_in_place<'a: 's, 's>(
     to: &mut Sources<'s>,
 ) -> bool
     requires over { IsOver at.now lanes.now }
-    requires can { CanGather (job_of at.now.job.now) at.now.first at.now.count (kinds_of lanes.now) at.now.cells.now own.now.kind.now own.now.inputs.now own.now.under }
+    requires can { CanGatherInTurn at.now own.now lanes.now }
     requires kind { (xs ys : List ℤ) × (x y : List ℕ) × (own.now.kind.now ≡ action.Histo2D xs ys x y None) }
-    ensures { result ≡ true → AreInPlace (job_of at.now.job.now) at.now.first at.now.count lanes.now own.now.kind.now own.now.inputs.now own.now.under to.new }
+    ensures { result ≡ true → AreInPlaceInTurn at.now own.now lanes.now to.new }
 {
     let Some(x) = lane_in_place(at, lanes, own.inputs[0], own.under) else {
         return false;
@@ -87,9 +85,9 @@ fn weighted_pair_in_place<'a: 's, 's>(
     to: &mut Sources<'s>,
 ) -> bool
     requires over { IsOver at.now lanes.now }
-    requires can { CanGather (job_of at.now.job.now) at.now.first at.now.count (kinds_of lanes.now) at.now.cells.now own.now.kind.now own.now.inputs.now own.now.under }
+    requires can { CanGatherInTurn at.now own.now lanes.now }
     requires kind { (xs ys : List ℤ) × (x y w : List ℕ) × (own.now.kind.now ≡ action.Histo2D xs ys x y (Some w)) }
-    ensures { result ≡ true → AreInPlace (job_of at.now.job.now) at.now.first at.now.count lanes.now own.now.kind.now own.now.inputs.now own.now.under to.new }
+    ensures { result ≡ true → AreInPlaceInTurn at.now own.now lanes.now to.new }
 {
     let Some(x) = lane_in_place(at, lanes, own.inputs[0], own.under) else {
         return false;
@@ -114,8 +112,8 @@ pub(crate) fn lanes_in_place<'a: 's, 's>(
     to: &mut Sources<'s>,
 ) -> bool
     requires over { IsOver at.now lanes.now }
-    requires can { CanGather (job_of at.now.job.now) at.now.first at.now.count (kinds_of lanes.now) at.now.cells.now own.now.kind.now own.now.inputs.now own.now.under }
-    ensures { result ≡ true → AreInPlace (job_of at.now.job.now) at.now.first at.now.count lanes.now own.now.kind.now own.now.inputs.now own.now.under to.new }
+    requires can { CanGatherInTurn at.now own.now lanes.now }
+    ensures { result ≡ true → AreInPlaceInTurn at.now own.now lanes.now to.new }
 {
     match own.kind {
         ActionKind::Count => {

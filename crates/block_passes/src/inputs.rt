@@ -6,25 +6,27 @@ ghost use Rattle.graph_numbers.specs.declared.source.Source.TheVariants as sourc
 ghost use Rattle.expr_lanes.specs.Places.{EachPlace, is_in};
 ghost use Rattle.block_cache.specs.Lanes.{kinds_of};
 ghost use Rattle.loop_keys.specs.Plain.{ArePlain, ArePlainVersions};
-ghost use Rattle.loop_keys.specs.Jobs.{job_graph, job_of};
+ghost use Rattle.loop_keys.specs.Jobs.{job_graph};
 ghost use Rattle.loop_keys.specs.Keys.{key};
-ghost use Rattle.loop_keys.specs.Store.{IsSourceIn, source_at};
+ghost use Rattle.loop_keys.specs.Store.{IsSourceIn};
 ghost use Rattle.loop_keys.specs.Turns.{HasAllDemands};
 ghost use Rattle.block_cache.specs.Blocks.{AreReady};
-ghost use Rattle.block_cache.specs.Fills.{CanFill, IsSpentOver, holds_at, site_fault};
-ghost use Rattle.block_passes.specs.Inputs.{AreAtHand, CanServe, DemandsInputs, DemandsSource, IsAtHand, IsServedTo, element_fault, inputs_fault, source_fault};
+ghost use Rattle.block_cache.specs.Fills.{CanFill, holds_at, site_fault};
+ghost use Rattle.block_passes.specs.Inputs.{AreAtHand, DemandsInputs, DemandsSource, IsAtHand};
 ghost use Rattle.block_passes.specs.Turns.{IsKnown, IsOver, IsSelected, IsTurn, KeepsRoom, Leaves};
+ghost use Rattle.block_passes.specs.InTurn.{CanServeInTurn, CanServeWith, IsServedInTurn, IsSpentInTurn, element_fault_in_turn, inputs_fault_in_turn, source_fault_in_turn, source_in_turn, turn_job};
 
 use crate::elements::{SiteElement, test_elements};
 use crate::kept::Kept;
 use crate::turn::{Turn, Work};
 use block_cache::Lane;
-use block_cache::attempt::Block;
+use block_cache::block::Block;
 use block_cache::leads::fill_led;
+use block_cache::wanted::Wanted;
 use expr_eval::Steps;
 use expr_lanes::Selection;
 use graph_numbers::Source;
-use loop_keys::reading::{Reading, place, source_of};
+use loop_keys::reading::{Reading, place};
 use loop_keys::rows::{Place, row_at};
 use rdf_values::Memory;
 use std::sync::ledger::Ledger;
@@ -32,7 +34,7 @@ use std::sync::ledger::Ledger;
 /// Whether a key's value is held at each selected place.
 fn is_held(at: &Turn<'_>, lanes: &[Lane], key: usize, selection: &Selection) -> bool
     requires key { key < length lanes.now }
-    requires ready { AreReady (job_of at.now.job.now) at.now.first at.now.count lanes.now }
+    requires ready { AreReady (turn_job at.now) at.now.first at.now.count lanes.now }
     requires inside { EachPlace selection.now (λ p. p < at.now.count) }
     ensures { result ≡ true → EachPlace selection.now (λ p. holds_at lanes.now key p ≡ true) }
 {
@@ -48,10 +50,10 @@ fn is_at_hand(
     under: Option<u32>,
 ) -> bool
     requires over { IsOver at.now lanes.now }
-    requires can { (scratch levels : ℕ) × CanServe (job_of at.now.job.now) at.now.first under at.now.count (kinds_of lanes.now) at.now.cells.now scratch levels version }
+    requires can { (scratch levels : ℕ) × CanServeWith at.now under lanes.now scratch levels version }
     requires inside { EachPlace selection.now (λ p. p < at.now.count) }
-    ensures held { result ≡ true → EachPlace selection.now (λ p. IsAtHand (job_of at.now.job.now) lanes.now under p (source_at (job_of at.now.job.now) under version)) }
-    ensures clear { result ≡ true → EachPlace selection.now (λ p. source_fault (job_of at.now.job.now) at.now.first under (source_at (job_of at.now.job.now) under version) p ≡ None) }
+    ensures held { result ≡ true → EachPlace selection.now (λ p. IsAtHand (turn_job at.now) lanes.now under p (source_in_turn at.now under version)) }
+    ensures clear { result ≡ true → EachPlace selection.now (λ p. source_fault_in_turn at.now under version p ≡ None) }
 {
     let reading = Reading {
         job: at.job,
@@ -76,10 +78,10 @@ fn are_at_hand(
     under: Option<u32>,
 ) -> bool
     requires over { IsOver at.now lanes.now }
-    requires can { (scratch levels : ℕ) × AllByRecursion (CanServe (job_of at.now.job.now) at.now.first under at.now.count (kinds_of lanes.now) at.now.cells.now scratch levels) inputs.now }
+    requires can { (scratch levels : ℕ) × AllByRecursion (CanServeWith at.now under lanes.now scratch levels) inputs.now }
     requires inside { EachPlace selection.now (λ p. p < at.now.count) }
-    ensures held { result ≡ true → EachPlace selection.now (AreAtHand (job_of at.now.job.now) lanes.now under inputs.now) }
-    ensures clear { result ≡ true → EachPlace selection.now (λ p. inputs_fault (job_of at.now.job.now) at.now.first under inputs.now p ≡ None) }
+    ensures held { result ≡ true → EachPlace selection.now (AreAtHand (turn_job at.now) lanes.now under inputs.now) }
+    ensures clear { result ≡ true → EachPlace selection.now (λ p. inputs_fault_in_turn at.now under inputs.now p ≡ None) }
 {
     let Some((version, rest)) = inputs.split_first() else {
         return true;
@@ -100,15 +102,15 @@ fn serve_site<L: Ledger>(
     under: Option<u32>,
     steps: &mut Steps<L>,
 ) -> Result<(), Memory>
-    requires site { site < length (graph_sites (job_graph (job_of at.now.job.now))) }
+    requires site { site < length (graph_sites (job_graph (turn_job at.now))) }
     requires known { IsKnown at.now work.old }
-    requires can { CanFill (job_of at.now.job.now) at.now.first under at.now.count (kinds_of work.old.lanes.items) at.now.cells.now (length work.old.scratch.items) (length work.old.levels.items) site }
+    requires can { CanFill (turn_job at.now) at.now.first under at.now.count (kinds_of work.old.lanes.items) at.now.cells.now (length work.old.scratch.items) (length work.old.levels.items) site }
     requires inside { EachPlace to.old.places (λ p. p < work.old.found.limit) }
-    ensures spent { IsSpentOver (job_of at.now.job.now) at.now.first under site to.old.places work.old.lanes.items work.new.lanes.items steps.old steps.new }
-    ensures served { OnOk result (IsServedTo (job_of at.now.job.now) at.now.first at.now.count (site_fault (job_of at.now.job.now) at.now.first under site) at.now.pass to.old.places to.new work.new.lanes.items work.old.found work.new.found) }
-    ensures held { OnOk result (EachPlace to.new.places (λ p. holds_at work.new.lanes.items (key (job_graph (job_of at.now.job.now)) site under) p ≡ true)) }
+    ensures spent { IsSpentInTurn at.now under site to.old.places work.old work.new steps.old steps.new }
+    ensures served { OnOk result (IsServedInTurn at.now (site_fault (turn_job at.now) at.now.first under site) to.old.places to.new work.new.lanes.items work.old.found work.new.found) }
+    ensures held { OnOk result (EachPlace to.new.places (λ p. holds_at work.new.lanes.items (key (job_graph (turn_job at.now)) site under) p ≡ true)) }
     ensures room { KeepsRoom work.old work.new }
-    ensures plain { (used : ℕ → Bool) → ArePlain (job_of at.now.job.now) used → used site ≡ true → OnErr result ⊥ }
+    ensures plain { (used : ℕ → Bool) → ArePlain (turn_job at.now) used → used site ≡ true → OnErr result ⊥ }
 {
     let _rising = to.places.as_slice();
     let _few = to.places.len();
@@ -123,10 +125,13 @@ fn serve_site<L: Ledger>(
         count: at.count as usize,
         cells: at.cells,
     };
-    match fill_led(
-        &block,
-        &mut work.lanes,
+    let wanted = Wanted {
+        block: &block,
         site,
+    };
+    match fill_led(
+        &wanted,
+        &mut work.lanes,
         &mut to.places,
         &mut work.levels,
         &mut work.scratch,
@@ -144,16 +149,10 @@ fn serve_site<L: Ledger>(
 /// What gives a version its value, under nominal or a variation.
 pub(crate) fn source_under(at: &Turn<'_>, version: u32, under: Option<u32>) -> Source
     requires turn { IsTurn at.now }
-    requires version { version < length (graph_versions (job_graph (job_of at.now.job.now))) }
-    ensures { source_at (job_of at.now.job.now) under version ≡ result }
+    requires version { version < length (graph_versions (job_graph (turn_job at.now))) }
+    ensures { source_in_turn at.now under version ≡ result }
 {
-    let reading = Reading {
-        job: at.job,
-        row: row_at(at.rows, at.job.graph, under),
-        entry: at.first,
-        under,
-    };
-    source_of(&reading, version)
+    at.job.graph.source(version, under)
 }
 
 /// Fills the site of an element likewise, and tests whether there is one for each tag.
@@ -165,15 +164,15 @@ fn serve_element<L: Ledger>(
     of: &SiteElement,
     steps: &mut Steps<L>,
 ) -> Result<(), Memory>
-    requires site { of.now.site < length (graph_sites (job_graph (job_of at.now.job.now))) }
+    requires site { of.now.site < length (graph_sites (job_graph (turn_job at.now))) }
     requires known { IsKnown at.now work.old }
-    requires can { CanFill (job_of at.now.job.now) at.now.first of.now.under at.now.count (kinds_of work.old.lanes.items) at.now.cells.now (length work.old.scratch.items) (length work.old.levels.items) of.now.site }
+    requires can { CanFill (turn_job at.now) at.now.first of.now.under at.now.count (kinds_of work.old.lanes.items) at.now.cells.now (length work.old.scratch.items) (length work.old.levels.items) of.now.site }
     requires inside { EachPlace to.old.places (λ p. p < work.old.found.limit) }
-    ensures spent { IsSpentOver (job_of at.now.job.now) at.now.first of.now.under of.now.site to.old.places work.old.lanes.items work.new.lanes.items steps.old steps.new }
-    ensures served { OnOk result (IsServedTo (job_of at.now.job.now) at.now.first at.now.count (element_fault (job_of at.now.job.now) at.now.first of.now.under of.now.site of.now.nth of.now.tags) at.now.pass to.old.places to.new work.new.lanes.items work.old.found work.new.found) }
-    ensures held { OnOk result (EachPlace to.new.places (λ p. IsAtHand (job_of at.now.job.now) work.new.lanes.items of.now.under p (source.Element of.now.site of.now.nth of.now.tags))) }
+    ensures spent { IsSpentInTurn at.now of.now.under of.now.site to.old.places work.old work.new steps.old steps.new }
+    ensures served { OnOk result (IsServedInTurn at.now (element_fault_in_turn at.now of.now) to.old.places to.new work.new.lanes.items work.old.found work.new.found) }
+    ensures held { OnOk result (EachPlace to.new.places (λ p. IsAtHand (turn_job at.now) work.new.lanes.items of.now.under p (source.Element of.now.site of.now.nth of.now.tags))) }
     ensures room { KeepsRoom work.old work.new }
-    ensures plain { (used : ℕ → Bool) → ArePlain (job_of at.now.job.now) used → used of.now.site ≡ true → OnErr result ⊥ }
+    ensures plain { (used : ℕ → Bool) → ArePlain (turn_job at.now) used → used of.now.site ≡ true → OnErr result ⊥ }
 {
     match serve_site(at, work, to, of.site, of.under, steps) {
         Ok(()) => {
@@ -194,14 +193,14 @@ fn serve_version<L: Ledger>(
     steps: &mut Steps<L>,
 ) -> Result<(), Memory>
     requires known { IsKnown at.now work.old }
-    requires can { CanServe (job_of at.now.job.now) at.now.first under at.now.count (kinds_of work.old.lanes.items) at.now.cells.now (length work.old.scratch.items) (length work.old.levels.items) version }
+    requires can { CanServeInTurn at.now under work.old version }
     requires selected { IsSelected work.old.found.limit to.old }
-    requires demanded { (p : ℕ) (T : ℕ → Bool) → is_in p to.old.places ≡ true → HasAllDemands (job_of at.now.job.now) (at.now.first + p) T
-        → DemandsSource (job_of at.now.job.now) (at.now.first + p) under T (source_at (job_of at.now.job.now) under version) }
+    requires demanded { (p : ℕ) (T : ℕ → Bool) → is_in p to.old.places ≡ true → HasAllDemands (turn_job at.now) (at.now.first + p) T
+        → DemandsSource (turn_job at.now) (at.now.first + p) under T (source_in_turn at.now under version) }
     ensures leaves { Leaves at.now work.old work.new steps.old steps.new }
-    ensures served { OnOk result (IsServedTo (job_of at.now.job.now) at.now.first at.now.count (source_fault (job_of at.now.job.now) at.now.first under (source_at (job_of at.now.job.now) under version)) at.now.pass to.old.places to.new work.new.lanes.items work.old.found work.new.found) }
-    ensures held { OnOk result (EachPlace to.new.places (λ p. IsAtHand (job_of at.now.job.now) work.new.lanes.items under p (source_at (job_of at.now.job.now) under version))) }
-    ensures plain { (used : ℕ → Bool) → ArePlain (job_of at.now.job.now) used → IsSourceIn used (source_at (job_of at.now.job.now) under version) → OnErr result ⊥ }
+    ensures served { OnOk result (IsServedInTurn at.now (source_fault_in_turn at.now under version) to.old.places to.new work.new.lanes.items work.old.found work.new.found) }
+    ensures held { OnOk result (EachPlace to.new.places (λ p. IsAtHand (turn_job at.now) work.new.lanes.items under p (source_in_turn at.now under version))) }
+    ensures plain { (used : ℕ → Bool) → ArePlain (turn_job at.now) used → IsSourceIn used (source_in_turn at.now under version) → OnErr result ⊥ }
 {
     if is_at_hand(at, &work.lanes, &to.places, version, under) {
         return Ok(());
@@ -231,14 +230,14 @@ fn serve_each<L: Ledger>(
     steps: &mut Steps<L>,
 ) -> Result<(), Memory>
     requires known { IsKnown at.now work.old }
-    requires can { AllByRecursion (CanServe (job_of at.now.job.now) at.now.first under at.now.count (kinds_of work.old.lanes.items) at.now.cells.now (length work.old.scratch.items) (length work.old.levels.items)) inputs.now }
+    requires can { AllByRecursion (CanServeInTurn at.now under work.old) inputs.now }
     requires selected { IsSelected work.old.found.limit to.old }
-    requires demanded { (p : ℕ) (T : ℕ → Bool) → is_in p to.old.places ≡ true → HasAllDemands (job_of at.now.job.now) (at.now.first + p) T
-        → DemandsInputs (job_of at.now.job.now) (at.now.first + p) under T inputs.now }
+    requires demanded { (p : ℕ) (T : ℕ → Bool) → is_in p to.old.places ≡ true → HasAllDemands (turn_job at.now) (at.now.first + p) T
+        → DemandsInputs (turn_job at.now) (at.now.first + p) under T inputs.now }
     ensures leaves { Leaves at.now work.old work.new steps.old steps.new }
-    ensures served { OnOk result (IsServedTo (job_of at.now.job.now) at.now.first at.now.count (inputs_fault (job_of at.now.job.now) at.now.first under inputs.now) at.now.pass to.old.places to.new work.new.lanes.items work.old.found work.new.found) }
-    ensures held { OnOk result (EachPlace to.new.places (AreAtHand (job_of at.now.job.now) work.new.lanes.items under inputs.now)) }
-    ensures plain { (used : ℕ → Bool) → ArePlain (job_of at.now.job.now) used → ArePlainVersions (job_of at.now.job.now) used under inputs.now → OnErr result ⊥ }
+    ensures served { OnOk result (IsServedInTurn at.now (inputs_fault_in_turn at.now under inputs.now) to.old.places to.new work.new.lanes.items work.old.found work.new.found) }
+    ensures held { OnOk result (EachPlace to.new.places (AreAtHand (turn_job at.now) work.new.lanes.items under inputs.now)) }
+    ensures plain { (used : ℕ → Bool) → ArePlain (turn_job at.now) used → ArePlainVersions (turn_job at.now) used under inputs.now → OnErr result ⊥ }
 {
     let Some((version, rest)) = inputs.split_first() else {
         return Ok(());
@@ -261,14 +260,14 @@ pub(crate) fn serve_inputs<L: Ledger>(
     steps: &mut Steps<L>,
 ) -> Result<(), Memory>
     requires known { IsKnown at.now work.old }
-    requires can { AllByRecursion (CanServe (job_of at.now.job.now) at.now.first under at.now.count (kinds_of work.old.lanes.items) at.now.cells.now (length work.old.scratch.items) (length work.old.levels.items)) inputs.now }
+    requires can { AllByRecursion (CanServeInTurn at.now under work.old) inputs.now }
     requires selected { IsSelected work.old.found.limit to.old }
-    requires demanded { (p : ℕ) (T : ℕ → Bool) → is_in p to.old.places ≡ true → HasAllDemands (job_of at.now.job.now) (at.now.first + p) T
-        → DemandsInputs (job_of at.now.job.now) (at.now.first + p) under T inputs.now }
+    requires demanded { (p : ℕ) (T : ℕ → Bool) → is_in p to.old.places ≡ true → HasAllDemands (turn_job at.now) (at.now.first + p) T
+        → DemandsInputs (turn_job at.now) (at.now.first + p) under T inputs.now }
     ensures leaves { Leaves at.now work.old work.new steps.old steps.new }
-    ensures served { OnOk result (IsServedTo (job_of at.now.job.now) at.now.first at.now.count (inputs_fault (job_of at.now.job.now) at.now.first under inputs.now) at.now.pass to.old.places to.new work.new.lanes.items work.old.found work.new.found) }
-    ensures held { OnOk result (EachPlace to.new.places (AreAtHand (job_of at.now.job.now) work.new.lanes.items under inputs.now)) }
-    ensures plain { (used : ℕ → Bool) → ArePlain (job_of at.now.job.now) used → ArePlainVersions (job_of at.now.job.now) used under inputs.now → OnErr result ⊥ }
+    ensures served { OnOk result (IsServedInTurn at.now (inputs_fault_in_turn at.now under inputs.now) to.old.places to.new work.new.lanes.items work.old.found work.new.found) }
+    ensures held { OnOk result (EachPlace to.new.places (AreAtHand (turn_job at.now) work.new.lanes.items under inputs.now)) }
+    ensures plain { (used : ℕ → Bool) → ArePlain (turn_job at.now) used → ArePlainVersions (turn_job at.now) used under inputs.now → OnErr result ⊥ }
 {
     if are_at_hand(at, &work.lanes, &to.places, inputs, under) {
         return Ok(());

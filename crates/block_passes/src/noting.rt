@@ -3,11 +3,11 @@ ghost use Rattle.std.specs.Prelude.{◌≡◌, ◌<◌, List, ℕ, length, Some}
 ghost use Rattle.graph_numbers.specs.Graphs.{graph_filters};
 ghost use Rattle.cluster_tally.specs.Blocks.{BlockStage, HoldsIn, block_reaches};
 ghost use Rattle.cluster_tally.specs.Stages.{counted};
-ghost use Rattle.loop_keys.specs.Jobs.{job_graph, job_of};
+ghost use Rattle.loop_keys.specs.Jobs.{job_graph};
 ghost use Rattle.loop_keys.specs.Entries.{facts_in};
-ghost use Rattle.block_passes.specs.Counting.{AreCountable, IsAmid, at_filter};
-ghost use Rattle.block_passes.specs.Plans.{IsPlan};
+ghost use Rattle.block_passes.specs.Counting.{AreCountable, at_filter};
 ghost use Rattle.block_passes.specs.Turns.{IsTurn};
+ghost use Rattle.block_passes.specs.InTurn.{IsAmidTurn, IsPlanOfTurn, turn_job};
 
 use crate::kept::Kept;
 use crate::turn::Turn;
@@ -17,9 +17,9 @@ use loop_pieces::Counts;
 /// How many entries of the block reach a named filter, and how many pass it: the sizes of two selections.
 fn counts_of(at: &Turn<'_>, kept: &[Kept], filter: u32) -> Counts
     requires turn { IsTurn at.now }
-    requires filter { filter < length (graph_filters (job_graph (job_of at.now.job.now))) }
-    requires countable { (p : IsPlan (job_of at.now.job.now) at.now.plan.now) → AreCountable (job_of at.now.job.now) at.now.first at.now.count p.chains at.now.plan.now kept.now }
-    ensures { (s : BlockStage) → IsAmid (job_of at.now.job.now) at.now.first at.now.count s → result ≡ counted (block_reaches (facts_in (job_of at.now.job.now)) s filter) }
+    requires filter { filter < length (graph_filters (job_graph (turn_job at.now))) }
+    requires countable { (p : IsPlanOfTurn at.now) → AreCountable (turn_job at.now) at.now.first at.now.count p.chains at.now.plan.now kept.now }
+    ensures { (s : BlockStage) → IsAmidTurn at.now s → result ≡ counted (block_reaches (facts_in (turn_job at.now)) s filter) }
 {
     match at.plan.named(filter) {
         None => Counts { all: 0, pass: 0 },
@@ -33,10 +33,10 @@ fn counts_of(at: &Turn<'_>, kept: &[Kept], filter: u32) -> Counts
 /// Takes in what a block without a fault does at the named filters.
 pub(crate) fn note_filters(at: &Turn<'_>, kept: &[Kept], tally: &mut Tally)
     requires turn { IsTurn at.now }
-    requires countable { (p : IsPlan (job_of at.now.job.now) at.now.plan.now) → AreCountable (job_of at.now.job.now) at.now.first at.now.count p.chains at.now.plan.now kept.now }
-    requires begin { (watched : List ℕ) × (s : BlockStage) × IsAmid (job_of at.now.job.now) at.now.first at.now.count s × (s.filters ≡ 0) × HoldsIn (facts_in (job_of at.now.job.now)) watched s tally.old }
-    ensures { (watched : List ℕ) (s : BlockStage) → IsAmid (job_of at.now.job.now) at.now.first at.now.count s → s.filters ≡ 0 → HoldsIn (facts_in (job_of at.now.job.now)) watched s tally.old
-        → HoldsIn (facts_in (job_of at.now.job.now)) watched (at_filter s (length (graph_filters (job_graph (job_of at.now.job.now))))) tally.new }
+    requires countable { (p : IsPlanOfTurn at.now) → AreCountable (turn_job at.now) at.now.first at.now.count p.chains at.now.plan.now kept.now }
+    requires begin { (watched : List ℕ) × (s : BlockStage) × IsAmidTurn at.now s × (s.filters ≡ 0) × HoldsIn (facts_in (turn_job at.now)) watched s tally.old }
+    ensures { (watched : List ℕ) (s : BlockStage) → IsAmidTurn at.now s → s.filters ≡ 0 → HoldsIn (facts_in (turn_job at.now)) watched s tally.old
+        → HoldsIn (facts_in (turn_job at.now)) watched (at_filter s (length (graph_filters (job_graph (turn_job at.now))))) tally.new }
 {
     for filter in 0..at.job.graph.filters() {
         let counts = counts_of(at, kept, filter);

@@ -1,14 +1,13 @@
 // Trying the passes of a loop over a block.
 ghost use Rattle.std.specs.Prelude.{◌≡◌, ◌<◌, ◌+◌, IfSome, None, OnOk, Some, length, slice_range, OnErr};
 ghost use Rattle.rdf_model.specs.Results.{first_fault_from};
-ghost use Rattle.block_cache.specs.Lanes.{kinds_of};
-ghost use Rattle.loop_keys.specs.Caches.{IsPlainLoop, numbered_in};
+ghost use Rattle.loop_keys.specs.Caches.{numbered_in};
 ghost use Rattle.loop_keys.specs.Jobs.{Fits, job_of, passes_in};
 ghost use Rattle.loop_keys.specs.Turns.{IsReportPass};
-ghost use Rattle.block_passes.specs.Plans.{IsPlan};
-ghost use Rattle.block_passes.specs.Selections.{AreRemade, CanSelect, IsReadyBelow};
-ghost use Rattle.block_passes.specs.Tries.{CanServeAll, IsPassMade, IsPassTried, IsPlanMade, IsReadOf, IsSearchedTo};
+ghost use Rattle.block_passes.specs.Selections.{AreRemade};
+ghost use Rattle.block_passes.specs.Tries.{IsPassMade, IsPlanMade, IsReadOf, IsSearchedTo};
 ghost use Rattle.block_passes.specs.Turns.{IsTurn, Leaves};
+ghost use Rattle.block_passes.specs.InTurn.{CanSelectInTurn, CanServeAllInTurn, IsPassTriedInTurn, IsPlainTurn, IsPlanOfTurn, IsReadyInTurn, turn_job};
 
 use crate::action::try_action;
 use crate::kept::Kept;
@@ -47,16 +46,16 @@ pub(crate) fn try_pass<L: Ledger>(
     steps: &mut Steps<L>,
 ) -> Result<(), Memory>
     requires turn { IsTurn at.now }
-    requires can { CanSelect (job_of at.now.job.now) at.now.first at.now.count at.now.plan.now (kinds_of work.old.lanes.items) at.now.cells.now (length work.old.scratch.items) (length work.old.levels.items) }
-    requires serve { CanServeAll (job_of at.now.job.now) at.now.first at.now.count (kinds_of work.old.lanes.items) at.now.cells.now (length work.old.scratch.items) (length work.old.levels.items) }
-    requires own { numbered_in (job_of at.now.job.now) at.now.pass ≡ Some own }
-    requires ready { (p : IsPlan (job_of at.now.job.now) at.now.plan.now) → IsReadyBelow (job_of at.now.job.now) at.now.first at.now.count p.chains work.old.found.limit work.old.lanes.items kept.old }
+    requires can { CanSelectInTurn at.now work.old }
+    requires serve { CanServeAllInTurn at.now work.old }
+    requires own { numbered_in (turn_job at.now) at.now.pass ≡ Some own }
+    requires ready { (p : IsPlanOfTurn at.now) → IsReadyInTurn at.now p.chains work.old.found.limit work.old.lanes.items kept.old }
     ensures leaves { Leaves at.now work.old work.new steps.old steps.new }
-    ensures tried { (p : IsPlan (job_of at.now.job.now) at.now.plan.now)
-        → OnOk result (IsPassTried (job_of at.now.job.now) at.now.first at.now.count p.chains at.now.pass work.new.lanes.items kept.new work.old.found work.new.found) }
+    ensures tried { (p : IsPlanOfTurn at.now)
+        → OnOk result (IsPassTriedInTurn at.now p.chains work.new.lanes.items kept.new work.old.found work.new.found) }
     ensures remade { OnOk result (AreRemade at.now.count kept.old kept.new) }
-    ensures made { OnOk result (IsPassMade (job_of at.now.job.now) at.now.count at.now.plan.now kept.new at.now.pass) }
-    ensures plain { IsPlainLoop (job_of at.now.job.now) → OnErr result ⊥ }
+    ensures made { OnOk result (IsPassMade (turn_job at.now) at.now.count at.now.plan.now kept.new at.now.pass) }
+    ensures plain { IsPlainTurn at.now → OnErr result ⊥ }
 {
     match action_read(at.job, own, at.pass) {
         Some(read) => try_action(at, work, kept, &read, steps),
@@ -72,16 +71,16 @@ pub(crate) fn try_passes<L: Ledger>(
     steps: &mut Steps<L>,
 ) -> Result<(), Memory>
     requires turn { IsTurn at.now }
-    requires can { CanSelect (job_of at.now.job.now) at.now.first at.now.count at.now.plan.now (kinds_of work.old.lanes.items) at.now.cells.now (length work.old.scratch.items) (length work.old.levels.items) }
-    requires serve { CanServeAll (job_of at.now.job.now) at.now.first at.now.count (kinds_of work.old.lanes.items) at.now.cells.now (length work.old.scratch.items) (length work.old.levels.items) }
+    requires can { CanSelectInTurn at.now work.old }
+    requires serve { CanServeAllInTurn at.now work.old }
     requires begun { work.old.found ≡ record { limit = at.now.count; best = None } }
-    requires ready { (p : IsPlan (job_of at.now.job.now) at.now.plan.now) → IsReadyBelow (job_of at.now.job.now) at.now.first at.now.count p.chains at.now.count work.old.lanes.items kept.old }
+    requires ready { (p : IsPlanOfTurn at.now) → IsReadyInTurn at.now p.chains at.now.count work.old.lanes.items kept.old }
     ensures leaves { Leaves at.now work.old work.new steps.old steps.new }
-    ensures searched { (p : IsPlan (job_of at.now.job.now) at.now.plan.now)
-        → OnOk result (IsSearchedTo (job_of at.now.job.now) at.now.first at.now.count p.chains (length (passes_in (job_of at.now.job.now))) work.new.lanes.items kept.new work.new.found) }
-    ensures fault { OnOk result (first_fault_from (job_of at.now.job.now).dataset at.now.first (slice_range (job_of at.now.job.now).dataset.rows at.now.first (at.now.first + at.now.count)) (passes_in (job_of at.now.job.now)) ≡ work.new.found.best) }
-    ensures made { OnOk result (IsPlanMade (job_of at.now.job.now) at.now.count at.now.plan.now kept.new) }
-    ensures plain { IsPlainLoop (job_of at.now.job.now) → OnErr result ⊥ }
+    ensures searched { (p : IsPlanOfTurn at.now)
+        → OnOk result (IsSearchedTo (turn_job at.now) at.now.first at.now.count p.chains (length (passes_in (turn_job at.now))) work.new.lanes.items kept.new work.new.found) }
+    ensures fault { OnOk result (first_fault_from (turn_job at.now).dataset at.now.first (slice_range (turn_job at.now).dataset.rows at.now.first (at.now.first + at.now.count)) (passes_in (turn_job at.now)) ≡ work.new.found.best) }
+    ensures made { OnOk result (IsPlanMade (turn_job at.now) at.now.count at.now.plan.now kept.new) }
+    ensures plain { IsPlainTurn at.now → OnErr result ⊥ }
 {
     let passes = loop_passes(at.job);
     let mut turn = *at;

@@ -1,11 +1,11 @@
 // What is the same for each block of a loop.
-ghost use Rattle.std.specs.Prelude.{◌≡◌, ◌<◌, ◌≤◌, ◌^◌, List, Bool, IfOk, Some, length, slice_get, true, nat_eq};
+ghost use Rattle.std.specs.Prelude.{◌≡◌, ◌<◌, ◌^◌, List, IfOk, Some, length, slice_get, true, nat_eq};
 ghost use Rattle.std.specs.List.{list_any};
-ghost use Rattle.graph_numbers.specs.Graphs.{graph_filters, graph_results};
+ghost use Rattle.graph_numbers.specs.Graphs.{graph_filters};
 ghost use Rattle.loop_keys.specs.Caches.{numbered_in};
 ghost use Rattle.loop_keys.specs.Jobs.{Fits, job_graph, job_of, passes_in};
 ghost use Rattle.loop_keys.specs.Plans.{covered_in};
-ghost use Rattle.loop_keys.specs.Turns.{is_covering, numbered_passes};
+ghost use Rattle.loop_keys.specs.Turns.{numbered_passes};
 ghost use Rattle.block_passes.specs.Plans.{AreFiltersPlanned, ArePassesPlanned, IsFilterLed, IsFilterStepped, IsPassLed, IsPlan};
 ghost use Rattle.block_passes.specs.Steps.{AreSteps, Chain};
 

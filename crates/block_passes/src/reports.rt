@@ -1,13 +1,11 @@
 // Trying a report's pass over a block.
-ghost use Rattle.std.specs.Prelude.{◌<◌, OnOk, Some, length, OnErr};
+ghost use Rattle.std.specs.Prelude.{◌<◌, OnOk, Some, OnErr};
 ghost use Rattle.std.specs.List.{AllByRecursion};
-ghost use Rattle.block_cache.specs.Lanes.{kinds_of};
-ghost use Rattle.loop_keys.specs.Caches.{IsCovered, IsPlainLoop};
-ghost use Rattle.loop_keys.specs.Jobs.{job_of};
-ghost use Rattle.block_passes.specs.Plans.{IsPlan};
-ghost use Rattle.block_passes.specs.Selections.{AreRemade, CanSelect, IsReadyBelow};
-ghost use Rattle.block_passes.specs.Tries.{IsNamedMade, IsTriedTo, filter_fault, filters_fault};
+ghost use Rattle.loop_keys.specs.Caches.{IsCovered};
+ghost use Rattle.block_passes.specs.Selections.{AreRemade};
+ghost use Rattle.block_passes.specs.Tries.{IsNamedMade, filter_fault, filters_fault};
 ghost use Rattle.block_passes.specs.Turns.{IsTurn, Leaves};
+ghost use Rattle.block_passes.specs.InTurn.{CanSelectInTurn, IsPlainTurn, IsPlanOfTurn, IsReadyInTurn, IsTriedInTurn, turn_job};
 
 use crate::kept::Kept;
 use crate::select::select_again;
@@ -25,15 +23,15 @@ fn try_filter<L: Ledger>(
     steps: &mut Steps<L>,
 ) -> Result<(), Memory>
     requires turn { IsTurn at.now }
-    requires can { CanSelect (job_of at.now.job.now) at.now.first at.now.count at.now.plan.now (kinds_of work.old.lanes.items) at.now.cells.now (length work.old.scratch.items) (length work.old.levels.items) }
-    requires covered { IsCovered (job_of at.now.job.now) filter }
-    requires ready { (p : IsPlan (job_of at.now.job.now) at.now.plan.now) → IsReadyBelow (job_of at.now.job.now) at.now.first at.now.count p.chains work.old.found.limit work.old.lanes.items kept.old }
+    requires can { CanSelectInTurn at.now work.old }
+    requires covered { IsCovered (turn_job at.now) filter }
+    requires ready { (p : IsPlanOfTurn at.now) → IsReadyInTurn at.now p.chains work.old.found.limit work.old.lanes.items kept.old }
     ensures leaves { Leaves at.now work.old work.new steps.old steps.new }
-    ensures tried { (p : IsPlan (job_of at.now.job.now) at.now.plan.now)
-        → OnOk result (IsTriedTo (job_of at.now.job.now) at.now.first at.now.count p.chains (filter_fault (job_of at.now.job.now) at.now.first filter) at.now.pass work.new.lanes.items kept.new work.old.found work.new.found) }
+    ensures tried { (p : IsPlanOfTurn at.now)
+        → OnOk result (IsTriedInTurn at.now p.chains (filter_fault (turn_job at.now) at.now.first filter) work.new.lanes.items kept.new work.old.found work.new.found) }
     ensures remade { OnOk result (AreRemade at.now.count kept.old kept.new) }
     ensures made { OnOk result (IsNamedMade at.now.count at.now.plan.now kept.new filter) }
-    ensures plain { IsPlainLoop (job_of at.now.job.now) → OnErr result ⊥ }
+    ensures plain { IsPlainTurn at.now → OnErr result ⊥ }
 {
     match at.plan.named(filter) {
         Some(named) => match select_again(at, work, kept, named.above, steps) {
@@ -53,15 +51,15 @@ pub(crate) fn try_filters<L: Ledger>(
     steps: &mut Steps<L>,
 ) -> Result<(), Memory>
     requires turn { IsTurn at.now }
-    requires can { CanSelect (job_of at.now.job.now) at.now.first at.now.count at.now.plan.now (kinds_of work.old.lanes.items) at.now.cells.now (length work.old.scratch.items) (length work.old.levels.items) }
-    requires covered { AllByRecursion (IsCovered (job_of at.now.job.now)) filters.now }
-    requires ready { (p : IsPlan (job_of at.now.job.now) at.now.plan.now) → IsReadyBelow (job_of at.now.job.now) at.now.first at.now.count p.chains work.old.found.limit work.old.lanes.items kept.old }
+    requires can { CanSelectInTurn at.now work.old }
+    requires covered { AllByRecursion (IsCovered (turn_job at.now)) filters.now }
+    requires ready { (p : IsPlanOfTurn at.now) → IsReadyInTurn at.now p.chains work.old.found.limit work.old.lanes.items kept.old }
     ensures leaves { Leaves at.now work.old work.new steps.old steps.new }
-    ensures tried { (p : IsPlan (job_of at.now.job.now) at.now.plan.now)
-        → OnOk result (IsTriedTo (job_of at.now.job.now) at.now.first at.now.count p.chains (filters_fault (job_of at.now.job.now) at.now.first filters.now) at.now.pass work.new.lanes.items kept.new work.old.found work.new.found) }
+    ensures tried { (p : IsPlanOfTurn at.now)
+        → OnOk result (IsTriedInTurn at.now p.chains (filters_fault (turn_job at.now) at.now.first filters.now) work.new.lanes.items kept.new work.old.found work.new.found) }
     ensures remade { OnOk result (AreRemade at.now.count kept.old kept.new) }
     ensures made { OnOk result (AllByRecursion (IsNamedMade at.now.count at.now.plan.now kept.new) filters.now) }
-    ensures plain { IsPlainLoop (job_of at.now.job.now) → OnErr result ⊥ }
+    ensures plain { IsPlainTurn at.now → OnErr result ⊥ }
 {
     let Some((filter, rest)) = filters.split_first() else {
         return Ok(());

@@ -4,21 +4,21 @@ ghost use Rattle.rdf_values.specs.declared.value.ColType.TheVariants as kind;
 ghost use Rattle.graph_numbers.specs.Graphs.{graph_sites};
 ghost use Rattle.expr_lanes.specs.Places.{EachPlace};
 ghost use Rattle.block_cache.specs.Lanes.{kinds_of};
-ghost use Rattle.loop_keys.specs.Caches.{IsPlainLoop};
 ghost use Rattle.loop_keys.specs.Plain.{ArePlain};
-ghost use Rattle.loop_keys.specs.Jobs.{job_graph, job_of};
+ghost use Rattle.loop_keys.specs.Jobs.{job_graph};
 ghost use Rattle.loop_keys.specs.Keys.{key};
-ghost use Rattle.block_cache.specs.Fills.{CanFill, IsSpentOver};
-ghost use Rattle.block_passes.specs.Plans.{IsPlan};
-ghost use Rattle.block_passes.specs.Selections.{AreRemade, CanSelect, IsFilteredTo, IsNextSelected, IsReadyBelow, IsSelectedTo};
+ghost use Rattle.block_cache.specs.Fills.{CanFill};
+ghost use Rattle.block_passes.specs.Selections.{AreRemade};
 ghost use Rattle.block_passes.specs.declared.kept.Kept.{Kept as KeptView};
 ghost use Rattle.block_passes.specs.Turns.{IsKnown, IsTurn, KeepsRoom, Leaves};
+ghost use Rattle.block_passes.specs.InTurn.{CanSelectInTurn, IsFilteredInTurn, IsNextSelectedInTurn, IsPlainTurn, IsPlanOfTurn, IsReadyInTurn, IsSelectedInTurn, IsSpentInTurn, turn_job};
 
 use crate::kept::Kept;
 use crate::steps::Step;
 use crate::turn::{NextStep, SiteFilter, Turn, Work};
-use block_cache::attempt::Block;
+use block_cache::block::Block;
 use block_cache::passing::pass_filter;
+use block_cache::wanted::Wanted;
 use expr_eval::Steps;
 use loop_keys::reading::Reading;
 use loop_keys::rows::row_at;
@@ -34,15 +34,15 @@ pub(crate) fn filter_places<L: Ledger>(
     filter: SiteFilter,
     steps: &mut Steps<L>,
 ) -> Result<(), Memory>
-    requires site { filter.site < length (graph_sites (job_graph (job_of at.now.job.now))) }
+    requires site { filter.site < length (graph_sites (job_graph (turn_job at.now))) }
     requires known { IsKnown at.now work.old }
-    requires can { CanFill (job_of at.now.job.now) at.now.first filter.under at.now.count (kinds_of work.old.lanes.items) at.now.cells.now (length work.old.scratch.items) (length work.old.levels.items) filter.site }
-    requires truth { slice_get (kinds_of work.old.lanes.items) (key (job_graph (job_of at.now.job.now)) filter.site filter.under) ≡ Some kind.Bool }
+    requires can { CanFill (turn_job at.now) at.now.first filter.under at.now.count (kinds_of work.old.lanes.items) at.now.cells.now (length work.old.scratch.items) (length work.old.levels.items) filter.site }
+    requires truth { slice_get (kinds_of work.old.lanes.items) (key (job_graph (turn_job at.now)) filter.site filter.under) ≡ Some kind.Bool }
     requires inside { EachPlace from.now.places (λ p. p < work.old.found.limit) }
-    ensures spent { IsSpentOver (job_of at.now.job.now) at.now.first filter.under filter.site from.now.places work.old.lanes.items work.new.lanes.items steps.old steps.new }
-    ensures filtered { OnOk result (IsFilteredTo (job_of at.now.job.now) at.now.first at.now.count filter.under filter.site at.now.pass from.now.places to.new work.new.lanes.items work.old.found work.new.found) }
+    ensures spent { IsSpentInTurn at.now filter.under filter.site from.now.places work.old work.new steps.old steps.new }
+    ensures filtered { OnOk result (IsFilteredInTurn at.now filter from.now.places to.new work.new.lanes.items work.old.found work.new.found) }
     ensures room { KeepsRoom work.old work.new }
-    ensures plain { (used : ℕ → Bool) → ArePlain (job_of at.now.job.now) used → used filter.site ≡ true → OnErr result ⊥ }
+    ensures plain { (used : ℕ → Bool) → ArePlain (turn_job at.now) used → used filter.site ≡ true → OnErr result ⊥ }
 {
     to.places.copy_from(&from.places);
     let _rising = to.places.as_slice();
@@ -58,10 +58,13 @@ pub(crate) fn filter_places<L: Ledger>(
         count: at.count as usize,
         cells: at.cells,
     };
+    let wanted = Wanted {
+        block: &block,
+        site: filter.site,
+    };
     match pass_filter(
-        &block,
+        &wanted,
         &mut work.lanes,
-        filter.site,
         &mut to.places,
         &mut work.levels,
         &mut work.scratch,
@@ -86,17 +89,17 @@ pub(crate) fn next_places<L: Ledger>(
     steps: &mut Steps<L>,
 ) -> Result<(), Memory>
     requires turn { IsTurn at.now }
-    requires can { CanSelect (job_of at.now.job.now) at.now.first at.now.count at.now.plan.now (kinds_of work.old.lanes.items) at.now.cells.now (length work.old.scratch.items) (length work.old.levels.items) }
+    requires can { CanSelectInTurn at.now work.old }
     requires step { slice_get at.now.plan.now.steps next.step ≡ Some (Step.Filter next.parent next.filter.site next.filter.under) }
     requires above { length above.now ≡ next.step }
     requires own { 0 < length own.old }
-    requires ready { (p : IsPlan (job_of at.now.job.now) at.now.plan.now) → IsReadyBelow (job_of at.now.job.now) at.now.first at.now.count p.chains work.old.found.limit work.old.lanes.items (above.now ++ own.old) }
+    requires ready { (p : IsPlanOfTurn at.now) → IsReadyInTurn at.now p.chains work.old.found.limit work.old.lanes.items (above.now ++ own.old) }
     requires made { (s : KeptView) → slice_get (above.now ++ own.old) next.parent ≡ Some s → s.limit ≡ Some work.old.found.limit }
     ensures leaves { Leaves at.now work.old work.new steps.old steps.new }
-    ensures selected { (p : IsPlan (job_of at.now.job.now) at.now.plan.now)
-        → OnOk result (IsNextSelected (job_of at.now.job.now) at.now.first at.now.count p.chains at.now.pass next.step next.parent next.filter.site next.filter.under work.new.lanes.items (above.now ++ own.new) work.old.found work.new.found) }
+    ensures selected { (p : IsPlanOfTurn at.now)
+        → OnOk result (IsNextSelectedInTurn at.now p.chains next work.new.lanes.items (above.now ++ own.new) work.old.found work.new.found) }
     ensures remade { OnOk result (AreRemade at.now.count (above.now ++ own.old) (above.now ++ own.new)) }
-    ensures plain { IsPlainLoop (job_of at.now.job.now) → OnErr result ⊥ }
+    ensures plain { IsPlainTurn at.now → OnErr result ⊥ }
 {
     filter_places(
         at,
@@ -117,14 +120,14 @@ pub(crate) fn select_step<L: Ledger>(
     steps: &mut Steps<L>,
 ) -> Result<(), Memory>
     requires turn { IsTurn at.now }
-    requires can { CanSelect (job_of at.now.job.now) at.now.first at.now.count at.now.plan.now (kinds_of work.old.lanes.items) at.now.cells.now (length work.old.scratch.items) (length work.old.levels.items) }
+    requires can { CanSelectInTurn at.now work.old }
     requires step { step < length at.now.plan.now.steps }
-    requires ready { (p : IsPlan (job_of at.now.job.now) at.now.plan.now) → IsReadyBelow (job_of at.now.job.now) at.now.first at.now.count p.chains work.old.found.limit work.old.lanes.items kept.old }
+    requires ready { (p : IsPlanOfTurn at.now) → IsReadyInTurn at.now p.chains work.old.found.limit work.old.lanes.items kept.old }
     ensures leaves { Leaves at.now work.old work.new steps.old steps.new }
-    ensures selected { (p : IsPlan (job_of at.now.job.now) at.now.plan.now)
-        → OnOk result (IsSelectedTo (job_of at.now.job.now) at.now.first at.now.count p.chains at.now.pass step work.new.lanes.items kept.new work.old.found work.new.found) }
+    ensures selected { (p : IsPlanOfTurn at.now)
+        → OnOk result (IsSelectedInTurn at.now p.chains step work.new.lanes.items kept.new work.old.found work.new.found) }
     ensures remade { OnOk result (AreRemade at.now.count kept.old kept.new) }
-    ensures plain { IsPlainLoop (job_of at.now.job.now) → OnErr result ⊥ }
+    ensures plain { IsPlainTurn at.now → OnErr result ⊥ }
 {
     let limit = work.found.limit;
     if kept[step as usize].narrow(limit) {
@@ -164,14 +167,14 @@ pub(crate) fn select_again<L: Ledger>(
     steps: &mut Steps<L>,
 ) -> Result<(), Memory>
     requires turn { IsTurn at.now }
-    requires can { CanSelect (job_of at.now.job.now) at.now.first at.now.count at.now.plan.now (kinds_of work.old.lanes.items) at.now.cells.now (length work.old.scratch.items) (length work.old.levels.items) }
+    requires can { CanSelectInTurn at.now work.old }
     requires step { step < length at.now.plan.now.steps }
-    requires ready { (p : IsPlan (job_of at.now.job.now) at.now.plan.now) → IsReadyBelow (job_of at.now.job.now) at.now.first at.now.count p.chains work.old.found.limit work.old.lanes.items kept.old }
+    requires ready { (p : IsPlanOfTurn at.now) → IsReadyInTurn at.now p.chains work.old.found.limit work.old.lanes.items kept.old }
     ensures leaves { Leaves at.now work.old work.new steps.old steps.new }
-    ensures selected { (p : IsPlan (job_of at.now.job.now) at.now.plan.now)
-        → OnOk result (IsSelectedTo (job_of at.now.job.now) at.now.first at.now.count p.chains at.now.pass step work.new.lanes.items kept.new work.old.found work.new.found) }
+    ensures selected { (p : IsPlanOfTurn at.now)
+        → OnOk result (IsSelectedInTurn at.now p.chains step work.new.lanes.items kept.new work.old.found work.new.found) }
     ensures remade { OnOk result (AreRemade at.now.count kept.old kept.new) }
-    ensures plain { IsPlainLoop (job_of at.now.job.now) → OnErr result ⊥ }
+    ensures plain { IsPlainTurn at.now → OnErr result ⊥ }
 {
     if kept[step as usize].is_made(work.found.limit) {
         return Ok(());

@@ -7,13 +7,12 @@ ghost use Rattle.graph_numbers.specs.Sources.{source_value};
 ghost use Rattle.graph_numbers.specs.declared.source.Source.TheVariants as source;
 ghost use Rattle.block_cache.specs.Lanes.{LaneView, kinds_of};
 ghost use Rattle.expr_lanes.specs.Places.{is_in};
-ghost use Rattle.loop_keys.specs.Jobs.{job_of};
-ghost use Rattle.loop_keys.specs.Store.{row_of, site_in, source_at, version_in};
+ghost use Rattle.loop_keys.specs.Store.{row_of, site_in, version_in};
 ghost use Rattle.block_cache.specs.Blocks.{HasColumn};
-ghost use Rattle.block_passes.specs.Copying.{AreCopied, IsCopyOf};
-ghost use Rattle.block_passes.specs.Feeds.{AreLanesOf, CanGather, HasHeld, IsLaneOf};
-ghost use Rattle.block_passes.specs.Inputs.{AreAtHand, CanServe, IsAtHand, IsWhole};
+ghost use Rattle.block_passes.specs.Feeds.{AreLanesOf, HasHeld, IsLaneOf};
+ghost use Rattle.block_passes.specs.Inputs.{IsAtHand, IsWhole};
 ghost use Rattle.block_passes.specs.Turns.{IsOver, IsTurn};
+ghost use Rattle.block_passes.specs.InTurn.{AreCopiedInTurn, AreHeldInTurn, CanGatherInTurn, CanServeWith, IsCopyInTurn, source_in_turn, turn_job};
 
 use crate::copies::{Copied, Copies};
 use crate::turn::{ActionRead, Turn};
@@ -48,10 +47,10 @@ fn version_lane<'a: 's, 's>(
     under: Option<u32>,
 ) -> FedLane<'s>
     requires over { IsOver at.now lanes.now }
-    requires can { (scratch levels : ℕ) × CanServe (job_of at.now.job.now) at.now.first under at.now.count (kinds_of lanes.now) at.now.cells.now scratch levels version }
-    requires copied { IsCopyOf (job_of at.now.job.now) at.now.first under (kinds_of lanes.now) _selection.now version copied.now }
-    ensures { (p : ℕ) → p < at.now.count → is_in p _selection.now ≡ true → IsAtHand (job_of at.now.job.now) lanes.now under p (source_at (job_of at.now.job.now) under version)
-        → IsLaneOf (version_in {M = ⊥} (job_of at.now.job.now) (at.now.first + p) under version) result p }
+    requires can { (scratch levels : ℕ) × CanServeWith at.now under lanes.now scratch levels version }
+    requires copied { IsCopyInTurn at.now under lanes.now _selection.now version copied.now }
+    ensures { (p : ℕ) → p < at.now.count → is_in p _selection.now ≡ true → IsAtHand (turn_job at.now) lanes.now under p (source_in_turn at.now under version)
+        → IsLaneOf (version_in {M = ⊥} (turn_job at.now) (at.now.first + p) under version) result p }
 {
     match copied {
         Copied::Whole => whole_lane(at, lanes, version, under),
@@ -66,10 +65,10 @@ fn version_lane<'a: 's, 's>(
 /// The lane of a column of the table.
 pub(crate) fn cell_lane<'a>(at: &Turn<'a>, col: u32, _under: Option<u32>) -> FedLane<'a>
     requires there { col < length at.now.job.now.columns.now.table.columns }
-    requires numbers { kind_at at.now.job.now.columns.now.table.columns col ≡ Some kind.Int → HasColumn (job_of at.now.job.now) at.now.first at.now.count at.now.cells.now col }
+    requires numbers { kind_at at.now.job.now.columns.now.table.columns col ≡ Some kind.Int → HasColumn (turn_job at.now) at.now.first at.now.count at.now.cells.now col }
     requires turn { IsTurn at.now }
     ensures { (p : ℕ) → p < at.now.count
-        → IsLaneOf (source_value {M = ⊥} (row_of (job_of at.now.job.now) (at.now.first + p)) (site_in (job_of at.now.job.now) (at.now.first + p) _under) (source.Cell col)) result p }
+        → IsLaneOf (source_value {M = ⊥} (row_of (turn_job at.now) (at.now.first + p)) (site_in (turn_job at.now) (at.now.first + p) _under) (source.Cell col)) result p }
 {
     let columns = at.job.columns;
     match columns.columns()[col as usize].kind {
@@ -90,10 +89,10 @@ pub(crate) fn lane_in_place<'a: 's, 's>(
     under: Option<u32>,
 ) -> Option<FedLane<'s>>
     requires over { IsOver at.now lanes.now }
-    requires can { (scratch levels : ℕ) × CanServe (job_of at.now.job.now) at.now.first under at.now.count (kinds_of lanes.now) at.now.cells.now scratch levels version }
-    ensures given { IfSome result (λ lane. (p : ℕ) → p < at.now.count → IsAtHand (job_of at.now.job.now) lanes.now under p (source_at (job_of at.now.job.now) under version)
-        → IsLaneOf (version_in {M = ⊥} (job_of at.now.job.now) (at.now.first + p) under version) lane p) }
-    ensures whole { IsWhole (job_of at.now.job.now) under (kinds_of lanes.now) (source_at (job_of at.now.job.now) under version) → result ≡ None → ⊥ }
+    requires can { (scratch levels : ℕ) × CanServeWith at.now under lanes.now scratch levels version }
+    ensures given { IfSome result (λ lane. (p : ℕ) → p < at.now.count → IsAtHand (turn_job at.now) lanes.now under p (source_in_turn at.now under version)
+        → IsLaneOf (version_in {M = ⊥} (turn_job at.now) (at.now.first + p) under version) lane p) }
+    ensures whole { IsWhole (turn_job at.now) under (kinds_of lanes.now) (source_in_turn at.now under version) → result ≡ None → ⊥ }
 {
     let reading = Reading {
         job: at.job,
@@ -116,10 +115,10 @@ fn whole_lane<'a: 's, 's>(
     under: Option<u32>,
 ) -> FedLane<'s>
     requires over { IsOver at.now lanes.now }
-    requires can { (scratch levels : ℕ) × CanServe (job_of at.now.job.now) at.now.first under at.now.count (kinds_of lanes.now) at.now.cells.now scratch levels version }
-    requires whole { IsWhole (job_of at.now.job.now) under (kinds_of lanes.now) (source_at (job_of at.now.job.now) under version) }
-    ensures { (p : ℕ) → p < at.now.count → IsAtHand (job_of at.now.job.now) lanes.now under p (source_at (job_of at.now.job.now) under version)
-        → IsLaneOf (version_in {M = ⊥} (job_of at.now.job.now) (at.now.first + p) under version) result p }
+    requires can { (scratch levels : ℕ) × CanServeWith at.now under lanes.now scratch levels version }
+    requires whole { IsWhole (turn_job at.now) under (kinds_of lanes.now) (source_in_turn at.now under version) }
+    ensures { (p : ℕ) → p < at.now.count → IsAtHand (turn_job at.now) lanes.now under p (source_in_turn at.now under version)
+        → IsLaneOf (version_in {M = ⊥} (turn_job at.now) (at.now.first + p) under version) result p }
 {
     match lane_in_place(at, lanes, version, under) {
         Some(lane) => lane,
@@ -136,10 +135,10 @@ pub(crate) fn gather<'a: 's, 's>(
     own: &ActionRead<'_>,
 ) -> Sources<'s>
     requires over { IsOver at.now lanes.now }
-    requires can { CanGather (job_of at.now.job.now) at.now.first at.now.count (kinds_of lanes.now) at.now.cells.now own.now.kind.now own.now.inputs.now own.now.under }
-    requires copied { AreCopied (job_of at.now.job.now) at.now.first own.now.under (kinds_of lanes.now) selection.now own.now.inputs.now copies.now }
-    ensures { (p : ℕ) → p < at.now.count → is_in p selection.now ≡ true → AreAtHand (job_of at.now.job.now) lanes.now own.now.under own.now.inputs.now p
-        → AreLanesOf (for_all (version_in {M = ⊥} (job_of at.now.job.now) (at.now.first + p) own.now.under) own.now.inputs.now) own.now.kind.now result p }
+    requires can { CanGatherInTurn at.now own.now lanes.now }
+    requires copied { AreCopiedInTurn at.now own.now lanes.now selection.now copies.now }
+    ensures { (p : ℕ) → p < at.now.count → is_in p selection.now ≡ true → AreHeldInTurn at.now own.now lanes.now p
+        → AreLanesOf (for_all (version_in {M = ⊥} (turn_job at.now) (at.now.first + p) own.now.under) own.now.inputs.now) own.now.kind.now result p }
 {
     let inputs = own.inputs;
     let under = own.under;

@@ -1,5 +1,5 @@
 // The selections that the passes of a loop share.
-ghost use Rattle.std.specs.Prelude.{◌≡◌, ◌⊎◌, ◌<◌, ◌^◌, [], ◌++◌, ◌∷◌, List, IfOk, IfSome, OnErr, Some, length, slice_get, true};
+ghost use Rattle.std.specs.Prelude.{◌≡◌, ◌⊎◌, ◌<◌, ◌^◌, [], ◌++◌, ◌∷◌, List, IfOk, IfSome, Some, length, slice_get, true};
 ghost use Rattle.block_passes.specs.Steps.{AreSteps, Chain, IsLed, IsStepped};
 
 use rdf_values::{ListOf, Memory};

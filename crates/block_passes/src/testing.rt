@@ -3,12 +3,10 @@ ghost use Rattle.std.specs.Prelude.{◌≡◌, ◌<◌, ℕ, Bool, IfOk, OnErr, 
 ghost use Rattle.expr_lanes.specs.Places.{EachPlace};
 ghost use Rattle.actions.specs.Batches.{places_of};
 ghost use Rattle.loop_keys.specs.Plain.{ArePlain};
-ghost use Rattle.loop_keys.specs.Jobs.{job_of};
 ghost use Rattle.block_cache.specs.Fills.{fault_over};
-ghost use Rattle.block_cache.specs.Lanes.{kinds_of};
-ghost use Rattle.block_passes.specs.Feeds.{CanGather, of_batch, unfed};
-ghost use Rattle.block_passes.specs.Inputs.{AreAtHand, ArePlainSources, IsServedTo};
+ghost use Rattle.block_passes.specs.Feeds.{of_batch};
 ghost use Rattle.block_passes.specs.Turns.{IsKnown, IsOver, IsSelected, KeepsRoom};
+ghost use Rattle.block_passes.specs.InTurn.{AreHeldInTurn, ArePlainInTurn, CanGatherInTurn, IsServedInTurn, turn_job, unfed_in_turn};
 
 use crate::copies::copy_inputs;
 use crate::in_place::lanes_in_place;
@@ -49,11 +47,11 @@ fn first_unfed_copy(
     own: &ActionRead<'_>,
 ) -> Result<Option<PlaceFault>, Memory>
     requires over { IsOver at.now lanes.now }
-    requires can { CanGather (job_of at.now.job.now) at.now.first at.now.count (kinds_of lanes.now) at.now.cells.now own.now.kind.now own.now.inputs.now own.now.under }
+    requires can { CanGatherInTurn at.now own.now lanes.now }
     requires inside { EachPlace selection.now (λ p. p < at.now.count) }
-    requires hand { EachPlace selection.now (AreAtHand (job_of at.now.job.now) lanes.now own.now.under own.now.inputs.now) }
-    ensures fault { IfOk result (λ f. f ≡ fault_over (unfed (job_of at.now.job.now) at.now.first own.now.kind.now own.now.inputs.now own.now.under) selection.now) }
-    ensures plain { (used : ℕ → Bool) → ArePlain (job_of at.now.job.now) used → ArePlainSources (job_of at.now.job.now) used own.now.under own.now.inputs.now → OnErr result ⊥ }
+    requires hand { EachPlace selection.now (AreHeldInTurn at.now own.now lanes.now) }
+    ensures fault { IfOk result (λ f. f ≡ fault_over (unfed_in_turn at.now own.now) selection.now) }
+    ensures plain { (used : ℕ → Bool) → ArePlain (turn_job at.now) used → ArePlainInTurn at.now own.now used → OnErr result ⊥ }
 {
     let _few = selection.len();
     let copies = copy_inputs(at, lanes, selection, own)?;
@@ -71,11 +69,11 @@ fn first_unfed(
     own: &ActionRead<'_>,
 ) -> Result<Option<PlaceFault>, Memory>
     requires over { IsOver at.now lanes.now }
-    requires can { CanGather (job_of at.now.job.now) at.now.first at.now.count (kinds_of lanes.now) at.now.cells.now own.now.kind.now own.now.inputs.now own.now.under }
+    requires can { CanGatherInTurn at.now own.now lanes.now }
     requires inside { EachPlace selection.now (λ p. p < at.now.count) }
-    requires hand { EachPlace selection.now (AreAtHand (job_of at.now.job.now) lanes.now own.now.under own.now.inputs.now) }
-    ensures fault { IfOk result (λ f. f ≡ fault_over (unfed (job_of at.now.job.now) at.now.first own.now.kind.now own.now.inputs.now own.now.under) selection.now) }
-    ensures plain { (used : ℕ → Bool) → ArePlain (job_of at.now.job.now) used → ArePlainSources (job_of at.now.job.now) used own.now.under own.now.inputs.now → OnErr result ⊥ }
+    requires hand { EachPlace selection.now (AreHeldInTurn at.now own.now lanes.now) }
+    ensures fault { IfOk result (λ f. f ≡ fault_over (unfed_in_turn at.now own.now) selection.now) }
+    ensures plain { (used : ℕ → Bool) → ArePlain (turn_job at.now) used → ArePlainInTurn at.now own.now used → OnErr result ⊥ }
 {
     let _few = selection.len();
     let mut batch = Batch {
@@ -97,13 +95,13 @@ pub(crate) fn test_feeding(
     own: &ActionRead<'_>,
 ) -> Result<(), Memory>
     requires known { IsKnown at.now work.old }
-    requires can { CanGather (job_of at.now.job.now) at.now.first at.now.count (kinds_of work.old.lanes.items) at.now.cells.now own.now.kind.now own.now.inputs.now own.now.under }
+    requires can { CanGatherInTurn at.now own.now work.old.lanes.items }
     requires selected { IsSelected work.old.found.limit to.old }
-    requires hand { EachPlace to.old.places (AreAtHand (job_of at.now.job.now) work.old.lanes.items own.now.under own.now.inputs.now) }
-    ensures tested { OnOk result (IsServedTo (job_of at.now.job.now) at.now.first at.now.count (unfed (job_of at.now.job.now) at.now.first own.now.kind.now own.now.inputs.now own.now.under) at.now.pass to.old.places to.new work.old.lanes.items work.old.found work.new.found) }
+    requires hand { EachPlace to.old.places (AreHeldInTurn at.now own.now work.old.lanes.items) }
+    ensures tested { OnOk result (IsServedInTurn at.now (unfed_in_turn at.now own.now) to.old.places to.new work.old.lanes.items work.old.found work.new.found) }
     ensures lanes { work.new.lanes.items ≡ work.old.lanes.items }
     ensures room { KeepsRoom work.old work.new }
-    ensures plain { (used : ℕ → Bool) → ArePlain (job_of at.now.job.now) used → ArePlainSources (job_of at.now.job.now) used own.now.under own.now.inputs.now → OnErr result ⊥ }
+    ensures plain { (used : ℕ → Bool) → ArePlain (turn_job at.now) used → ArePlainInTurn at.now own.now used → OnErr result ⊥ }
 {
     let _rising = to.places.as_slice();
     // A single value that is there can be fed.

@@ -12,10 +12,10 @@ use Rattle.block_passes.proofs.Remaking.{made_set, remade_set, remade_then}
 use Rattle.block_passes.proofs.ServingInputs.{served_inside}
 use Rattle.block_passes.proofs.Leaving.{leaves_kept, leaves_then}
 use Rattle.block_passes.proofs.StepCases.{kept_inside}
-use Rattle.block_passes.proofs.StepLaws.{same_step}
 use Rattle.block_passes.proofs.TriedAction.{action_tried, gathers, has_step, last_there, read_plain, to_demanded, to_inside, to_limit}
 use Rattle.block_passes.proofs.PlainReads.{plain_reads}
 use Rattle.block_passes.proofs.action.try_action.Goals as goal
+use Rattle.loop_keys.proofs.PassNumbers.{some_same}
 
 pub last_step-last-requires : goal.last_step-last-requires
 last_step-last-requires g c = has_step (job_of c.args.at.now.job.now) c.requires.turn.fits.job c.args.at.now.first c.args.at.now.count c.args.at.now.pass c.args.at.now.plan.now c.requires.turn.plan c.requires.turn.within c.args.own.now.kind.now c.args.own.now.inputs.now c.args.own.now.under c.requires.action
@@ -88,7 +88,7 @@ returns-in-Ok-test_feeding-clause-made g c = λ l its.
     let a = c.in-Ok-test_feeding.ensures.tested.lowers.falls in
     let b = c.in-Ok-serve_inputs.ensures.served.lowers.falls in
     let within = (c.in-Ok.ensures.selected c.requires.turn.plan).ready.within in
-    let same : c.last_step-last.result ≡ l = same_step c.last_step-last.result l (sym c.last_step-last.ensures ∙ its) in
+    let same : c.last_step-last.result ≡ l = some_same c.last_step-last.result l (sym c.last_step-last.ensures ∙ its) in
     subst (λ (n : ℕ). IsMadeAt c.args.at.now.count (slice_set c.select_again.new.kept c.last_step-last.result c.test_feeding.new.to) n) same
     (made_set c.args.at.now.count c.select_again.new.kept c.last_step-last.result c.test_feeding.new.to lt (c.test_feeding.new.work.found.limit, c.in-Ok-test_feeding.ensures.tested.its_limit, omega (arith, a, b, within)))
 

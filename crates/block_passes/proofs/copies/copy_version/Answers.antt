@@ -2,11 +2,9 @@ use Rattle.std.proofs.Common.{◌∙◌, Some, ap, subst, sym}
 use Rattle.rdf_values.specs.declared.value.ColType.TheVariants as kind
 use Rattle.graph_numbers.specs.declared.source.Source.{Source}
 use Rattle.block_cache.specs.Lanes.{kinds_of}
-use Rattle.loop_keys.specs.Jobs.{job_graph, job_of}
-use Rattle.loop_keys.specs.Keys.{key}
-use Rattle.block_cache.proofs.CanTries.{got_kind}
+use Rattle.loop_keys.specs.Jobs.{job_of}
 use Rattle.block_passes.specs.Inputs.{IsPlainSource, IsServable, IsWhole}
-use Rattle.block_passes.proofs.ElementsHeld.{lane_there}
+use Rattle.block_passes.proofs.ElementsHeld.{lane_of_kind}
 use Rattle.block_passes.proofs.ElementKinds.{element_kind}
 use Rattle.block_passes.proofs.PlainReads.{no_vector}
 use Rattle.block_passes.proofs.copies.copy_version.Goals as goal
@@ -15,12 +13,10 @@ pub copy_vectors-requires-clause-vectors : goal.copy_vectors-requires-clause-vec
 copy_vectors-requires-clause-vectors g c =
     let j = job_of c.args.at.now.job.now in
     let kinds = kinds_of c.args.lanes.now in
+    let w = c.site_kind.ensures.expr in
     let e = c.source_under.ensures ∙ c.in-Site.is in
     let there = subst (λ (y : Source). IsServable j c.args.at.now.first c.args.under c.args.at.now.count kinds c.args.at.now.cells.now c.requires.can.0 c.requires.can.1 y) e c.requires.can.2.1 in
-    let lane = lane_there j c.args.at.now.first c.args.at.now.count c.args.under c.in-Site.site there.0 c.args.lanes.now c.requires.over.ready in
-    let got = got_kind c.args.lanes.now (key (job_graph j) c.in-Site.site c.args.under) lane.0 lane.1 in
-    let is = got ∙ ap Some (sym (c.site_kind.ensures.its kinds there.1.kinds_are lane.0.kind got) ∙ c.in-Vect.is) in
-    is
+    lane_of_kind j c.args.at.now.first c.args.at.now.count c.args.under c.in-Site.site there.0 c.args.lanes.now c.requires.over.ready w.0 w.1 there.1.kinds_are ∙ ap Some (sym w.2 ∙ c.in-Vect.is)
 
 pub copy_vectors-requires-clause-site : goal.copy_vectors-requires-clause-site
 copy_vectors-requires-clause-site g c =
@@ -31,12 +27,10 @@ pub returns-in_err-copy_vectors-in-Vect-clause-whole : goal.returns-in_err-copy_
 returns-in_err-copy_vectors-in-Vect-clause-whole g c = λ whole.
     let j = job_of c.args.at.now.job.now in
     let kinds = kinds_of c.args.lanes.now in
+    let w = c.site_kind.ensures.expr in
     let e = c.source_under.ensures ∙ c.in-Site.is in
     let there = subst (λ (y : Source). IsServable j c.args.at.now.first c.args.under c.args.at.now.count kinds c.args.at.now.cells.now c.requires.can.0 c.requires.can.1 y) e c.requires.can.2.1 in
-    let lane = lane_there j c.args.at.now.first c.args.at.now.count c.args.under c.in-Site.site there.0 c.args.lanes.now c.requires.over.ready in
-    let got = got_kind c.args.lanes.now (key (job_graph j) c.in-Site.site c.args.under) lane.0 lane.1 in
-    let is = got ∙ ap Some (sym (c.site_kind.ensures.its kinds there.1.kinds_are lane.0.kind got) ∙ c.in-Vect.is) in
-    absurd (subst (λ (y : Source). IsWhole j c.args.under kinds y) e whole is)
+    absurd (subst (λ (y : Source). IsWhole j c.args.under kinds y) e whole (lane_of_kind j c.args.at.now.first c.args.at.now.count c.args.under c.in-Site.site there.0 c.args.lanes.now c.requires.over.ready w.0 w.1 there.1.kinds_are ∙ ap Some (sym w.2 ∙ c.in-Vect.is)))
 
 pub returns-in-Cell-clause-copied : goal.returns-in-Cell-clause-copied
 returns-in-Cell-clause-copied g c =
@@ -47,10 +41,11 @@ pub returns-in-Int : goal.returns-in-Int
 returns-in-Int g c =
     let j = job_of c.args.at.now.job.now in
     let kinds = kinds_of c.args.lanes.now in
+    let w = c.site_kind.ensures.expr in
     let e = c.source_under.ensures ∙ c.in-Site.is in
     let there = subst (λ (y : Source). IsServable j c.args.at.now.first c.args.under c.args.at.now.count kinds c.args.at.now.cells.now c.requires.can.0 c.requires.can.1 y) e c.requires.can.2.1 in
     record {
-      copied = subst (λ (y : Source). IsWhole j c.args.under kinds y) (sym e) (λ q. no_vector c.site_kind.result c.in-Int.is (c.site_kind.ensures.its kinds there.1.kinds_are kind.Vect q));
+      copied = subst (λ (y : Source). IsWhole j c.args.under kinds y) (sym e) (λ q. no_vector c.site_kind.result c.in-Int.is (w.2 ∙ there.1.kinds_are c.in-Site.site c.args.under w.0 kind.Vect w.1 q));
       whole = λ w. tt;
       plain = λ used p source. tt;
     }

@@ -5,15 +5,18 @@ use Rattle.expr_lanes.specs.Places.{EachPlace}
 use Rattle.block_cache.specs.Lanes.{kinds_of}
 use Rattle.loop_keys.specs.Jobs.{job_of}
 use Rattle.block_passes.specs.Inputs.{AreAtHand, IsServedTo, inputs_fault}
-use Rattle.block_passes.proofs.ServingInputs.{empty_list, first_demanded, first_plain, inputs_held, inputs_served, none_held, none_served, rest_can, rest_demanded, rest_inside}
+use Rattle.block_passes.proofs.ServingInputs.{first_demanded, first_plain, inputs_held, inputs_served, none_clear, none_held, rest_can, rest_demanded, rest_inside}
 use Rattle.block_passes.proofs.Leaving.{leaves_then}
 use Rattle.block_passes.proofs.Spending.{spends_none}
 use Rattle.block_passes.proofs.inputs.+serve_each.Goals as goal
+use Rattle.block_passes.proofs.Serving.{none_served}
+use Rattle.std.proofs.lemmas.List.{nil_from_length}
 
 pub returns-in_default-clause-served : goal.returns-in_default-clause-served
 returns-in_default-clause-served g t c =
-    none_served (job_of c.args.at.now.job.now) c.args.at.now.first c.args.at.now.count c.args.under c.args.at.now.pass c.args.inputs.now (empty_list c.args.inputs.now c.in_default.ensures.cases) c.args.to.now c.args.work.now.lanes.items c.args.work.now.found
+    none_served (job_of c.args.at.now.job.now) c.args.at.now.first c.args.at.now.count (inputs_fault (job_of c.args.at.now.job.now) c.args.at.now.first c.args.under c.args.inputs.now) c.args.at.now.pass c.args.to.now c.args.work.now.lanes.items c.args.work.now.found
     c.requires.known.ready c.requires.selected.made c.requires.selected.inside c.requires.known.settled
+    (none_clear (job_of c.args.at.now.job.now) c.args.at.now.first c.args.under c.args.inputs.now (nil_from_length c.args.inputs.now c.in_default.ensures.cases) c.args.to.now.places)
 
 pub serve_version-requires-clause-demanded : goal.serve_version-requires-clause-demanded
 serve_version-requires-clause-demanded g t c = λ p T i all.
@@ -35,20 +38,22 @@ pub returns-in-Ok-clause-served : goal.returns-in-Ok-clause-served
 returns-in-Ok-clause-served g t c =
     let j = job_of c.args.at.now.job.now in
     let h = c.in-Ok.ensures.served in
-    let empty = empty_list c.in-Some.rest.now (let yes = c.if-is_empty.true in let is = c.is_empty.ensures in grind (arith, nat_tests, yes, is)) in
+    let empty = nil_from_length c.in-Some.rest.now (let yes = c.if-is_empty.true in let is = c.is_empty.ensures in grind (arith, nat_tests, yes, is)) in
     let none =
-    none_served j c.args.at.now.first c.args.at.now.count c.args.under c.args.at.now.pass c.in-Some.rest.now empty c.serve_version.new.to c.serve_version.new.work.lanes.items c.serve_version.new.work.found
-    h.ready h.its_limit (rest_inside j c.args.at.now.first c.args.under c.args.inputs.now c.in-Some.rest.now c.in-Some.version.now c.in-Some.ensures.cases.0 c.args.at.now.count c.args.at.now.pass c.args.to.now.places c.serve_version.new.to c.args.work.now.lanes.items c.serve_version.new.work.lanes.items c.args.work.now.found c.serve_version.new.work.found c.in-Ok.ensures.served) h.settled in
+    none_served j c.args.at.now.first c.args.at.now.count (inputs_fault j c.args.at.now.first c.args.under c.in-Some.rest.now) c.args.at.now.pass c.serve_version.new.to c.serve_version.new.work.lanes.items c.serve_version.new.work.found
+    h.ready h.its_limit (rest_inside j c.args.at.now.first c.args.under c.args.inputs.now c.in-Some.rest.now c.in-Some.version.now c.in-Some.ensures.cases.0 c.args.at.now.count c.args.at.now.pass c.args.to.now.places c.serve_version.new.to c.args.work.now.lanes.items c.serve_version.new.work.lanes.items c.args.work.now.found c.serve_version.new.work.found c.in-Ok.ensures.served) h.settled
+    (none_clear j c.args.at.now.first c.args.under c.in-Some.rest.now empty c.serve_version.new.to.places) in
     inputs_served j c.args.at.now.first c.args.under c.args.inputs.now c.in-Some.rest.now c.in-Some.version.now c.in-Some.ensures.cases.0 c.args.at.now.count c.args.at.now.pass c.args.to.now.places c.serve_version.new.to c.args.work.now.lanes.items c.serve_version.new.work.lanes.items c.args.work.now.found c.serve_version.new.work.found c.in-Ok.ensures.served c.serve_version.new.to c.serve_version.new.work.lanes.items c.serve_version.new.work.found none
 
 pub returns-in-Ok-clause-held : goal.returns-in-Ok-clause-held
 returns-in-Ok-clause-held g t c =
     let j = job_of c.args.at.now.job.now in
     let h = c.in-Ok.ensures.served in
-    let empty = empty_list c.in-Some.rest.now (let yes = c.if-is_empty.true in let is = c.is_empty.ensures in grind (arith, nat_tests, yes, is)) in
+    let empty = nil_from_length c.in-Some.rest.now (let yes = c.if-is_empty.true in let is = c.is_empty.ensures in grind (arith, nat_tests, yes, is)) in
     let none =
-    none_served j c.args.at.now.first c.args.at.now.count c.args.under c.args.at.now.pass c.in-Some.rest.now empty c.serve_version.new.to c.serve_version.new.work.lanes.items c.serve_version.new.work.found
-    h.ready h.its_limit (rest_inside j c.args.at.now.first c.args.under c.args.inputs.now c.in-Some.rest.now c.in-Some.version.now c.in-Some.ensures.cases.0 c.args.at.now.count c.args.at.now.pass c.args.to.now.places c.serve_version.new.to c.args.work.now.lanes.items c.serve_version.new.work.lanes.items c.args.work.now.found c.serve_version.new.work.found c.in-Ok.ensures.served) h.settled in
+    none_served j c.args.at.now.first c.args.at.now.count (inputs_fault j c.args.at.now.first c.args.under c.in-Some.rest.now) c.args.at.now.pass c.serve_version.new.to c.serve_version.new.work.lanes.items c.serve_version.new.work.found
+    h.ready h.its_limit (rest_inside j c.args.at.now.first c.args.under c.args.inputs.now c.in-Some.rest.now c.in-Some.version.now c.in-Some.ensures.cases.0 c.args.at.now.count c.args.at.now.pass c.args.to.now.places c.serve_version.new.to c.args.work.now.lanes.items c.serve_version.new.work.lanes.items c.args.work.now.found c.serve_version.new.work.found c.in-Ok.ensures.served) h.settled
+    (none_clear j c.args.at.now.first c.args.under c.in-Some.rest.now empty c.serve_version.new.to.places) in
     inputs_held j c.args.at.now.first c.args.under c.args.inputs.now c.in-Some.rest.now c.in-Some.version.now c.in-Some.ensures.cases.0 c.args.at.now.count c.args.at.now.pass c.args.to.now.places c.serve_version.new.to c.args.work.now.lanes.items c.serve_version.new.work.lanes.items c.args.work.now.found c.serve_version.new.work.found c.in-Ok.ensures.served c.serve_version.new.to c.serve_version.new.work.lanes.items c.serve_version.new.work.found none c.serve_version.new.steps c.serve_version.new.steps
     (spends_none j c.args.at.now.first c.args.at.now.count c.serve_version.new.work.lanes.items c.serve_version.new.steps) c.in-Ok.ensures.held (none_held j c.serve_version.new.work.lanes.items c.args.under c.in-Some.rest.now empty c.serve_version.new.to.places)
 

@@ -2,8 +2,8 @@ use Rattle.std.proofs.Common.{List, arith, length, subst, sym}
 use Rattle.std.specs.List.{AllByRecursion}
 use Rattle.block_cache.specs.Lanes.{LaneView, kinds_of}
 use Rattle.loop_keys.specs.Jobs.{job_of}
-use Rattle.block_passes.specs.Inputs.{CanServe}
-use Rattle.block_passes.proofs.ServingInputs.{clear_served}
+use Rattle.block_passes.specs.Inputs.{CanServe, inputs_fault}
+use Rattle.block_passes.proofs.Serving.{none_served}
 use Rattle.block_passes.proofs.inputs.serve_inputs.Goals as goal
 
 pub are_at_hand-requires-clause-can : goal.are_at_hand-requires-clause-can
@@ -20,5 +20,5 @@ are_at_hand-requires-clause-inside g c = λ p i. let low = c.requires.selected.i
 
 pub returns-then-are_at_hand-clause-served : goal.returns-then-are_at_hand-clause-served
 returns-then-are_at_hand-clause-served g c =
-    clear_served (job_of c.args.at.now.job.now) c.args.at.now.first c.args.at.now.count c.args.under c.args.at.now.pass c.args.inputs.now c.args.to.now c.args.work.now.lanes.items c.args.work.now.found
+    none_served (job_of c.args.at.now.job.now) c.args.at.now.first c.args.at.now.count (inputs_fault (job_of c.args.at.now.job.now) c.args.at.now.first c.args.under c.args.inputs.now) c.args.at.now.pass c.args.to.now c.args.work.now.lanes.items c.args.work.now.found
     c.requires.known.ready c.requires.selected.made c.requires.selected.inside c.requires.known.settled (c.are_at_hand.ensures.clear c.if-are_at_hand.true)

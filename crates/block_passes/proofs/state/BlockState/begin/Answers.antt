@@ -1,11 +1,12 @@
-use Rattle.std.proofs.Common.{◌-◌, ◌∙◌, ap, arith, length, subst, sym}
+use Rattle.std.proofs.Common.{◌-◌, ◌∙◌, ap, arith, length, subst, sym, refl}
 use Rattle.std.proofs.lemmas.List.{with_items_is}
 use Rattle.block_cache.specs.Lanes.{kinds_of, rooms_of}
 use Rattle.loop_keys.specs.Jobs.{job_of}
 use Rattle.block_passes.specs.States.{IsStateOf, StateView}
 use Rattle.block_passes.specs.contracts.state.BlockState.{the_view}
-use Rattle.block_passes.proofs.BegunBlocks.{is_begun, state_now}
+use Rattle.block_passes.proofs.BegunBlocks.{is_begun}
 use Rattle.block_passes.proofs.state.BlockState.begin.Goals as goal
+use Rattle.block_passes.proofs.StateStays.{state_stays}
 
 pub returns-clause-state : goal.returns-clause-state
 returns-clause-state g c =
@@ -14,8 +15,8 @@ returns-clause-state g c =
     let lanes = with_items_is c.self.inside.work.lanes c.begin_block.new.lanes (let a = c.begin_block.auto.lanes in let b = c.deref_mut-2.ensures.len in omega (arith, a, b)) in
     let kept = with_items_is c.self.inside.kept c.forget.new.kept (let a = c.forget.auto.kept in let b = c.deref_mut-3.ensures.len in omega (arith, a, b)) in
     rw (cells, lanes, kept)
-    (state_now j (the_view c.self.inside) (subst (λ (v : StateView). IsStateOf j v) (sym c.self.view_is) c.requires.state) c.load_columns.new.cells (c.load_columns.ensures.many ∙ ap length c.deref_mut.ensures.value) c.load_columns.ensures.room c.begin_block.new.lanes
-    (c.begin_block.ensures.kinds ∙ ap kinds_of c.deref_mut-2.ensures.value) (c.begin_block.ensures.rooms ∙ ap rooms_of c.deref_mut-2.ensures.value) c.begin-self-inside.result c.forget.new.kept (c.forget.ensures.many ∙ ap length c.deref_mut-3.ensures.value))
+    (state_stays j (the_view c.self.inside) c.load_columns.new.cells c.begin_block.new.lanes (the_view c.self.inside).scratch (the_view c.self.inside).levels c.begin-self-inside.result c.forget.new.kept (subst (λ (v : StateView). IsStateOf j v) (sym c.self.view_is) c.requires.state) (c.load_columns.ensures.many ∙ ap length c.deref_mut.ensures.value) c.load_columns.ensures.room
+    (c.begin_block.ensures.kinds ∙ ap kinds_of c.deref_mut-2.ensures.value) (c.begin_block.ensures.rooms ∙ ap rooms_of c.deref_mut-2.ensures.value) refl refl (c.forget.ensures.many ∙ ap length c.deref_mut-3.ensures.value))
 
 pub returns-clause-begun : goal.returns-clause-begun
 returns-clause-begun g c =
@@ -24,8 +25,8 @@ returns-clause-begun g c =
     let lanes = with_items_is c.self.inside.work.lanes c.begin_block.new.lanes (let a = c.begin_block.auto.lanes in let b = c.deref_mut-2.ensures.len in omega (arith, a, b)) in
     let kept = with_items_is c.self.inside.kept c.forget.new.kept (let a = c.forget.auto.kept in let b = c.deref_mut-3.ensures.len in omega (arith, a, b)) in
     let state =
-    state_now j (the_view c.self.inside) (subst (λ (v : StateView). IsStateOf j v) (sym c.self.view_is) c.requires.state) c.load_columns.new.cells (c.load_columns.ensures.many ∙ ap length c.deref_mut.ensures.value) c.load_columns.ensures.room c.begin_block.new.lanes
-    (c.begin_block.ensures.kinds ∙ ap kinds_of c.deref_mut-2.ensures.value) (c.begin_block.ensures.rooms ∙ ap rooms_of c.deref_mut-2.ensures.value) c.begin-self-inside.result c.forget.new.kept (c.forget.ensures.many ∙ ap length c.deref_mut-3.ensures.value) in
+    state_stays j (the_view c.self.inside) c.load_columns.new.cells c.begin_block.new.lanes (the_view c.self.inside).scratch (the_view c.self.inside).levels c.begin-self-inside.result c.forget.new.kept (subst (λ (v : StateView). IsStateOf j v) (sym c.self.view_is) c.requires.state) (c.load_columns.ensures.many ∙ ap length c.deref_mut.ensures.value) c.load_columns.ensures.room
+    (c.begin_block.ensures.kinds ∙ ap kinds_of c.deref_mut-2.ensures.value) (c.begin_block.ensures.rooms ∙ ap rooms_of c.deref_mut-2.ensures.value) refl refl (c.forget.ensures.many ∙ ap length c.deref_mut-3.ensures.value) in
     let some = c.requires.some in
     let inside = c.requires.inside in
     rw (cells, lanes, kept)

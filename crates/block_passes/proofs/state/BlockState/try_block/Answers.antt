@@ -1,4 +1,4 @@
-use Rattle.std.proofs.Common.{arith, List, ◌-◌, ◌∙◌, ap, length, subst, sym, ℤ}
+use Rattle.std.proofs.Common.{arith, List, ◌-◌, ◌∙◌, ap, length, subst, sym, ℤ, refl}
 use Rattle.std.specs.Vec.{with_items}
 use Rattle.std.proofs.lemmas.List.{with_items_is}
 use Rattle.block_cache.specs.Lanes.{kinds_of}
@@ -30,9 +30,9 @@ returns-clause-state g c =
     let many = c.try_begun.ensures.kept in
     let same = ap length c.deref_mut.ensures.value in
     let is = with_items_is c.self.inside.kept c.try_begun.new.kept (omega (arith, len, many, same)) in
-    state_stays (job_of c.args.job.now) (the_view c.self.inside) c.try_begun.new.work.lanes.items (length c.try_begun.new.work.scratch.items) (length c.try_begun.new.work.levels.items) c.try_begun.new.work.found (with_items c.self.inside.kept c.try_begun.new.kept).items
-    (subst (λ (s : StateView). IsStateOf (job_of c.args.job.now) s) (sym c.self.view_is) c.begin.ensures.state)
-    c.try_begun.ensures.kinds c.try_begun.ensures.rooms c.try_begun.ensures.room.scratch c.try_begun.ensures.room.levels (ap length is ∙ many ∙ same)
+    let state = subst (λ (s : StateView). IsStateOf (job_of c.args.job.now) s) (sym c.self.view_is) c.begin.ensures.state in
+    state_stays (job_of c.args.job.now) (the_view c.self.inside) (the_view c.self.inside).cells c.try_begun.new.work.lanes.items (length c.try_begun.new.work.scratch.items) (length c.try_begun.new.work.levels.items) c.try_begun.new.work.found (with_items c.self.inside.kept c.try_begun.new.kept).items
+    state refl state.cell_room c.try_begun.ensures.kinds c.try_begun.ensures.rooms c.try_begun.ensures.room.scratch c.try_begun.ensures.room.levels (ap length is ∙ many ∙ same)
 
 pub returns-clause-tried : goal.returns-clause-tried
 returns-clause-tried g c =
