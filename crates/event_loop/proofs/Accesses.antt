@@ -69,8 +69,11 @@ pushed_items b xs ys zs h e = h ∙ ap (λ (t : Bool). if t then xs else zs) e
 
 -- ---- sessions
 
-pub advanced : (s : SessionView) (n : ℕ) → IsSession s → (s.fault ≡ None → length s.loops ≡ loops_before (history s.graph.script) n) → IsSession (record s { next = n })
-advanced s n is turn = record {
+-- the parts stay
+changed : (s : SessionView) (n : ℕ) (loops : List FilledLoop) (fault : Option Kept) → IsSession s → ((l : ℕ) (f : FilledLoop) → slice_get loops l ≡ Some f → IsFilled (job_facts (session_job s l)) s.watch f)
+    → length loops ≤ length (loop_results (history s.graph.script)) → (fault ≡ None → length loops ≡ loops_before (history s.graph.script) n) → IfSome fault (IsKept (record s { next = n; loops = loops; fault = fault }))
+    → IsSession (record s { next = n; loops = loops; fault = fault })
+changed s n loops fault is filled few turn kept = record {
   graph = is.graph;
   booked = is.booked;
   table = is.table;
@@ -78,29 +81,21 @@ advanced s n is turn = record {
   words = is.words;
   slots = is.slots;
   watch = is.watch;
-  filled = is.filled;
-  few = is.few;
+  filled = filled;
+  few = few;
   turn = turn;
-  kept = IfSome_then s.fault is.kept (λ (k : Kept) h. record { number = h.number; there = h.there; first = h.first });
+  kept = kept;
 }
+
+pub advanced : (s : SessionView) (n : ℕ) → IsSession s → (s.fault ≡ None → length s.loops ≡ loops_before (history s.graph.script) n) → IsSession (record s { next = n })
+advanced s n is turn = changed s n s.loops s.fault is is.filled is.few turn (IfSome_then s.fault is.kept (λ (k : Kept) h. record { number = h.number; there = h.there; first = h.first }))
 
 pub pushed : (s : SessionView) (n : ℕ) (f : FilledLoop) (loops : List FilledLoop) → IsSession s → s.fault ≡ None → loops ≡ s.loops ++ f ∷ [] → IsFilled (job_facts (session_job s (length s.loops))) s.watch f
     → length s.loops < length (loop_results (history s.graph.script)) → length s.loops + 1 ≡ loops_before (history s.graph.script) n → IsSession (record s { next = n; loops = loops })
 pushed s n f loops is sound joined filled there turn =
     let many = ap (λ (l : List FilledLoop). length l) joined ∙ length-append s.loops (f ∷ []) in
-    record {
-      graph = is.graph;
-      booked = is.booked;
-      table = is.table;
-      cuts = is.cuts;
-      words = is.words;
-      slots = is.slots;
-      watch = is.watch;
-      filled = λ l g at. go l g (before_or_last s.loops f l g (ap (λ (x : List FilledLoop). slice_get x l) (sym joined) ∙ at));
-      few = omega (arith, many, there);
-      turn = λ e. many ∙ turn;
-      kept = subst (λ (o : Option Kept). IfSome o (IsKept (record s { next = n; loops = loops }))) (sym sound) tt;
-    }
+    changed s n loops s.fault is (λ l g at. go l g (before_or_last s.loops f l g (ap (λ (x : List FilledLoop). slice_get x l) (sym joined) ∙ at))) (omega (arith, many, there)) (λ e. many ∙ turn)
+    (subst (λ (o : Option Kept). IfSome o (IsKept (record s { next = n; loops = loops }))) (sym sound) tt)
   where
     go : (l : ℕ) (g : FilledLoop) → (slice_get s.loops l ≡ Some g) ⊎ ((l ≡ length s.loops) × (f ≡ g)) → IsFilled (job_facts (session_job s l)) s.watch g
     go l g (inl q) = is.filled l g q
@@ -108,19 +103,7 @@ pushed s n f loops is sound joined filled there turn =
 
 pub faulted : (s : SessionView) (n : ℕ) (k : Kept) → IsSession s → k.loop_index ≡ length s.loops → k.loop_index < length (loop_results (history s.graph.script)) → first_fault s.dataset (passes_in (session_job s k.loop_index)) ≡ Some k.fault
     → IsSession (record s { next = n; fault = Some k })
-faulted s n k is number there first = record {
-  graph = is.graph;
-  booked = is.booked;
-  table = is.table;
-  cuts = is.cuts;
-  words = is.words;
-  slots = is.slots;
-  watch = is.watch;
-  filled = is.filled;
-  few = is.few;
-  turn = λ e. absurd (cc);
-  kept = record { number = number; there = there; first = first };
-}
+faulted s n k is number there first = changed s n s.loops (Some k) is is.filled is.few (λ e. absurd (cc)) (record { number = number; there = there; first = first })
 
 -- ---- a Print
 

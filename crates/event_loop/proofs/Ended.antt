@@ -15,13 +15,14 @@ use Rattle.merge_core.proofs.Faults.{Among, Told, told_nothing, told_both, first
 use Rattle.merge_core.proofs.Holding.{only}
 use Rattle.slot_words.specs.Seats.{ClaimsSeen, SeatSeen, IsLeast, IsPassed, last_of}
 use Rattle.slot_words.specs.Shares.{BookSeen}
+use Rattle.slot_words.specs.SeatEnds.{MetBar, RanOut}
 use Rattle.event_loop.specs.Jobs.{JobFacts}
 use Rattle.event_loop.specs.Slots.{SlotView}
 use Rattle.event_loop.specs.declared.workers.Finished.{Finished}
 use Rattle.event_loop.specs.declared.workers.Slot.{Slot}
 use Rattle.event_loop.specs.declared.workers.End.{End}
 use Rattle.event_loop.specs.declared.workers.End.TheVariants.{Over, Faulted, NoMemory}
-use Rattle.event_loop.specs.Workers.{HasWorked, MetBar, RanOut, Stopped}
+use Rattle.event_loop.specs.Workers.{HasWorked, Stopped}
 use Rattle.event_loop.specs.Gathered.{AreDone, AreFacts, HasMemory, HasStopped, IsDone, IsServed, done_in, done_or_none, end_faults, fault_of, finished_by, seat_in}
 
 -- the clusters that each slot drew
@@ -34,7 +35,7 @@ IsKept clusters word s = IfSome s.kept (λ k. (clusters ≤ k) × (k < word))
 
 module _ (c : ClaimsSeen) (b : Option BookSeen) (job : JobFacts) (bar : ℕ) where
   abbrev pub Ran : Finished → Type 0
-  Ran f = HasStopped c b job f
+  Ran f = HasStopped (record { claims = c; book = b }) job f
 
   -- the last of a list, which isn't among the others
   last_is : (k n : ℕ) (done drawn : List ℕ) → drawn ≡ done ++ n ∷ [] → 0 < times k drawn → times k done ≤ 0 → n ≡ k

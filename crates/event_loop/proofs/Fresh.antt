@@ -5,20 +5,16 @@ use Rattle.std.specs.List.{All, range_with_len}
 use Rattle.std.proofs.lemmas.List.{length-map}
 use Rattle.std.proofs.lemmas.List.FromFn.{length-range_with_len}
 use Rattle.std.proofs.lemmas.List.Elements.{All-map, All-nil, All-push, All-pop}
-use Rattle.slot_words.specs.Seats.{ClaimsSeen, SeatSeen, fresh_seat, fresh_seats}
+use Rattle.slot_words.specs.Seats.{SeatSeen}
 use Rattle.slot_words.specs.Shares.{BookSeen, ShareSeen, fresh_share, fresh_shares}
+use Rattle.slot_words.specs.SeatEnds.{IsReady}
+use Rattle.event_loop.specs.declared.workers.Shared.{Shared}
 use Rattle.event_loop.specs.declared.workers.Slot.{Slot}
 use Rattle.event_loop.specs.Seated.{AreBlank, IsBlank}
-use Rattle.event_loop.specs.Workers.{HasNoted, IsFresh, IsReady}
-
-pub many_seats : (c : ClaimsSeen) (n : ℕ) → length (fresh_seats c n) ≡ n
-many_seats c n = length-map (range_with_len 0 n) (fresh_seat c) ∙ length-range_with_len 0 n
+use Rattle.event_loop.specs.Workers.{HasNoted, IsFresh}
 
 many_shares : (b : BookSeen) (n : ℕ) → length (fresh_shares b n) ≡ n
 many_shares b n = length-map (range_with_len 0 n) (fresh_share b) ∙ length-range_with_len 0 n
-
-pub all_ready : (c : ClaimsSeen) (n : ℕ) → All (IsReady c) (fresh_seats c n)
-all_ready c n = All-map (IsReady c) (fresh_seat c) (range_with_len 0 n) (λ k d lt. record { of = (refl, refl); undrawn = refl; unkept = refl; unpassed = refl; unlowered = refl })
 
 pub all_blank : (b : BookSeen) (n : ℕ) (shares : List ShareSeen) → shares ≡ fresh_shares b n → AreBlank (Some b) n shares
 all_blank b n shares is = (ap length is ∙ many_shares b n, subst (All (IsBlank b)) (sym is) (All-map (IsBlank b) (fresh_share b) (range_with_len 0 n) (λ k d lt. record { of = (refl, refl); unnoted = refl })))
@@ -44,27 +40,27 @@ next_share (Some b) n old new (Some s) blank popped some =
     ((all.1.of, ap length all.1.unnoted), (omega (arith, ap length popped, length-append new (s ∷ [])), all.0))
 
 -- what is left, and what is seated
-pub record AreSeated (c : ClaimsSeen) (b : Option BookSeen) (seats : List SeatSeen) (shares : List ShareSeen) (slots : List Slot) : Type 0 where
-  pub ready : All (IsReady c) seats
-  pub blank : AreBlank b (length seats) shares
-  pub done : All (IsFresh c b) slots
+pub record AreSeated (shared : Shared) (seats : List SeatSeen) (shares : List ShareSeen) (slots : List Slot) : Type 0 where
+  pub ready : All (IsReady shared.claims) seats
+  pub blank : AreBlank shared.book (length seats) shares
+  pub done : All (IsFresh shared) slots
 
-pub none_seated : (c : ClaimsSeen) (b : Option BookSeen) (seats : List SeatSeen) (shares : List ShareSeen) → All (IsReady c) seats → AreBlank b (length seats) shares → AreSeated c b seats shares []
-none_seated c b seats shares ready blank = record { ready = ready; blank = blank; done = All-nil (IsFresh c b) }
+pub none_seated : (shared : Shared) (seats : List SeatSeen) (shares : List ShareSeen) → All (IsReady shared.claims) seats → AreBlank shared.book (length seats) shares → AreSeated shared seats shares []
+none_seated shared seats shares ready blank = record { ready = ready; blank = blank; done = All-nil (IsFresh shared) }
 
-pub next_seated : (c : ClaimsSeen) (b : Option BookSeen) (seats seats' : List SeatSeen) (shares shares' : List ShareSeen) (slots slots' : List Slot) (seat : SeatSeen) (share : Option ShareSeen) (slot : Slot)
-    → AreSeated c b seats shares slots → seats ≡ seats' ++ seat ∷ [] → shares ≡ shares' ++ option_to_list share → (share ≡ None → length shares ≡ 0)
+pub next_seated : (shared : Shared) (seats seats' : List SeatSeen) (shares shares' : List ShareSeen) (slots slots' : List Slot) (seat : SeatSeen) (share : Option ShareSeen) (slot : Slot)
+    → AreSeated shared seats shares slots → seats ≡ seats' ++ seat ∷ [] → shares ≡ shares' ++ option_to_list share → (share ≡ None → length shares ≡ 0)
     → slots' ≡ slots ++ slot ∷ [] → slot.seat ≡ seat → slot.share ≡ share
-    → AreSeated c b seats' shares' slots'
-next_seated c b seats seats' shares shares' slots slots' seat share slot h seats_are shares_are none slots_are seat_is share_is =
-    let ready = All-pop (IsReady c) seats seats' (Some seat) seats_are h.ready in
+    → AreSeated shared seats' shares' slots'
+next_seated shared seats seats' shares shares' slots slots' seat share slot h seats_are shares_are none slots_are seat_is share_is =
+    let ready = All-pop (IsReady shared.claims) seats seats' (Some seat) seats_are h.ready in
     let many : length seats ≡ length seats' + 1 = omega (arith, ap length seats_are, length-append seats' (seat ∷ [])) in
-    let noted = next_share b (length seats') shares shares' share (subst (λ (n : ℕ). AreBlank b n shares) many h.blank) shares_are none in
+    let noted = next_share shared.book (length seats') shares shares' share (subst (λ (n : ℕ). AreBlank shared.book n shares) many h.blank) shares_are none in
     record {
       ready = ready.0;
       blank = noted.1;
-      done = subst (All (IsFresh c b)) (sym slots_are) (All-push (IsFresh c b) slots slot h.done record {
-        seat = subst (IsReady c) (sym seat_is) ready.1;
-        share = subst (HasNoted b 0) (sym share_is) noted.0;
+      done = subst (All (IsFresh shared)) (sym slots_are) (All-push (IsFresh shared) slots slot h.done record {
+        seat = subst (IsReady shared.claims) (sym seat_is) ready.1;
+        share = subst (HasNoted shared.book 0) (sym share_is) noted.0;
       });
     }

@@ -1,6 +1,5 @@
 -- What is known of a whole loop.
-use Rattle.std.proofs.Common.{◌≡◌, ℕ, ◌<◌, ◌≤◌, List, length, Option, None, Some, sym, ap, ◌∙◌, subst, arith}
-use Rattle.std.specs.List.{All}
+use Rattle.std.proofs.Common.{◌≡◌, ℕ, ◌<◌, ◌≤◌, List, length, Option, None, Some, sym, ◌∙◌, subst, arith}
 use Rattle.std.proofs.lemmas.List.{length-map}
 use Rattle.rdf_values.specs.Cuts.{Lead, below}
 use Rattle.rdf_values.specs.Machine.{first_in}
@@ -8,7 +7,7 @@ use Rattle.rdf_values.specs.declared.fault.Fault.{Fault}
 use Rattle.rdf_values.proofs.Below.{length-below}
 use Rattle.rdf_values.proofs.Leading.{cuts_lead}
 use Rattle.columns.proofs.Leading.{few_ranges}
-use Rattle.slot_words.specs.Seats.{ClaimsSeen, SeatSeen, fresh_seats}
+use Rattle.slot_words.specs.Seats.{ClaimsSeen}
 use Rattle.slot_words.specs.Shares.{BookSeen}
 use Rattle.loop_keys.specs.Jobs.{IsJob, JobView, passes_in}
 use Rattle.loop_pieces.specs.Whole.{cluster_fault}
@@ -23,8 +22,7 @@ use Rattle.event_loop.specs.Ends.{IsFilled}
 use Rattle.event_loop.specs.Filling.{AreFilled, CanFill, IsBookOf, dones_of, orders_of}
 use Rattle.event_loop.specs.Gathered.{AreFacts, IsOutcome}
 use Rattle.event_loop.specs.Seated.{IsOpened}
-use Rattle.event_loop.specs.Workers.{IsReady}
-use Rattle.event_loop.proofs.Fresh.{all_ready, many_seats}
+use Rattle.event_loop.specs.Workers.{HasRoom}
 
 -- no more clusters than entries
 pub few_clusters : (j : JobView) (n : ℕ) → n ≡ length (job_spans j) → j.cuts.entries ≤ 1000000 → n ≤ 1000000
@@ -37,23 +35,22 @@ facts_of j n job is = record {
   order = lower_clusters_fault_first j.dataset (job_spans j) (passes_in j) (subst (λ (k : ℕ). Lead 0 k (job_spans j)) job.cuts (cuts_lead j.cuts.entries j.cuts.size j.cuts.marks));
 }
 
-pub seats_ready : (c : ClaimsSeen) (n : ℕ) (seats : List SeatSeen) → seats ≡ fresh_seats c n → All (IsReady c) seats
-seats_ready c n seats is = subst (All (IsReady c)) (sym is) (all_ready c n)
-
-pub seats_many : (c : ClaimsSeen) (n : ℕ) (seats : List SeatSeen) → seats ≡ fresh_seats c n → length seats ≡ n
-seats_many c n seats is = ap length is ∙ many_seats c n
-
 booked_for : (o : Option BookSeen) (watched slots clusters n : ℕ) → IsOpened watched slots clusters o → n ≡ slots → IsBookOf watched n o
 booked_for None watched slots clusters n h is = h
 booked_for (Some b) watched slots clusters n h is = h.0 ∙ sym is
 
+-- a book that was opened for so many clusters has room for them
+pub has_room : (o : Option BookSeen) (watched slots clusters n : ℕ) → IsOpened watched slots clusters o → n ≡ clusters → HasRoom n o
+has_room None watched slots clusters n h is = tt
+has_room (Some b) watched slots clusters n h is = let same = h.1 in omega arith
+
 -- the outcome where all clusters are processed
-pub can_fill : (o : Option BookSeen) (watched slots clusters n : ℕ) (job : JobFacts) (end : Outcome) (ds : _)
-    → AreFacts clusters job → IsOutcome o job n end → end ≡ outcome.Processed ds → n ≡ slots → 0 < slots → length job.watched ≡ watched → IsOpened watched slots clusters o
+pub can_fill : (o : Option BookSeen) (c : ClaimsSeen) (watched slots clusters : ℕ) (job : JobFacts) (end : Outcome) (ds : _)
+    → AreFacts c.clusters job → c.clusters ≡ clusters → c.slots ≡ slots → IsOutcome o job c.slots end → end ≡ outcome.Processed ds → 0 < slots → length job.watched ≡ watched → IsOpened watched slots clusters o
     → CanFill o watched clusters job ds.items
-can_fill o watched slots clusters n job end ds facts ended is many some watches opened =
-    let e = subst (IsOutcome o job n) is ended in
-    record { facts = facts; done = e.1; some = omega (arith, e.2); watches = watches; booked = booked_for o watched slots clusters (length ds.items) opened (e.2 ∙ many) }
+can_fill o c watched slots clusters job end ds facts same many ended is some watches opened =
+    let e = subst (IsOutcome o job c.slots) is ended in
+    record { facts = subst (λ (n : ℕ). AreFacts n job) same facts; done = e.1; some = omega (arith, e.2); watches = watches; booked = booked_for o watched slots clusters (length ds.items) opened (e.2 ∙ many) }
 
 pub first_is : (o : Option BookSeen) (n : ℕ) (job : JobFacts) (end : Outcome) (fault : Fault) → IsOutcome o job n end → end ≡ outcome.Faulted fault → first_in job.faults ≡ Some fault
 first_is o n job end fault ended is = subst (IsOutcome o job n) is ended

@@ -4,7 +4,7 @@ use Rattle.rdf_values.specs.Cuts.{below}
 use Rattle.rdf_values.specs.Draws.{IsUnion}
 use Rattle.rdf_values.specs.Machine.{AreInEntryOrder, first_in}
 use Rattle.rdf_values.specs.declared.fault.Fault.{Fault}
-use Rattle.slot_words.specs.Seats.{ClaimsSeen, SeatSeen}
+use Rattle.slot_words.specs.Seats.{SeatSeen}
 use Rattle.slot_words.specs.Shares.{BookSeen, ShareSeen}
 use Rattle.event_loop.specs.Jobs.{JobFacts}
 use Rattle.event_loop.specs.Slots.{IsSlotOf}
@@ -16,6 +16,7 @@ use Rattle.event_loop.specs.declared.gather.Outcome.TheVariants as outcome
 use Rattle.event_loop.specs.declared.workers.Finished.{Finished}
 use Rattle.event_loop.specs.declared.workers.End.{End}
 use Rattle.event_loop.specs.declared.workers.End.TheVariants.{Over, Faulted, NoMemory}
+use Rattle.event_loop.specs.declared.workers.Shared.{Shared}
 
 -- the fault with which a slot stopped
 abbrev pub fault_of : End → List Fault
@@ -51,8 +52,8 @@ abbrev pub done_in : Finished → List Done
 done_in f = done_or_none f.end f.slot.share
 
 -- the slot ran and stopped
-abbrev pub HasStopped : ClaimsSeen → Option BookSeen → JobFacts → Finished → Type 0
-HasStopped c b job f = HasRun c b job f.end f.slot
+abbrev pub HasStopped : Shared → JobFacts → Finished → Type 0
+HasStopped shared job f = HasRun shared job f.end f.slot
 
 -- the job has so many clusters, and a fault of a lower one has a lower entry
 pub record AreFacts (clusters : ℕ) (job : JobFacts) : Type 0 where

@@ -1,14 +1,19 @@
 -- What a worker is given, and what it gives back.
-use Rattle.std.specs.Prelude.{◌≡◌, ◌<◌, ◌≤◌, ◌⊎◌, ⊤, ℕ, List, [], ◌∷◌, ◌++◌, Option, Some, None, IsSomeAnd, length, slice_get}
+use Rattle.std.specs.Prelude.{◌≡◌, ◌<◌, ◌≤◌, ◌⊎◌, ⊤, ℕ, List, [], ◌∷◌, ◌++◌, Option, Some, None, length, slice_get}
+use Rattle.rdf_values.specs.Path.{history}
 use Rattle.rdf_values.specs.Times.{times}
+use Rattle.rdf_values.specs.Words.{StatementsHaveWords}
 use Rattle.rdf_values.specs.declared.fault.Fault.{Fault}
-use Rattle.slot_words.specs.Seats.{ClaimsSeen, SeatSeen}
+use Rattle.loop_keys.specs.Jobs.{JobView}
+use Rattle.slot_words.specs.Seats.{ClaimsSeen}
 use Rattle.slot_words.specs.Seats as claims
 use Rattle.slot_words.specs.Shares.{BookSeen, ShareSeen}
 use Rattle.slot_words.specs.Shares as book
-use Rattle.event_loop.specs.Jobs.{JobFacts}
+use Rattle.slot_words.specs.SeatEnds.{IsReady, MetBar, RanOut}
+use Rattle.event_loop.specs.Jobs.{JobFacts, job_facts}
 use Rattle.event_loop.specs.Slots.{IsSlotOf, SlotView}
 use Rattle.event_loop.specs.declared.progress.Phase.TheVariants as phase
+use Rattle.event_loop.specs.declared.workers.Shared.{Shared}
 use Rattle.event_loop.specs.declared.workers.Slot.{Slot}
 use Rattle.event_loop.specs.declared.workers.End.{End}
 use Rattle.event_loop.specs.declared.workers.End.TheVariants.{Over, Faulted, NoMemory}
@@ -28,18 +33,16 @@ abbrev pub HasRoom : ℕ → Option BookSeen → Type 0
 HasRoom n None = ⊤
 HasRoom n (Some b) = n ≤ b.clusters
 
--- a seat of these claims that did nothing
-pub record IsReady (c : ClaimsSeen) (s : SeatSeen) : Type 0 where
-  pub of : claims.IsOf c s
-  pub undrawn : s.drawn ≡ []
-  pub unkept : s.kept ≡ None
-  pub unpassed : s.passed ≡ None
-  pub unlowered : s.lowered ≡ None
+-- the script's statements have words, the clusters claimed are the loop's, and the book has room for them
+pub record CanRun (job : JobView) (shared : Shared) : Type 0 where
+  pub words : StatementsHaveWords (history job.script)
+  pub clusters : shared.claims.clusters ≡ length (job_facts job).faults
+  pub room : HasRoom shared.claims.clusters shared.book
 
 -- the slot has a seat of these claims and a share of the book, and did nothing with them yet
-pub record IsFresh (c : ClaimsSeen) (b : Option BookSeen) (s : Slot) : Type 0 where
-  pub seat : IsReady c s.seat
-  pub share : HasNoted b 0 s.share
+pub record IsFresh (shared : Shared) (s : Slot) : Type 0 where
+  pub seat : IsReady shared.claims s.seat
+  pub share : HasNoted shared.book 0 s.share
 
 -- the slot's state goes on, and the clusters that it finished are sound and noted
 pub record HasWorked (b : Option BookSeen) (job : JobFacts) (share : Option ShareSeen) (state : SlotView) : Type 0 where
@@ -47,18 +50,6 @@ pub record HasWorked (b : Option BookSeen) (job : JobFacts) (share : Option Shar
   pub going : state.phase ≡ phase.Going
   pub sound : AreSound job.faults state.done
   pub noted : HasNoted b (length state.done) share
-
--- no number is left that is a cluster, and the slot finished all that it drew
-pub record RanOut (c : ClaimsSeen) (seat : SeatSeen) (done : List ℕ) : Type 0 where
-  pub all : seat.drawn ≡ done
-  pub past : IsSomeAnd seat.kept (λ k. c.clusters ≤ k)
-
--- the slot passed the last cluster over that it drew, and finished all others
-pub record MetBar (c : ClaimsSeen) (seat : SeatSeen) (done : List ℕ) : Type 0 where
-  pub last : ℕ
-  pub cluster : last < c.clusters
-  pub others : seat.drawn ≡ done ++ last ∷ []
-  pub passed : seat.passed ≡ Some last
 
 -- the slot's state stopped at the last cluster that it drew, which has that fault; it finished all others, which are sound and noted;
 -- and the bar was lowered to the last
@@ -79,6 +70,6 @@ Stopped c b job (Faulted state f) s = MetFault b job s state f
 Stopped c b job NoMemory s = ⊤
 
 -- the slot stopped in that way
-pub record HasRun (c : ClaimsSeen) (b : Option BookSeen) (job : JobFacts) (end : End) (s : Slot) : Type 0 where
-  pub seat_of : claims.IsOf c s.seat
-  pub stopped : Stopped c b job end s
+pub record HasRun (shared : Shared) (job : JobFacts) (end : End) (s : Slot) : Type 0 where
+  pub seat_of : claims.IsOf shared.claims s.seat
+  pub stopped : Stopped shared.claims shared.book job end s

@@ -14,6 +14,16 @@ use rdf_values::{ListOf, Memory};
 use slot_words::{Book, Share, ShareList, partial_lines};
 use std::alloc::Global;
 
+/// So many results are watched, over so many clusters, and noted after every `watch`-th one.
+#[derive(Clone, Copy)]
+pub struct Noting {
+    pub watched: u32,
+    pub clusters: u32,
+    pub watch: u32,
+    pub ghost few: { clusters ≤ 1000000 },
+    pub ghost some: { 0 < watch },
+}
+
 // Appends a share, where there is one.
 fn keep_share(shares: &mut ShareList, share: Option<Share>) -> Result<(), Memory>
     ensures { OnOk result (shares.new ≡ shares.old ++ share_or_none share) }
@@ -47,21 +57,22 @@ fn lines_in(
     book: Option<Book>,
     shares: ShareList,
     pieces: &mut [LoopPiece],
-    watched: u32,
-    clusters: u32,
-    watch: u32,
+    noting: Noting,
 ) -> Result<ListOf<ListOf<PartialLine>>, Memory>
-    requires few { clusters ≤ 1000000 }
-    requires watch { 0 < watch }
-    requires done { (job : JobFacts) × (slots : List Done) × CanFill book watched clusters job slots × ArePieces slots pieces.old × (shares ≡ flat_map shares_in slots) }
-    ensures partials { (job : JobFacts) (slots : List Done) → CanFill book watched clusters job slots → ArePieces slots pieces.old → shares ≡ flat_map shares_in slots
-        → IfOk result (AreNotedPartials job watch (orders_of slots) (dones_of slots)) }
+    requires done { (job : JobFacts) × (slots : List Done) × CanFill book noting.watched noting.clusters job slots × ArePieces slots pieces.old × (shares ≡ flat_map shares_in slots) }
+    ensures partials { (job : JobFacts) (slots : List Done) → CanFill book noting.watched noting.clusters job slots → ArePieces slots pieces.old → shares ≡ flat_map shares_in slots
+        → IfOk result (AreNotedPartials job noting.watch (orders_of slots) (dones_of slots)) }
     ensures bodies { OnOk result (HaveSameBodies pieces.old pieces.new) }
 {
     let Some(book) = book else {
         return Ok(ListOf::new(alloc));
     };
     let orders = book.close(alloc, shares)?;
+    let Noting {
+        watched,
+        clusters,
+        watch,
+    } = noting;
     partial_lines(alloc, &orders, pieces, watched, clusters, watch)
 }
 
@@ -70,25 +81,13 @@ pub fn filled(
     alloc: Global,
     book: Option<Book>,
     slots: Vec<Done>,
-    watched: u32,
-    clusters: u32,
-    watch: u32,
+    noting: Noting,
 ) -> Result<FilledLoop, Memory>
-    requires few { clusters ≤ 1000000 }
-    requires watch { 0 < watch }
-    requires done { (job : JobFacts) × CanFill book watched clusters job slots.items }
-    ensures { (job : JobFacts) → CanFill book watched clusters job slots.items → IfOk result (AreFilled job watch slots.items) }
+    requires done { (job : JobFacts) × CanFill book noting.watched noting.clusters job slots.items }
+    ensures { (job : JobFacts) → CanFill book noting.watched noting.clusters job slots.items → IfOk result (AreFilled job noting.watch slots.items) }
 {
     let (mut pieces, shares) = pieces_of(alloc, slots)?;
-    let partials = lines_in(
-        alloc,
-        book,
-        shares,
-        pieces.as_mut_slice(),
-        watched,
-        clusters,
-        watch,
-    )?;
+    let partials = lines_in(alloc, book, shares, pieces.as_mut_slice(), noting)?;
     let piece = merge_all(ListOf::from_vec(pieces))?;
     Ok(FilledLoop { piece, partials })
 }

@@ -86,7 +86,7 @@ pub fn gathered(alloc: Global, claims: Claims, finished: Vec<Finished>) -> Resul
     requires some { 0 < vec_len finished }
     requires many { vec_len finished ≡ claims.slots }
     requires of { All (λ f. IsOf claims f.slot.seat) finished.items }
-    ensures { (b : Option BookSeen) (job : JobFacts) → AreFacts claims.clusters job → All (HasStopped claims b job) finished.items → IfOk result (IsOutcome b job (vec_len finished)) }
+    ensures { (b : Option BookSeen) (job : JobFacts) → AreFacts claims.clusters job → All (HasStopped (record { claims = claims; book = b }) job) finished.items → IfOk result (IsOutcome b job claims.slots) }
 {
     let least = least_of(finished.as_slice())?;
     let (seats, slots) = taken_apart(alloc, finished)?;

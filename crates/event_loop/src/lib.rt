@@ -7,6 +7,7 @@
 //! `two_slots_at_once` and `held_cluster_comes_late` show it.
 #![tactic(auto)]
 
+mod booked;
 pub mod end;
 mod filling;
 mod gather;
@@ -25,6 +26,7 @@ mod tallies;
 mod transcript;
 mod workers;
 
+pub use crate::booked::BookedGraph;
 pub use crate::end::{FilledLoop, LoopEnd};
 pub use crate::one_loop::run_loop;
 pub use crate::passes::watched_in;

@@ -8,11 +8,11 @@ ghost use Rattle.event_loop.specs.Jobs.{job_facts};
 ghost use Rattle.event_loop.specs.Ends.{HasEnded};
 
 use crate::end::LoopEnd;
-use crate::filling::filled;
+use crate::filling::{Noting, filled};
 use crate::gather::{Outcome, gathered};
 use crate::seating::{opened, seated};
 use crate::watched_in;
-use crate::workers::run_slots;
+use crate::workers::{Shared, run_slots};
 use loop_keys::Job;
 use rdf_outside::Gate;
 use rdf_values::Memory;
@@ -23,7 +23,7 @@ use std::thread::Threads;
 // How many clusters the loop goes over.
 fn cluster_count(job: &Job<'_>) -> u32
     ensures value { result ≡ length (job_spans (job_of job.now)) }
-    ensures few { (job_of job.now).cuts.entries ≤ 1000000 }
+    ensures few { result ≤ 1000000 }
 {
     job.columns.cuts().count()
 }
@@ -46,14 +46,21 @@ pub fn run_loop<R: Threads + Sync, G: Gate>(
 {
     let clusters = cluster_count(job);
     let watched = watched_in(job);
+    let noting = Noting {
+        watched,
+        clusters,
+        watch,
+    };
     let (book, shares) = opened(alloc, watched, slots, clusters)?;
     let (claims, seats) = Claims::new(alloc, clusters, slots)?;
     let fresh = seated(alloc, seats, shares)?;
-    let finished = run_slots(rt, alloc, job, &claims, &book, fresh, gate)?;
+    let shared = Shared { claims, book };
+    let finished = run_slots(rt, alloc, job, &shared, fresh, gate)?;
+    let Shared { claims, book } = shared;
     match gathered(alloc, claims, finished)? {
         Outcome::Faulted(fault) => Ok(LoopEnd::Faulted(fault)),
         Outcome::Processed(slots) => {
-            let filled = filled(alloc, book, slots, watched, clusters, watch)?;
+            let filled = filled(alloc, book, slots, noting)?;
             Ok(LoopEnd::Filled(filled))
         }
     }

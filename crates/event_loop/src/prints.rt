@@ -5,17 +5,15 @@ ghost use Rattle.rdf_values.specs.Functions.{fn_names};
 ghost use Rattle.rdf_values.specs.Path.{history};
 ghost use Rattle.rdf_values.specs.Words.{StatementsHaveWords};
 ghost use Rattle.rdf_model.specs.Loops.{accesses};
-ghost use Rattle.event_loop.specs.Sessions.{HasSameParts, IsSession, session_of};
+ghost use Rattle.event_loop.specs.Sessions.{HasSameParts, IsSession, dataset_of, session_of};
 ghost use Rattle.event_loop.specs.Transcripts.{IsTranscript};
 ghost use Rattle.event_loop.specs.Turns.{EndsAt, GoesOn};
 
+use crate::booked::BookedGraph;
 use crate::refusal::LoopRefusal;
 use crate::results::put_result;
 use crate::session::Session;
 use crate::transcript::Transcript;
-use columns::Columns;
-use entry_fns::FnList;
-use graph::Graph;
 use rdf_outside::Gate;
 use rdf_values::{Memory, Text};
 use result_text::fault_line;
@@ -53,25 +51,23 @@ fn put_print<R: Threads + Sync, G: Gate>(
     }
 }
 
-/// Runs the Prints in order over the columns that the graph was booked with. Loops share their clusters out to so many slots.
+/// Runs the Prints of a booked graph in order. Loops share their clusters out to so many slots.
 /// Watched results are noted after every `watch`-th cluster.
 pub fn run_prints<R: Threads + Sync, G: Gate>(
     rt: &R,
     alloc: Global,
-    graph: Graph,
-    columns: Columns,
-    functions: &FnList,
+    booked: BookedGraph<'_>,
     slots: u32,
     watch: u32,
     gate: &G,
 ) -> Result<Transcript, Memory>
-    requires graph { (graph.header ≡ columns.table.columns) × (graph.names ≡ fn_names (functions_in functions.now)) }
-    requires words { StatementsHaveWords (history graph.script) }
+    requires graph { (booked.graph.header ≡ booked.columns.table.columns) × (booked.graph.names ≡ fn_names (functions_in booked.functions.now)) }
+    requires words { StatementsHaveWords (history booked.graph.script) }
     requires slots { (0 < slots) × (slots ≤ 16) }
     requires watch { 0 < watch }
-    ensures { IfOk result (λ t. IsTranscript graph.script (record { fns = functions_in functions.now; columns = columns.table.columns; rows = columns.table.rows }) columns.cuts watch t) }
+    ensures { IfOk result (λ t. IsTranscript booked.entry.graph.script (dataset_of booked.entry.columns (functions_in booked.entry.functions.now)) booked.entry.columns.cuts watch t) }
 {
-    let mut session = Session::new(alloc, graph, columns, functions, slots, watch);
+    let mut session = Session::new(alloc, booked, slots, watch);
     let mut text = Text::new(alloc);
     let prints = session.graph().prints();
     for print in 0..prints {

@@ -1,9 +1,9 @@
 // What the slots of a loop begin with.
-ghost use Rattle.std.specs.Prelude.{◌≡◌, ◌<◌, ◌≤◌, All, IfOk, Option, length, vec_len};
-ghost use Rattle.slot_words.specs.Seats.{ClaimsSeen};
-ghost use Rattle.slot_words.specs.Shares.{BookSeen};
+ghost use Rattle.std.specs.Prelude.{◌≡◌, ◌<◌, ◌≤◌, All, IfOk, length, vec_len};
 ghost use Rattle.event_loop.specs.Seated.{AreBlank, IsOpened};
-ghost use Rattle.event_loop.specs.Workers.{IsFresh, IsReady};
+ghost use Rattle.event_loop.specs.Workers.{IsFresh};
+ghost use Rattle.event_loop.specs.declared.workers.Shared.{Shared};
+ghost use Rattle.slot_words.specs.SeatEnds.{IsReady};
 
 use crate::workers::Slot;
 use rdf_values::Memory;
@@ -31,7 +31,7 @@ pub fn opened(
 /// The slots, each with a seat and, where there is a book, a share.
 pub fn seated(alloc: Global, seats: SeatList, shares: ShareList) -> Result<Vec<Slot>, Memory>
     ensures many { IfOk result (λ v. vec_len v ≡ length seats) }
-    ensures fresh { (c : ClaimsSeen) (b : Option BookSeen) → All (IsReady c) seats → AreBlank b (length seats) shares → IfOk result (λ v. All (IsFresh c b) v.items) }
+    ensures fresh { (shared : Shared) → All (IsReady shared.claims) seats → AreBlank shared.book (length seats) shares → IfOk result (λ v. All (IsFresh shared) v.items) }
 {
     let mut seats = seats.into_vec();
     let mut shares = shares.into_vec();

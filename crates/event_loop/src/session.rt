@@ -13,6 +13,7 @@ ghost use Rattle.event_loop.specs.Ends.{HasEnded};
 ghost use Rattle.event_loop.specs.declared.end.FilledLoop.{FilledLoop};
 ghost use Rattle.event_loop.specs.Sessions.{ArePartials, HasNoPartials, HasSameParts, IsAccessed, IsFaulted, IsFoundAt, IsRefused, IsResult, IsSession, IsUnfilled, fresh_session, session_job, session_of};
 
+use crate::booked::BookedGraph;
 use crate::end::{FilledLoop, LoopEnd};
 use crate::kept::Kept;
 use crate::one_loop::run_loop;
@@ -44,21 +45,19 @@ pub struct Session<'a> {
 impl<'a> Session<'a> {
     /// No loop was run. Loops will share their clusters out to so many slots, and note watched results after every `watch`-th
     /// cluster. No clause says that so many slots run.
-    pub fn new(
-        alloc: Global,
-        graph: Graph,
-        columns: Columns,
-        functions: &'a FnList,
-        slots: u32,
-        watch: u32,
-    ) -> Session<'a>
-        requires graph { (graph.header ≡ columns.table.columns) × (graph.names ≡ fn_names (functions_in functions.now)) }
-        requires words { StatementsHaveWords (history graph.script) }
+    pub fn new(alloc: Global, booked: BookedGraph<'a>, slots: u32, watch: u32) -> Session<'a>
+        requires graph { (booked.graph.header ≡ booked.columns.table.columns) × (booked.graph.names ≡ fn_names (functions_in booked.functions.now)) }
+        requires words { StatementsHaveWords (history booked.graph.script) }
         requires slots { (0 < slots) × (slots ≤ 16) }
         requires watch { 0 < watch }
-        ensures fresh { session_of result ≡ fresh_session graph columns (functions_in functions.now) slots watch }
+        ensures fresh { session_of result ≡ fresh_session booked.entry.graph booked.entry.columns (functions_in booked.entry.functions.now) slots watch }
         ensures session { IsSession (session_of result) }
     {
+        let BookedGraph {
+            graph,
+            columns,
+            functions,
+        } = booked;
         graph.is_booked();
         let _columns = columns.columns();
         let _cuts = columns.cuts();
@@ -94,12 +93,13 @@ impl<'a> Session<'a> {
     {
         let r = self.graph.print_result(print);
         let l = self.graph.filling(print);
+        let next = print + 1;
         if (l as usize) < self.loops.len() {
-            self.next = print + 1;
+            self.next = next;
             return Ok(r);
         }
         if let Some(kept) = self.fault {
-            self.next = print + 1;
+            self.next = next;
             return Err(LoopRefusal::Fault {
                 loop_index: kept.loop_index,
                 fault: kept.fault,
@@ -110,7 +110,7 @@ impl<'a> Session<'a> {
                 if self.loops.push(filled).is_err() {
                     return Err(LoopRefusal::Memory);
                 }
-                self.next = print + 1;
+                self.next = next;
                 Ok(r)
             }
             Ok(LoopEnd::Faulted(fault)) => {
@@ -118,7 +118,7 @@ impl<'a> Session<'a> {
                     loop_index: l,
                     fault,
                 });
-                self.next = print + 1;
+                self.next = next;
                 Err(LoopRefusal::Fault {
                     loop_index: l,
                     fault,

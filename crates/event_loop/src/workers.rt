@@ -1,14 +1,12 @@
 // The work of one slot, and the slots side by side.
-ghost use Rattle.std.specs.Prelude.{◌≡◌, ℕ, ◌<◌, ◌+◌, List, length, IfOk, vec_len, slice_index_or};
+ghost use Rattle.std.specs.Prelude.{◌≡◌, ℕ, ◌<◌, ◌+◌, IfOk, slice_index_or, vec_len};
 ghost use Rattle.std.specs.List.{All};
-ghost use Rattle.rdf_values.specs.Path.{history};
-ghost use Rattle.rdf_values.specs.Words.{StatementsHaveWords};
 ghost use Rattle.entry_fns.specs.Lists.{functions_in};
 ghost use Rattle.loop_keys.specs.Jobs.{Fits, IsJob, job_graph, job_of};
 ghost use Rattle.event_loop.specs.Jobs.{job_facts};
+ghost use Rattle.event_loop.specs.Gathered.{HasStopped};
 ghost use Rattle.event_loop.specs.Parts.{job_with};
-ghost use Rattle.event_loop.specs.Workers.{HasNoted, HasRoom, HasRun, IsFresh};
-ghost use Rattle.event_loop.specs.declared.workers.Slot.{Slot};
+ghost use Rattle.event_loop.specs.Workers.{CanRun, HasNoted, HasRoom, HasRun, IsFresh};
 ghost use Rattle.event_loop.specs.declared.workers.Finished.{Finished};
 
 use crate::{Progress, SlotState, SlotStop};
@@ -21,6 +19,13 @@ use std::alloc::Global;
 use std::marker::Brand;
 use std::sync::ledger::{Blank, Ledger};
 use std::thread::{Threads, map_vec};
+
+/// What the slots of a loop share: the clusters that they draw and, where a result is watched, the book in which they note them.
+#[derive(Drop)]
+pub struct Shared {
+    pub claims: Claims,
+    pub book: Option<Book>,
+}
 
 /// What one slot of a loop is given: its right to draw clusters and, where a result is watched, its right to note them.
 #[derive(Drop)]
@@ -60,8 +65,7 @@ fn work<L: Ledger, G: Gate>(
     blank: Blank,
     alloc: Global,
     job: &Job<'_>,
-    claims: &Claims,
-    book: &Option<Book>,
+    shared: &Shared,
     slot: &mut Slot,
     gate: &G,
 ) -> End
@@ -69,22 +73,20 @@ fn work<L: Ledger, G: Gate>(
     requires parts { blank.parts ≡ L.parts }
     requires some { 0 < L.parts }
     requires job { Fits job.now }
-    requires words { StatementsHaveWords (history (job_of job.now).script) }
-    requires fresh { IsFresh claims.now book.now slot.old }
-    requires clusters { claims.now.clusters ≡ length (job_facts (job_of job.now)).faults }
-    requires room { HasRoom claims.now.clusters book.now }
-    ensures { HasRun claims.now book.now (job_facts (job_of job.now)) result slot.new }
+    requires can { CanRun (job_of job.now) shared.now }
+    requires fresh { IsFresh shared.now slot.old }
+    ensures { HasRun shared.now (job_facts (job_of job.now)) result slot.new }
 {
     let Ok(mut state) = SlotState::new(alloc, job) else {
         return End::NoMemory;
     };
     let mut steps: Steps<L> = Steps::open(blank);
-    while let Some(cluster) = claims.claim(&mut slot.seat) {
+    while let Some(cluster) = shared.claims.claim(&mut slot.seat) {
         gate.turn(slot.seat.slot(), cluster);
         match state.process(job, cluster, &mut steps) {
-            Ok(Progress::Done) => note(book, &mut slot.share),
+            Ok(Progress::Done) => note(&shared.book, &mut slot.share),
             Ok(Progress::Faulted(fault)) => {
-                claims.lower(&mut slot.seat, cluster);
+                shared.claims.lower(&mut slot.seat, cluster);
                 return End::Faulted(state, fault);
             }
             Err(SlotStop::Memory) => return End::NoMemory,
@@ -97,20 +99,17 @@ fn work<L: Ledger, G: Gate>(
 fn run_slot<G: Gate>(
     alloc: Global,
     job: &Job<'_>,
-    claims: &Claims,
-    book: &Option<Book>,
+    shared: &Shared,
     slot: Slot,
     gate: &G,
 ) -> Finished
     requires job { Fits job.now }
-    requires words { StatementsHaveWords (history (job_of job.now).script) }
-    requires fresh { IsFresh claims.now book.now slot }
-    requires clusters { claims.now.clusters ≡ length (job_facts (job_of job.now)).faults }
-    requires room { HasRoom claims.now.clusters book.now }
-    ensures { HasRun claims.now book.now (job_facts (job_of job.now)) result.end result.slot }
+    requires can { CanRun (job_of job.now) shared.now }
+    requires fresh { IsFresh shared.now slot }
+    ensures { HasRun shared.now (job_facts (job_of job.now)) result.end result.slot }
 {
     let mut slot = slot;
-    let end = work::<Brand, G>(Blank::new(1), alloc, job, claims, book, &mut slot, gate);
+    let end = work::<Brand, G>(Blank::new(1), alloc, job, shared, &mut slot, gate);
     Finished { end, slot }
 }
 
@@ -119,18 +118,15 @@ pub fn run_slots<R: Threads + Sync, G: Gate>(
     rt: &R,
     alloc: Global,
     job: &Job<'_>,
-    claims: &Claims,
-    book: &Option<Book>,
+    shared: &Shared,
     slots: Vec<Slot>,
     gate: &G,
 ) -> Result<Vec<Finished>, Memory>
     requires job { Fits job.now }
-    requires words { StatementsHaveWords (history (job_of job.now).script) }
-    requires fresh { All (IsFresh claims.now book.now) slots.items }
-    requires clusters { claims.now.clusters ≡ length (job_facts (job_of job.now)).faults }
-    requires room { HasRoom claims.now.clusters book.now }
+    requires can { CanRun (job_of job.now) shared.now }
+    requires fresh { All (IsFresh shared.now) slots.items }
     ensures len { IfOk result (λ v. vec_len v ≡ vec_len slots) }
-    ensures each { IfOk result (λ v. (i : ℕ) (f : Finished) → i < vec_len slots → HasRun claims.now book.now (job_facts (job_of job.now)) (slice_index_or v.items i f).end (slice_index_or v.items i f).slot) }
+    ensures each { IfOk result (λ v. (i : ℕ) (f : Finished) → i < vec_len slots → HasStopped shared.now (job_facts (job_of job.now)) (slice_index_or v.items i f)) }
 {
     let Job {
         graph,
@@ -144,11 +140,9 @@ pub fn run_slots<R: Threads + Sync, G: Gate>(
         &|slot: Slot| -> Finished
             requires { (graph.now ≡ job_graph (job_with graph.now loop_index columns.now (functions_in functions.now)))
                 × IsJob (job_with graph.now loop_index columns.now (functions_in functions.now))
-                × StatementsHaveWords (history graph.now.script)
-                × IsFresh claims.now book.now slot
-                × (claims.now.clusters ≡ length (job_facts (job_with graph.now loop_index columns.now (functions_in functions.now))).faults)
-                × HasRoom claims.now.clusters book.now }
-            ensures { HasRun claims.entry.now book.entry.now (job_facts (job_with graph.entry.now loop_index columns.entry.now (functions_in functions.entry.now))) result.end result.slot }
+                × CanRun (job_with graph.now loop_index columns.now (functions_in functions.now)) shared.now
+                × IsFresh shared.now slot }
+            ensures { HasRun shared.entry.now (job_facts (job_with graph.entry.now loop_index columns.entry.now (functions_in functions.entry.now))) result.end result.slot }
         {
             let job = Job {
                 graph,
@@ -156,7 +150,7 @@ pub fn run_slots<R: Threads + Sync, G: Gate>(
                 columns,
                 functions,
             };
-            let finished = run_slot(alloc, &job, claims, book, slot, gate);
+            let finished = run_slot(alloc, &job, shared, slot, gate);
             let Job {
                 graph: _,
                 loop_index: _,

@@ -8,6 +8,7 @@ pub mod Noted
 pub mod Notes
 pub mod Noting
 pub mod Places
+pub mod SeatEnds
 pub mod Sharing
 pub mod Steps
 pub mod Stretches

@@ -5,6 +5,7 @@ pub mod Hands
 pub mod Noting
 pub mod NotingLaws
 pub mod Runs
+pub mod SeatEnds
 pub mod Seats
 pub mod Shares
 pub mod Totals

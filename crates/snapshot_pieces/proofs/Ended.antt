@@ -14,9 +14,10 @@ use Rattle.rdf_values.proofs.DrawCounts.{times_concat, times_push, counts_by_dra
 use Rattle.merge_core.proofs.Faults.{Among, Told, told_nothing, told_both, first_told, among_left, among_right}
 use Rattle.merge_core.proofs.Holding.{only}
 use Rattle.slot_words.specs.Seats.{ClaimsSeen, SeatSeen, IsLeast, IsPassed, last_of}
+use Rattle.slot_words.specs.SeatEnds.{MetBar, RanOut}
 use Rattle.snapshot_pieces.specs.Facts.{AreFacts, IsPieceOf, SnapFacts}
 use Rattle.snapshot_pieces.specs.Gathered.{HasAll, HasMemory, IsServed, end_faults, fault_of, pieces_in, pieces_of, seat_in}
-use Rattle.snapshot_pieces.specs.Stopping.{AreMade, HasStopped, MetBar, RanOut, Stopped, clusters_of}
+use Rattle.snapshot_pieces.specs.Stopping.{AreMade, HasStopped, Stopped, clusters_of}
 use Rattle.snapshot_pieces.specs.declared.finished.End.{End}
 use Rattle.snapshot_pieces.specs.declared.finished.End.TheVariants.{Over, Faulted, NoMemory}
 use Rattle.snapshot_pieces.specs.declared.finished.Finished.{Finished}

@@ -1,21 +1,14 @@
 -- How a slot stops.
-use Rattle.std.specs.Prelude.{◌≡◌, ◌<◌, ◌≤◌, ◌⊎◌, ⊤, ℕ, List, [], ◌∷◌, ◌++◌, Some, None, IsSomeAnd, All, map, slice_get}
+use Rattle.std.specs.Prelude.{◌≡◌, ◌⊎◌, ⊤, ℕ, List, [], ◌∷◌, ◌++◌, Some, None, All, map, slice_get}
 use Rattle.rdf_values.specs.declared.fault.Fault.{Fault}
 use Rattle.slot_words.specs.Seats.{ClaimsSeen, SeatSeen}
 use Rattle.slot_words.specs.Seats as claims
+use Rattle.slot_words.specs.SeatEnds.{MetBar, RanOut}
 use Rattle.snapshot_pieces.specs.Facts.{AreSound, IsPieceOf, SnapFacts}
 use Rattle.snapshot_pieces.specs.declared.finished.End.{End}
 use Rattle.snapshot_pieces.specs.declared.finished.End.TheVariants.{Over, Faulted, NoMemory}
 use Rattle.snapshot_pieces.specs.declared.finished.Finished.{Finished}
 use Rattle.snapshot_pieces.specs.declared.piece.Piece.{Piece}
-
--- a seat of these claims that did nothing
-pub record IsReady (c : ClaimsSeen) (s : SeatSeen) : Type 0 where
-  pub of : claims.IsOf c s
-  pub undrawn : s.drawn ≡ []
-  pub unkept : s.kept ≡ None
-  pub unpassed : s.passed ≡ None
-  pub unlowered : s.lowered ≡ None
 
 -- the clusters of pieces
 abbrev pub clusters_of : List Piece → List ℕ
@@ -25,18 +18,6 @@ clusters_of ps = map (λ (p : Piece). p.cluster) ps
 pub record AreMade (facts : SnapFacts) (ps : List Piece) : Type 0 where
   pub each : All (IsPieceOf facts) ps
   pub sound : AreSound facts.faults (clusters_of ps)
-
--- no number is left that is a cluster, and the slot made a piece of each that it drew
-pub record RanOut (c : ClaimsSeen) (seat : SeatSeen) (done : List ℕ) : Type 0 where
-  pub all : seat.drawn ≡ done
-  pub past : IsSomeAnd seat.kept (λ k. c.clusters ≤ k)
-
--- the slot passed the last cluster over that it drew, and made a piece of each other
-pub record MetBar (c : ClaimsSeen) (seat : SeatSeen) (done : List ℕ) : Type 0 where
-  pub last : ℕ
-  pub cluster : last < c.clusters
-  pub others : seat.drawn ≡ done ++ last ∷ []
-  pub passed : seat.passed ≡ Some last
 
 -- the slot stopped at the last cluster that it drew, which has that fault; all others are sound; and the bar was lowered to the last
 pub record MetFault (facts : SnapFacts) (seat : SeatSeen) (fault : Fault) : Type 0 where

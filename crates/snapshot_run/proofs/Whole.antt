@@ -1,11 +1,8 @@
 -- What is known of a whole run.
 use Rattle.std.proofs.Common.{◌≡◌, ℕ, ◌≤◌, ◌++◌, List, [], ◌∷◌, length, map, Option, None, Some, Ok, Err, refl, sym, ap, ap₂, ◌∙◌, subst}
 use Rattle.std.specs.Prelude.{flat_map, option_map, Result}
-use Rattle.std.specs.List.{All, range_with_len}
 use Rattle.std.proofs.lemmas.List.{length-map}
 use Rattle.std.proofs.lemmas.List.Concat.{flat_map-append}
-use Rattle.std.proofs.lemmas.List.FromFn.{length-range_with_len}
-use Rattle.std.proofs.lemmas.List.Elements.{All-map}
 use Rattle.rdf_values.specs.Cuts.{Lead}
 use Rattle.rdf_values.specs.Machine.{first_in}
 use Rattle.rdf_values.specs.Functions.{fn_names}
@@ -18,7 +15,6 @@ use Rattle.rdf_values.specs.declared.value.Value.{Value}
 use Rattle.rdf_values.proofs.Leading.{cuts_lead}
 use Rattle.rdf_model.specs.Results.{Dataset}
 use Rattle.columns.specs.CutsView.{CutsView}
-use Rattle.slot_words.specs.Seats.{ClaimsSeen, SeatSeen, fresh_seat, fresh_seats}
 use Rattle.graph_numbers.specs.Graphs.{GraphView, IsGraph}
 use Rattle.graph_numbers.specs.Laws.{graph_of}
 use Rattle.snapshot_plan.specs.Views.{IsPlan, PlanView, plan_columns}
@@ -29,7 +25,6 @@ use Rattle.snapshot_entries.specs.Jobs.{IsWork}
 use Rattle.snapshot_entries.specs.Values.{plan_graph}
 use Rattle.snapshot_pieces.specs.Facts.{AreFacts}
 use Rattle.snapshot_pieces.specs.Gathered.{HasAll, IsOutcome}
-use Rattle.snapshot_pieces.specs.Stopping.{IsReady}
 use Rattle.snapshot_pieces.specs.declared.gather.Outcome.{Outcome}
 use Rattle.snapshot_pieces.specs.declared.gather.Outcome.TheVariants as outcome
 use Rattle.snapshot_run.specs.Runs.{as_fault, facts_of, spans_of}
@@ -37,20 +32,6 @@ use Rattle.snapshot_run.specs.Texts.{AreRecords, IsRun, IsTogether, most_bytes}
 use Rattle.snapshot_run.specs.declared.stop.SnapStop.{SnapStop}
 use Rattle.snapshot_run.specs.declared.stop.SnapStop.TheVariants as stop
 use Rattle.snapshot_run.proofs.Clusters.{first_cluster, in_entry_order, kept_of_all}
-
--- ---- seats
-
-many_seats : (c : ClaimsSeen) (n : ℕ) → length (fresh_seats c n) ≡ n
-many_seats c n = length-map (range_with_len 0 n) (fresh_seat c) ∙ length-range_with_len 0 n
-
-all_ready : (c : ClaimsSeen) (n : ℕ) → All (IsReady c) (fresh_seats c n)
-all_ready c n = All-map (IsReady c) (fresh_seat c) (range_with_len 0 n) (λ k d lt. record { of = (refl, refl); undrawn = refl; unkept = refl; unpassed = refl; unlowered = refl })
-
-pub seats_ready : (c : ClaimsSeen) (n : ℕ) (seats : List SeatSeen) → seats ≡ fresh_seats c n → All (IsReady c) seats
-seats_ready c n seats is = subst (All (IsReady c)) (sym is) (all_ready c n)
-
-pub seats_many : (c : ClaimsSeen) (n : ℕ) (seats : List SeatSeen) → seats ≡ fresh_seats c n → length seats ≡ n
-seats_many c n seats is = ap length is ∙ many_seats c n
 
 -- ---- texts
 

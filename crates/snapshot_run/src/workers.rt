@@ -2,8 +2,9 @@
 ghost use Rattle.std.specs.Prelude.{◌≡◌, ℕ, ◌<◌, All, IfOk, length, slice_index_or, vec_len};
 ghost use Rattle.entry_fns.specs.Lists.{functions_in};
 ghost use Rattle.snapshot_entries.specs.Jobs.{IsWork, data_of, plan_of};
-ghost use Rattle.snapshot_pieces.specs.Stopping.{HasStopped, IsReady, Stopped};
+ghost use Rattle.snapshot_pieces.specs.Stopping.{HasStopped, Stopped};
 ghost use Rattle.slot_words.specs.Seats.{IsOf};
+ghost use Rattle.slot_words.specs.SeatEnds.{IsReady};
 ghost use Rattle.snapshot_run.specs.Runs.{data_with, facts_of, spans_of};
 ghost use Rattle.snapshot_pieces.specs.declared.finished.Finished.{Finished};
 

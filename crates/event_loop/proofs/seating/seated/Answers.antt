@@ -1,9 +1,9 @@
 use Rattle.std.proofs.Common.{[], ◌∷◌, length, length-append, ap, refl, arith, subst, sym}
 use Rattle.std.specs.List.{All}
 use Rattle.event_loop.specs.Seated.{AreBlank}
-use Rattle.event_loop.specs.Workers.{IsReady}
 use Rattle.event_loop.proofs.Fresh.{AreSeated, none_popped, next_seated, none_seated}
 use Rattle.event_loop.proofs.seating.seated.Goals as goal
+use Rattle.slot_words.specs.SeatEnds.{IsReady}
 
 pub loop-seat-init : goal.loop-seat-init
 loop-seat-init c =
@@ -12,9 +12,9 @@ loop-seat-init c =
     let same = sym c.into_vec-seats.ensures in
     record {
       many = omega (arith, ap length c.into_vec-seats.ensures, ap length c.new-slots.ensures.items, c.new-slots.result.ok.0);
-      seated = λ claims b ready blank.
-          subst (AreSeated claims b seats shares) (sym c.new-slots.ensures.items)
-          (none_seated claims b seats shares (subst (All (IsReady claims)) same ready) (subst (λ l. AreBlank b (length l) shares) same (subst (AreBlank b (length c.args.seats)) (sym c.into_vec-shares.ensures) blank)));
+      seated = λ shared ready blank.
+          subst (AreSeated shared seats shares) (sym c.new-slots.ensures.items)
+          (none_seated shared seats shares (subst (All (IsReady shared.claims)) same ready) (subst (λ l. AreBlank shared.book (length l) shares) same (subst (AreBlank shared.book (length c.args.seats)) (sym c.into_vec-shares.ensures) blank)));
     }
 
 pub loop-seat-preserved : goal.loop-seat-preserved
@@ -27,12 +27,12 @@ loop-seat-preserved c = record {
       let new = c.push.new.self.ok.0 in
       omega (arith, seats, slots, old, new, c.loop-seat.invariant.many, length-append c.pop.new.self.items (c.in-Some.seat ∷ []), length-append c.loop-seat.slots.items (record { seat = c.in-Some.seat; share = c.pop-share.result } ∷ []))
       );
-  seated = λ claims b ready blank.
-      next_seated claims b c.loop-seat.seats.items c.pop.new.self.items c.loop-seat.shares.items c.pop-share.new.self.items c.loop-seat.slots.items c.push.new.self.items
+  seated = λ shared ready blank.
+      next_seated shared c.loop-seat.seats.items c.pop.new.self.items c.loop-seat.shares.items c.pop-share.new.self.items c.loop-seat.slots.items c.push.new.self.items
       c.in-Some.seat c.pop-share.result (record { seat = c.in-Some.seat; share = c.pop-share.result })
-      (c.loop-seat.invariant.seated claims b ready blank) c.in-Some.ensures.items c.pop-share.ensures.items
+      (c.loop-seat.invariant.seated shared ready blank) c.in-Some.ensures.items c.pop-share.ensures.items
       (λ none. let gone = none_popped _ _ _ c.pop-share.ensures.cases none in let left = c.loop-seat.shares.ok.0 in omega (arith, gone, left)) c.in_ok-push.ensures.items refl refl;
 }
 
 pub returns-clause-fresh : goal.returns-clause-fresh
-returns-clause-fresh c = λ claims b ready blank. (c.loop-seat.invariant.seated claims b ready blank).done
+returns-clause-fresh c = λ shared ready blank. (c.loop-seat.invariant.seated shared ready blank).done

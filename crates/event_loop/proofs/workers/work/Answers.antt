@@ -24,7 +24,7 @@ loop-cluster-preserved g c =
       unpassed = c.in-Some.ensures.some.3;
       unlowered = c.in-Some.ensures.of.2;
       slot = c.process.ensures.slot;
-      noted = subst (λ (n : ℕ). HasNoted c.args.book.now n c.note.new.share) (sym more) (c.note.ensures (length done) inv.noted);
+      noted = subst (λ (n : ℕ). HasNoted c.args.shared.now.book n c.note.new.share) (sym more) (c.note.ensures (length done) inv.noted);
       sound = sound_more faults done c.process.new.self.done cluster inv.sound d.1 d.2;
       done = d.2 ∙ ap (λ (l : List ℕ). l ++ cluster ∷ []) inv.done ∙ sym c.in-Some.ensures.some.1;
       going = d.3;
@@ -37,14 +37,14 @@ returns-in-Ok-Faulted g c =
     let faults = (job_facts (job_of c.args.job.now)).faults in
     let f = c.process.ensures.faulted c.in-Ok-Faulted.fault (c.in-Ok-Faulted.is ∙ ap Ok c.in-Ok-Faulted.field-0-is) in
     record {
-      seat_of = subst (IsOf c.args.claims.now) (sym c.lower.ensures) c.in-Some.ensures.of.0;
+      seat_of = subst (IsOf c.args.shared.now.claims) (sym c.lower.ensures) c.in-Some.ensures.of.0;
       stopped = record {
         last = cluster;
         slot = c.process.ensures.slot;
         phase = f.3;
         others = ap (λ (s : SeatSeen). s.drawn) c.lower.ensures ∙ c.in-Some.ensures.some.1 ∙ ap (λ (l : List ℕ). l ++ cluster ∷ []) (sym inv.done ∙ sym f.2);
         sound = subst (AreSound faults) (sym f.2) inv.sound;
-        noted = subst (λ (l : List ℕ). HasNoted c.args.book.now (length l) c.loop-cluster.slot.share) (sym f.2) inv.noted;
+        noted = subst (λ (l : List ℕ). HasNoted c.args.shared.now.book (length l) c.loop-cluster.slot.share) (sym f.2) inv.noted;
         its_fault = f.1;
         lowered = ap (λ (s : SeatSeen). s.lowered) c.lower.ensures;
       };

@@ -9,16 +9,16 @@ use Rattle.event_loop.proofs.workers.work.Given as goal
 
 abbrev pub invariant-loop-cluster : goal.invariant-loop-cluster
 invariant-loop-cluster g l = record {
-  seat_of : claims.IsOf l.claims l.slot.seat;
+  seat_of : claims.IsOf l.shared.claims l.slot.seat;
   unkept : l.slot.seat.kept ≡ None;
   unpassed : l.slot.seat.passed ≡ None;
   unlowered : l.slot.seat.lowered ≡ None;
   slot : IsSlotOf (job_facts (job_of l.job)) l.state;
-  noted : HasNoted l.book (length l.state.done) l.slot.share;
+  noted : HasNoted l.shared.book (length l.state.done) l.slot.share;
   sound : AreSound (job_facts (job_of l.job)).faults l.state.done;
   done : l.state.done ≡ l.slot.seat.drawn;
   going : l.state.phase ≡ phase.Going;
 }
 
 abbrev pub decreases-loop-cluster : goal.decreases-loop-cluster
-decreases-loop-cluster g l = l.claims.clusters - length l.slot.seat.drawn
+decreases-loop-cluster g l = l.shared.claims.clusters - length l.slot.seat.drawn

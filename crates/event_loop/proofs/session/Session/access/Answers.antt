@@ -3,17 +3,8 @@ use Rattle.event_loop.specs.Sessions.{session_of}
 use Rattle.event_loop.proofs.Accesses.{accessed_filled, accessed_old, after_faulted, after_filled, after_old, faulted_new, loop_within, print_few, pushed_items}
 use Rattle.event_loop.proofs.session.Session.access.Goals as goal
 
-pub overflow_add-self : goal.overflow_add-self
-overflow_add-self g c = let few = print_few (session_of c.args.self.now) c.requires.session c.args.print c.requires.print.1 in omega (arith, few)
-
-pub overflow_add-self-in-Some : goal.overflow_add-self-in-Some
-overflow_add-self-in-Some g c = let few = print_few (session_of c.args.self.now) c.requires.session c.args.print c.requires.print.1 in omega (arith, few)
-
-pub overflow_add-self-in-Ok-Filled : goal.overflow_add-self-in-Ok-Filled
-overflow_add-self-in-Ok-Filled g c = let few = print_few (session_of c.args.self.now) c.requires.session c.args.print c.requires.print.1 in omega (arith, few)
-
-pub overflow_add-self-in-Ok-Faulted : goal.overflow_add-self-in-Ok-Faulted
-overflow_add-self-in-Ok-Faulted g c = let few = print_few (session_of c.args.self.now) c.requires.session c.args.print c.requires.print.1 in omega (arith, few)
+pub overflow_add-next : goal.overflow_add-next
+overflow_add-next g c = let few = print_few (session_of c.args.self.now) c.requires.session c.args.print c.requires.print.1 in omega (arith, few)
 
 pub returns-then-l-len-clause-session : goal.returns-then-l-len-clause-session
 returns-then-l-len-clause-session g c =
