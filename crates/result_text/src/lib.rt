@@ -7,6 +7,7 @@ pub mod faults;
 pub mod labels;
 pub mod numbers;
 pub mod partials;
+pub mod printed;
 pub mod refusal;
 pub mod refusals;
 pub mod reports;

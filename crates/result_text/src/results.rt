@@ -5,34 +5,33 @@ ghost use Rattle.graph_numbers.specs.Results.{ResultAt, kind_of_booking};
 ghost use Rattle.graph.specs.Sets.{has};
 ghost use Rattle.result_text.specs.FilledLines.{FitsResult, filled_text, members_from, under_lines};
 
+use crate::printed::{PrintedAction, PrintedReport};
 use crate::reports::put_report;
 use crate::values::put_pass;
-use graph::{Graph, VarSet, Variations};
+use graph::{Graph, VarSet};
 use graph_numbers::ResultKind;
 use loop_pieces::FilledResult;
-use rdf_values::{ActionKind, Memory, Name, Text};
+use rdf_values::{ActionKind, Memory, Text};
 use std::alloc::Global;
 
 // Appends the lines of the passes of an action under the variations on which it depends.
 fn put_varied(
     alloc: Global,
     text: &mut Text,
-    name: &Name,
-    variations: &Variations,
+    action: &PrintedAction<'_>,
     depends: VarSet,
-    kind: &ActionKind,
     filled: &FilledResult<'_>,
 ) -> Result<(), Memory>
-    requires passes { filled.now.passes ≡ length (members_from (has depends) 0 variations.now) + 1 }
+    requires passes { filled.now.passes ≡ length (members_from (has depends) 0 action.now.variations.now) + 1 }
     requires accs { (i : ℕ) → i < filled.now.passes → filled.now.first + i < vec_len filled.now.piece.now.accs }
     requires numbers { filled.now.first + filled.now.passes ≤ 2 ^ 32 }
-    ensures { OnOk result (text.new ≡ text.old ++ under_lines name.now kind.now filled.now.piece.now.accs.items (filled.now.first + 1) (members_from (has depends) 0 variations.now)) }
+    ensures { OnOk result (text.new ≡ text.old ++ under_lines action.now.name.now action.now.kind.now filled.now.piece.now.accs.items (filled.now.first + 1) (members_from (has depends) 0 action.now.variations.now)) }
 {
     let mut pass = 1;
-    for v in 0..variations.len() {
+    for v in 0..action.variations.len() {
         if depends.contains(v) {
             let acc = filled.piece.acc(filled.first + pass);
-            put_pass(alloc, text, name, variations, Some(v), kind, acc)?;
+            put_pass(alloc, text, action, Some(v), acc)?;
             pass += 1;
         }
     }
@@ -56,19 +55,16 @@ fn put_action(
     let name = graph.result_name(r);
     let variations = graph.variations();
     let nominal = filled.piece.acc(filled.first);
-    put_pass(alloc, text, name, variations, None, kind, nominal)?;
+    let action = &PrintedAction {
+        name,
+        kind,
+        variations,
+    };
+    put_pass(alloc, text, action, None, nominal)?;
     if filled.passes == 1 {
         return Ok(());
     }
-    put_varied(
-        alloc,
-        text,
-        name,
-        variations,
-        graph.depends(r),
-        kind,
-        filled,
-    )
+    put_varied(alloc, text, action, graph.depends(r), filled)
 }
 
 /// The lines of a result of the graph: of an action its passes, nominal first, then its variations in their order; or of a report.
@@ -88,7 +84,13 @@ pub fn result_lines(
         ResultKind::Report => {
             let name = graph.result_name(r).bytes();
             let covered = graph.covered(r);
-            put_report(alloc, &mut text, graph, name, covered, filled.piece.flow())?;
+            let flow = filled.piece.flow();
+            put_report(
+                alloc,
+                &mut text,
+                &PrintedReport { name, graph, flow },
+                covered,
+            )?;
         }
     }
     Ok(text)

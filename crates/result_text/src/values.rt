@@ -8,10 +8,10 @@ ghost use Rattle.result_text.specs.FilledLines.{under_in, value_lines};
 use crate::cells::{put_flat, put_square};
 use crate::labels::put_label;
 use crate::numbers::{put_count, put_number, put_option, put_sum, put_wide};
+use crate::printed::PrintedAction;
 use crate::taken::put_taken;
 use actions::{Acc, Filled};
-use graph::Variations;
-use rdf_values::{ActionKind, Memory, Name, Text};
+use rdf_values::{ActionKind, Memory, Text};
 use std::alloc::Global;
 
 fn x_edges(kind: &ActionKind) -> &[i64]
@@ -73,20 +73,18 @@ fn put_filled(
     text.push(b'\n')
 }
 
-/// Appends the lines of a pass: what an accumulator holds, under the result's name and the variation of that number.
+/// Appends the lines of a pass of an action: what an accumulator holds, under the result's name and the variation of that number.
 pub fn put_pass(
     alloc: Global,
     text: &mut Text,
-    name: &Name,
-    variations: &Variations,
+    action: &PrintedAction<'_>,
     variation: Option<u32>,
-    kind: &ActionKind,
     acc: &Acc,
 ) -> Result<(), Memory>
-    requires { ForSome variation (λ v. v < length variations.now) }
-    ensures { OnOk result (text.new ≡ text.old ++ filled_lines kind.now (label name.now (under_in variations.now variation)) acc.now.filled) }
+    requires { ForSome variation (λ v. v < length action.now.variations.now) }
+    ensures { OnOk result (text.new ≡ text.old ++ filled_lines action.now.kind.now (label action.now.name.now (under_in action.now.variations.now variation)) acc.now.filled) }
 {
-    put_label(text, name, variations, variation)?;
+    put_label(text, action.name, action.variations, variation)?;
     text.extend(b" = ")?;
-    put_filled(alloc, text, kind, &acc.filled())
+    put_filled(alloc, text, action.kind, &acc.filled())
 }

@@ -9,6 +9,7 @@ mod lexeme;
 mod line;
 mod lines;
 mod method;
+mod nodes;
 mod read;
 mod refusal;
 mod statement;

@@ -8,6 +8,7 @@ ghost use Rattle.script_read.specs.Stops.{RefusedFor};
 ghost use Rattle.script_read.specs.VaryNames.{IsNamed};
 
 use crate::form::{Action, Form, Method, OneOrMore};
+use crate::nodes::Nodes;
 use crate::stop::LineStop;
 use crate::strings;
 use crate::token::{Quoted, Word};
@@ -41,15 +42,15 @@ fn definition(
 
 fn define(
     alloc: Global,
-    node: Name,
-    parent: Name,
+    nodes: Nodes,
     column: &Quoted<'_>,
     expr: &Quoted<'_>,
 ) -> Result<Statement, LineStop>
-    ensures ok { IfOk result (λ s. Says (line.Books node parent (line.Define (quoted_of column.now) (quoted_of expr.now))) s) }
+    ensures ok { IfOk result (λ s. Says (line.Books nodes.node nodes.parent (line.Define (quoted_of column.now) (quoted_of expr.now))) s) }
     ensures err { IfErr result (λ e. RefusedFor (FirstBad (method_strings (line.Define (quoted_of column.now) (quoted_of expr.now)))) e) }
 {
     let (column, expr) = definition(alloc, column, expr)?;
+    let Nodes { node, parent } = nodes;
     Ok(Statement::Define {
         node,
         parent,
@@ -60,15 +61,15 @@ fn define(
 
 fn redefine(
     alloc: Global,
-    node: Name,
-    parent: Name,
+    nodes: Nodes,
     column: &Quoted<'_>,
     expr: &Quoted<'_>,
 ) -> Result<Statement, LineStop>
-    ensures ok { IfOk result (λ s. Says (line.Books node parent (line.Redefine (quoted_of column.now) (quoted_of expr.now))) s) }
+    ensures ok { IfOk result (λ s. Says (line.Books nodes.node nodes.parent (line.Redefine (quoted_of column.now) (quoted_of expr.now))) s) }
     ensures err { IfErr result (λ e. RefusedFor (FirstBad (method_strings (line.Redefine (quoted_of column.now) (quoted_of expr.now)))) e) }
 {
     let (column, expr) = definition(alloc, column, expr)?;
+    let Nodes { node, parent } = nodes;
     Ok(Statement::Redefine {
         node,
         parent,
@@ -79,16 +80,16 @@ fn redefine(
 
 fn alias(
     alloc: Global,
-    node: Name,
-    parent: Name,
+    nodes: Nodes,
     column: &Quoted<'_>,
     target: &Quoted<'_>,
 ) -> Result<Statement, LineStop>
-    ensures ok { IfOk result (λ s. Says (line.Books node parent (line.Alias (quoted_of column.now) (quoted_of target.now))) s) }
+    ensures ok { IfOk result (λ s. Says (line.Books nodes.node nodes.parent (line.Alias (quoted_of column.now) (quoted_of target.now))) s) }
     ensures err { IfErr result (λ e. RefusedFor (FirstBad (method_strings (line.Alias (quoted_of column.now) (quoted_of target.now)))) e) }
 {
     let column = strings::name(alloc, column)?;
     let target = strings::name(alloc, target)?;
+    let Nodes { node, parent } = nodes;
     Ok(Statement::Alias {
         node,
         parent,
@@ -99,16 +100,16 @@ fn alias(
 
 fn filter(
     alloc: Global,
-    node: Name,
-    parent: Name,
+    nodes: Nodes,
     expr: &Quoted<'_>,
     label: &Option<Quoted<'_>>,
 ) -> Result<Statement, LineStop>
-    ensures ok { IfOk result (λ s. Says (line.Books node parent (line.Filter (quoted_of expr.now) (option_map quoted_of label.now))) s) }
+    ensures ok { IfOk result (λ s. Says (line.Books nodes.node nodes.parent (line.Filter (quoted_of expr.now) (option_map quoted_of label.now))) s) }
     ensures err { IfErr result (λ e. RefusedFor (FirstBad (method_strings (line.Filter (quoted_of expr.now) (option_map quoted_of label.now)))) e) }
 {
     let expr = strings::expression(alloc, expr)?;
     let label = strings::maybe_label(alloc, label)?;
+    let Nodes { node, parent } = nodes;
     Ok(Statement::Filter {
         node,
         parent,
@@ -140,14 +141,13 @@ fn only(alloc: Global, name: Name) -> Result<ListOf<Name>, LineStop>
 
 fn vary_one(
     alloc: Global,
-    node: Name,
-    parent: Name,
+    nodes: Nodes,
     column: &Quoted<'_>,
     values: &Quoted<'_>,
     tags: &OneOrMore<Quoted<'_>>,
     name: &Option<Quoted<'_>>,
 ) -> Result<Statement, LineStop>
-    ensures ok { IfOk result (λ s. Says (line.Books node parent (line.VaryOne (quoted_of column.now) (quoted_of values.now) (strings_of tags.now) (option_map quoted_of name.now))) s) }
+    ensures ok { IfOk result (λ s. Says (line.Books nodes.node nodes.parent (line.VaryOne (quoted_of column.now) (quoted_of values.now) (strings_of tags.now) (option_map quoted_of name.now))) s) }
     ensures err { IfErr result (λ e. RefusedFor (FirstBad (method_strings (line.VaryOne (quoted_of column.now) (quoted_of values.now) (strings_of tags.now) (option_map quoted_of name.now)))) e) }
 {
     let column = strings::name(alloc, column)?;
@@ -155,6 +155,7 @@ fn vary_one(
     let tags = strings::names(alloc, tags)?;
     let name = variation(alloc, &column, name)?;
     let columns = only(alloc, column)?;
+    let Nodes { node, parent } = nodes;
     Ok(Statement::Vary {
         node,
         parent,
@@ -167,20 +168,20 @@ fn vary_one(
 
 fn vary_all(
     alloc: Global,
-    node: Name,
-    parent: Name,
+    nodes: Nodes,
     columns: &OneOrMore<Quoted<'_>>,
     values: &Quoted<'_>,
     tags: &OneOrMore<Quoted<'_>>,
     name: &Quoted<'_>,
 ) -> Result<Statement, LineStop>
-    ensures ok { IfOk result (λ s. Says (line.Books node parent (line.VaryAll (strings_of columns.now) (quoted_of values.now) (strings_of tags.now) (quoted_of name.now))) s) }
+    ensures ok { IfOk result (λ s. Says (line.Books nodes.node nodes.parent (line.VaryAll (strings_of columns.now) (quoted_of values.now) (strings_of tags.now) (quoted_of name.now))) s) }
     ensures err { IfErr result (λ e. RefusedFor (FirstBad (method_strings (line.VaryAll (strings_of columns.now) (quoted_of values.now) (strings_of tags.now) (quoted_of name.now)))) e) }
 {
     let columns = strings::names(alloc, columns)?;
     let values = strings::values(alloc, values)?;
     let tags = strings::names(alloc, tags)?;
     let name = strings::name(alloc, name)?;
+    let Nodes { node, parent } = nodes;
     Ok(Statement::Vary {
         node,
         parent,
@@ -280,16 +281,12 @@ fn action_kind(alloc: Global, action: &Action<'_>) -> Result<ActionKind, LineSto
     }
 }
 
-fn booked_action(
-    alloc: Global,
-    node: Name,
-    parent: Name,
-    action: &Action<'_>,
-) -> Result<Statement, LineStop>
-    ensures ok { IfOk result (λ s. Says (line.Books node parent (action_of action.now)) s) }
+fn booked_action(alloc: Global, nodes: Nodes, action: &Action<'_>) -> Result<Statement, LineStop>
+    ensures ok { IfOk result (λ s. Says (line.Books nodes.node nodes.parent (action_of action.now)) s) }
     ensures err { IfErr result (λ e. RefusedFor (FirstBad (method_strings (action_of action.now))) e) }
 {
     let kind = action_kind(alloc, action)?;
+    let Nodes { node, parent } = nodes;
     Ok(Statement::Action {
         result: node,
         parent,
@@ -298,37 +295,32 @@ fn booked_action(
 }
 
 // What is booked on the parent.
-fn booking(
-    alloc: Global,
-    node: Name,
-    parent: Name,
-    method: &Method<'_>,
-) -> Result<Statement, LineStop>
-    ensures ok { IfOk result (λ s. Says (line.Books node parent (method_of method.now)) s) }
+fn booking(alloc: Global, nodes: Nodes, method: &Method<'_>) -> Result<Statement, LineStop>
+    ensures ok { IfOk result (λ s. Says (line.Books nodes.node nodes.parent (method_of method.now)) s) }
     ensures err { IfErr result (λ e. RefusedFor (FirstBad (method_strings (method_of method.now))) e) }
 {
     match method {
-        Method::Define { column, expr } => define(alloc, node, parent, column, expr),
-        Method::Redefine { column, expr } => redefine(alloc, node, parent, column, expr),
-        Method::Alias { column, target } => alias(alloc, node, parent, column, target),
-        Method::Filter { expr, label } => filter(alloc, node, parent, expr, label),
+        Method::Define { column, expr } => define(alloc, nodes, column, expr),
+        Method::Redefine { column, expr } => redefine(alloc, nodes, column, expr),
+        Method::Alias { column, target } => alias(alloc, nodes, column, target),
+        Method::Filter { expr, label } => filter(alloc, nodes, expr, label),
         Method::VaryOne {
             column,
             values,
             tags,
             name,
-        } => vary_one(alloc, node, parent, column, values, tags, name),
+        } => vary_one(alloc, nodes, column, values, tags, name),
         Method::VaryAll {
             columns,
             values,
             tags,
             name,
-        } => vary_all(alloc, node, parent, columns, values, tags, name),
+        } => vary_all(alloc, nodes, columns, values, tags, name),
         Method::Report => Ok(Statement::Report {
-            result: node,
-            parent,
+            result: nodes.node,
+            parent: nodes.parent,
         }),
-        Method::Action(action) => booked_action(alloc, node, parent, action),
+        Method::Action(action) => booked_action(alloc, nodes, action),
     }
 }
 
@@ -345,7 +337,7 @@ pub(crate) fn read_statement(alloc: Global, form: &Form<'_>) -> Result<Statement
         } => {
             let node = name_of(alloc, name)?;
             let parent = name_of(alloc, parent)?;
-            booking(alloc, node, parent, method)
+            booking(alloc, Nodes { node, parent }, method)
         }
         Form::Print { result: name } => Ok(Statement::Print {
             result: name_of(alloc, name)?,

@@ -6,5 +6,5 @@ use Rattle.result_text.proofs.reports.put_flows.Given as goal
 
 abbrev pub invariant-loop-f : goal.invariant-loop-f
 invariant-loop-f l =
-    l.text ++ flat_map (λ f. flow_line l.name l.reached (flow_at l.graph l.flow f).0 (flow_at l.graph l.flow f).1) (drop l.f-index l.covered)
-    ≡ l.fn.text ++ flat_map (λ f. flow_line l.name l.reached (flow_at l.graph l.flow f).0 (flow_at l.graph l.flow f).1) l.covered
+    l.text ++ flat_map (λ f. flow_line l.report.name.now l.reached (flow_at l.report.graph.now l.report.flow.now f).0 (flow_at l.report.graph.now l.report.flow.now f).1) (drop l.f-index l.covered)
+    ≡ l.fn.text ++ flat_map (λ f. flow_line l.report.name.now l.reached (flow_at l.report.graph.now l.report.flow.now f).0 (flow_at l.report.graph.now l.report.flow.now f).1) l.covered

@@ -8,26 +8,26 @@ use Rattle.result_text.proofs.results.put_varied.Goals.{then-contains+in_ok-put_
 
 pub overflow_add-filled : goal.overflow_add-filled
 overflow_add-filled c =
-    let here = something_at c.args.variations.now c.loop-v.v (omega arith) in
-    let m = ap length (members_yes (has c.args.depends) c.args.variations.now c.loop-v.v here.0 here.1 (sym c.contains.ensures ∙ c.if-contains.true)) in
+    let here = something_at c.args.action.now.variations.now c.loop-v.v (omega arith) in
+    let m = ap length (members_yes (has c.args.depends) c.args.action.now.variations.now c.loop-v.v here.0 here.1 (sym c.contains.ensures ∙ c.if-contains.true)) in
     let count = c.loop-v.invariant.count in
     let few = c.requires.numbers in
     omega arith
 
 pub acc-acc-requires : goal.acc-acc-requires
 acc-acc-requires c =
-    let here = something_at c.args.variations.now c.loop-v.v (omega arith) in
-    let m = ap length (members_yes (has c.args.depends) c.args.variations.now c.loop-v.v here.0 here.1 (sym c.contains.ensures ∙ c.if-contains.true)) in
+    let here = something_at c.args.action.now.variations.now c.loop-v.v (omega arith) in
+    let m = ap length (members_yes (has c.args.depends) c.args.action.now.variations.now c.loop-v.v here.0 here.1 (sym c.contains.ensures ∙ c.if-contains.true)) in
     let count = c.loop-v.invariant.count in
     c.requires.accs c.loop-v.pass (omega arith)
 
 pub overflow_add-pass : goal.overflow_add-pass
 overflow_add-pass c =
-    let here = something_at c.args.variations.now c.loop-v.v (omega arith) in
-    let m = ap length (members_yes (has c.args.depends) c.args.variations.now c.loop-v.v here.0 here.1 (sym c.contains.ensures ∙ c.if-contains.true)) in
+    let here = something_at c.args.action.now.variations.now c.loop-v.v (omega arith) in
+    let m = ap length (members_yes (has c.args.depends) c.args.action.now.variations.now c.loop-v.v here.0 here.1 (sym c.contains.ensures ∙ c.if-contains.true)) in
     let count = c.loop-v.invariant.count in
     let many = c.requires.passes in
-    let few = members_few (has c.args.depends) c.args.variations.now 0 in
+    let few = members_few (has c.args.depends) c.args.action.now.variations.now 0 in
     let size = c.len-v-end.ensures.count in
     let most = c.len-v-end.ensures.few in
     omega arith
@@ -35,12 +35,12 @@ overflow_add-pass c =
 pub loop-v-preserved : goal.loop-v-preserved
 loop-v-preserved c =
     let at = has c.args.depends in
-    let vs = c.args.variations.now in
+    let vs = c.args.action.now.variations.now in
     let v = c.loop-v.v in
     let here = something_at vs v (omega arith) in
     let inv = c.loop-v.invariant in
-    let name = c.args.name.now in
-    let kind = c.args.kind.now in
+    let name = c.args.action.now.name.now in
+    let kind = c.args.action.now.kind.now in
     let accs = c.args.filled.now.piece.now.accs.items in
     let first = c.args.filled.now.first in
     let rest = members_from at (v + 1) (drop (v + 1) vs) in
