@@ -1,5 +1,5 @@
 -- Answers of the stages of tables and parts that refuse a file.
-use Rattle.std.proofs.Common.{◌≡◌, ℕ, List, [], ◌∷◌, Option, ◌∙◌}
+use Rattle.std.proofs.Common.{◌≡◌, ℕ, List, [], ◌∷◌, Option}
 use Rattle.rdf_values.specs.Functions.{Function}
 use Rattle.rdf_values.specs.TableText.{MarkedTable}
 use Rattle.rdf_values.specs.declared.script.Script.{Script}

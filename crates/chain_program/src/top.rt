@@ -13,20 +13,19 @@ use crate::means::Means;
 use crate::words::answer_words;
 use chain_due::ChainStatus;
 use entry_fns::FnList;
-use rdf_outside::{Failed, Gate, Shelf, Sink, WordList, write_whole};
+use rdf_outside::{Failed, Gate, Host, Shelf, Sink, WordList, write_whole};
 use std::alloc::Global;
 use std::thread::Threads;
 
 /// Reads the script and the tables or parts that the words name, runs the event loops of a table after the other, joins what
 /// they came to, and writes what is due. Nothing is written before all is known. The gate is called before each cluster.
 pub fn chain_top<R: Threads + Sync, S: Shelf, K: Sink, G: Gate>(
-    rt: &R,
+    host: &Host<'_, R, G>,
     alloc: Global,
     words: &WordList,
     shelf: &mut S,
     sink: &mut K,
     functions: &FnList,
-    gate: &G,
 ) -> ChainStatus
     // What is due to the words, the files and the functions is answered and written, and nothing else.
     ensures due { IsFinal result → IfSome (S.files shelf.old) (WritesDue (IsDue (functions_in functions.now) words.now) result (K.written sink.old) (K.written sink.new)) }
@@ -47,10 +46,10 @@ pub fn chain_top<R: Threads + Sync, S: Shelf, K: Sink, G: Gate>(
     ensures turns { (result ≡ ChainStatus.Memory) ⊎ TurnsBesides words.now (S.files shelf.old) (S.turns shelf.old) (S.turns shelf.new) }
 {
     let means = Means {
-        rt,
+        rt: host.rt,
         alloc,
         functions,
-        gate,
+        gate: host.gate,
     };
     let Ok(answer) = answer_words(&means, words, shelf) else {
         return ChainStatus::Memory;

@@ -7,7 +7,7 @@ ghost use Rattle.event_loop.specs.Sessions.{IsSession, session_of};
 
 use columns::{Columns, cut};
 use entry_fns::FnList;
-use event_loop::{LoopRefusal, Session};
+use event_loop::{BookedGraph, LoopRefusal, Session};
 use graph::Graph;
 use rdf_model::laws::{scripts_are_bookable, scripts_have_words};
 use rdf_outside::OpenGate;
@@ -63,7 +63,12 @@ fn new_session<'a>(
     let cuts = cut(alloc, marked.table.entries(), 1, &marked.marks)?;
     let columns = Columns::build(alloc, marked.table, cuts)?;
     let graph = Graph::book(alloc, script, columns.columns(), functions.names())?;
-    Ok(Session::new(alloc, graph, columns, functions, slots, 1))
+    let booked = BookedGraph {
+        graph,
+        columns,
+        functions,
+    };
+    Ok(Session::new(alloc, booked, slots, 1))
 }
 
 // What the next Print answers.

@@ -8,7 +8,7 @@ use chain_due::ChainStatus;
 use chain_program::chain_top;
 use entry_fns::shipped::{Clampto, Hyp2, Square};
 use entry_fns::{Closure, FnList, Stored};
-use rdf_outside::{DirShelf, OpenGate, StdSink, WordList};
+use rdf_outside::{DirShelf, Host, OpenGate, StdSink, WordList};
 use rdf_values::{Memory, Name};
 use std::alloc::Global;
 use std::env;
@@ -93,8 +93,10 @@ fn main(rt: HostRuntime) -> ExitCode {
     }
     let mut shelf = DirShelf::new(&rt);
     let mut sink = StdSink::new(&rt);
-    let status = chain_top(
-        &rt, alloc, &words, &mut shelf, &mut sink, &functions, &OpenGate,
-    );
+    let host = Host {
+        rt: &rt,
+        gate: &OpenGate,
+    };
+    let status = chain_top(&host, alloc, &words, &mut shelf, &mut sink, &functions);
     ExitCode::from(status.code())
 }

@@ -14,7 +14,7 @@ use crate::answer::Answer;
 use crate::means::Means;
 use crate::status::Status;
 use columns::Columns;
-use event_loop::run_prints;
+use event_loop::{BookedGraph, run_prints};
 use graph::{Graph, GraphRefusal};
 use rdf_outside::Gate;
 use rdf_values::{Memory, Script};
@@ -33,12 +33,15 @@ fn answer_prints<R: Threads + Sync, G: Gate>(
     requires size { columns.cuts.size ≡ means.now.settings.cluster }
     ensures { IfOk result (Answers (IsPrinted (functions_in means.now.functions.now) means.now.settings.cluster means.now.settings.watch graph.script (marked_in columns))) }
 {
+    let booked = BookedGraph {
+        graph,
+        columns,
+        functions: means.functions,
+    };
     let transcript = run_prints(
         means.rt,
         means.alloc,
-        graph,
-        columns,
-        means.functions,
+        booked,
         means.settings.slots,
         means.settings.watch,
         means.gate,

@@ -4,7 +4,7 @@ ghost use Rattle.rdf_outside.specs.Memory.{shelf_made};
 
 use super::*;
 use entry_fns::FnList;
-use rdf_outside::{Gate, MemoryShelf, MemorySink, OpenGate, WordList};
+use rdf_outside::{Gate, Host, MemoryShelf, MemorySink, OpenGate, WordList};
 use std::alloc::Global;
 use std::test::Fail;
 use std::thread::Threads;
@@ -65,6 +65,7 @@ fn run<R: Threads + Sync, G: Gate>(
     let words = words_of(alloc, TWO_FILES, case.options)?;
     let mut shelf = shelf_of(alloc, case.script.as_bytes(), case.table.as_bytes())?;
     let mut sink = MemorySink::new(alloc, ROOM)?;
-    let status = rdf_top(rt, alloc, &words, &mut shelf, &mut sink, functions, gate);
+    let host = Host { rt, gate };
+    let status = rdf_top(&host, alloc, &words, &mut shelf, &mut sink, functions);
     Ok((status, sink))
 }

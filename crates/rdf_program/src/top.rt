@@ -12,20 +12,19 @@ ghost use Rattle.rdf_program.specs.Top.{OfFiles, TurnsBesides, WritesPart, Write
 use crate::status::Status;
 use crate::words::answer_words;
 use entry_fns::FnList;
-use rdf_outside::{Failed, Gate, Shelf, Sink, WordList, write_whole};
+use rdf_outside::{Failed, Gate, Host, Shelf, Sink, WordList, write_whole};
 use std::alloc::Global;
 use std::thread::Threads;
 
 /// Reads the script and the table that the words name, or makes them, runs the event loops and writes what is due.
 /// Nothing is written before all is known. The gate is called before each cluster of a loop.
 pub fn rdf_top<R: Threads + Sync, S: Shelf, K: Sink, G: Gate>(
-    rt: &R,
+    host: &Host<'_, R, G>,
     alloc: Global,
     words: &WordList,
     shelf: &mut S,
     sink: &mut K,
     functions: &FnList,
-    gate: &G,
 ) -> Status
     // What is due to the words, the files and the functions is answered and written, and nothing else.
     ensures due { IsFinal result → OfFiles words.now (S.files shelf.old) (WritesDue (IsDue (functions_in functions.now) words.now) result (K.written sink.old) (K.written sink.new)) }
@@ -44,7 +43,7 @@ pub fn rdf_top<R: Threads + Sync, S: Shelf, K: Sink, G: Gate>(
     // The script is turned to once, and the table at most once, after a script was read.
     ensures turns { result ≡ Status.Memory ⊎ TurnsBesides words.now (S.files shelf.old) (S.turns shelf.old) (S.turns shelf.new) }
 {
-    let Ok(answer) = answer_words(rt, alloc, words, shelf, functions, gate) else {
+    let Ok(answer) = answer_words(host, alloc, words, shelf, functions) else {
         return Status::Memory;
     };
     match write_whole(sink, answer.text.as_bytes()) {

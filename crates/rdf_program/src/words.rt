@@ -11,7 +11,7 @@ use crate::settings::Settings;
 use crate::status::Status;
 use command_words::{Input, read_command};
 use entry_fns::FnList;
-use rdf_outside::{Gate, Shelf, WordList};
+use rdf_outside::{Gate, Host, Shelf, WordList};
 use rdf_values::Memory;
 use result_text::Refusal;
 use std::alloc::Global;
@@ -19,12 +19,11 @@ use std::thread::Threads;
 
 /// The answer to the command's words.
 pub(crate) fn answer_words<R: Threads + Sync, S: Shelf, G: Gate>(
-    rt: &R,
+    host: &Host<'_, R, G>,
     alloc: Global,
     words: &WordList,
     shelf: &mut S,
     functions: &FnList,
-    gate: &G,
 ) -> Result<Answer, Memory>
     ensures turns { OnOk result (TurnsBesides words.now (S.files shelf.old) (S.turns shelf.old) (S.turns shelf.new)) }
     ensures answer { IfOk result (AnswersWords (functions_in functions.now) words.now (S.files shelf.old) (S.turns shelf.new) (S.faults shelf.old) (S.faults shelf.new)) }
@@ -38,11 +37,11 @@ pub(crate) fn answer_words<R: Threads + Sync, S: Shelf, G: Gate>(
         watch: command.watch,
     };
     let means = Means {
-        rt,
+        rt: host.rt,
         alloc,
         functions,
         settings,
-        gate,
+        gate: host.gate,
     };
     match command.input {
         Input::Files {

@@ -6,7 +6,7 @@ ghost use Rattle.entry_fns.specs.Shipped.{clampto_of, hyp2_of, square_of};
 
 use entry_fns::shipped::{Clampto, Hyp2, Square};
 use entry_fns::{Closure, FnList, Stored};
-use rdf_outside::{DirShelf, OpenGate, StdSink, WordList};
+use rdf_outside::{DirShelf, Host, OpenGate, StdSink, WordList};
 use rdf_values::{Memory, Name};
 use snapshot_due::SnapshotStatus;
 use snapshot_program::snapshot_top;
@@ -93,8 +93,10 @@ fn main(rt: HostRuntime) -> ExitCode {
     }
     let mut shelf = DirShelf::new(&rt);
     let mut sink = StdSink::new(&rt);
-    let status = snapshot_top(
-        &rt, alloc, &words, &mut shelf, &mut sink, &functions, &OpenGate,
-    );
+    let host = Host {
+        rt: &rt,
+        gate: &OpenGate,
+    };
+    let status = snapshot_top(&host, alloc, &words, &mut shelf, &mut sink, &functions);
     ExitCode::from(status.code())
 }

@@ -1,6 +1,6 @@
 -- A pass of a job by its number: how many accumulators it has, and which filters it covers.
-use Rattle.std.proofs.Common.{◌≡◌, ℕ, suc, ◌+◌, ◌<◌, ◌≤◌, List, [], ◌∷◌, ◌++◌, length, map, take, Option, None, Some, refl, sym, ap, ◌∙◌, arith, append-nil, length-append}
-use Rattle.std.specs.Prelude.{All, option_map, slice_get}
+use Rattle.std.proofs.Common.{◌≡◌, ℕ, ◌+◌, List, [], ◌∷◌, ◌++◌, length, map, take, Some, refl, sym, ap, ◌∙◌, append-nil, length-append}
+use Rattle.std.specs.Prelude.{option_map, slice_get}
 use Rattle.std.proofs.lemmas.Grind.{flat_map-append}
 use Rattle.std.proofs.lemmas.List.{map-append}
 use Rattle.std.proofs.lemmas.Option.{same_Some, slice_get-map}
@@ -9,7 +9,6 @@ use Rattle.rdf_values.specs.Bookings.{ActionAt, Booking, Pass, ReportOn, named_b
 use Rattle.rdf_values.specs.Path.{Path, history}
 use Rattle.rdf_values.specs.declared.action.ActionKind.{ActionKind}
 use Rattle.rdf_model.specs.LoopFacts.{kind_in, kinds_in}
-use Rattle.rdf_model.specs.PartialResults.{over_clusters}
 use Rattle.graph_numbers.specs.Graphs.{GraphView, graph_filters, graph_results, graph_under}
 use Rattle.graph_numbers.specs.Results.{FilterAt, ResultAt, kind_of_booking}
 use Rattle.graph_numbers.specs.declared.pass.Pass.{Pass as NumberedPass}
@@ -18,12 +17,8 @@ use Rattle.graph_numbers.specs.declared.result_kind.ResultKind.TheVariants as wh
 use Rattle.graph_numbers.proofs.AcceptedNumbers.{filters_are_the_scripts, reports_cover_filters}
 use Rattle.loop_keys.specs.Caches.{numbered_in}
 use Rattle.loop_keys.specs.Jobs.{JobView, job_graph, passes_in}
-use Rattle.loop_keys.specs.Entries.{job_spans}
-use Rattle.loop_pieces.specs.declared.loop_piece.LoopPiece.{LoopPiece}
 use Rattle.event_loop.proofs.Adding.{its_pass, its_result, of_action, of_report, result_is}
-use Rattle.shard_spans.specs.Spans.{clusters_in, pass_line}
-use Rattle.shard_loop.specs.LoopSpans.{IsSpanPiece, span_rows_of}
-use Rattle.shard_loop.proofs.PassLines.{AreNumbered, none_over}
+use Rattle.shard_loop.proofs.PassLines.{AreNumbered}
 
 kinds_next : (ps : List Pass) (n : ℕ) (p : Pass) → slice_get ps n ≡ Some p → kinds_in (take (n + 1) ps) ≡ kinds_in (take n ps) ++ kind_in p.result.booking
 kinds_next ps n p here =

@@ -1,5 +1,5 @@
 -- The loops of a graph over a span, one after another.
-use Rattle.std.proofs.Common.{◌≡◌, ℕ, zero, suc, ◌+◌, ◌<◌, ◌≤◌, Bool, true, false, List, [], ◌∷◌, ◌++◌, length, map, drop, Option, None, Some, refl, sym, ap, ◌∙◌, subst, arith, append-nil, append_assoc}
+use Rattle.std.proofs.Common.{◌≡◌, ℕ, zero, suc, ◌+◌, ◌<◌, ◌≤◌, true, false, List, [], ◌∷◌, ◌++◌, length, map, drop, Option, Some, refl, sym, ap, ◌∙◌, subst, arith, append-nil, append_assoc}
 use Rattle.std.specs.Prelude.{option_map, slice_get, unwrap_or}
 use Rattle.std.proofs.lemmas.List.{length-map}
 use Rattle.std.proofs.lemmas.Option.{slice_get-map}
@@ -25,7 +25,7 @@ use Rattle.shard_files.specs.Merging.{fault_or_lines, up_to_fault}
 use Rattle.shard_files.specs.declared.shard_loop.ShardLoop.{ShardLoop}
 use Rattle.shard_files.specs.declared.shard_loop.ShardLoop.TheVariants.{Whole, Faulted}
 use Rattle.shard_spans.specs.Spans.{loops_of, pass_line, span_loop, span_loops}
-use Rattle.shard_loop.specs.LoopSpans.{IsSpanPiece, IsSpanned, loop_fault, loop_in, span_rows_of}
+use Rattle.shard_loop.specs.LoopSpans.{IsSpanPiece, IsSpanned, loop_in, span_rows_of}
 use Rattle.shard_loop.specs.declared.span_run.Spanned.{Spanned}
 use Rattle.shard_loop.specs.declared.span_run.Spanned.TheVariants as spanned
 

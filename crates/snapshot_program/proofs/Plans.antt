@@ -1,5 +1,5 @@
 -- Plans and their refusals, and what is due of a run.
-use Rattle.std.proofs.Common.{if◌then◌else◌, ◌≡◌, inl, inr, ◌<◌, ◌≤◌, ◌+◌, ℕ, suc, Bool, true, false, not, List, [], ◌∷◌, ◌++◌, length, Option, None, Some, Result, Ok, Err, IfOk, nat_lt, arith, ap, refl, sym, subst, ◌∙◌}
+use Rattle.std.proofs.Common.{if◌then◌else◌, ◌≡◌, inl, inr, ◌<◌, ◌+◌, ℕ, suc, Bool, true, false, not, List, [], ◌∷◌, ◌++◌, length, Option, None, Some, Result, Ok, Err, IfOk, nat_lt, arith, ap, refl, sym, subst, ◌∙◌}
 use Rattle.std.specs.Prelude.{MatchOption}
 use Rattle.rdf_values.specs.Answers.{Refuses}
 use Rattle.rdf_values.specs.Functions.{Function, fn_names}

@@ -14,7 +14,7 @@ use crate::inputs::Inputs;
 use crate::lines::{fault_line, long_line};
 use crate::planning::{Planned, plan_for};
 use entry_fns::FnList;
-use rdf_outside::Gate;
+use rdf_outside::{Gate, Host};
 use rdf_values::{EntryFault, Memory, Name};
 use snapshot_due::SnapshotStatus;
 use snapshot_entries::SnapJob;
@@ -47,18 +47,17 @@ fn too_long(alloc: Global) -> Result<Answer, Memory>
 
 // The answer of a plan over a table.
 fn answer_run<R: Threads + Sync, G: Gate>(
-    rt: &R,
+    host: &Host<'_, R, G>,
     alloc: Global,
     job: &SnapJob<'_>,
     slots: u32,
-    gate: &G,
 ) -> Result<Answer, Memory>
     requires columns { (plan_of job.now).graph.header ≡ (data_of job.now).columns }
     requires functions { (plan_of job.now).graph.names ≡ fn_names (data_of job.now).fns }
     requires slots { (0 < slots) × (slots ≤ 16) }
     ensures { IfOk result (Answers (IsRunDue (plan_of job.now) (data_of job.now))) }
 {
-    match run(rt, alloc, job, slots, gate) {
+    match run(host.rt, alloc, job, slots, host.gate) {
         Ok(text) => Ok(Answer {
             status: SnapshotStatus::Done,
             text,
@@ -71,12 +70,11 @@ fn answer_run<R: Threads + Sync, G: Gate>(
 
 /// The answer to a script over a table.
 pub(crate) fn answer_over<R: Threads + Sync, G: Gate>(
-    rt: &R,
+    host: &Host<'_, R, G>,
     alloc: Global,
     inputs: Inputs,
     command: &SnapCommand,
     functions: &FnList,
-    gate: &G,
 ) -> Result<Answer, Memory>
     requires bookable { IsBookable inputs.script }
     requires asked { IsAsked command.now }
@@ -92,7 +90,7 @@ pub(crate) fn answer_over<R: Threads + Sync, G: Gate>(
         columns: &columns,
         functions,
     };
-    let answer = answer_run(rt, alloc, &job, command.slots, gate);
+    let answer = answer_run(host, alloc, &job, command.slots);
     let SnapJob {
         plan: _,
         columns: _,

@@ -11,7 +11,7 @@ ghost use Rattle.snapshot_program.specs.Top.{TurnsBesides};
 
 use crate::words::answer_words;
 use entry_fns::FnList;
-use rdf_outside::{Failed, Gate, Shelf, Sink, WordList, write_whole};
+use rdf_outside::{Failed, Gate, Host, Shelf, Sink, WordList, write_whole};
 use snapshot_due::SnapshotStatus;
 use std::alloc::Global;
 use std::thread::Threads;
@@ -19,13 +19,12 @@ use std::thread::Threads;
 /// Reads the script and the table that the words name and writes the snapshot that they ask for, or the line that is due in its
 /// place. Nothing is written before all is known. The gate is called before each cluster.
 pub fn snapshot_top<R: Threads + Sync, S: Shelf, K: Sink, G: Gate>(
-    rt: &R,
+    host: &Host<'_, R, G>,
     alloc: Global,
     words: &WordList,
     shelf: &mut S,
     sink: &mut K,
     functions: &FnList,
-    gate: &G,
 ) -> SnapshotStatus
     // What is due to the words, the files and the functions is answered and written, and nothing else.
     ensures due { IsFinal result → IfSome (S.files shelf.old) (WritesDue (IsDue (functions_in functions.now) words.now) result (K.written sink.old) (K.written sink.new)) }
@@ -44,7 +43,7 @@ pub fn snapshot_top<R: Threads + Sync, S: Shelf, K: Sink, G: Gate>(
     // Each file is turned to at most once, the script first, and the table only once a script was read.
     ensures turns { result ≡ SnapshotStatus.Memory ⊎ TurnsBesides words.now (S.files shelf.old) (S.turns shelf.old) (S.turns shelf.new) }
 {
-    let Ok(answer) = answer_words(rt, alloc, words, shelf, functions, gate) else {
+    let Ok(answer) = answer_words(host, alloc, words, shelf, functions) else {
         return SnapshotStatus::Memory;
     };
     match write_whole(sink, answer.text.as_bytes()) {

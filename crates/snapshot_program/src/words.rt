@@ -11,7 +11,7 @@ use crate::inputs::{ReadInputs, read_inputs};
 use crate::lines::usage_line;
 use crate::over_table::answer_over;
 use entry_fns::FnList;
-use rdf_outside::{Gate, Shelf, WordList};
+use rdf_outside::{Gate, Host, Shelf, WordList};
 use rdf_values::Memory;
 use snapshot_due::SnapshotStatus;
 use snapshot_words::{commands_are_plans, read_command};
@@ -31,12 +31,11 @@ fn untaken(alloc: Global) -> Result<Answer, Memory>
 
 /// The answer to the command's words.
 pub(crate) fn answer_words<R: Threads + Sync, S: Shelf, G: Gate>(
-    rt: &R,
+    host: &Host<'_, R, G>,
     alloc: Global,
     words: &WordList,
     shelf: &mut S,
     functions: &FnList,
-    gate: &G,
 ) -> Result<Answer, Memory>
     ensures answer { IfOk result (IsAnswer (functions_in functions.now) words.now (S.files shelf.old) (S.turns shelf.new) (S.faults shelf.old) (S.faults shelf.new)) }
     ensures turns { OnOk result (TurnsBesides words.now (S.files shelf.old) (S.turns shelf.old) (S.turns shelf.new)) }
@@ -45,8 +44,8 @@ pub(crate) fn answer_words<R: Threads + Sync, S: Shelf, G: Gate>(
         return untaken(alloc);
     };
     commands_are_plans();
-    match read_inputs(rt, alloc, shelf, &command)? {
-        ReadInputs::Both(inputs) => answer_over(rt, alloc, inputs, &command, functions, gate),
+    match read_inputs(host.rt, alloc, shelf, &command)? {
+        ReadInputs::Both(inputs) => answer_over(host, alloc, inputs, &command, functions),
         ReadInputs::Refused(answer) => Ok(answer),
     }
 }

@@ -18,9 +18,11 @@ fn a_failed_read_is_named_at_each_call(rt: HostRuntime) -> Result<(), Fail> {
         let mut shelf = shelf_of(alloc, COUNT.as_bytes(), TABLE.as_bytes())?;
         shelf.fail_at(call)?;
         let mut sink = MemorySink::new(alloc, ROOM)?;
-        let status = rdf_top(
-            &rt, alloc, &words, &mut shelf, &mut sink, &functions, &OpenGate,
-        );
+        let host = Host {
+            rt: &rt,
+            gate: &OpenGate,
+        };
+        let status = rdf_top(&host, alloc, &words, &mut shelf, &mut sink, &functions);
         assert!(rt; status == Status::ReadFault, "call {call}");
         assert_eq!(rt; sink.bytes(), output.as_bytes(), "call {call}");
     }
@@ -46,9 +48,11 @@ fn a_failed_write_leaves_a_first_part(rt: HostRuntime) -> Result<(), Fail> {
         let mut sink = MemorySink::new(alloc, ROOM)?;
         sink.take_at_most(1);
         sink.fail_at(call)?;
-        let status = rdf_top(
-            &rt, alloc, &words, &mut shelf, &mut sink, &functions, &OpenGate,
-        );
+        let host = Host {
+            rt: &rt,
+            gate: &OpenGate,
+        };
+        let status = rdf_top(&host, alloc, &words, &mut shelf, &mut sink, &functions);
         assert!(rt; status == ended, "call {call}");
         assert_eq!(rt; sink.bytes(), output.as_bytes(), "call {call}");
     }
@@ -64,9 +68,11 @@ fn a_failed_write_counts_where_a_read_failed_too(rt: HostRuntime) -> Result<(), 
     shelf.fail_at(0)?;
     let mut sink = MemorySink::new(alloc, ROOM)?;
     sink.fail_at(0)?;
-    let status = rdf_top(
-        &rt, alloc, &words, &mut shelf, &mut sink, &functions, &OpenGate,
-    );
+    let host = Host {
+        rt: &rt,
+        gate: &OpenGate,
+    };
+    let status = rdf_top(&host, alloc, &words, &mut shelf, &mut sink, &functions);
     assert!(rt; status == Status::WriteFault);
     assert_eq!(rt; sink.bytes(), b"".as_slice());
     Ok(())

@@ -28,9 +28,11 @@ fn a_failed_read_of_a_friend_is_named(rt: HostRuntime) -> Result<(), Fail> {
         let mut shelf = shelf_with_friend(alloc)?;
         shelf.fail_at(call)?;
         let mut sink = MemorySink::new(alloc, ROOM)?;
-        let status = rdf_top(
-            &rt, alloc, &words, &mut shelf, &mut sink, &functions, &OpenGate,
-        );
+        let host = Host {
+            rt: &rt,
+            gate: &OpenGate,
+        };
+        let status = rdf_top(&host, alloc, &words, &mut shelf, &mut sink, &functions);
         assert!(rt; status == Status::ReadFault, "call {call}");
         assert_eq!(rt;
             sink.bytes(),

@@ -263,7 +263,11 @@ fn bar_is_lowered(rt: HostRuntime) -> Result<(), Fail> {
     let words = words_of(alloc, TWO_FILES, &["--slots", "2", "--cluster", "1"])?;
     let mut shelf = shelf_of(alloc, script.as_bytes(), table.as_bytes())?;
     let mut sink = MemorySink::new(alloc, ROOM)?;
-    let status = rdf_top(&rt, alloc, &words, &mut shelf, &mut sink, &functions, &gate);
+    let host = Host {
+        rt: &rt,
+        gate: &gate,
+    };
+    let status = rdf_top(&host, alloc, &words, &mut shelf, &mut sink, &functions);
     assert!(rt; status == Status::LoopFault);
     assert_eq!(rt;
         sink.bytes(),

@@ -1,4 +1,3 @@
-use Rattle.std.proofs.Common.{get_or}
 use Rattle.std.proofs.lemmas.Option.{slice_get-get_or}
 use Rattle.shard_loop.proofs.Taking.{counted_next}
 use Rattle.shard_loop.proofs.filled_lines.counts_at.Goals as goal

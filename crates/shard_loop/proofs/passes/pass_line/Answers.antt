@@ -1,11 +1,10 @@
-use Rattle.std.proofs.Common.{◌≡◌, ◌<◌, List, sym, ap, ◌∙◌, subst, arith, get_or, length, map, take, Some}
+use Rattle.std.proofs.Common.{◌<◌, sym, ap, ◌∙◌, subst, arith, get_or, length, map, take}
 use Rattle.std.specs.Prelude.{All, slice_get}
 use Rattle.std.proofs.lemmas.Option.{same_Some, slice_get_within}
 use Rattle.std.proofs.lemmas.Result.{IfOk-weaker}
 use Rattle.rdf_values.specs.Bookings.{named_before}
 use Rattle.rdf_values.specs.Path.{history}
 use Rattle.rdf_model.specs.LoopFacts.{kinds_in}
-use Rattle.actions.specs.Accumulators.{Accumulator}
 use Rattle.loop_keys.specs.Jobs.{job_of, passes_in}
 use Rattle.loop_keys.specs.Entries.{job_spans}
 use Rattle.event_loop.proofs.Adding.{of_action, result_within}

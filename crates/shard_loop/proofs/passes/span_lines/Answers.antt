@@ -1,4 +1,4 @@
-use Rattle.std.proofs.Common.{◌≡◌, ◌∙◌, ◌+◌, ◌≤◌, ap, arith, length, map, refl, sym}
+use Rattle.std.proofs.Common.{◌∙◌, ◌+◌, ◌≤◌, ap, arith, length, map, refl, sym}
 use Rattle.std.proofs.lemmas.List.{take_all}
 use Rattle.lemmas.proofs.Places.{something_at}
 use Rattle.loop_keys.specs.Jobs.{job_of, passes_in}
