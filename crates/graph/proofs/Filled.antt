@@ -10,7 +10,7 @@ use Rattle.rdf_values.specs.Path.{Variation, variations}
 use Rattle.rdf_values.specs.Verdict.{AreAccepted, check, check_node, is_in_use, is_node, is_result, refuse_if, refuse_unless}
 use Rattle.rdf_values.specs.declared.graph_cause.GraphCause.TheVariants as cause
 use Rattle.rdf_values.specs.declared.statement.Statement.{Statement}
-use Rattle.rdf_values.specs.declared.statement.Statement.TheVariants.{Define, Redefine, Alias, Filter, Vary, Action, Report, VariationsFor, Watch, Print}
+use Rattle.rdf_values.specs.declared.statement.Statement.TheVariants.{Action, Report, Print}
 use Rattle.rdf_model.proofs.Accepted.{both_none, if_fails, unless_holds, names_equal, itself}
 use Rattle.graph_numbers.proofs.Listed.{of_joined}
 use Rattle.graph_numbers.specs.Graphs.{holds_at}
@@ -128,15 +128,7 @@ filled_is (Print p ∷ before) = go (among p (filled before)) (filled_is before)
         let c = length-append (bookings before) [] in let l = h.1 in
         (h.0 ∙ ap (λ bs. names_of (take (filled_count before) bs)) (sym nothing_more), omega (arith, c, l))
     go false h = let c = length-append (bookings before) [] in (ap (λ bs. names_of bs) (sym all), omega (arith, c))
-filled_is (Define node parent column expr ∷ before) = further_filled before (Define node parent column expr) refl refl (filled_is before)
-filled_is (Redefine node parent column expr ∷ before) = further_filled before (Redefine node parent column expr) refl refl (filled_is before)
-filled_is (Alias node parent column target ∷ before) = further_filled before (Alias node parent column target) refl refl (filled_is before)
-filled_is (Filter node parent expr label ∷ before) = further_filled before (Filter node parent expr label) refl refl (filled_is before)
-filled_is (Vary node parent columns values tags vary ∷ before) = further_filled before (Vary node parent columns values tags vary) refl refl (filled_is before)
-filled_is (Action result parent k ∷ before) = further_filled before (Action result parent k) refl refl (filled_is before)
-filled_is (Report result parent ∷ before) = further_filled before (Report result parent) refl refl (filled_is before)
-filled_is (VariationsFor result ∷ before) = further_filled before (VariationsFor result) refl refl (filled_is before)
-filled_is (Watch result ∷ before) = further_filled before (Watch result) refl refl (filled_is before)
+filled_is (s ∷ before) = further_filled before s refl refl (filled_is before)
 
 pub filled_few : (before : List Statement) → filled_count before ≤ length (bookings before)
 unfolding IsFilled

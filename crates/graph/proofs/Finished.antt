@@ -1,11 +1,11 @@
 -- The fields of a finished graph.
-use Rattle.std.proofs.Common.{if◌then◌else◌, ◌≡◌, inl, inr, ℕ, suc, ◌+◌, ◌≤◌, Bool, true, false, List, [], ◌∷◌, ◌++◌, map, length, reverse, Option, Some, None, option_map, refl, sym, ◌∙◌, ap, subst, arith, slice_get, length-append}
+use Rattle.std.proofs.Common.{◌≡◌, inl, inr, ℕ, suc, ◌≤◌, Bool, List, [], ◌∷◌, ◌++◌, map, length, reverse, Option, Some, None, option_map, refl, sym, ◌∙◌, ap, subst, arith, slice_get, length-append}
 use Rattle.std.specs.List.{AllByRecursion}
 use Rattle.std.proofs.lemmas.List.{length-map, reverse-reverse, reverse-append}
 use Rattle.std.proofs.lemmas.List.Elements.{recursion_from_All}
 use Rattle.rdf_values.specs.Answers.{Refuses}
 use Rattle.rdf_values.specs.Bookable.{IsBookable, IsShort}
-use Rattle.rdf_values.specs.Bookings.{Booked, bookings, is_watched, named_before, result_depends}
+use Rattle.rdf_values.specs.Bookings.{Booked, bookings, is_watched, result_depends}
 use Rattle.rdf_values.specs.Kinds.{FunctionNames, scope_of}
 use Rattle.rdf_values.specs.Path.{variations}
 use Rattle.rdf_values.specs.Tables.{IsHeader}
@@ -14,11 +14,11 @@ use Rattle.rdf_values.specs.declared.column.Column.{Column}
 use Rattle.rdf_values.specs.declared.script.Line.{Line}
 use Rattle.rdf_values.specs.declared.script.Script.{Script}
 use Rattle.rdf_values.specs.declared.statement.Statement.{Statement}
-use Rattle.rdf_values.specs.declared.statement.Statement.TheVariants.{Define, Redefine, Alias, Filter, Vary, Action, Report, VariationsFor, Watch, Print}
+use Rattle.rdf_values.specs.declared.statement.Statement.TheVariants.{Print}
 use Rattle.rdf_model.specs.Loops.{Access, accesses, filled_by}
 use Rattle.graph_numbers.proofs.Resulting.{booked_are}
 use Rattle.graph_numbers.specs.Graphs.{GraphView, IsGraph, booked, booked_unless, booked_statements, graph_results, graph_sources, graph_variations, holds_at}
-use Rattle.graph_numbers.specs.Results.{FilterAt, ResultAt, filters, result_number}
+use Rattle.graph_numbers.specs.Results.{ResultAt, result_number}
 use Rattle.graph_numbers.specs.declared.version.Version.{Version}
 use Rattle.graph_numbers.proofs.Extending.{versions_count}
 use Rattle.graph.specs.Dependence.{Numbers, depends_at, result_sets}
@@ -26,23 +26,21 @@ use Rattle.graph.specs.Gains.{AreRows as AreCheckRows, AreTables}
 use Rattle.graph.specs.Laws.{ResultSetsAreDependence, SiteSetsAreDependence}
 use Rattle.graph.specs.Lookups.{statements}
 use Rattle.graph.specs.declared.result_row.ResultRow.{ResultRow}
-use Rattle.graph.specs.Bookings.{IsBooking, refused, IsRefusal}
+use Rattle.graph.specs.Bookings.{refused, IsRefusal}
+use Rattle.graph.specs.declared.tables.Tables.{Tables}
 use Rattle.graph.specs.GraphFields.{IsBooked, view_of}
 use Rattle.graph.specs.LoopRows.{AreNamedInTurn, AreRowsOf, AreLoops}
 use Rattle.graph.specs.Refusals.{refused_at}
-use Rattle.graph.specs.Rows.{AreRows, is_named, result_path}
 use Rattle.graph.specs.VersionSources.{AreSourcesOf, AreAbove}
-use Rattle.graph.specs.declared.booking.Booking.{Booking}
 use Rattle.graph.specs.declared.loops.LoopTables.{LoopTables}
 use Rattle.graph.specs.declared.refusal.GraphRefusal.{GraphRefusal}
 use Rattle.graph.specs.declared.refusal.GraphRefusal.TheVariants as refusal
-use Rattle.graph.proofs.Counted.{versions_are, sites_fit}
+use Rattle.graph.proofs.Counted.{filters_few, versions_are, sites_fit}
 use Rattle.graph.proofs.Filled.{all_in_turn}
 use Rattle.graph.proofs.Looped.{bookings_few, loops_few}
-use Rattle.graph.proofs.Reading.{mapped, rows_length, labels_are, labels_count}
+use Rattle.graph.proofs.Reading.{mapped, rows_length}
 use Rattle.graph.proofs.Refusing.{history_is, none_refused, verdict_of}
 use Rattle.graph.proofs.Sourced.{sources_are, versions_above}
-use Rattle.graph.proofs.Walked.{named_more}
 
 -- ---- the statements of a graph's lines
 
@@ -113,58 +111,39 @@ rows_of_graph g graph law rs h =
 
 -- ---- counts
 
-named_few : (before : List Statement) → length (named_before before) ≤ length before
-named_few [] = omega arith
-named_few (s ∷ before) = let n = named_few before in let m = named_more s before in go (is_named s) n m
-  where
-    go : (b : Bool) → length (named_before before) ≤ length before → length (named_before (s ∷ before)) ≡ length (named_before before) + (if b then 1 else 0) → length (named_before (s ∷ before)) ≤ length (s ∷ before)
-    go true n m = omega (arith, n, m)
-    go false n m = omega (arith, n, m)
-
 accesses_few : (before : List Statement) → length (accesses before) ≤ length before
 accesses_few [] = omega arith
 accesses_few (Print r ∷ before) = let n = accesses_few before in let m = length-append (accesses before) (record { result = r; fills = filled_by before r } ∷ []) in omega (arith, n, m)
-accesses_few (Define node parent column expr ∷ before) = let n = accesses_few before in omega (arith, n)
-accesses_few (Redefine node parent column expr ∷ before) = let n = accesses_few before in omega (arith, n)
-accesses_few (Alias node parent column target ∷ before) = let n = accesses_few before in omega (arith, n)
-accesses_few (Filter node parent expr label ∷ before) = let n = accesses_few before in omega (arith, n)
-accesses_few (Vary node parent columns values tags vary ∷ before) = let n = accesses_few before in omega (arith, n)
-accesses_few (Action result parent k ∷ before) = let n = accesses_few before in omega (arith, n)
-accesses_few (Report result parent ∷ before) = let n = accesses_few before in omega (arith, n)
-accesses_few (VariationsFor result ∷ before) = let n = accesses_few before in omega (arith, n)
-accesses_few (Watch result ∷ before) = let n = accesses_few before in omega (arith, n)
+accesses_few (s ∷ before) = let n = accesses_few before in omega (arith, n)
 
 -- ---- finishing
 
-module _ (ls all : List Line) (header : List Column) (names : FunctionNames) (b : Booking) (rs : List ResultRow) (same_lines : all ≡ ls) (same_rows : rs ≡ b.tables.results.items)
-    (graph : IsGraph (view_of ls header names)) (h : IsBooking header names (statements ls) b) where
+module _ (ls all : List Line) (header : List Column) (names : FunctionNames) (t : Tables) (rs : List ResultRow) (same_lines : all ≡ ls) (same_rows : rs ≡ t.results.items)
+    (graph : IsGraph (view_of ls header names)) (h : AreTables header names (statements ls) t) where
   abbrev g : GraphView
   g = view_of ls header names
 
   pub finish_named : AreNamedInTurn (statements all)
-  finish_named = subst (λ (xs : List Line). AreNamedInTurn (statements xs)) (sym same_lines) (all_in_turn names (scope_of header) (statements ls) h.tables.versions.accepted)
+  finish_named = subst (λ (xs : List Line). AreNamedInTurn (statements xs)) (sym same_lines) (all_in_turn names (scope_of header) (statements ls) h.versions.accepted)
 
-  tables_of : AreTables header names (booked_statements g) b.tables
-  tables_of = subst (λ (x : List Statement). AreTables header names x b.tables) (history_of ls header names) h.tables
-
-  rows_here : AreRows header names (booked_statements g) b.rows
-  rows_here = subst (λ (x : List Statement). AreRows header names x b.rows) (history_of ls header names) h.rows
+  tables_of : AreTables header names (booked_statements g) t
+  tables_of = subst (λ (x : List Statement). AreTables header names x t) (history_of ls header names) h
 
   pub finish_rows : ResultSetsAreDependence → AreRowsOf (statements all) (bookings (statements all)) rs
   finish_rows law =
       subst (λ (xs : List ResultRow). AreRowsOf (statements all) (bookings (statements all)) xs) (sym same_rows)
-      (subst (λ (xs : List Line). AreRowsOf (statements xs) (bookings (statements xs)) b.tables.results.items) (sym same_lines)
-      (subst (λ (x : List Statement). AreRowsOf x (bookings x) b.tables.results.items) (sym (history_of ls header names)) (rows_of_graph g graph law b.tables.results.items tables_of.results)))
+      (subst (λ (xs : List Line). AreRowsOf (statements xs) (bookings (statements xs)) t.results.items) (sym same_lines)
+      (subst (λ (x : List Statement). AreRowsOf x (bookings x) t.results.items) (sym (history_of ls header names)) (rows_of_graph g graph law t.results.items tables_of.results)))
 
   pub finish_count : length rs ≡ length (bookings (statements all))
-  finish_count = ap length same_rows ∙ rows_length _ _ b.tables.results.items h.tables.results ∙ (λ i. length (bookings (statements (sym same_lines i))))
+  finish_count = ap length same_rows ∙ rows_length _ _ t.results.items h.results ∙ (λ i. length (bookings (statements (sym same_lines i))))
 
   pub finish_few : length ls ≤ 256 → length rs ≤ 256
   finish_few few =
       let n = finish_count in let m = bookings_few (statements all) in let k = length-map all (λ (l : Line). l.statement) in let e = ap length same_lines in omega (arith, n, m, k, e, few)
 
   accepted_here : AreAccepted names (scope_of header) (booked_statements g)
-  accepted_here = subst (λ (x : List Statement). AreAccepted names (scope_of header) x) (history_of ls header names) h.tables.versions.accepted
+  accepted_here = subst (λ (x : List Statement). AreAccepted names (scope_of header) x) (history_of ls header names) h.versions.accepted
 
   length_here : length (booked_statements g) ≡ length ls
   length_here = sym (ap length (history_of ls header names)) ∙ length-map ls (λ (l : Line). l.statement)
@@ -174,11 +153,8 @@ module _ (ls all : List Line) (header : List Column) (names : FunctionNames) (b 
     loops_here : AreLoops (booked_statements g) (booked_statements g) loops
     loops_here = subst (λ (x : List Statement). AreLoops x x loops) (history_of ls header names) (subst (λ (xs : List Line). AreLoops (statements xs) (statements xs) loops) same_lines are_loops)
 
-    result_total : length b.rows.results.items ≤ 256
-    result_total =
-        let n = ap length rows_here.results in let m = length-map (graph_results g) result_path in
-        let k = ap length (booked_are header names (booked_statements g)) in let j = length-map (graph_results g) (λ (x : ResultAt). x.booked) in
-        let f = bookings_few (booked_statements g) in let l = length_here in omega (arith, n, m, k, j, f, l, few)
+    result_total : length t.results.items ≤ 256
+    result_total = let n = rows_length _ _ t.results.items tables_of.results in let f = bookings_few (booked_statements g) in let l = length_here in omega (arith, n, f, l, few)
 
     print_total : length loops.prints.items ≤ 256
     print_total =
@@ -189,39 +165,36 @@ module _ (ls all : List Line) (header : List Column) (names : FunctionNames) (b 
     loop_total : length loops.loops.items ≤ 256
     loop_total = let n = ap length loops_here.loops in let f = loops_few (booked_statements g) (booked_statements g) in let l = length_here in omega (arith, n, f, l, few)
 
-    filter_total : length b.rows.filters.items ≤ 256
-    filter_total =
-        let n = ap length rows_here.filters in let m = length-map (filters header names (booked_statements g)) (λ (f : FilterAt). f.sites) in
-        let k = length-map (filters header names (booked_statements g)) (λ (f : FilterAt). f.label) in
-        let j = ap length (labels_are header names (booked_statements g)) in let i = labels_count (booked_statements g) in
-        let f = named_few (booked_statements g) in let l = length_here in omega (arith, n, m, k, j, i, f, l, few)
+    filter_total : length t.filters.items ≤ 256
+    filter_total = let n = filters_few header names (booked_statements g) t tables_of in let l = length_here in omega (arith, n, l, few)
 
-    version_total : length b.rows.versions.items ≤ 4294967295
-    version_total =
-        let n = ap length h.rows.versions in let m = versions_count header names (statements ls) in let k = versions_are header names ls b h in let f = h.tables.versions.few in omega (arith, n, m, k, f)
+    version_total : length t.versions.items ≤ 4294967295
+    version_total = let n = ap length h.version_rows in let m = versions_count header names (statements ls) in let k = versions_are header names (statements ls) t h in let f = h.versions.few in omega (arith, n, m, k, f)
 
-    made : IsBooked g b.tables b.rows loops watched
+    site_count : length t.sites.items ≤ 16777216
+    site_count = sites_fit header names (statements ls) t h short (let k = length-map ls (λ (l : Line). l.statement) in omega (arith, k, few))
+
+    made : IsBooked g t loops watched
     made = record {
       graph = graph;
       tables = tables_of;
-      rows = rows_here;
       loops = loops_here;
       watches = are_watched ∙ (λ i. map (λ (r : ResultRow). is_watched (statements (same_lines i)) r.name) (same_rows i))
-          ∙ watches_of (is_watched (statements ls)) (bookings (statements ls)) _ b.tables.results.items h.tables.results
+          ∙ watches_of (is_watched (statements ls)) (bookings (statements ls)) _ t.results.items h.results
           ∙ (λ i. map (λ (c : Booked). is_watched (history_of ls header names i) c.name) (bookings (history_of ls header names i)));
       site_sets = λ s v. site_law g graph s v;
       result_sets = λ n v. result_law g graph n v;
-      sources = λ u. subst (λ (vs : List Version). AreSourcesOf vs u (graph_sources g u)) (sym rows_here.versions) (sources_are header names (booked_statements g) accepted_here u);
-      above = subst AreAbove (sym rows_here.versions) (versions_above header names (booked_statements g) accepted_here);
+      sources = λ u. subst (λ (vs : List Version). AreSourcesOf vs u (graph_sources g u)) (sym tables_of.version_rows) (sources_are header names (booked_statements g) accepted_here u);
+      above = subst AreAbove (sym tables_of.version_rows) (versions_above header names (booked_statements g) accepted_here);
       few_results = result_total;
       few_filters = filter_total;
       few_prints = print_total;
       few_loops = loop_total;
-      few_sites = sites_fit header names ls b h short few;
+      few_sites = site_count;
       few_versions = version_total;
     }
 
     -- over copies of the columns and names
-    pub finished : (columns : List Column) (functions : FunctionNames) → columns ≡ header → functions ≡ names → IsBooked (view_of ls columns functions) b.tables b.rows loops watched
+    pub finished : (columns : List Column) (functions : FunctionNames) → columns ≡ header → functions ≡ names → IsBooked (view_of ls columns functions) t loops watched
     finished columns functions c f =
-        subst (λ (xs : List Column). IsBooked (view_of ls xs functions) b.tables b.rows loops watched) (sym c) (subst (λ (fs : FunctionNames). IsBooked (view_of ls header fs) b.tables b.rows loops watched) (sym f) made)
+        subst (λ (xs : List Column). IsBooked (view_of ls xs functions) t loops watched) (sym c) (subst (λ (fs : FunctionNames). IsBooked (view_of ls header fs) t loops watched) (sym f) made)

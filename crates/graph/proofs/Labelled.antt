@@ -1,13 +1,34 @@
 -- The labels of named filters by their numbers.
-use Rattle.std.proofs.Common.{◌≡◌, ℕ, ◌+◌, ◌-◌, ◌<◌, List, [], ◌∷◌, ◌++◌, length, Some, ◌∙◌, ap, arith, slice_get, length-append}
+use Rattle.std.proofs.Common.{◌≡◌, ℕ, ◌+◌, ◌-◌, ◌<◌, List, [], ◌∷◌, ◌++◌, length, map, Some, refl, sym, ◌∙◌, ap, arith, slice_get, length-append}
 use Rattle.std.specs.Prelude.{option_to_list}
 use Rattle.lemmas.proofs.Places.{kept_at}
 use Rattle.rdf_values.specs.Bookings.{named_before}
 use Rattle.rdf_values.specs.declared.script.Line.{Line}
+use Rattle.rdf_values.specs.Kinds.{FunctionNames}
+use Rattle.rdf_values.specs.declared.column.Column.{Column}
+use Rattle.rdf_values.specs.declared.statement.Statement.{Statement}
+use Rattle.rdf_values.specs.declared.statement.Statement.TheVariants.{Filter}
+use Rattle.graph_numbers.specs.Results.{FilterAt, own_filters, filters}
 use Rattle.graph_numbers.proofs.Listed.{next_at}
 use Rattle.graph.specs.Lookups.{statements}
 use Rattle.graph.specs.Rows.{own_label, labels}
-use Rattle.graph.proofs.Reading.{labels_count}
+
+pub labels_are : (header : List Column) (names : FunctionNames) (before : List Statement) → map (λ (f : FilterAt). f.label) (filters header names before) ≡ labels before
+labels_are header names [] = refl
+labels_are header names (s ∷ before) = joined (filters header names before) (own_filters header names before s) ∙ (λ i. labels_are header names before i ++ own s i)
+  where
+    joined : (xs ys : List FilterAt) → map (λ (f : FilterAt). f.label) (xs ++ ys) ≡ map (λ (f : FilterAt). f.label) xs ++ map (λ (f : FilterAt). f.label) ys
+    joined [] ys = refl
+    joined (x ∷ xs) ys = ap (λ l. x.label ∷ l) (joined xs ys)
+
+    own : (s : Statement) → map (λ (f : FilterAt). f.label) (own_filters header names before s) ≡ option_to_list (own_label s)
+    own (Filter node parent expr (Some label)) = refl
+    own s = refl
+
+pub labels_count : (before : List Statement) → length (named_before before) ≡ length (labels before)
+labels_count [] = refl
+labels_count (Filter node parent expr (Some label) ∷ before) = length-append (named_before before) _ ∙ ap (λ n. n + 1) (labels_count before) ∙ sym (length-append (labels before) (label ∷ []))
+labels_count (s ∷ before) = let h = labels_count before in let n = length-append (labels before) [] in omega (arith, h, n)
 
 -- the latest named filter's
 pub last_label : (lines : List Line) (l : Line) (rest : List Line) (f count : ℕ) (x : List ℕ) → lines ≡ l ∷ rest → own_label l.statement ≡ Some x → count ≡ length (named_before (statements lines)) → f < count → f ≡ count - 1

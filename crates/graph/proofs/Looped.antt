@@ -10,7 +10,7 @@ use Rattle.rdf_values.specs.Names.{same, among, place}
 use Rattle.rdf_values.specs.Path.{variations}
 use Rattle.rdf_values.specs.declared.script.Line.{Line}
 use Rattle.rdf_values.specs.declared.statement.Statement.{Statement}
-use Rattle.rdf_values.specs.declared.statement.Statement.TheVariants.{Define, Redefine, Alias, Filter, Vary, Action, Report, VariationsFor, Watch, Print}
+use Rattle.rdf_values.specs.declared.statement.Statement.TheVariants.{Action, Report, Print}
 use Rattle.rdf_model.proofs.Accepted.{names_equal, itself}
 use Rattle.rdf_model.specs.Loops.{Access, filled_by, accesses, loop_results}
 use Rattle.graph_numbers.proofs.Listed.{of_joined}
@@ -166,15 +166,7 @@ loops_count script (Print r ∷ before) =
         ≡ length (loop_results before) + length (filter_map (λ (a : Access). a.fills) (record { result = r; fills = if b then None else Some (waiting before) } ∷ []))
     go true h = ap (λ n. n + 0) h
     go false h = ap (λ n. n + 1) h
-loops_count script (Define node parent column expr ∷ before) = ap length (append-nil (loops script before)) ∙ loops_count script before
-loops_count script (Redefine node parent column expr ∷ before) = ap length (append-nil (loops script before)) ∙ loops_count script before
-loops_count script (Alias node parent column target ∷ before) = ap length (append-nil (loops script before)) ∙ loops_count script before
-loops_count script (Filter node parent expr label ∷ before) = ap length (append-nil (loops script before)) ∙ loops_count script before
-loops_count script (Vary node parent columns values tags vary ∷ before) = ap length (append-nil (loops script before)) ∙ loops_count script before
-loops_count script (Action result parent k ∷ before) = ap length (append-nil (loops script before)) ∙ loops_count script before
-loops_count script (Report result parent ∷ before) = ap length (append-nil (loops script before)) ∙ loops_count script before
-loops_count script (VariationsFor result ∷ before) = ap length (append-nil (loops script before)) ∙ loops_count script before
-loops_count script (Watch result ∷ before) = ap length (append-nil (loops script before)) ∙ loops_count script before
+loops_count script (s ∷ before) = ap length (append-nil (loops script before)) ∙ loops_count script before
 
 own_few : (script before : List Statement) (s : Statement) → length (own_loop script before s) ≤ 1
 own_few script before (Print r) = go (among r (filled before))
@@ -239,15 +231,7 @@ no_filler (Print p ∷ before) x h = go (among p (filled before)) refl h (no_fil
     go false e q next =
         ap (λ ls. place (λ bs. among x (names_of bs)) ls) (anew before p e)
         ∙ place_none_end (λ bs. among x (names_of bs)) (loop_results before) (waiting before) (next (ap (among x) (filled_first before) ∙ among_taken x (bookings before) (filled_count before) q)) (among_fewer _ x (bookings before) q)
-no_filler (Define node parent column expr ∷ before) x h = no_filler before x h
-no_filler (Redefine node parent column expr ∷ before) x h = no_filler before x h
-no_filler (Alias node parent column target ∷ before) x h = no_filler before x h
-no_filler (Filter node parent expr label ∷ before) x h = no_filler before x h
-no_filler (Vary node parent columns values tags vary ∷ before) x h = no_filler before x h
-no_filler (Action result parent k ∷ before) x h = no_filler before x h
-no_filler (Report result parent ∷ before) x h = no_filler before x h
-no_filler (VariationsFor result ∷ before) x h = no_filler before x h
-no_filler (Watch result ∷ before) x h = no_filler before x h
+no_filler (s ∷ before) x h = no_filler before x h
 
 -- ---- one line more
 
@@ -265,15 +249,7 @@ module _ (script before : List Statement) where
   -- a line that is no Print
   pub loops_kept : (s : Statement) (t : LoopTables) → IsNoPrint s → AreLoops script before t → AreLoops script (s ∷ before) t
   loops_kept (Print r) t is h = absurd is
-  loops_kept (Define node parent column expr) t is h = unchanged (Define node parent column expr) t h refl refl refl refl
-  loops_kept (Redefine node parent column expr) t is h = unchanged (Redefine node parent column expr) t h refl refl refl refl
-  loops_kept (Alias node parent column target) t is h = unchanged (Alias node parent column target) t h refl refl refl refl
-  loops_kept (Filter node parent expr label) t is h = unchanged (Filter node parent expr label) t h refl refl refl refl
-  loops_kept (Vary node parent columns values tags vary) t is h = unchanged (Vary node parent columns values tags vary) t h refl refl refl refl
-  loops_kept (Action result parent k) t is h = unchanged (Action result parent k) t h refl refl refl refl
-  loops_kept (Report result parent) t is h = unchanged (Report result parent) t h refl refl refl refl
-  loops_kept (VariationsFor result) t is h = unchanged (VariationsFor result) t h refl refl refl refl
-  loops_kept (Watch result) t is h = unchanged (Watch result) t h refl refl refl refl
+  loops_kept s t is h = unchanged s t h refl refl refl refl
 
   module _ (r : List ℕ) (turn : IsNamedInTurn before (Print r)) (begins : BeginsWith script before) (n : ℕ) (number : place (λ (b : Booked). same b.name r) (bookings script) ≡ Some n) where
     own_place : place (λ (b : Booked). same b.name r) (bookings before) ≡ Some n
@@ -414,14 +390,7 @@ begins_further script before s h =
 pub booked_more : (before : List Statement) (s : Statement) → length (bookings (s ∷ before)) ≡ length (bookings before) + (if is_booking s then 1 else 0)
 booked_more before (Action result parent k) = length-append (bookings before) (booked_by before (Action result parent k))
 booked_more before (Report result parent) = length-append (bookings before) (booked_by before (Report result parent))
-booked_more before (Define node parent column expr) = length-append (bookings before) []
-booked_more before (Redefine node parent column expr) = length-append (bookings before) []
-booked_more before (Alias node parent column target) = length-append (bookings before) []
-booked_more before (Filter node parent expr label) = length-append (bookings before) []
-booked_more before (Vary node parent columns values tags vary) = length-append (bookings before) []
-booked_more before (VariationsFor result) = length-append (bookings before) []
-booked_more before (Watch result) = length-append (bookings before) []
-booked_more before (Print result) = length-append (bookings before) []
+booked_more before s = length-append (bookings before) []
 
 -- the lists before the first line
 pub none_yet : (script : List Statement) (t : LoopTables) → t.loops.items ≡ [] → t.runs.items ≡ [] → t.prints.items ≡ [] → t.filling.items ≡ [] → t.fillers.items ≡ [] → AreLoops script [] t

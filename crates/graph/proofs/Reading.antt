@@ -1,12 +1,11 @@
 -- What the fields of a graph say of its numbers.
-use Rattle.std.proofs.Common.{◌≡◌, ℕ, zero, suc, ◌+◌, ◌<◌, Bool, List, [], ◌∷◌, ◌++◌, map, length, Option, Some, None, option_map, refl, sym, ◌∙◌, ap, subst, arith, slice_get, length-append}
-use Rattle.std.specs.Prelude.{option_to_list, option_and_then}
+use Rattle.std.proofs.Common.{◌≡◌, ℕ, zero, suc, ◌+◌, ◌<◌, Bool, List, [], ◌∷◌, map, length, Option, Some, None, option_map, refl, sym, ◌∙◌, ap, subst, arith, slice_get, length-append}
+use Rattle.std.specs.Prelude.{option_and_then}
 use Rattle.std.proofs.lemmas.List.{length-map}
 use Rattle.rdf_values.specs.Bookings.{Booked, bookings, is_watched, named_before}
 use Rattle.rdf_values.specs.Kinds.{FunctionNames}
 use Rattle.rdf_values.specs.declared.column.Column.{Column}
 use Rattle.rdf_values.specs.declared.statement.Statement.{Statement}
-use Rattle.rdf_values.specs.declared.statement.Statement.TheVariants.{Define, Redefine, Alias, Filter, Vary, Action, Report, VariationsFor, Watch, Print}
 use Rattle.rdf_values.specs.declared.value.ColType.{ColType}
 use Rattle.rdf_model.specs.Loops.{Access, accesses, loop_of, loop_results}
 use Rattle.expr_check.specs.NumKinds.{CheckedExpr}
@@ -14,20 +13,22 @@ use Rattle.graph_numbers.proofs.Extending.{itself}
 use Rattle.graph_numbers.proofs.Looping.{runs_are}
 use Rattle.graph_numbers.proofs.Resulting.{booked_are}
 use Rattle.graph_numbers.specs.Graphs.{GraphView, IsSiteExpr, booked_statements, graph_filters, graph_prints, graph_results, graph_runs, graph_sites, result_depends_at, site_depends_at}
-use Rattle.graph_numbers.specs.Results.{FilterAt, ResultAt, own_filters, filters, kind_of_booking}
+use Rattle.graph_numbers.specs.Results.{FilterAt, ResultAt}
 use Rattle.graph_numbers.specs.Sites.{SiteAt, own_sites, sites}
 use Rattle.graph.specs.Dependence.{Numbers, AreSets, depends_at, own_site_sets, site_set, site_sets}
-use Rattle.graph.specs.Gains.{IsSite, AreSites, AreRows}
+use Rattle.graph.specs.Gains.{IsSite, AreSites, AreRows, paths}
 use Rattle.graph.specs.declared.result_row.ResultRow.{ResultRow}
 use Rattle.graph.specs.declared.tables.Tables.{Tables}
 use Rattle.graph.specs.Sets.{has}
 use Rattle.graph.specs.declared.var_set.VarSet.{VarSet}
 use Rattle.graph.specs.GraphFields.{IsBooked}
 use Rattle.graph.specs.LoopRows.{filler_of}
-use Rattle.graph.specs.Rows.{result_path, own_label, labels}
+use Rattle.graph.specs.Rows.{result_path, labels}
 use Rattle.graph.specs.declared.loops.LoopTables.{LoopTables}
-use Rattle.graph.specs.declared.rows.ResultPath.{ResultPath}
-use Rattle.graph.specs.declared.rows.Rows.{Rows}
+use Rattle.graph.specs.declared.result_path.ResultPath.{ResultPath}
+use Rattle.graph.proofs.Counted.{filters_are}
+use Rattle.graph.proofs.Labelled.{labels_are}
+use Rattle.graph.proofs.SiteTotals.{sites_counted}
 use Rattle.graph.proofs.Looped.{unwrapped}
 
 -- ---- lists
@@ -87,52 +88,6 @@ site_in_list kinds names (x ∷ xs) [] n c h q = absurd h
 site_in_list kinds names (x ∷ xs) (d ∷ cs) zero c h q = (x, refl, subst (IsSite kinds names x) (let e : d ≡ c = cc q in e) h.0)
 site_in_list kinds names (x ∷ xs) (d ∷ cs) (suc n) c h q = site_in_list kinds names xs cs n c h.1 q
 
-sites_length : (kinds : List ColType) (names : FunctionNames) (xs : List SiteAt) (cs : List CheckedExpr) → AreSites kinds names xs cs → length cs ≡ length xs
-sites_length kinds names [] [] h = refl
-sites_length kinds names [] (d ∷ cs) h = absurd h
-sites_length kinds names (x ∷ xs) [] h = absurd h
-sites_length kinds names (x ∷ xs) (d ∷ cs) h = ap suc (sites_length kinds names xs cs h.1)
-
--- ---- labels
-
-pub labels_are : (header : List Column) (names : FunctionNames) (before : List Statement) → map (λ (f : FilterAt). f.label) (filters header names before) ≡ labels before
-labels_are header names [] = refl
-labels_are header names (s ∷ before) = joined (filters header names before) (own_filters header names before s) ∙ (λ i. labels_are header names before i ++ own s i)
-  where
-    joined : (xs ys : List FilterAt) → map (λ (f : FilterAt). f.label) (xs ++ ys) ≡ map (λ (f : FilterAt). f.label) xs ++ map (λ (f : FilterAt). f.label) ys
-    joined [] ys = refl
-    joined (x ∷ xs) ys = ap (λ l. x.label ∷ l) (joined xs ys)
-
-    own : (s : Statement) → map (λ (f : FilterAt). f.label) (own_filters header names before s) ≡ option_to_list (own_label s)
-    own (Filter node parent expr (Some label)) = refl
-    own (Filter node parent expr None) = refl
-    own (Define node parent column expr) = refl
-    own (Redefine node parent column expr) = refl
-    own (Alias node parent column target) = refl
-    own (Vary node parent columns values tags vary) = refl
-    own (Action result parent k) = refl
-    own (Report result parent) = refl
-    own (VariationsFor result) = refl
-    own (Watch result) = refl
-    own (Print result) = refl
-
-pub labels_count : (before : List Statement) → length (named_before before) ≡ length (labels before)
-labels_count [] = refl
-labels_count (Filter node parent expr (Some label) ∷ before) = length-append (named_before before) _ ∙ ap (λ n. n + 1) (labels_count before) ∙ sym (length-append (labels before) (label ∷ []))
-labels_count (Filter node parent expr None ∷ before) = same_count before (labels_count before)
-  where
-    same_count : (before : List Statement) → length (named_before before) ≡ length (labels before) → length (named_before before) ≡ length (labels before ++ [])
-    same_count before h = let n = length-append (labels before) [] in omega (arith, h, n)
-labels_count (Define node parent column expr ∷ before) = let h = labels_count before in let n = length-append (labels before) [] in omega (arith, h, n)
-labels_count (Redefine node parent column expr ∷ before) = let h = labels_count before in let n = length-append (labels before) [] in omega (arith, h, n)
-labels_count (Alias node parent column target ∷ before) = let h = labels_count before in let n = length-append (labels before) [] in omega (arith, h, n)
-labels_count (Vary node parent columns values tags vary ∷ before) = let h = labels_count before in let n = length-append (labels before) [] in omega (arith, h, n)
-labels_count (Action result parent k ∷ before) = let h = labels_count before in let n = length-append (labels before) [] in omega (arith, h, n)
-labels_count (Report result parent ∷ before) = let h = labels_count before in let n = length-append (labels before) [] in omega (arith, h, n)
-labels_count (VariationsFor result ∷ before) = let h = labels_count before in let n = length-append (labels before) [] in omega (arith, h, n)
-labels_count (Watch result ∷ before) = let h = labels_count before in let n = length-append (labels before) [] in omega (arith, h, n)
-labels_count (Print result ∷ before) = let h = labels_count before in let n = length-append (labels before) [] in omega (arith, h, n)
-
 site_sets_count : (header : List Column) (names : FunctionNames) (before : List Statement) → length (site_sets header names before) ≡ length (sites header names before)
 site_sets_count header names [] = refl
 site_sets_count header names (s ∷ before) =
@@ -142,20 +97,17 @@ site_sets_count header names (s ∷ before) =
 
 -- ---- the readers
 
-pub booked_now : (v g : GraphView) (t : Tables) (r : Rows) (l : LoopTables) (w : List Bool) → v ≡ g → IsBooked v t r l w → IsBooked g t r l w
-booked_now v g t r l w e h = subst (λ (x : GraphView). IsBooked x t r l w) e h
+pub booked_now : {v g : GraphView} {t : Tables} {l : LoopTables} {w : List Bool} → v ≡ g → IsBooked v t l w → IsBooked g t l w
+booked_now {t = t} {l = l} {w = w} e h = subst (λ (x : GraphView). IsBooked x t l w) e h
 
 -- a number is within a list that has so many items
-pub within_list : {A : Type 0} (xs ys : List A) (n m : ℕ) → xs ≡ ys → length ys ≡ m → n < m → n < length xs
-within_list xs ys n m e c h = let l = ap length e in omega (arith, l, c, h)
+pub within_list : {A : Type 0} {xs ys : List A} {n m : ℕ} → xs ≡ ys → length ys ≡ m → n < m → n < length xs
+within_list e c h = let l = ap length e in omega (arith, l, c, h)
 
-pub there_too : {A : Type 0} (xs ys : List A) (n : ℕ) (y : A) → xs ≡ ys → slice_get xs n ≡ Some y → slice_get ys n ≡ Some y
-there_too xs ys n y e h = ap (λ zs. slice_get zs n) (sym e) ∙ h
+pub there_too : {A : Type 0} {xs ys : List A} (n : ℕ) {y : A} → xs ≡ ys → slice_get xs n ≡ Some y → slice_get ys n ≡ Some y
+there_too n e h = ap (λ zs. slice_get zs n) (sym e) ∙ h
 
-module _ (g : GraphView) (t : Tables) (r : Rows) (l : LoopTables) (w : List Bool) (h : IsBooked g t r l w) where
-  pub result_count : length r.results.items ≡ length (graph_results g)
-  result_count = ap length h.rows.results ∙ length-map (graph_results g) result_path
-
+module _ {g : GraphView} {t : Tables} {l : LoopTables} {w : List Bool} (h : IsBooked g t l w) where
   pub row_count : length t.results.items ≡ length (graph_results g)
   row_count = rows_length _ _ t.results.items h.tables.results ∙ sym (ap length (booked_are g.header g.names (booked_statements g))) ∙ length-map (graph_results g) (λ (x : ResultAt). x.booked)
 
@@ -184,9 +136,8 @@ module _ (g : GraphView) (t : Tables) (r : Rows) (l : LoopTables) (w : List Bool
       twice None = refl
       twice (Some x) = refl
 
-  module _ (n : ℕ) (row : ResultPath) (q : slice_get r.results.items n ≡ Some row) where
-    pub kind_is : option_map (λ (x : ResultAt). kind_of_booking x.booked.booking) (slice_get (graph_results g) n) ≡ Some row.kind
-    kind_is = of_mapped result_path (λ (p : ResultPath). p.kind) (graph_results g) r.results.items n row h.rows.results q
+  pub path_is : {B : Type 0} (f : ResultPath → B) (n : ℕ) (row : ResultRow) → slice_get t.results.items n ≡ Some row → option_map (λ (x : ResultAt). f (result_path x)) (slice_get (graph_results g) n) ≡ Some (f row.path)
+  path_is f n row q = of_mapped result_path f (graph_results g) (paths t.results.items) n row.path h.tables.paths (mapped (λ (r : ResultRow). r.path) t.results.items n ∙ ap (option_map (λ (r : ResultRow). r.path)) q)
 
   -- ---- Prints and loops
 
@@ -202,11 +153,11 @@ module _ (g : GraphView) (t : Tables) (r : Rows) (l : LoopTables) (w : List Bool
 
   -- ---- named filters
 
-  pub filter_count : length r.filters.items ≡ length (graph_filters g)
-  filter_count = ap length h.rows.filters ∙ length-map (graph_filters g) (λ (f : FilterAt). f.sites)
+  pub filter_count : length t.filters.items ≡ length (graph_filters g)
+  filter_count = ap length h.tables.filters ∙ length-map (graph_filters g) (λ (f : FilterAt). f.sites)
 
-  pub label_count : length r.filters.items ≡ length (named_before (booked_statements g))
-  label_count = filter_count ∙ sym (length-map (graph_filters g) (λ (f : FilterAt). f.label)) ∙ ap length (labels_are g.header g.names (booked_statements g)) ∙ sym (labels_count (booked_statements g))
+  pub label_count : length t.filters.items ≡ length (named_before (booked_statements g))
+  label_count = filters_are g.header g.names (booked_statements g) t h.tables
 
   pub label_is : (n : ℕ) (x : List ℕ) → slice_get (labels (booked_statements g)) n ≡ Some x → option_map (λ (f : FilterAt). f.label) (slice_get (graph_filters g) n) ≡ Some x
   label_is n x q = sym (mapped (λ (f : FilterAt). f.label) (graph_filters g) n) ∙ ap (λ xs. slice_get xs n) (labels_are g.header g.names (booked_statements g)) ∙ q
@@ -214,7 +165,7 @@ module _ (g : GraphView) (t : Tables) (r : Rows) (l : LoopTables) (w : List Bool
   -- ---- sites and versions
 
   pub site_count : length t.sites.items ≡ length (graph_sites g)
-  site_count = sites_length _ g.names (graph_sites g) t.sites.items h.tables.sites
+  site_count = sites_counted _ g.names (graph_sites g) t.sites.items h.tables.sites
 
   pub site_set_count : length t.site_sets.items ≡ length (graph_sites g)
   site_set_count = sets_length _ t.site_sets.items h.tables.site_sets ∙ site_sets_count g.header g.names (booked_statements g)

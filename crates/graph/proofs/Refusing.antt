@@ -13,7 +13,6 @@ use Rattle.rdf_values.specs.declared.statement.Statement.{Statement}
 use Rattle.rdf_model.proofs.Verdicts.{onto}
 use Rattle.graph.specs.Bookings.{refused_then, refused, IsRefusal}
 use Rattle.graph.specs.declared.refusal.GraphRefusal.{GraphRefusal}
-use Rattle.graph.specs.declared.refusal.GraphRefusal.TheVariants as refusal
 use Rattle.graph.specs.Lookups.{statements}
 
 map_back : {A B : Type 0} (f : A → B) (xs : List A) → map f (reverse xs) ≡ reverse (map f xs)

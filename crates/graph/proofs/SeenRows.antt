@@ -22,13 +22,13 @@ use Rattle.graph.specs.declared.var_set.VarSet.{VarSet}
 use Rattle.graph.specs.Dependence.{Numbers, IsSet, depends_at, any_depends, action_set, site_sets, result_sets}
 use Rattle.graph.specs.Gains.{AreRows, IsRow, AreTables}
 use Rattle.graph.specs.declared.tables.Tables.{Tables}
-use Rattle.graph.specs.SiteNumbers.{site_total, filter_numbers}
+use Rattle.graph.specs.SiteNumbers.{filter_numbers}
 use Rattle.graph.specs.VarSets.{any_has}
 use Rattle.graph.specs.declared.result_row.ResultRow.{ResultRow}
 use Rattle.graph.proofs.Counting.{AllPassed, passed_both, set_counted}
 use Rattle.graph.proofs.ResultSets.{result_is, result_beyond, action_beyond, filters_are, columns_are}
 use Rattle.graph.proofs.SetTables.{sets_any}
-use Rattle.graph.proofs.SiteTotals.{sites_counted, total_is, numbers_are}
+use Rattle.graph.proofs.SiteTotals.{numbers_are}
 use Rattle.graph.proofs.Telling.{tells, own_count}
 
 module _ (header : List Column) (names : FunctionNames) where
@@ -55,7 +55,7 @@ module _ (header : List Column) (names : FunctionNames) where
       go false true q h d = cc h
       go false false q h d = let no : (128 < length (variations before) + length tags → ⊥) = λ l. absurd (cc (sym q ∙ d.1 l)) in omega (arith, no)
 
-  few_variations : (before : List Statement) → AreAccepted names (scope_of header) before → length (variations before) ≤ 128
+  pub few_variations : (before : List Statement) → AreAccepted names (scope_of header) before → length (variations before) ≤ 128
   few_variations [] good = omega arith
   few_variations (s ∷ before) good = own s good.0 (few_variations before good.1)
     where
@@ -134,9 +134,6 @@ module _ (header : List Column) (names : FunctionNames) where
       )
 
   -- ---- tables
-
-  pub site_len : (before : List Statement) (t : Tables) → AreTables header names before t → length t.sites.items ≡ site_total before
-  site_len before t h = sites_counted _ names _ t.sites.items h.sites ∙ total_is header names before
 
   -- the set of an action
   pub action_set_is : (before : List Statement) (t : Tables) → AreTables header names before t → (parent : List ℕ) (cs columns : List (List ℕ)) → cs ≡ columns → (f i u : VarSet) (fs is : List VarSet) → fs ≡ t.site_sets.items → is ≡ t.version_sets.items

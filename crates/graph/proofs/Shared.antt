@@ -16,7 +16,9 @@ use Rattle.expr_check.specs.contracts.checked.Checked.TheInside.{the_row as chec
 use Rattle.expr_check.specs.contracts.checked.Checked.TheInside as C
 use Rattle.graph.specs.contracts.tables.Tables.{the_row as tables_row}
 use Rattle.graph.specs.contracts.tables.Tables as T
-use Rattle.graph.specs.contracts.rows.Rows.{the_row as rows_row}
+use Rattle.graph.specs.contracts.result_path.ResultPath.{the_row as path_row}
+use Rattle.graph.specs.contracts.result_row.ResultRow.{the_row as result_row}
+use Rattle.graph.specs.contracts.result_row.ResultRow as R
 use Rattle.graph.specs.contracts.loops.LoopTables.{the_row as loops_row}
 use Rattle.graph.specs.contracts.graph.Graph.{the_row as graph_row}
 use Rattle.graph.specs.contracts.graph.Graph.TheInside.{the_row as inside_row}
@@ -42,6 +44,19 @@ checked_sync = record { shared = λ d b o κ x. (checked_inside.shared x.0 b o �
 sites_sync : IsSync (B.the_row checked_row H.the_row ghosts)
 sites_sync = Vec-sync checked_row checked_sync
 
+path_sync : IsSync path_row
+path_sync = search (sendable, crosses) depth 40 fits 4000
+
+result_sync : IsSync result_row
+result_sync =
+    declared_sync R.the_type (
+      search (sendable, crosses) depth 40 fits 4000,
+      (search (sendable, crosses) depth 40 fits 4000, (search (sendable, crosses) depth 40 fits 4000, (search (sendable, crosses) depth 40 fits 4000, (record { shared = path_sync.shared }, tt)))),
+    )
+
+results_sync : IsSync (B.the_row result_row H.the_row ghosts)
+results_sync = Vec-sync result_row result_sync
+
 tables_sync : IsSync tables_row
 tables_sync =
     declared_sync T.the_type (
@@ -49,17 +64,14 @@ tables_sync =
       (
         search (sendable, crosses) depth 40 fits 4000,
         (
-          record { shared = sites_sync.shared },
+          search (sendable, crosses) depth 40 fits 4000,
           (
-            search (sendable, crosses) depth 40 fits 4000,
-            (search (sendable, crosses) depth 40 fits 4000, (search (sendable, crosses) depth 40 fits 4000, tt)),
+            record { shared = sites_sync.shared },
+            (search (sendable, crosses) depth 40 fits 4000, (search (sendable, crosses) depth 40 fits 4000, (record { shared = results_sync.shared }, (search (sendable, crosses) depth 40 fits 4000, tt)))),
           ),
         ),
       ),
     )
-
-rows_sync : IsSync rows_row
-rows_sync = search (sendable, crosses) depth 40 fits 4000
 
 loops_sync : IsSync loops_row
 loops_sync = search (sendable, crosses) depth 40 fits 4000
@@ -74,7 +86,7 @@ inside_sync =
           record { shared = functions_sync.shared },
           (
             record { shared = tables_sync.shared },
-            (record { shared = rows_sync.shared }, (record { shared = loops_sync.shared }, (search (sendable, crosses) depth 40 fits 4000, tt))),
+            (record { shared = loops_sync.shared }, (search (sendable, crosses) depth 40 fits 4000, tt)),
           ),
         ),
       ),

@@ -1,6 +1,6 @@
 -- The sources of versions are found by walking down the Varys of a column.
 use Rattle.std.proofs.Common.{◌≡◌, ◌⊎◌, inl, inr, ℕ, zero, suc, ◌+◌, ◌-◌, ◌<◌, ◌≤◌, Bool, true, false, ◌&&◌, List, [], ◌∷◌, ◌++◌, map, length, Option, Some, None, option_map, refl, sym, ◌∙◌, ap, subst, arith, nat_le, nat_lt, slice_get, if◌then◌else◌}
-use Rattle.std.proofs.lemmas.Bool.Decides.{leb_tells, Decides-ltb}
+use Rattle.std.proofs.lemmas.Bool.Decides.{Decides-ltb}
 use Rattle.std.proofs.lemmas.Option.{slice_get_within, get_or_from_slice_get}
 use Rattle.lemmas.proofs.Orders.{le_says, le_true}
 use Rattle.lemmas.proofs.Places.{kept_at, something_at}

@@ -1,8 +1,8 @@
 -- Steps of the look-ups of variations.
-use Rattle.std.proofs.Common.{◌≡◌, ℕ, ◌+◌, Bool, true, false, ◌||◌, List, [], ◌∷◌, ◌++◌, Option, Some, None, Result, Ok, Err, refl, sym, ◌∙◌, ap, subst, map, nat_eq}
-use Rattle.rdf_values.specs.Path.{variations, path}
+use Rattle.std.proofs.Common.{◌≡◌, ℕ, Bool, true, false, List, [], ◌∷◌, Option, Some, None, Result, Ok, Err, refl, sym, ◌∙◌, ap, subst, map, nat_eq}
+use Rattle.rdf_values.specs.Path.{path}
 use Rattle.rdf_values.specs.Kinds.{FunctionNames, Scope, same_kind}
-use Rattle.rdf_values.specs.Verdict.{is_variation_name, check_list, check_lists, check_target, expect_kind, first_refusal, refusal_in, refuse_unless, scope_at}
+use Rattle.rdf_values.specs.Verdict.{check_list, check_lists, check_target, expect_kind, first_refusal, refusal_in, refuse_unless, scope_at}
 use Rattle.rdf_values.specs.Path.{path}
 use Rattle.rdf_values.specs.Tree.{NamedTree}
 use Rattle.rdf_values.specs.declared.value.ColType.{ColType}

@@ -5,7 +5,7 @@ use Rattle.rdf_values.specs.Names.{same, place}
 use Rattle.rdf_values.specs.Path.{makes, parent_of, path}
 use Rattle.rdf_values.specs.declared.column.Column.{Column}
 use Rattle.rdf_values.specs.declared.statement.Statement.{Statement}
-use Rattle.rdf_values.specs.declared.statement.Statement.TheVariants.{Define, Redefine, Alias, Filter, Vary, Action, Report, VariationsFor, Watch, Print}
+use Rattle.rdf_values.specs.declared.statement.Statement.TheVariants.{Define, Redefine, Filter, Vary}
 use Rattle.rdf_model.proofs.Accepted.{place_within}
 use Rattle.graph_numbers.specs.Versions.{column_place, own_columns, version_or, own_version, version_count, named_version}
 use Rattle.graph.specs.Rows.{count_from, is_named}
@@ -20,16 +20,7 @@ count_more n k = rw add-one (count_next n k)
 -- one named filter more
 pub named_more : (s : Statement) (before : List Statement) → length (named_before (s ∷ before)) ≡ length (named_before before) + (if is_named s then 1 else 0)
 named_more (Filter node parent expr (Some label)) before = length-append (named_before before) ((Filter node parent expr (Some label) ∷ path before parent) ∷ [])
-named_more (Filter node parent expr None) before = omega arith
-named_more (Define node parent column expr) before = omega arith
-named_more (Redefine node parent column expr) before = omega arith
-named_more (Alias node parent column target) before = omega arith
-named_more (Vary node parent columns values tags vary) before = omega arith
-named_more (Action result parent k) before = omega arith
-named_more (Report result parent) before = omega arith
-named_more (VariationsFor result) before = omega arith
-named_more (Watch result) before = omega arith
-named_more (Print result) before = omega arith
+named_more s before = omega arith
 
 column_few : (cs : List Column) (name : List ℕ) → column_place cs name ≤ length cs
 column_few [] name = omega arith

@@ -9,29 +9,26 @@ use Rattle.graph.specs.Dependence.{depends_at, site_sets, result_sets}
 use Rattle.graph.specs.Gains.{AreTables}
 use Rattle.graph.specs.declared.tables.Tables.{Tables}
 use Rattle.graph.specs.LoopRows.{AreLoops}
-use Rattle.graph.specs.Rows.{AreRows}
 use Rattle.graph.specs.VersionSources.{AreSourcesOf, AreAbove}
 use Rattle.graph.specs.declared.loops.LoopTables.{LoopTables}
-use Rattle.graph.specs.declared.rows.Rows.{Rows}
 
 -- lines, the latest first, over a table's columns, with the functions' names
 abbrev pub view_of : List Line → List Column → FunctionNames → GraphView
 view_of lines header names = record { script = record { lines = reverse lines }; header = header; names = names }
 
 -- the fields are those of the graph, and their lengths fit 32 bits
-pub record IsBooked (g : GraphView) (t : Tables) (r : Rows) (l : LoopTables) (watched : List Bool) : Type 0 where
+pub record IsBooked (g : GraphView) (t : Tables) (l : LoopTables) (watched : List Bool) : Type 0 where
   pub graph : IsGraph g
   pub tables : AreTables g.header g.names (booked_statements g) t
-  pub rows : AreRows g.header g.names (booked_statements g) r
   pub loops : AreLoops (booked_statements g) (booked_statements g) l
   pub watches : watched ≡ map (λ (b : Booked). is_watched (booked_statements g) b.name) (bookings (booked_statements g))
   pub site_sets : (s v : ℕ) → depends_at (site_sets g.header g.names (booked_statements g)) s v ≡ site_depends_at g s v
   pub result_sets : (n v : ℕ) → depends_at (result_sets g.header g.names (booked_statements g)) n v ≡ result_depends_at g n v
-  pub sources : (u : Option ℕ) → AreSourcesOf r.versions.items u (graph_sources g u)
-  pub above : AreAbove r.versions.items
-  pub few_results : length r.results.items ≤ 256
-  pub few_filters : length r.filters.items ≤ 256
+  pub sources : (u : Option ℕ) → AreSourcesOf t.versions.items u (graph_sources g u)
+  pub above : AreAbove t.versions.items
+  pub few_results : length t.results.items ≤ 256
+  pub few_filters : length t.filters.items ≤ 256
   pub few_prints : length l.prints.items ≤ 256
   pub few_loops : length l.loops.items ≤ 256
   pub few_sites : length t.sites.items ≤ 16777216
-  pub few_versions : length r.versions.items ≤ 4294967295
+  pub few_versions : length t.versions.items ≤ 4294967295

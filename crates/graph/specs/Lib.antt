@@ -1,4 +1,5 @@
 pub mod Amounts
+pub mod Befores
 pub mod Bookings
 pub mod Checks
 pub mod Dependence
@@ -12,6 +13,7 @@ pub mod OneProof
 pub mod Refusals
 pub mod Rows
 pub mod Sets
+pub mod ShortProof
 pub mod SiteNumbers
 pub mod VarSets
 pub mod VaryChecks

@@ -2,7 +2,6 @@
 use Rattle.std.specs.Prelude.{ℕ, List, [], ◌∷◌, Option}
 use Rattle.std.specs.Coded.{Coded-set, coded_list, coded_option}
 use Rattle.std.proofs.Props.{props}
-use Rattle.rdf_values.specs.Bookable.{AreShortValues}
 use Rattle.rdf_values.specs.Bookings.{Booked}
 use Rattle.rdf_values.specs.Kinds.{FunctionNames, scope_of, args_count}
 use Rattle.rdf_values.specs.Tree.{Trees, NumTree, Lit, Truth, Col, Neg, Not, Bin, Cond, Pick, Call, End, More}
@@ -16,13 +15,9 @@ use Rattle.rdf_values.specs.declared.num_expr.Callee.{Callee}
 use Rattle.rdf_values.specs.declared.num_expr.Callee.TheVariants as fn
 use Rattle.rdf_values.specs.declared.statement.Statement.{Statement}
 use Rattle.rdf_values.specs.declared.value.ColType.{ColType}
-use Rattle.rdf_values.specs.declared.vary_values.VaryValues.{VaryValues}
-use Rattle.rdf_values.specs.declared.vary_values.VaryValues.TheVariants.{Lists, Vector}
 use Rattle.expr_check.specs.NumKinds.{CheckedExpr, IsCallOf, CallsFit, AllCallsFit}
 use Rattle.graph_numbers.specs.Sites.{SiteAt}
-use Rattle.graph.specs.declared.booking.Counts.{Counts}
 use Rattle.graph.specs.declared.var_set.VarSet.{VarSet}
-use Rattle.graph.specs.Bookings.{AreCounts}
 use Rattle.graph.specs.Dependence.{Numbers, AreSets}
 use Rattle.graph.specs.Gains.{AreSites, AreRows, AreTables}
 use Rattle.graph.specs.LoopRows.{AreRowsOf, IsScriptRows}
@@ -90,13 +85,6 @@ rows-prop bs ds rs = hlevel known
 
 pub tables-prop : (header : List Column) (names : FunctionNames) (before : List Statement) (t : Tables) → IsProp (AreTables header names before t)
 tables-prop header names before t = hlevel (known, accepted-prop names header before, sets-prop, sites-prop names, rows-prop)
-
-pub counts-prop : (header : List Column) (before : List Statement) (c : Counts) → IsProp (AreCounts header before c)
-counts-prop header before c = hlevel known
-
-pub short-prop : (values : VaryValues) → IsProp (AreShortValues values)
-short-prop (Lists lists) = hlevel known
-short-prop (Vector e) = hlevel known
 
 rows_of-prop : (script : List Statement) (bs : List Booked) (rs : List ResultRow) → IsProp (AreRowsOf script bs rs)
 rows_of-prop script [] [] = hlevel known

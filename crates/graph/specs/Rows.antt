@@ -1,23 +1,20 @@
 -- What a statement adds to the lists of versions, named filters and results, by the numbers of its first site and variation.
-use Rattle.std.specs.Prelude.{◌≡◌, ℕ, zero, suc, ◌+◌, Bool, true, false, List, [], ◌∷◌, ◌++◌, map, length, Option, Some, None, option_to_list, if◌then◌else◌}
+use Rattle.std.specs.Prelude.{ℕ, zero, suc, ◌+◌, Bool, true, false, List, [], ◌∷◌, ◌++◌, map, length, Option, Some, None, option_to_list, if◌then◌else◌}
 use Rattle.rdf_values.specs.Bookings.{columns_of, named_before}
-use Rattle.rdf_values.specs.Kinds.{FunctionNames}
 use Rattle.rdf_values.specs.Path.{Path, makes, parent_of, path}
 use Rattle.rdf_values.specs.declared.column.Column.{Column}
 use Rattle.rdf_values.specs.declared.vary_values.VaryValues.{VaryValues}
 use Rattle.rdf_values.specs.declared.vary_values.VaryValues.TheVariants.{Lists, Vector}
 use Rattle.rdf_values.specs.declared.statement.Statement.{Statement}
 use Rattle.rdf_values.specs.declared.statement.Statement.TheVariants.{Define, Redefine, Filter, Vary, Action, Report}
-use Rattle.graph_numbers.specs.Results.{FilterAt, ResultAt, filters, results, kind_of_booking}
+use Rattle.graph_numbers.specs.Results.{ResultAt, kind_of_booking}
 use Rattle.graph_numbers.specs.Sites.{list_start}
-use Rattle.graph_numbers.specs.Sources.{versions}
 use Rattle.graph_numbers.specs.Versions.{named_version, version_at}
 use Rattle.graph_numbers.specs.declared.result_kind.ResultKind.TheVariants as what
 use Rattle.graph_numbers.specs.declared.version.Version.{Version}
 use Rattle.graph_numbers.specs.declared.version.Version.TheVariants as as_version
 use Rattle.graph.specs.SiteNumbers.{filter_numbers}
-use Rattle.graph.specs.declared.rows.ResultPath.{ResultPath}
-use Rattle.graph.specs.declared.rows.Rows.{Rows}
+use Rattle.graph.specs.declared.result_path.ResultPath.{ResultPath}
 
 -- so many numbers from the first on
 abbrev pub count_from : ℕ → ℕ → List ℕ
@@ -105,14 +102,6 @@ result_rows header before (Report result parent) =
     record { kind = what.Report; filters = filter_numbers before parent; inputs = []; covers = covered_numbers before parent } ∷ []
 result_rows header before s = []
 
--- ---- the lists
-
 -- a result as it is kept
 abbrev pub result_path : ResultAt → ResultPath
 result_path x = record { kind = kind_of_booking x.booked.booking; filters = x.filters; inputs = x.inputs; covers = x.covers }
-
--- the lists are those of the statements so far
-pub record AreRows (header : List Column) (names : FunctionNames) (before : List Statement) (r : Rows) : Type 0 where
-  pub versions : r.versions.items ≡ versions header names before
-  pub filters : r.filters.items ≡ map (λ (f : FilterAt). f.sites) (filters header names before)
-  pub results : r.results.items ≡ map result_path (results header names before)

@@ -1,10 +1,9 @@
 // The columns and edges of an action.
 ghost use Rattle.std.specs.Prelude.{◌≡◌, ◌++◌, [], IfOk, OnOk};
 ghost use Rattle.rdf_values.specs.Bookings.{columns_of, weight_column};
-ghost use Rattle.rdf_values.specs.Kinds.{scope_of};
-ghost use Rattle.rdf_values.specs.Verdict.{begins, may_begin, permitted_kinds, check_columns, check_edges, scope_at};
+ghost use Rattle.rdf_values.specs.Verdict.{begins, may_begin, permitted_kinds, check_columns, check_edges};
 ghost use Rattle.rdf_values.specs.Edges.{are_edges, rises};
-ghost use Rattle.graph.specs.Lookups.{statements};
+ghost use Rattle.graph.specs.Befores.{scope_before};
 
 use crate::before::Before;
 use crate::parts::same_kind;
@@ -75,7 +74,7 @@ fn check_columns(
     kinds: &mut Vec<ColType>,
     columns: &[Name],
 ) -> Result<Option<GraphCause>, Memory>
-    ensures { IfOk result (λ o. o ≡ check_columns (scope_at before.now.names.now (scope_of before.now.header.now) (statements before.now.lines.now) node.now) (permitted_kinds action.now) kinds.old.items columns.now) }
+    ensures { IfOk result (λ o. o ≡ check_columns (scope_before before.now node.now) (permitted_kinds action.now) kinds.old.items columns.now) }
 {
     let Some((first, rest)) = columns.split_first() else {
         return Ok(None);
@@ -166,7 +165,7 @@ pub(crate) fn action_columns(
     node: &Name,
     action: &ActionKind,
 ) -> Result<Option<GraphCause>, Memory>
-    ensures { IfOk result (λ o. o ≡ check_columns (scope_at before.now.names.now (scope_of before.now.header.now) (statements before.now.lines.now) node.now) (permitted_kinds action.now) [] (columns_of action.now)) }
+    ensures { IfOk result (λ o. o ≡ check_columns (scope_before before.now node.now) (permitted_kinds action.now) [] (columns_of action.now)) }
 {
     let columns = columns_of(alloc, action)?;
     let mut seen = Vec::new(alloc);

@@ -1,11 +1,11 @@
 // The checks of what asks for something of a result: VariationsFor, Watch and Print.
 ghost use Rattle.std.specs.Prelude.{◌≡◌, ◌∷◌, length, nat_lt, IfOk};
 ghost use Rattle.rdf_values.specs.Bookings.{bookings};
-ghost use Rattle.rdf_values.specs.Kinds.{scope_of};
-ghost use Rattle.rdf_values.specs.Verdict.{check, check_passes, is_result, printed_results, refuse_if, refuse_unless, watched_results};
+ghost use Rattle.rdf_values.specs.Verdict.{check_passes, is_result, printed_results, refuse_if, refuse_unless, watched_results};
 ghost use Rattle.rdf_values.specs.declared.graph_cause.GraphCause.TheVariants as cause_of;
 ghost use Rattle.rdf_values.specs.declared.statement.Statement.TheVariants.{VariationsFor, Watch, Print};
 ghost use Rattle.graph.specs.Lookups.{statements};
+ghost use Rattle.graph.specs.Befores.{history, verdict_after};
 
 use crate::amounts::{amounts_of, amounts_printed_with, too_many};
 use crate::before::Before;
@@ -41,7 +41,7 @@ pub(crate) fn check_watch(
     before: &Before<'_>,
     name: &Name,
 ) -> Result<Option<GraphCause>, Memory>
-    ensures { IfOk result (λ o. o ≡ check before.now.names.now (scope_of before.now.header.now) (statements before.now.lines.now) (Watch name.now)) }
+    ensures { IfOk result (λ o. o ≡ verdict_after before.now (Watch name.now)) }
 {
     let late = is_filled(alloc, before.lines, name)?;
     let more = one_watch_more(alloc, before.lines, name)?;
@@ -55,7 +55,7 @@ pub(crate) fn check_watch(
 
 /// Whether there are too many passes, where the variations of one result more are asked for.
 fn passes_asked(before: &Before<'_>, name: &Name) -> Result<Option<GraphCause>, Memory>
-    ensures { IfOk result (λ o. o ≡ check_passes (VariationsFor name.now ∷ statements before.now.lines.now) (bookings (statements before.now.lines.now))) }
+    ensures { IfOk result (λ o. o ≡ check_passes (VariationsFor name.now ∷ statements before.now.lines.now) (bookings (history before.now))) }
 {
     let rows = before.tables.results.as_slice();
     let amounts = amounts_of(before.lines, Some(name), rows)?;
@@ -68,7 +68,7 @@ pub(crate) fn check_variations_for(
     before: &Before<'_>,
     name: &Name,
 ) -> Result<Option<GraphCause>, Memory>
-    ensures { IfOk result (λ o. o ≡ check before.now.names.now (scope_of before.now.header.now) (statements before.now.lines.now) (VariationsFor name.now)) }
+    ensures { IfOk result (λ o. o ≡ verdict_after before.now (VariationsFor name.now)) }
 {
     let late = is_filled(alloc, before.lines, name)?;
     let many = passes_asked(before, name)?;
@@ -82,7 +82,7 @@ pub(crate) fn check_variations_for(
 
 /// Whether the printed passes are too many with those of one Print more.
 fn passes_printed(before: &Before<'_>, name: &Name) -> Result<Option<GraphCause>, Memory>
-    ensures { IfOk result (λ o. o ≡ check_passes (statements before.now.lines.now) (printed_results (Print name.now ∷ statements before.now.lines.now))) }
+    ensures { IfOk result (λ o. o ≡ check_passes (history before.now) (printed_results (Print name.now ∷ statements before.now.lines.now))) }
 {
     let rows = before.tables.results.as_slice();
     let amounts = amounts_printed_with(before.lines, rows, name)?;
@@ -91,7 +91,7 @@ fn passes_printed(before: &Before<'_>, name: &Name) -> Result<Option<GraphCause>
 
 /// A Print.
 pub(crate) fn check_print(before: &Before<'_>, name: &Name) -> Result<Option<GraphCause>, Memory>
-    ensures { IfOk result (λ o. o ≡ check before.now.names.now (scope_of before.now.header.now) (statements before.now.lines.now) (Print name.now)) }
+    ensures { IfOk result (λ o. o ≡ verdict_after before.now (Print name.now)) }
 {
     let many = passes_printed(before, name)?;
     Ok(first_of(known_result(before.lines, name), many))

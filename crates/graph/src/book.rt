@@ -4,15 +4,16 @@ ghost use Rattle.std.specs.List.{AllByRecursion};
 ghost use Rattle.rdf_values.specs.Bookable.{IsShort};
 ghost use Rattle.rdf_values.specs.Kinds.{scope_of};
 ghost use Rattle.rdf_values.specs.declared.graph_cause.GraphCause.{GraphCause};
-ghost use Rattle.graph.specs.Bookings.{IsBooking, refused, refused_then, IsRefusal};
+ghost use Rattle.graph.specs.Bookings.{refused, refused_then, IsRefusal};
 ghost use Rattle.graph.specs.Checks.{IsStop};
+ghost use Rattle.graph.specs.Gains.{AreTables};
 ghost use Rattle.graph.specs.Lookups.{statements};
 
-use crate::booking::Booking;
+use crate::before::Before;
 use crate::check::check_statement;
 use crate::refusal::GraphRefusal;
-use crate::statement_at::StatementAt;
 use crate::stop::Stop;
+use crate::tables::Tables;
 use rdf_values::{Column, FnNames, Line, ListOf};
 use std::alloc::Global;
 
@@ -29,49 +30,37 @@ fn refusal_of(line: &Line, stop: Stop) -> GraphRefusal
     }
 }
 
-/// The lists of lines, the latest first, or the first that is refused.
+/// The tables of lines, the latest first, or the first that is refused.
 pub(crate) fn book_lines(
     alloc: Global,
     lines: &[Line],
     header: &[Column],
     names: &FnNames,
-) -> Result<Booking, GraphRefusal>
+) -> Result<Tables, GraphRefusal>
     requires columns { length header.now ≤ 64 }
     requires short { AllByRecursion IsShort (statements lines.now) }
     requires few { length lines.now ≤ 256 }
-    ensures booked { IfOk result (λ b. IsBooking header.now names.now (statements lines.now) b) }
+    ensures booked { IfOk result (λ t. AreTables header.now names.now (statements lines.now) t) }
     ensures refused { IfErr result (IsRefusal (refused names.now (scope_of header.now) lines.now)) }
 {
     let Some((last, before)) = lines.split_first() else {
-        return match Booking::start(alloc, header) {
-            Ok(booking) => Ok(booking),
-            Err(_) => Err(GraphRefusal::Memory),
-        };
+        return Ok(Tables::start(alloc, header)?);
     };
-    let mut booking = match book_lines(alloc, before, header, names) {
-        Ok(booking) => booking,
+    let mut tables = match book_lines(alloc, before, header, names) {
+        Ok(tables) => tables,
         Err(refusal) => return Err(refusal),
     };
-    match check_statement(
-        alloc,
-        before,
+    let at = Before {
         header,
         names,
-        &booking.tables,
-        &last.statement,
-    ) {
+        lines: before,
+        tables: &tables,
+    };
+    match check_statement(alloc, &at, &last.statement) {
         Err(stop) => Err(refusal_of(last, stop)),
         Ok(gain) => {
-            let at = StatementAt {
-                header,
-                names,
-                lines: before,
-                counts: booking.counts(before, header, names),
-            };
-            match booking.add(alloc, &at, &last.statement, gain) {
-                Ok(()) => Ok(booking),
-                Err(_) => Err(GraphRefusal::Memory),
-            }
+            tables.add(gain)?;
+            Ok(tables)
         }
     }
 }

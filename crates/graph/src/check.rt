@@ -1,44 +1,31 @@
 // The check of a statement after those before it.
 ghost use Rattle.std.specs.Prelude.{◌≡◌, IfOk};
-ghost use Rattle.rdf_values.specs.Kinds.{scope_of};
-ghost use Rattle.rdf_values.specs.Verdict.{check};
+ghost use Rattle.rdf_values.specs.Bookable.{IsShort};
 ghost use Rattle.graph.specs.Checks.{Decides};
-ghost use Rattle.graph.specs.Gains.{AreTables, IsGain};
-ghost use Rattle.graph.specs.Lookups.{statements};
+ghost use Rattle.graph.specs.Befores.{IsGainAfter, verdict_after};
 
 use crate::asked_checks::{check_print, check_variations_for, check_watch};
 use crate::before::Before;
+use crate::change::Change;
 use crate::gain::Gain;
 use crate::gains::{
     action_gain, alias_gain, define_gain, filter_gain, nothing, redefine_gain, report_gain,
     vary_gain,
 };
 use crate::stop::Stop;
-use crate::tables::Tables;
-use crate::vary_checks::Change;
-use rdf_values::{Column, FnNames, Line, Statement};
+use rdf_values::Statement;
 use std::alloc::Global;
 
-/// Checks a statement after the lines before it, the latest first, over their tables: what it adds to these, or why it is
-/// refused.
-pub fn check_statement(
+/// Checks a statement after what stands before it: what it adds, or why it is refused.
+pub(crate) fn check_statement(
     alloc: Global,
-    before: &[Line],
-    header: &[Column],
-    names: &FnNames,
-    tables: &Tables,
+    before: &Before<'_>,
     statement: &Statement,
 ) -> Result<Gain, Stop>
-    requires tables { AreTables header.now names.now (statements before.now) tables.now }
-    ensures gained { IfOk result (IsGain header.now names.now (statements before.now) statement.now) }
-    ensures decided { Decides (check names.now (scope_of header.now) (statements before.now) statement.now) result }
+    requires { IsShort statement.now }
+    ensures gained { IfOk result (IsGainAfter before.now statement.now) }
+    ensures decided { Decides (verdict_after before.now statement.now) result }
 {
-    let before = &Before {
-        header,
-        names,
-        lines: before,
-        tables,
-    };
     match statement {
         Statement::Define {
             node,
@@ -56,8 +43,8 @@ pub fn check_statement(
             node,
             parent,
             expr,
-            ..
-        } => filter_gain(alloc, before, node, parent, expr),
+            label,
+        } => filter_gain(alloc, before, node, parent, expr, label),
         Statement::Vary {
             node,
             parent,
@@ -67,12 +54,13 @@ pub fn check_statement(
             name,
         } => {
             let change = Change {
+                parent,
                 columns: columns.as_slice(),
                 values,
                 tags: tags.as_slice(),
                 name,
             };
-            vary_gain(alloc, before, node, parent, &change)
+            vary_gain(alloc, before, node, &change)
         }
         Statement::Action {
             result,

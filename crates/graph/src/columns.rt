@@ -2,12 +2,13 @@
 ghost use Rattle.std.specs.Prelude.{◌≡◌, ◌<◌, ◌++◌, ◌∷◌, [], length, Some, Err, MatchOption, IfOk, IfErr, OnOk, slice_get};
 ghost use Rattle.rdf_values.specs.Depends.{columns_in, columns_in_all};
 ghost use Rattle.rdf_values.specs.ExprTree.{tree_of, trees_of};
-ghost use Rattle.rdf_values.specs.Kinds.{scope_of, column_kind, kind_of};
-ghost use Rattle.rdf_values.specs.Verdict.{kind_or_int, scope_at};
+ghost use Rattle.rdf_values.specs.Kinds.{column_kind, kind_of};
+ghost use Rattle.rdf_values.specs.Verdict.{kind_or_int};
 ghost use Rattle.rdf_values.specs.declared.graph_cause.GraphCause.TheVariants.{UnknownColumn};
 ghost use Rattle.expr_check.specs.CheckAnswers.{RefusedAs};
 ghost use Rattle.graph_numbers.specs.Versions.{named_version};
-ghost use Rattle.graph.specs.Lookups.{statements, IsFound, IsScopeAt, AreNoted, IsScopeOf, IsCheckedAt};
+ghost use Rattle.graph.specs.Lookups.{IsFound, IsScopeAt, AreNoted, IsScopeOf};
+ghost use Rattle.graph.specs.Befores.{IsCheckedBefore, history, named_version_before, scope_before};
 
 use crate::before::Before;
 use crate::lookup::{is_visible, named_version, target_of};
@@ -61,24 +62,25 @@ fn names_in(alloc: Global, expr: &Expr) -> Result<Vec<Name>, Memory>
 
 impl Before<'_> {
     /// The version of a column that is no alias at a node.
-    pub(crate) fn named_version(&self, node: &Name, name: &Name) -> usize
-        ensures { result ≡ named_version self.now.header.now (statements self.now.lines.now) node.now name.now }
+    pub(crate) fn named_version(&self, node: &Name, name: &Name) -> u32
+        ensures { result ≡ named_version_before self.now node.now name.now }
     {
-        named_version(self.lines, self.header, self.tables.kinds.len(), node, name)
+        let count = self.tables.kinds.len();
+        named_version(self.lines, self.header, count, node, name) as u32
     }
 
     /// The kind of a version, and its number.
-    fn numbered_kind(&self, version: usize) -> (ColType, u32)
+    fn numbered_kind(&self, version: u32) -> (ColType, u32)
         requires { version < length self.now.tables.now.kinds.items }
         ensures { (slice_get self.now.tables.now.kinds.items version ≡ Some result.0) × (result.1 ≡ version) }
     {
-        (self.tables.kinds[version], version as u32)
+        (self.tables.kinds[version as usize], version)
     }
 
     /// The kind and the version of a column at a node, where it is visible.
     pub(crate) fn find_column(&self, node: &Name, name: &Name) -> Option<(ColType, u32)>
-        ensures { MatchOption result (column_kind (scope_at self.now.names.now (scope_of self.now.header.now) (statements self.now.lines.now) node.now) name.now ≡ Err UnknownColumn)
-            (λ c. IsFound self.now.header.now self.now.names.now (statements self.now.lines.now) node.now self.now.tables.now.kinds.items name.now c.0 c.1) }
+        ensures { MatchOption result (column_kind (scope_before self.now node.now) name.now ≡ Err UnknownColumn)
+            (λ c. IsFound self.now.header.now self.now.names.now (history self.now) node.now self.now.tables.now.kinds.items name.now c.0 c.1) }
     {
         if !is_visible(self.lines, self.header, node, name) {
             return None;
@@ -89,7 +91,7 @@ impl Before<'_> {
 
     /// The kind of a column, and that of a number where there is none.
     pub(crate) fn kind_at(&self, node: &Name, column: &Name) -> ColType
-        ensures { result ≡ kind_or_int (column_kind (scope_at self.now.names.now (scope_of self.now.header.now) (statements self.now.lines.now) node.now) column.now) }
+        ensures { result ≡ kind_or_int (column_kind (scope_before self.now node.now) column.now) }
     {
         match self.find_column(node, column) {
             Some((kind, _)) => kind,
@@ -99,8 +101,8 @@ impl Before<'_> {
 
     /// Brings a column into a scope, unless it is there or isn't visible.
     fn note(&self, node: &Name, scope: &mut Scope, name: &Name) -> Result<(), Memory>
-        requires scope { IsScopeAt self.now.header.now self.now.names.now (statements self.now.lines.now) node.now self.now.tables.now.kinds.items scope.old }
-        ensures { OnOk result (AreNoted self.now.header.now self.now.names.now (statements self.now.lines.now) node.now self.now.tables.now.kinds.items scope.old scope.new (name.now ∷ [])) }
+        requires scope { IsScopeAt self.now.header.now self.now.names.now (history self.now) node.now self.now.tables.now.kinds.items scope.old }
+        ensures { OnOk result (AreNoted self.now.header.now self.now.names.now (history self.now) node.now self.now.tables.now.kinds.items scope.old scope.new (name.now ∷ [])) }
     {
         match self.find_column(node, name) {
             None => Ok(()),
@@ -113,8 +115,8 @@ impl Before<'_> {
 
     /// Brings columns into a scope.
     fn note_all(&self, node: &Name, scope: &mut Scope, columns: &[Name]) -> Result<(), Memory>
-        requires scope { IsScopeAt self.now.header.now self.now.names.now (statements self.now.lines.now) node.now self.now.tables.now.kinds.items scope.old }
-        ensures { OnOk result (AreNoted self.now.header.now self.now.names.now (statements self.now.lines.now) node.now self.now.tables.now.kinds.items scope.old scope.new columns.now) }
+        requires scope { IsScopeAt self.now.header.now self.now.names.now (history self.now) node.now self.now.tables.now.kinds.items scope.old }
+        ensures { OnOk result (AreNoted self.now.header.now self.now.names.now (history self.now) node.now self.now.tables.now.kinds.items scope.old scope.new columns.now) }
     {
         let Some((first, rest)) = columns.split_first() else {
             return Ok(());
@@ -125,7 +127,7 @@ impl Before<'_> {
 
     /// The columns of an expression at a node.
     fn scope_for(&self, alloc: Global, node: &Name, expr: &Expr) -> Result<Scope, Memory>
-        ensures { IfOk result (λ scope. IsScopeOf self.now.header.now self.now.names.now (statements self.now.lines.now) node.now self.now.tables.now.kinds.items expr.now scope) }
+        ensures { IfOk result (λ scope. IsScopeOf self.now.header.now self.now.names.now (history self.now) node.now self.now.tables.now.kinds.items expr.now scope) }
     {
         let columns = names_in(alloc, expr)?;
         let mut scope = Scope::new(alloc);
@@ -140,8 +142,8 @@ impl Before<'_> {
         node: &Name,
         expr: &Expr,
     ) -> Result<Checked, CheckRefusal>
-        ensures checked { IfOk result (IsCheckedAt self.now.header.now self.now.names.now (statements self.now.lines.now) node.now expr.now) }
-        ensures refused { IfErr result (λ e. RefusedAs e (kind_of (scope_at self.now.names.now (scope_of self.now.header.now) (statements self.now.lines.now) node.now) self.now.names.now expr.now)) }
+        ensures checked { IfOk result (IsCheckedBefore self.now node.now expr.now) }
+        ensures refused { IfErr result (λ e. RefusedAs e (kind_of (scope_before self.now node.now) self.now.names.now expr.now)) }
     {
         match self.scope_for(alloc, node, expr) {
             Err(_) => Err(CheckRefusal::Memory),

@@ -1,28 +1,33 @@
 // What each accepted statement adds, or why it is refused.
-ghost use Rattle.std.specs.Prelude.{◌≡◌, ◌∷◌, ◌≤◌, ◌+◌, [], ℕ, List, Option, Result, length, map, IfOk};
-ghost use Rattle.rdf_values.specs.Kinds.{kind_of, scope_of};
-ghost use Rattle.rdf_values.specs.Path.{variations};
-ghost use Rattle.rdf_values.specs.Verdict.{check, refusal_in, scope_at};
+ghost use Rattle.std.specs.Prelude.{◌≡◌, ◌≤◌, ◌+◌, ℕ, List, Option, length, IfOk};
+ghost use Rattle.rdf_values.specs.Kinds.{kind_of};
+ghost use Rattle.rdf_values.specs.Tree.{NamedTree};
+ghost use Rattle.rdf_values.specs.Verdict.{refusal_in};
 ghost use Rattle.rdf_values.specs.declared.graph_cause.GraphCause.{GraphCause as Cause};
 ghost use Rattle.rdf_values.specs.declared.statement.Statement.TheVariants.{Define, Redefine, Alias, Filter, Vary, Action, Report};
 ghost use Rattle.graph.specs.Checks.{Decides};
-ghost use Rattle.graph.specs.Dependence.{AreSets};
-ghost use Rattle.graph.specs.Gains.{IsGain, IsSitesGain, IsColumnGain, IsMadeGain, IsEmptyGain, IsRowGain, IsReportGain, IsVaryGain};
-ghost use Rattle.graph.specs.Lookups.{statements};
-ghost use Rattle.graph.specs.VarSets.{read_sets};
+ghost use Rattle.graph.specs.Gains.{IsFilterGain, IsColumnGain, IsMadeGain, IsEmptyGain, IsRowGain, IsReportGain, IsVaryGain};
+ghost use Rattle.graph.specs.Rows.{filter_rows};
+ghost use Rattle.graph.specs.Befores.{IsGainAfter, history, scope_before, sites_so_far, variation_count, verdict_after};
 
 use crate::before::Before;
+use crate::change::Change;
 use crate::gain::Gain;
 use crate::push::alone;
 use crate::refusals::{first_of, first_of_three, stop_if};
 use crate::result_checks::{check_action, check_report};
+use crate::result_path::ResultPath;
 use crate::result_row::ResultRow;
 use crate::set_lists::{changed_sets, kinds_at, sets_of};
 use crate::stop::Stop;
 use crate::var_set::VarSet;
-use crate::vary_checks::{Change, check_vary};
+use crate::variations::full_names;
+use crate::vary_checks::check_vary;
+use crate::versions::varied_versions;
+use crate::walks::covered;
 use expr_check::Checked;
-use rdf_values::{ActionKind, ColType, Expr, GraphCause, Memory, Name};
+use graph_numbers::{ResultKind, Version};
+use rdf_values::{ActionKind, ColType, Expr, GraphCause, Label, ListOf, Memory, Name};
 use std::alloc::Global;
 
 /// Nothing.
@@ -30,11 +35,14 @@ fn empty_gain(alloc: Global) -> Gain
     ensures { IsEmptyGain result }
 {
     Gain {
+        versions: Vec::new(alloc),
         kinds: Vec::new(alloc),
         version_sets: Vec::new(alloc),
         sites: Vec::new(alloc),
         site_sets: Vec::new(alloc),
+        filters: Vec::new(alloc),
         results: Vec::new(alloc),
+        variations: Vec::new(alloc),
     }
 }
 
@@ -50,28 +58,63 @@ pub(crate) fn nothing(
     Ok(empty_gain(alloc))
 }
 
-/// A site.
-fn site_gain(alloc: Global, versions: &[VarSet], site: Checked) -> Result<Gain, Memory>
-    ensures { IfOk result (λ g. IsSitesGain versions.now (site ∷ []) g) }
+/// The sites of a named Filter: of those above it, and its own.
+fn named_filter(
+    alloc: Global,
+    before: &Before<'_>,
+    parent: &Name,
+    label: &Option<Label>,
+) -> Result<Vec<ListOf<u32>>, Memory>
+    ensures { (node : List ℕ) (expr : NamedTree) → IfOk result (λ rows. rows.items ≡ filter_rows (history before.now) (sites_so_far before.now) (Filter node parent.now expr label.now)) }
 {
+    match label {
+        None => Ok(Vec::new(alloc)),
+        Some(_) => {
+            let mut sites = before.filters_above(alloc, parent)?;
+            sites.push(before.sites())?;
+            alone(alloc, sites)
+        }
+    }
+}
+
+/// A Filter's site, and where it is named its row.
+fn site_gain(
+    alloc: Global,
+    before: &Before<'_>,
+    parent: &Name,
+    label: &Option<Label>,
+    site: Checked,
+) -> Result<Gain, Memory>
+    ensures { (node : List ℕ) (expr : NamedTree) → IfOk result (IsFilterGain before.now.tables.now.version_sets.items site (filter_rows (history before.now) (sites_so_far before.now) (Filter node parent.now expr label.now))) }
+{
+    let filters = named_filter(alloc, before, parent, label)?;
     let sites = alone(alloc, site)?;
-    let site_sets = sets_of(alloc, versions, sites.as_slice())?;
+    let site_sets = sets_of(
+        alloc,
+        before.tables.version_sets.as_slice(),
+        sites.as_slice(),
+    )?;
     Ok(Gain {
         sites,
         site_sets,
+        filters,
         ..empty_gain(alloc)
     })
 }
 
 /// A site, and the version that it makes.
-fn column_gain(alloc: Global, versions: &[VarSet], site: Checked) -> Result<Gain, Memory>
-    ensures { IfOk result (λ g. IsColumnGain versions.now site g) }
+fn column_gain(alloc: Global, before: &Before<'_>, site: Checked) -> Result<Gain, Memory>
+    ensures { IfOk result (IsColumnGain before.now.tables.now.version_sets.items (sites_so_far before.now) site) }
 {
+    let site_number = before.sites();
+    let versions = alone(alloc, Version::Computed { site: site_number })?;
     let kinds = alone(alloc, site.kind())?;
     let sites = alone(alloc, site)?;
-    let site_sets = sets_of(alloc, versions, sites.as_slice())?;
-    let version_sets = sets_of(alloc, versions, sites.as_slice())?;
+    let sets = before.tables.version_sets.as_slice();
+    let site_sets = sets_of(alloc, sets, sites.as_slice())?;
+    let version_sets = sets_of(alloc, sets, sites.as_slice())?;
     Ok(Gain {
+        versions,
         kinds,
         version_sets,
         sites,
@@ -87,23 +130,24 @@ pub(crate) fn filter_gain(
     node: &Name,
     parent: &Name,
     expr: &Expr,
+    label: &Option<Label>,
 ) -> Result<Gain, Stop>
-    ensures gained { (label : Option (List ℕ)) → IfOk result (IsGain before.now.header.now before.now.names.now (statements before.now.lines.now) (Filter node.now parent.now expr.now label)) }
-    ensures decided { (label : Option (List ℕ)) → Decides (check before.now.names.now (scope_of before.now.header.now) (statements before.now.lines.now) (Filter node.now parent.now expr.now label)) result }
+    ensures gained { IfOk result (IsGainAfter before.now (Filter node.now parent.now expr.now label.now)) }
+    ensures decided { Decides (verdict_after before.now (Filter node.now parent.now expr.now label.now)) result }
 {
     stop_if(before.check_node(node, parent))?;
     let site = before.expected(alloc, parent, ColType::Bool, expr)?;
-    let gain = site_gain(alloc, before.tables.version_sets.as_slice(), site)?;
+    let gain = site_gain(alloc, before, parent, label, site)?;
     Ok(gain)
 }
 
 /// An expression at a node as a site, and the version that it makes.
 fn made_gain(alloc: Global, before: &Before<'_>, parent: &Name, expr: &Expr) -> Result<Gain, Stop>
-    ensures made { IfOk result (IsMadeGain before.now.header.now before.now.names.now (statements before.now.lines.now) before.now.tables.now.version_sets.items parent.now expr.now) }
-    ensures decided { Decides (refusal_in (kind_of (scope_at before.now.names.now (scope_of before.now.header.now) (statements before.now.lines.now) parent.now) before.now.names.now expr.now)) result }
+    ensures made { IfOk result (IsMadeGain before.now.header.now before.now.names.now (history before.now) before.now.tables.now.version_sets.items parent.now expr.now) }
+    ensures decided { Decides (refusal_in (kind_of (scope_before before.now parent.now) before.now.names.now expr.now)) result }
 {
     let site = before.expression(alloc, parent, expr)?;
-    let gain = column_gain(alloc, before.tables.version_sets.as_slice(), site)?;
+    let gain = column_gain(alloc, before, site)?;
     Ok(gain)
 }
 
@@ -116,8 +160,8 @@ pub(crate) fn define_gain(
     column: &Name,
     expr: &Expr,
 ) -> Result<Gain, Stop>
-    ensures gained { IfOk result (IsGain before.now.header.now before.now.names.now (statements before.now.lines.now) (Define node.now parent.now column.now expr.now)) }
-    ensures decided { Decides (check before.now.names.now (scope_of before.now.header.now) (statements before.now.lines.now) (Define node.now parent.now column.now expr.now)) result }
+    ensures gained { IfOk result (IsGainAfter before.now (Define node.now parent.now column.now expr.now)) }
+    ensures decided { Decides (verdict_after before.now (Define node.now parent.now column.now expr.now)) result }
 {
     let taken = before.new_column(parent, column);
     stop_if(first_of(before.check_node(node, parent), taken))?;
@@ -133,8 +177,8 @@ pub(crate) fn redefine_gain(
     column: &Name,
     expr: &Expr,
 ) -> Result<Gain, Stop>
-    ensures gained { IfOk result (IsGain before.now.header.now before.now.names.now (statements before.now.lines.now) (Redefine node.now parent.now column.now expr.now)) }
-    ensures decided { Decides (check before.now.names.now (scope_of before.now.header.now) (statements before.now.lines.now) (Redefine node.now parent.now column.now expr.now)) result }
+    ensures gained { IfOk result (IsGainAfter before.now (Redefine node.now parent.now column.now expr.now)) }
+    ensures decided { Decides (verdict_after before.now (Redefine node.now parent.now column.now expr.now)) result }
 {
     let wrong = before.check_target(parent, column);
     stop_if(first_of(before.check_node(node, parent), wrong))?;
@@ -159,8 +203,8 @@ pub(crate) fn action_gain(
     parent: &Name,
     action: &ActionKind,
 ) -> Result<Gain, Stop>
-    ensures gained { IfOk result (IsGain before.now.header.now before.now.names.now (statements before.now.lines.now) (Action name.now parent.now action.now)) }
-    ensures decided { Decides (check before.now.names.now (scope_of before.now.header.now) (statements before.now.lines.now) (Action name.now parent.now action.now)) result }
+    ensures gained { IfOk result (IsGainAfter before.now (Action name.now parent.now action.now)) }
+    ensures decided { Decides (verdict_after before.now (Action name.now parent.now action.now)) result }
 {
     let row = check_action(alloc, before, name, parent, action)?;
     let gain = row_gain(alloc, row)?;
@@ -168,14 +212,27 @@ pub(crate) fn action_gain(
 }
 
 /// A report, booked.
-fn booked_report(alloc: Global, name: &Name) -> Result<Gain, Memory>
-    ensures { IfOk result (IsReportGain name.now) }
+fn booked_report(
+    alloc: Global,
+    before: &Before<'_>,
+    name: &Name,
+    parent: &Name,
+) -> Result<Gain, Memory>
+    ensures { IfOk result (IsReportGain (history before.now) name.now parent.now) }
 {
+    let named = before.tables.filters.as_slice().len() as u32;
+    let path = ResultPath {
+        kind: ResultKind::Report,
+        filters: before.filters_above(alloc, parent)?,
+        inputs: ListOf::new(alloc),
+        covers: covered(alloc, before.lines, named, parent)?,
+    };
     let row = ResultRow {
         name: name.copy(alloc)?,
         cells: 0,
         takes: 0,
         set: VarSet::empty(),
+        path,
     };
     row_gain(alloc, row)
 }
@@ -187,35 +244,38 @@ pub(crate) fn report_gain(
     name: &Name,
     parent: &Name,
 ) -> Result<Gain, Stop>
-    ensures gained { IfOk result (IsGain before.now.header.now before.now.names.now (statements before.now.lines.now) (Report name.now parent.now)) }
-    ensures decided { Decides (check before.now.names.now (scope_of before.now.header.now) (statements before.now.lines.now) (Report name.now parent.now)) result }
+    ensures gained { IfOk result (IsGainAfter before.now (Report name.now parent.now)) }
+    ensures decided { Decides (verdict_after before.now (Report name.now parent.now)) result }
 {
     stop_if(check_report(before, name, parent))?;
-    let gain = booked_report(alloc, name)?;
+    let gain = booked_report(alloc, before, name, parent)?;
     Ok(gain)
 }
 
-/// The columns and sites of a Vary that was checked.
+/// The columns, sites and variations of a Vary that was checked.
 fn varied_gain(
     alloc: Global,
     before: &Before<'_>,
-    parent: &Name,
-    columns: &[Name],
-    tags: u32,
+    change: &Change<'_>,
     sites: Vec<Checked>,
 ) -> Result<Gain, Memory>
-    requires few { length (variations (statements before.now.lines.now)) + tags ≤ 128 }
-    ensures { IfOk result (IsVaryGain before.now.header.now before.now.names.now (statements before.now.lines.now) before.now.tables.now parent.now columns.now tags sites.items) }
+    requires few { variation_count before.now + length change.now.tags.now ≤ 128 }
+    ensures { IfOk result (IsVaryGain before.now.header.now before.now.names.now (history before.now) before.now.tables.now change.now sites.items) }
 {
-    let kinds = kinds_at(alloc, before, parent, columns)?;
-    let version_sets = changed_sets(alloc, before, parent, tags, columns)?;
-    let versions = before.tables.version_sets.as_slice();
-    let site_sets = sets_of(alloc, versions, sites.as_slice())?;
+    let columns = change.columns;
+    let tags = change.tags.len() as u32;
+    let versions = varied_versions(alloc, before, change)?;
+    let kinds = kinds_at(alloc, before, change.parent, columns)?;
+    let version_sets = changed_sets(alloc, before, change.parent, tags, columns)?;
+    let sets = before.tables.version_sets.as_slice();
+    let site_sets = sets_of(alloc, sets, sites.as_slice())?;
     Ok(Gain {
+        versions,
         kinds,
         version_sets,
         sites,
         site_sets,
+        variations: full_names(alloc, change.name, change.tags)?,
         ..empty_gain(alloc)
     })
 }
@@ -225,15 +285,13 @@ pub(crate) fn vary_gain(
     alloc: Global,
     before: &Before<'_>,
     node: &Name,
-    parent: &Name,
     change: &Change<'_>,
 ) -> Result<Gain, Stop>
-    ensures gained { IfOk result (IsGain before.now.header.now before.now.names.now (statements before.now.lines.now) (Vary node.now parent.now change.now.columns.now change.now.values.now change.now.tags.now change.now.name.now)) }
-    ensures decided { Decides (check before.now.names.now (scope_of before.now.header.now) (statements before.now.lines.now) (Vary node.now parent.now change.now.columns.now change.now.values.now change.now.tags.now change.now.name.now)) result }
+    ensures gained { IfOk result (IsGainAfter before.now (Vary node.now change.now.parent.now change.now.columns.now change.now.values.now change.now.tags.now change.now.name.now)) }
+    ensures decided { Decides (verdict_after before.now (Vary node.now change.now.parent.now change.now.columns.now change.now.values.now change.now.tags.now change.now.name.now)) result }
 {
-    let sites = check_vary(alloc, before, node, parent, change)?;
-    let count = change.tags.len() as u32;
-    let gain = varied_gain(alloc, before, parent, change.columns, count, sites)?;
+    let sites = check_vary(alloc, before, node, change)?;
+    let gain = varied_gain(alloc, before, change, sites)?;
     Ok(gain)
 }
 
@@ -246,8 +304,8 @@ pub(crate) fn alias_gain(
     column: &Name,
     target: &Name,
 ) -> Result<Gain, Stop>
-    ensures gained { IfOk result (IsGain before.now.header.now before.now.names.now (statements before.now.lines.now) (Alias node.now parent.now column.now target.now)) }
-    ensures decided { Decides (check before.now.names.now (scope_of before.now.header.now) (statements before.now.lines.now) (Alias node.now parent.now column.now target.now)) result }
+    ensures gained { IfOk result (IsGainAfter before.now (Alias node.now parent.now column.now target.now)) }
+    ensures decided { Decides (verdict_after before.now (Alias node.now parent.now column.now target.now)) result }
 {
     stop_if(first_of_three(
         before.check_node(node, parent),

@@ -11,12 +11,11 @@ ghost use Rattle.graph_numbers.specs.Results.{kind_of_booking};
 ghost use Rattle.graph.specs.Refusals.{refused_at};
 
 use crate::book::{book_lines, reversed};
-use crate::booking::Booking;
 use crate::copies::{copy_header, copy_names};
 use crate::laws::{result_sets_are_dependence, site_sets_are_dependence};
 use crate::loops::{LoopTables, ScriptRows, loop_tables, watched_results};
 use crate::refusal::GraphRefusal;
-use crate::rows::Rows;
+use crate::result_path::ResultPath;
 use crate::sources::source_of;
 use crate::tables::Tables;
 use crate::var_set::VarSet;
@@ -35,7 +34,6 @@ pub struct Graph {
     header: ListOf<Column>,
     names: ListOf<FnName>,
     tables: Tables,
-    rows: Rows,
     loops: LoopTables,
     watched: Vec<bool>,
 }
@@ -53,7 +51,7 @@ impl Model for Graph {
 
     ghost view = { λ g. view_of g.lines.items g.header g.names };
 
-    ghost invariant = { λ g. IsBooked (view_of g.lines.items g.header g.names) g.tables g.rows g.loops g.watched.items };
+    ghost invariant = { λ g. IsBooked (view_of g.lines.items g.header g.names) g.tables g.loops g.watched.items };
 }
 
 /// The item of that number.
@@ -69,7 +67,7 @@ impl Graph {
     ghost use Rattle.std.specs.List.{AllByRecursion};
     ghost use Rattle.rdf_values.specs.Bookable.{IsShort};
     ghost use Rattle.graph.specs.Lookups.{AreKinds, statements};
-    ghost use Rattle.graph.specs.Bookings.{IsBooking};
+    ghost use Rattle.graph.specs.Gains.{AreTables};
 
     /// Books a script over a table's columns: each line is checked after those before it, and the first that is refused is
     /// named with its cause.
@@ -84,14 +82,11 @@ impl Graph {
         ensures { Answers refused_at GraphRefusal.Memory (booked script header.now names.now) result }
     {
         let lines = reversed(script.lines);
-        let booking = match book_lines(alloc, lines.as_slice(), header, names) {
-            Ok(booking) => booking,
+        let tables = match book_lines(alloc, lines.as_slice(), header, names) {
+            Ok(tables) => tables,
             Err(refusal) => return Err(refusal),
         };
-        match Graph::finish(alloc, lines, header, names, booking) {
-            Ok(graph) => Ok(graph),
-            Err(_) => Err(GraphRefusal::Memory),
-        }
+        Ok(Graph::finish(alloc, lines, header, names, tables)?)
     }
 
     /// The graph of lines that were booked, the latest first.
@@ -100,10 +95,10 @@ impl Graph {
         lines: Vec<Line>,
         header: &[Column],
         names: &FnNames,
-        booking: Booking,
+        tables: Tables,
     ) -> Result<Graph, Memory>
         requires graph { IsGraph (view_of lines.items header.now names.now) }
-        requires booking { IsBooking header.now names.now (statements lines.items) booking }
+        requires tables { AreTables header.now names.now (statements lines.items) tables }
         requires short { AllByRecursion IsShort (statements lines.items) }
         requires few { length lines.items ≤ 256 }
         ensures { IfOk result (λ g. g ≡ view_of lines.items header.now names.now) }
@@ -113,8 +108,8 @@ impl Graph {
         let columns = copy_header(alloc, header)?;
         let functions = copy_names(alloc, names.as_slice())?;
         let all = lines.as_slice();
-        let results = booking.tables.results.as_slice();
-        let variations = booking.tables.variations.len();
+        let results = tables.results.as_slice();
+        let variations = tables.variations.len();
         let script = ScriptRows {
             lines: all,
             results,
@@ -126,8 +121,7 @@ impl Graph {
             lines,
             header: columns,
             names: functions,
-            tables: booking.tables,
-            rows: booking.rows,
+            tables,
             loops,
             watched,
         })
@@ -170,7 +164,7 @@ impl Graph {
     pub fn results(&self) -> u32
         ensures { result ≡ length (graph_results self.now) }
     {
-        self.rows.results.as_slice().len() as u32
+        self.tables.results.as_slice().len() as u32
     }
 
     /// The name of a result.
@@ -181,12 +175,23 @@ impl Graph {
         &at(self.tables.results.as_slice(), r).name
     }
 
+    /// What the loop reads of a result.
+    fn result_path(&self, r: u32) -> &ResultPath
+        requires { r < length (graph_results self.now) }
+        ensures kind { option_map (λ x. kind_of_booking x.booked.booking) (slice_get (graph_results self.now) r) ≡ Some result.now.kind }
+        ensures filters { option_map (λ x. x.filters) (slice_get (graph_results self.now) r) ≡ Some result.now.filters }
+        ensures inputs { option_map (λ x. x.inputs) (slice_get (graph_results self.now) r) ≡ Some result.now.inputs }
+        ensures covers { option_map (λ x. x.covers) (slice_get (graph_results self.now) r) ≡ Some result.now.covers }
+    {
+        &at(self.tables.results.as_slice(), r).path
+    }
+
     /// What a result is.
     pub fn kind(&self, r: u32) -> &ResultKind
         requires { r < length (graph_results self.now) }
         ensures { option_map (λ x. kind_of_booking x.booked.booking) (slice_get (graph_results self.now) r) ≡ Some result.now }
     {
-        &at(self.rows.results.as_slice(), r).kind
+        &self.result_path(r).kind
     }
 
     /// The variations on which a result depends.
@@ -210,7 +215,7 @@ impl Graph {
         requires { r < length (graph_results self.now) }
         ensures { option_map (λ x. x.filters) (slice_get (graph_results self.now) r) ≡ Some result.now }
     {
-        at(self.rows.results.as_slice(), r).filters.as_slice()
+        self.result_path(r).filters.as_slice()
     }
 
     /// The versions that an action reads, in written order.
@@ -218,7 +223,7 @@ impl Graph {
         requires { r < length (graph_results self.now) }
         ensures { option_map (λ x. x.inputs) (slice_get (graph_results self.now) r) ≡ Some result.now }
     {
-        at(self.rows.results.as_slice(), r).inputs.as_slice()
+        self.result_path(r).inputs.as_slice()
     }
 
     /// The named filters that a report covers.
@@ -226,7 +231,7 @@ impl Graph {
         requires { r < length (graph_results self.now) }
         ensures { option_map (λ x. x.covers) (slice_get (graph_results self.now) r) ≡ Some result.now }
     {
-        at(self.rows.results.as_slice(), r).covers.as_slice()
+        self.result_path(r).covers.as_slice()
     }
 
     // ---- Prints and loops
@@ -283,7 +288,7 @@ impl Graph {
     pub fn filters(&self) -> u32
         ensures { result ≡ length (graph_filters self.now) }
     {
-        self.rows.filters.as_slice().len() as u32
+        self.tables.filters.as_slice().len() as u32
     }
 
     /// The label of a named filter.
@@ -291,7 +296,7 @@ impl Graph {
         requires { f < length (graph_filters self.now) }
         ensures { option_map (λ x. x.label) (slice_get (graph_filters self.now) f) ≡ Some result.now }
     {
-        let count = self.rows.filters.as_slice().len();
+        let count = self.tables.filters.as_slice().len();
         label_of(self.lines.as_slice(), f as usize, count)
     }
 
@@ -300,7 +305,7 @@ impl Graph {
         requires { f < length (graph_filters self.now) }
         ensures { option_map (λ x. x.sites) (slice_get (graph_filters self.now) f) ≡ Some result.now }
     {
-        at(self.rows.filters.as_slice(), f).as_slice()
+        at(self.tables.filters.as_slice(), f).as_slice()
     }
 
     // ---- sites and versions
@@ -332,7 +337,7 @@ impl Graph {
     pub fn versions(&self) -> u32
         ensures { result ≡ length (graph_versions self.now) }
     {
-        self.rows.versions.as_slice().len() as u32
+        self.tables.versions.as_slice().len() as u32
     }
 
     /// A version of a column.
@@ -340,7 +345,7 @@ impl Graph {
         requires { c < length (graph_versions self.now) }
         ensures { slice_get (graph_versions self.now) c ≡ Some result.now }
     {
-        at(self.rows.versions.as_slice(), c)
+        at(self.tables.versions.as_slice(), c)
     }
 
     /// What gives a version its value under nominal or a variation; it takes at most one step for each Vary of the column.
@@ -348,7 +353,7 @@ impl Graph {
         requires { c < length (graph_versions self.now) }
         ensures { slice_get (graph_sources self.now under) c ≡ Some result }
     {
-        source_of(self.rows.versions.as_slice(), c, under)
+        source_of(self.tables.versions.as_slice(), c, under)
     }
 
     /// The variations in the order of their numbers.

@@ -196,10 +196,8 @@ pub(crate) fn loop_tables(
     };
     let below = booked_before(&last.statement, booked);
     let mut tables = loop_tables(alloc, script, rest, below)?;
-    match tables.add_line(alloc, script, rest, below, &last.statement) {
-        Ok(()) => Ok(tables),
-        Err(_) => Err(Memory),
-    }
+    tables.add_line(alloc, script, rest, below, &last.statement)?;
+    Ok(tables)
 }
 
 /// The result of a Print.

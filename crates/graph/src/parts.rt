@@ -1,14 +1,14 @@
 // The parts of which the checks of several statements are made.
 ghost use Rattle.std.specs.Prelude.{◌≡◌, Result, IfOk};
-ghost use Rattle.rdf_values.specs.Kinds.{scope_of, kind_of, same_kind};
+ghost use Rattle.rdf_values.specs.Kinds.{kind_of, same_kind};
 ghost use Rattle.rdf_values.specs.Path.{path};
-ghost use Rattle.rdf_values.specs.Verdict.{check_node, check_target, scope_at, refuse_if, refuse_unless, refusal_in, expect_kind, is_visible};
+ghost use Rattle.rdf_values.specs.Verdict.{check_node, check_target, refuse_if, refuse_unless, refusal_in, expect_kind, is_visible};
 ghost use Rattle.rdf_values.specs.declared.graph_cause.GraphCause.{GraphCause};
 ghost use Rattle.rdf_values.specs.declared.graph_cause.GraphCause.TheVariants as cause_of;
 ghost use Rattle.rdf_values.specs.declared.value.ColType.{ColType};
 ghost use Rattle.expr_check.specs.CheckAnswers.{RefusedAs};
 ghost use Rattle.graph.specs.Checks.{IsStop, Decides};
-ghost use Rattle.graph.specs.Lookups.{statements, IsCheckedAt};
+ghost use Rattle.graph.specs.Befores.{IsCheckedBefore, history, scope_before};
 
 use crate::before::Before;
 use crate::lookup::{is_alias, is_in_use, is_node, is_visible};
@@ -42,7 +42,7 @@ pub(crate) fn same_kind(a: ColType, b: ColType) -> bool
 impl Before<'_> {
     /// A new node or result.
     pub(crate) fn check_node(&self, node: &Name, parent: &Name) -> Option<GraphCause>
-        ensures { result ≡ check_node (statements self.now.lines.now) node.now parent.now }
+        ensures { result ≡ check_node (history self.now) node.now parent.now }
     {
         first_of(
             refuse_if(is_in_use(self.lines, node), GraphCause::NameTaken),
@@ -52,7 +52,7 @@ impl Before<'_> {
 
     /// A new column.
     pub(crate) fn new_column(&self, parent: &Name, column: &Name) -> Option<GraphCause>
-        ensures { result ≡ refuse_if (is_visible (scope_at self.now.names.now (scope_of self.now.header.now) (statements self.now.lines.now) parent.now) column.now) cause_of.NameTaken }
+        ensures { result ≡ refuse_if (is_visible (scope_before self.now parent.now) column.now) cause_of.NameTaken }
     {
         let visible = is_visible(self.lines, self.header, parent, column);
         refuse_if(visible, GraphCause::NameTaken)
@@ -60,7 +60,7 @@ impl Before<'_> {
 
     /// A column that is there.
     pub(crate) fn known_column(&self, parent: &Name, column: &Name) -> Option<GraphCause>
-        ensures { result ≡ refuse_unless (is_visible (scope_at self.now.names.now (scope_of self.now.header.now) (statements self.now.lines.now) parent.now) column.now) cause_of.UnknownColumn }
+        ensures { result ≡ refuse_unless (is_visible (scope_before self.now parent.now) column.now) cause_of.UnknownColumn }
     {
         let visible = is_visible(self.lines, self.header, parent, column);
         refuse_unless(visible, GraphCause::UnknownColumn)
@@ -68,7 +68,7 @@ impl Before<'_> {
 
     /// A column that a statement changes.
     pub(crate) fn check_target(&self, parent: &Name, column: &Name) -> Option<GraphCause>
-        ensures { result ≡ check_target (scope_at self.now.names.now (scope_of self.now.header.now) (statements self.now.lines.now) parent.now) (path (statements self.now.lines.now) parent.now) column.now }
+        ensures { result ≡ check_target (scope_before self.now parent.now) (path (history self.now) parent.now) column.now }
     {
         let alias = is_alias(self.lines, parent, column);
         first_of(
@@ -85,8 +85,8 @@ impl Before<'_> {
         node: &Name,
         expr: &Expr,
     ) -> Result<Checked, Stop>
-        ensures checked { IfOk result (IsCheckedAt self.now.header.now self.now.names.now (statements self.now.lines.now) node.now expr.now) }
-        ensures decided { Decides (refusal_in (kind_of (scope_at self.now.names.now (scope_of self.now.header.now) (statements self.now.lines.now) node.now) self.now.names.now expr.now)) result }
+        ensures checked { IfOk result (IsCheckedBefore self.now node.now expr.now) }
+        ensures decided { Decides (refusal_in (kind_of (scope_before self.now node.now) self.now.names.now expr.now)) result }
     {
         match self.check_at(alloc, node, expr) {
             Ok(checked) => Ok(checked),
@@ -103,8 +103,8 @@ impl Before<'_> {
         kind: ColType,
         expr: &Expr,
     ) -> Result<Checked, Stop>
-        ensures checked { IfOk result (IsCheckedAt self.now.header.now self.now.names.now (statements self.now.lines.now) node.now expr.now) }
-        ensures decided { Decides (expect_kind kind (kind_of (scope_at self.now.names.now (scope_of self.now.header.now) (statements self.now.lines.now) node.now) self.now.names.now expr.now)) result }
+        ensures checked { IfOk result (IsCheckedBefore self.now node.now expr.now) }
+        ensures decided { Decides (expect_kind kind (kind_of (scope_before self.now node.now) self.now.names.now expr.now)) result }
     {
         let checked = self.expression(alloc, node, expr)?;
         if same_kind(checked.kind(), kind) {

@@ -1,25 +1,25 @@
 // The checks of what books a result: Action and Report.
 ghost use Rattle.std.specs.Prelude.{◌≡◌, ◌∷◌, ◌++◌, [], ℕ, List, None, IfOk};
-ghost use Rattle.rdf_values.specs.Bookings.{ActionAt, bookings, columns_of};
-ghost use Rattle.rdf_values.specs.Kinds.{FunctionNames, Scope, scope_of};
-ghost use Rattle.rdf_values.specs.Path.{path};
-ghost use Rattle.rdf_values.specs.Verdict.{check, check_columns, check_results, check_passes, permitted_kinds, scope_at};
+ghost use Rattle.rdf_values.specs.Bookings.{bookings, columns_of};
+ghost use Rattle.rdf_values.specs.Verdict.{check_columns, check_results, check_passes, permitted_kinds};
 ghost use Rattle.rdf_values.specs.declared.action.ActionKind.{ActionKind};
 ghost use Rattle.rdf_values.specs.declared.statement.Statement.TheVariants.{Action, Report};
 ghost use Rattle.graph.specs.Checks.{Decides};
-ghost use Rattle.graph.specs.Dependence.{action_set};
-ghost use Rattle.graph.specs.Gains.{IsRow};
 ghost use Rattle.graph.specs.Lookups.{statements};
+ghost use Rattle.graph.specs.Befores.{IsActionRowAfter, history, scope_before, verdict_after};
 
 use crate::action_checks::{action_columns, check_edges, columns_of};
 use crate::amounts::{amounts_with, cells_of, takes_of, too_many};
 use crate::before::Before;
+use crate::copies::copy_kind;
 use crate::refusals::{first_of, first_of_four, refuse_if, stop_if};
+use crate::result_path::ResultPath;
 use crate::result_row::ResultRow;
 use crate::results::result_count;
-use crate::sets::{columns_set, filter_set};
+use crate::sets::set_of;
 use crate::stop::Stop;
-use rdf_values::{ActionKind, GraphCause, Line, Memory, Name};
+use graph_numbers::ResultKind;
+use rdf_values::{ActionKind, GraphCause, Line, ListOf, Memory, Name};
 use std::alloc::Global;
 
 /// Whether a result more is too many.
@@ -32,7 +32,7 @@ fn one_result_more(before: &[Line]) -> Option<GraphCause>
 
 /// A Report.
 pub(crate) fn check_report(before: &Before<'_>, name: &Name, parent: &Name) -> Option<GraphCause>
-    ensures { result ≡ check before.now.names.now (scope_of before.now.header.now) (statements before.now.lines.now) (Report name.now parent.now) }
+    ensures { result ≡ verdict_after before.now (Report name.now parent.now) }
 {
     let many = one_result_more(before.lines);
     first_of(before.check_node(name, parent), many)
@@ -46,18 +46,24 @@ fn action_row(
     parent: &Name,
     action: &ActionKind,
 ) -> Result<ResultRow, Memory>
-    ensures { IfOk result (IsRow (record { name = name.now; booking = ActionAt action.now (path (statements before.now.lines.now) parent.now) }) (action_set before.now.header.now before.now.names.now (statements before.now.lines.now) parent.now (columns_of action.now))) }
+    ensures { IfOk result (IsActionRowAfter before.now name.now parent.now action.now) }
 {
     let columns = columns_of(alloc, action)?;
-    let sites = before.tables.sites.len();
-    let sets = before.tables.site_sets.as_slice();
-    let filters = filter_set(before.lines, sites, sets, parent);
-    let inputs = columns_set(before, parent, columns.as_slice());
+    let path = ResultPath {
+        kind: ResultKind::Action(copy_kind(alloc, action)?),
+        filters: before.filters_above(alloc, parent)?,
+        inputs: before.versions_of(alloc, parent, columns.as_slice())?,
+        covers: ListOf::new(alloc),
+    };
+    let tables = before.tables;
+    let filters = set_of(tables.site_sets.as_slice(), path.filters.as_slice());
+    let inputs = set_of(tables.version_sets.as_slice(), path.inputs.as_slice());
     Ok(ResultRow {
         name: name.copy(alloc)?,
         cells: cells_of(action)?,
         takes: takes_of(action),
         set: filters.union(inputs),
+        path,
     })
 }
 
@@ -69,9 +75,9 @@ fn counted_action(
     parent: &Name,
     action: &ActionKind,
 ) -> Result<ResultRow, Stop>
-    requires known { check_columns (scope_at before.now.names.now (scope_of before.now.header.now) (statements before.now.lines.now) parent.now) (permitted_kinds action.now) [] (columns_of action.now) ≡ None }
-    ensures row { IfOk result (IsRow (record { name = name.now; booking = ActionAt action.now (path (statements before.now.lines.now) parent.now) }) (action_set before.now.header.now before.now.names.now (statements before.now.lines.now) parent.now (columns_of action.now))) }
-    ensures decided { Decides (check_passes (statements before.now.lines.now) (bookings (Action name.now parent.now action.now ∷ statements before.now.lines.now))) result }
+    requires known { check_columns (scope_before before.now parent.now) (permitted_kinds action.now) [] (columns_of action.now) ≡ None }
+    ensures row { IfOk result (IsActionRowAfter before.now name.now parent.now action.now) }
+    ensures decided { Decides (check_passes (history before.now) (bookings (Action name.now parent.now action.now ∷ statements before.now.lines.now))) result }
 {
     let row = action_row(alloc, before, name, parent, action)?;
     let amounts = amounts_with(before.lines, before.tables.results.as_slice(), &row)?;
@@ -87,8 +93,8 @@ pub(crate) fn check_action(
     parent: &Name,
     action: &ActionKind,
 ) -> Result<ResultRow, Stop>
-    ensures row { IfOk result (IsRow (record { name = name.now; booking = ActionAt action.now (path (statements before.now.lines.now) parent.now) }) (action_set before.now.header.now before.now.names.now (statements before.now.lines.now) parent.now (columns_of action.now))) }
-    ensures decided { Decides (check before.now.names.now (scope_of before.now.header.now) (statements before.now.lines.now) (Action name.now parent.now action.now)) result }
+    ensures row { IfOk result (IsActionRowAfter before.now name.now parent.now action.now) }
+    ensures decided { Decides (verdict_after before.now (Action name.now parent.now action.now)) result }
 {
     let wrong = action_columns(alloc, before, parent, action)?;
     stop_if(first_of_four(

@@ -1,13 +1,12 @@
 // Lists of sets of variations.
 ghost use Rattle.std.specs.Prelude.{◌≡◌, ◌≤◌, ◌+◌, ◌++◌, ℕ, length, map, IfOk, OnOk};
 ghost use Rattle.rdf_values.specs.Depends.{columns_in};
-ghost use Rattle.rdf_values.specs.Kinds.{scope_of, column_kind};
-ghost use Rattle.rdf_values.specs.Path.{variations};
-ghost use Rattle.rdf_values.specs.Verdict.{kind_or_int, scope_at};
+ghost use Rattle.rdf_values.specs.Kinds.{column_kind};
+ghost use Rattle.rdf_values.specs.Verdict.{kind_or_int};
 ghost use Rattle.graph.specs.Dependence.{AreSets};
-ghost use Rattle.graph.specs.Lookups.{statements};
-ghost use Rattle.graph.specs.VarSets.{any_has, has_at, read_sets, changed_set, AppendsSets};
+ghost use Rattle.graph.specs.VarSets.{any_has, read_sets, changed_set, AppendsSets};
 ghost use Rattle.graph.specs.Sets.{has};
+ghost use Rattle.graph.specs.Befores.{scope_before, set_changed, variation_count};
 
 use crate::before::Before;
 use crate::sets::{own_set, set_at, set_of};
@@ -51,13 +50,13 @@ pub(crate) fn sets_of(
 
 /// What a column that a Vary changes depends on: the Vary's own variations, and what the version below does.
 fn changed_set(before: &Before<'_>, parent: &Name, tags: u32, column: &Name) -> VarSet
-    requires { length (variations (statements before.now.lines.now)) + tags ≤ 128 }
-    ensures { (v : ℕ) → has result v ≡ changed_set before.now.header.now (statements before.now.lines.now) before.now.tables.now.version_sets.items parent.now (length (variations (statements before.now.lines.now))) tags column.now v }
+    requires { variation_count before.now + tags ≤ 128 }
+    ensures { (v : ℕ) → has result v ≡ set_changed before.now parent.now tags column.now v }
 {
     let first = before.tables.variations.len();
     let versions = before.tables.version_sets.as_slice();
     let below = before.named_version(parent, column);
-    own_set(first, tags).union(set_at(versions, below))
+    own_set(first, tags).union(set_at(versions, below as usize))
 }
 
 /// Those of columns, appended.
@@ -69,8 +68,8 @@ fn push_changed(
     columns: &[Name],
     sets: &mut Vec<VarSet>,
 ) -> Result<(), Memory>
-    requires { length (variations (statements before.now.lines.now)) + tags ≤ 128 }
-    ensures { OnOk result (AppendsSets (map (changed_set before.now.header.now (statements before.now.lines.now) before.now.tables.now.version_sets.items parent.now (length (variations (statements before.now.lines.now))) tags) columns.now) sets.old.items sets.new.items) }
+    requires { variation_count before.now + tags ≤ 128 }
+    ensures { OnOk result (AppendsSets (map (set_changed before.now parent.now tags) columns.now) sets.old.items sets.new.items) }
 {
     let Some((column, rest)) = columns.split_first() else {
         return Ok(());
@@ -87,8 +86,8 @@ pub(crate) fn changed_sets(
     tags: u32,
     columns: &[Name],
 ) -> Result<Vec<VarSet>, Memory>
-    requires { length (variations (statements before.now.lines.now)) + tags ≤ 128 }
-    ensures { IfOk result (λ sets. AreSets (map (changed_set before.now.header.now (statements before.now.lines.now) before.now.tables.now.version_sets.items parent.now (length (variations (statements before.now.lines.now))) tags) columns.now) sets.items) }
+    requires { variation_count before.now + tags ≤ 128 }
+    ensures { IfOk result (λ sets. AreSets (map (set_changed before.now parent.now tags) columns.now) sets.items) }
 {
     let mut sets = Vec::new(alloc);
     push_changed(before, parent, tags, columns, &mut sets)?;
@@ -102,7 +101,7 @@ pub(crate) fn kinds_at(
     parent: &Name,
     columns: &[Name],
 ) -> Result<Vec<ColType>, Memory>
-    ensures { IfOk result (λ found. found.items ≡ map (λ c. kind_or_int (column_kind (scope_at before.now.names.now (scope_of before.now.header.now) (statements before.now.lines.now) parent.now) c)) columns.now) }
+    ensures { IfOk result (λ found. found.items ≡ map (λ c. kind_or_int (column_kind (scope_before before.now parent.now) c)) columns.now) }
 {
     let kinds = columns.iter().map(|column| before.kind_at(parent, column));
     Ok(kinds.collect(alloc)?)

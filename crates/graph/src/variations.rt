@@ -1,16 +1,10 @@
 // Variations in the order of their numbers.
-ghost use Rattle.std.specs.Prelude.{◌≡◌, ◌<◌, ◌≤◌, ◌+◌, ◌++◌, ◌||◌, ℕ, List, length, map, false, nat_lt, Some, option_map, slice_get, IfOk, IfErr, OnOk, OnErr};
-ghost use Rattle.rdf_values.specs.Verdict.{repeats};
-ghost use Rattle.graph.specs.Names.{is_taken, are_too_many, named, IsVarRefusal};
+ghost use Rattle.std.specs.Prelude.{◌≡◌, ◌<◌, ◌≤◌, ◌+◌, ◌++◌, List, length, Some, option_map, slice_get, IfOk, OnOk, OnErr};
+ghost use Rattle.graph.specs.Names.{is_taken, named};
 
-use crate::var_refusal::VarRefusal;
 use rdf_values::{Memory, Name};
 use std::alloc::Global;
 use std::marker::Model;
-
-const MOST_TAGS: usize = 16;
-
-const MOST_VARIATIONS: usize = 128;
 
 /// The name of a Vary and one of its tags.
 #[derive(Drop)]
@@ -69,7 +63,7 @@ impl Model for Variations {
 
 impl Variations {
     /// None.
-    pub fn new(alloc: Global) -> Variations
+    pub(crate) fn new(alloc: Global) -> Variations
         ensures { length result ≡ 0 }
     {
         Variations {
@@ -86,7 +80,7 @@ impl Variations {
     }
 
     /// Whether a Vary of that name was added.
-    pub fn has(&self, name: &Name) -> bool
+    pub(crate) fn has(&self, name: &Name) -> bool
         ensures { result ≡ is_taken self.now name.now }
     {
         // At most 128 are searched, and while booking alone.
@@ -109,64 +103,24 @@ impl Variations {
         self.items[v as usize].tag()
     }
 
-    /// Adds the variations of a Vary, one for each tag, and gives the number of the first.
-    pub fn add(&mut self, alloc: Global, name: &Name, tags: &[Name]) -> Result<u32, VarRefusal>
-        requires distinct { repeats tags.now ≡ false }
-        requires some { 0 < length tags.now }
-        ensures first { IfOk result (λ n. n ≡ length self.old) }
-        ensures added { OnOk result (self.new ≡ self.old ++ named name.now tags.now) }
-        ensures allowed { OnOk result ((is_taken self.old name.now ≡ false) × (are_too_many self.old (length tags.now) ≡ false)) }
-        ensures refused { IfErr result (IsVarRefusal self.old name.now (length tags.now)) }
+    /// Appends variations.
+    pub(crate) fn append(&mut self, more: &mut Vec<FullName>) -> Result<(), Memory>
+        requires { length self.old + length more.old.items ≤ 128 }
+        ensures added { OnOk result (self.new ≡ self.old ++ more.old.items) }
         ensures unchanged { OnErr result (self.new ≡ self.old) }
     {
-        if self.has(name) {
-            return Err(VarRefusal::Taken);
-        }
-        if are_too_many(self.items.len(), tags.len()) {
-            return Err(VarRefusal::TooMany);
-        }
-        let first = self.items.len();
-        let mut more = full_names(alloc, name, tags)?;
-        if self.items.append(&mut more).is_err() {
-            return Err(VarRefusal::Memory);
-        }
-        Ok(first as u32)
+        self.items.append(more)?;
+        Ok(())
     }
 }
 
-/// Whether so many tags are too many for a Vary, or with so many variations before them.
-fn are_too_many(variations: usize, tags: usize) -> bool
-    requires { variations ≤ 128 }
-    ensures { result ≡ (nat_lt 16 tags || nat_lt 128 (variations + tags)) }
-{
-    tags > MOST_TAGS || variations + tags > MOST_VARIATIONS
-}
-
-fn push_names(
-    alloc: Global,
-    items: &mut Vec<FullName>,
-    name: &Name,
-    tags: &[Name],
-) -> Result<(), Memory>
-    ensures { OnOk result (items.new.items ≡ items.old.items ++ named name.now tags.now) }
-{
-    for tag in tags {
-        let item = FullName::new(alloc, name, tag)?;
-        if items.push(item).is_err() {
-            return Err(Memory);
-        }
-    }
-    Ok(())
-}
-
-/// The full names of a Vary's variations.
-fn full_names(alloc: Global, name: &Name, tags: &[Name]) -> Result<Vec<FullName>, VarRefusal>
-    ensures names { IfOk result (λ v. v.items ≡ named name.now tags.now) }
-    ensures memory { IfErr result (λ e. e ≡ VarRefusal.Memory) }
+/// The variations of a Vary, one for each tag.
+pub(crate) fn full_names(alloc: Global, name: &Name, tags: &[Name]) -> Result<Vec<FullName>, Memory>
+    ensures { IfOk result (λ v. v.items ≡ named name.now tags.now) }
 {
     let mut items = Vec::new(alloc);
-    match push_names(alloc, &mut items, name, tags) {
-        Ok(()) => Ok(items),
-        Err(_) => Err(VarRefusal::Memory),
+    for tag in tags {
+        items.push(FullName::new(alloc, name, tag)?)?;
     }
+    Ok(items)
 }

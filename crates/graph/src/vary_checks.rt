@@ -2,19 +2,20 @@
 ghost use Rattle.std.specs.Prelude.{◌≡◌, ◌∷◌, ◌++◌, ◌+◌, ℕ, List, [], length, map, nat_eq, nat_lt, true, ◌||◌, IfOk, IfErr, OnOk};
 ghost use Rattle.rdf_values.specs.Kinds.{scope_of, kind_of};
 ghost use Rattle.rdf_values.specs.Path.{variations};
-ghost use Rattle.rdf_values.specs.Verdict.{check, check_list, check_lists, check_tags, check_values, check_vector_column, expect_kind, first_refusal, refuse_unless, repeats, scope_at};
+ghost use Rattle.rdf_values.specs.Verdict.{check_list, check_lists, check_tags, check_values, check_vector_column, expect_kind, first_refusal, refuse_unless, repeats};
 ghost use Rattle.rdf_values.specs.declared.graph_cause.GraphCause.TheVariants as cause_of;
 ghost use Rattle.rdf_values.specs.declared.statement.Statement.{Statement};
 ghost use Rattle.rdf_values.specs.declared.statement.Statement.TheVariants.{Vary};
 ghost use Rattle.rdf_values.specs.declared.value.ColType.TheVariants as a_kind;
 ghost use Rattle.rdf_values.specs.declared.vary_values.VaryValues.TheVariants.{Lists, Vector};
 ghost use Rattle.graph.specs.Checks.{Decides, targets_at};
-ghost use Rattle.graph.specs.Lookups.{statements};
-ghost use Rattle.graph.specs.VaryChecks.{all_expressions, value_expressions, Appends, AllCheckedAt};
+ghost use Rattle.graph.specs.VaryChecks.{all_expressions, value_expressions};
+ghost use Rattle.graph.specs.Befores.{AppendsChecked, AreCheckedBefore, history, scope_before, verdict_after};
 
 use crate::before::Before;
+use crate::change::Change;
 use crate::parts::same_kind;
-use crate::push::alone;
+use crate::push::{alone, push};
 use crate::refusals::{first_of, first_of_four, first_of_three, refuse_if, refuse_unless, stop_if};
 use crate::results::is_among;
 use crate::stop::Stop;
@@ -57,7 +58,7 @@ fn are_too_many(known: &Variations, tags: &[Name]) -> bool
 
 /// The columns that a Vary changes.
 fn check_targets(before: &Before<'_>, parent: &Name, columns: &[Name]) -> Option<GraphCause>
-    ensures { result ≡ targets_at before.now.names.now (scope_of before.now.header.now) (statements before.now.lines.now) parent.now columns.now }
+    ensures { result ≡ targets_at before.now.names.now (scope_of before.now.header.now) (history before.now) parent.now columns.now }
 {
     let Some((first, rest)) = columns.split_first() else {
         return None;
@@ -77,14 +78,11 @@ fn push_expected(
     expr: &Expr,
     found: &mut Vec<Checked>,
 ) -> Result<(), Stop>
-    ensures checked { OnOk result (Appends before.now.header.now before.now.names.now (statements before.now.lines.now) node.now (expr.now ∷ []) found.old.items found.new.items) }
-    ensures decided { Decides (expect_kind kind (kind_of (scope_at before.now.names.now (scope_of before.now.header.now) (statements before.now.lines.now) node.now) before.now.names.now expr.now)) result }
+    ensures checked { OnOk result (AppendsChecked before.now node.now (expr.now ∷ []) found.old.items found.new.items) }
+    ensures decided { Decides (expect_kind kind (kind_of (scope_before before.now node.now) before.now.names.now expr.now)) result }
 {
-    let checked = before.expected(alloc, node, kind, expr)?;
-    match found.push(checked) {
-        Ok(()) => Ok(()),
-        Err(_) => Err(Stop::Memory),
-    }
+    push(found, before.expected(alloc, node, kind, expr)?)?;
+    Ok(())
 }
 
 /// Expressions of a given kind, appended.
@@ -97,8 +95,8 @@ fn check_exprs(
     exprs: &[Expr],
     found: &mut Vec<Checked>,
 ) -> Result<(), Stop>
-    ensures checked { OnOk result (Appends before.now.header.now before.now.names.now (statements before.now.lines.now) node.now exprs.now found.old.items found.new.items) }
-    ensures decided { Decides (first_refusal (map (λ e. expect_kind kind (kind_of (scope_at before.now.names.now (scope_of before.now.header.now) (statements before.now.lines.now) node.now) before.now.names.now e)) exprs.now)) result }
+    ensures checked { OnOk result (AppendsChecked before.now node.now exprs.now found.old.items found.new.items) }
+    ensures decided { Decides (first_refusal (map (λ e. expect_kind kind (kind_of (scope_before before.now node.now) before.now.names.now e)) exprs.now)) result }
 {
     let Some((first, rest)) = exprs.split_first() else {
         return Ok(());
@@ -124,8 +122,8 @@ fn check_list(
     column: &Name,
     exprs: &[Expr],
 ) -> Result<Vec<Checked>, Stop>
-    ensures checked { IfOk result (λ found. AllCheckedAt before.now.header.now before.now.names.now (statements before.now.lines.now) node.now exprs.now found.items) }
-    ensures decided { Decides (check_list before.now.names.now (scope_at before.now.names.now (scope_of before.now.header.now) (statements before.now.lines.now) node.now) tags column.now exprs.now) result }
+    ensures checked { IfOk result (λ found. AreCheckedBefore before.now node.now exprs.now found.items) }
+    ensures decided { Decides (check_list before.now.names.now (scope_before before.now node.now) tags column.now exprs.now) result }
 {
     if !has_count(exprs, tags) {
         return Err(Stop::Cause(GraphCause::WrongCount));
@@ -146,8 +144,8 @@ fn check_lists(
     lists: &[ListOf<Expr>],
 ) -> Result<Vec<Checked>, Stop>
     requires paired { length lists.now ≡ length columns.now }
-    ensures checked { IfOk result (λ found. AllCheckedAt before.now.header.now before.now.names.now (statements before.now.lines.now) node.now (all_expressions lists.now) found.items) }
-    ensures decided { Decides (first_refusal (check_lists before.now.names.now (scope_at before.now.names.now (scope_of before.now.header.now) (statements before.now.lines.now) node.now) tags columns.now lists.now)) result }
+    ensures checked { IfOk result (λ found. AreCheckedBefore before.now node.now (all_expressions lists.now) found.items) }
+    ensures decided { Decides (first_refusal (check_lists before.now.names.now (scope_before before.now node.now) tags columns.now lists.now)) result }
 {
     let Some((exprs, lists)) = lists.split_first() else {
         return Ok(Vec::new(alloc));
@@ -165,7 +163,7 @@ fn check_lists(
 
 /// The one column of a vector: it holds numbers.
 fn check_vector_column(before: &Before<'_>, node: &Name, columns: &[Name]) -> Option<GraphCause>
-    ensures { result ≡ check_vector_column (scope_at before.now.names.now (scope_of before.now.header.now) (statements before.now.lines.now) node.now) columns.now }
+    ensures { result ≡ check_vector_column (scope_before before.now node.now) columns.now }
 {
     let [column] = columns else {
         return Some(GraphCause::WrongCount);
@@ -188,8 +186,8 @@ fn list_values(
     columns: &[Name],
     lists: &[ListOf<Expr>],
 ) -> Result<Vec<Checked>, Stop>
-    ensures checked { IfOk result (λ found. AllCheckedAt before.now.header.now before.now.names.now (statements before.now.lines.now) node.now (all_expressions lists.now) found.items) }
-    ensures decided { Decides (check_values before.now.names.now (scope_at before.now.names.now (scope_of before.now.header.now) (statements before.now.lines.now) node.now) tags columns.now (Lists lists.now)) result }
+    ensures checked { IfOk result (λ found. AreCheckedBefore before.now node.now (all_expressions lists.now) found.items) }
+    ensures decided { Decides (check_values before.now.names.now (scope_before before.now node.now) tags columns.now (Lists lists.now)) result }
 {
     if !are_paired(lists, columns) {
         return Err(Stop::Cause(GraphCause::WrongCount));
@@ -220,8 +218,8 @@ fn vector_value(
     columns: &[Name],
     expr: &Expr,
 ) -> Result<Vec<Checked>, Stop>
-    ensures checked { IfOk result (λ found. AllCheckedAt before.now.header.now before.now.names.now (statements before.now.lines.now) node.now (expr.now ∷ []) found.items) }
-    ensures decided { (tags : ℕ) → Decides (check_values before.now.names.now (scope_at before.now.names.now (scope_of before.now.header.now) (statements before.now.lines.now) node.now) tags columns.now (Vector expr.now)) result }
+    ensures checked { IfOk result (λ found. AreCheckedBefore before.now node.now (expr.now ∷ []) found.items) }
+    ensures decided { (tags : ℕ) → Decides (check_values before.now.names.now (scope_before before.now node.now) tags columns.now (Vector expr.now)) result }
 {
     if !is_one(columns) {
         return Err(Stop::Cause(GraphCause::WrongCount));
@@ -241,8 +239,8 @@ fn check_values(
     columns: &[Name],
     values: &VaryValues,
 ) -> Result<Vec<Checked>, Stop>
-    ensures checked { IfOk result (λ found. AllCheckedAt before.now.header.now before.now.names.now (statements before.now.lines.now) node.now (value_expressions values.now) found.items) }
-    ensures decided { Decides (check_values before.now.names.now (scope_at before.now.names.now (scope_of before.now.header.now) (statements before.now.lines.now) node.now) tags columns.now values.now) result }
+    ensures checked { IfOk result (λ found. AreCheckedBefore before.now node.now (value_expressions values.now) found.items) }
+    ensures decided { Decides (check_values before.now.names.now (scope_before before.now node.now) tags columns.now values.now) result }
 {
     match values {
         VaryValues::Lists(lists) => {
@@ -252,26 +250,17 @@ fn check_values(
     }
 }
 
-/// What a Vary changes, how, and by which tags under which name.
-#[derive(Clone, Copy)]
-pub(crate) struct Change<'a> {
-    pub(crate) columns: &'a [Name],
-    pub(crate) values: &'a VaryValues,
-    pub(crate) tags: &'a [Name],
-    pub(crate) name: &'a Name,
-}
-
 /// A Vary.
 pub(crate) fn check_vary(
     alloc: Global,
     before: &Before<'_>,
     node: &Name,
-    parent: &Name,
     change: &Change<'_>,
 ) -> Result<Vec<Checked>, Stop>
-    ensures checked { IfOk result (λ found. AllCheckedAt before.now.header.now before.now.names.now (statements before.now.lines.now) parent.now (value_expressions change.now.values.now) found.items) }
-    ensures decided { Decides (check before.now.names.now (scope_of before.now.header.now) (statements before.now.lines.now) (Vary node.now parent.now change.now.columns.now change.now.values.now change.now.tags.now change.now.name.now)) result }
+    ensures checked { IfOk result (λ found. AreCheckedBefore before.now change.now.parent.now (value_expressions change.now.values.now) found.items) }
+    ensures decided { Decides (verdict_after before.now (Vary node.now change.now.parent.now change.now.columns.now change.now.values.now change.now.tags.now change.now.name.now)) result }
 {
+    let parent = change.parent;
     let columns = change.columns;
     stop_if(first_of_four(
         before.check_node(node, parent),

@@ -108,23 +108,6 @@ pub(crate) fn label_of(lines: &[Line], f: usize, count: usize) -> &Label
     }
 }
 
-/// How many of the lines are named Filters.
-#[tactic(auto, using(crate::proofs::Walked::named_more))]
-pub(crate) fn named_count(before: &[Line]) -> usize
-    ensures value { result ≡ length (named_before (statements before.now)) }
-    ensures few { result ≤ length before.now }
-{
-    let Some((last, rest)) = before.split_first() else {
-        return 0;
-    };
-    let above = named_count(rest);
-    if is_named(&last.statement) {
-        above + 1
-    } else {
-        above
-    }
-}
-
 /// The named filters of the path of a node, head first, where there are so many named filters.
 #[tactic(auto, using(crate::proofs::Walked::named_more))]
 fn named_on(alloc: Global, before: &[Line], count: u32, node: &Name) -> Result<ListOf<u32>, Memory>

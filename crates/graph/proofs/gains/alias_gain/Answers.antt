@@ -14,7 +14,7 @@ pub returns-clause-gained : goal.returns-clause-gained
 returns-clause-gained c =
     let s = Alias c.args.node.now c.args.parent.now c.args.column.now c.args.target.now in
     empty_gained c.args.before.now.header.now c.args.before.now.names.now (statements c.args.before.now.lines.now) s s c.empty_gain.result refl
-    (sym (three c.check_node.result c.new_column.result c.known_column.result _ _ _ c.first_of_three.result c.check_node.ensures c.new_column.ensures c.known_column.ensures c.first_of_three.ensures) ∙ c.in_ok-stop_if.ensures) refl refl refl refl refl c.empty_gain.ensures
+    (sym (three c.check_node.result c.new_column.result c.known_column.result _ _ _ c.first_of_three.result c.check_node.ensures c.new_column.ensures c.known_column.ensures c.first_of_three.ensures) ∙ c.in_ok-stop_if.ensures) refl refl refl refl c.empty_gain.ensures
 
 pub returns-clause-decided : goal.returns-clause-decided
 returns-clause-decided c = sym (three c.check_node.result c.new_column.result c.known_column.result _ _ _ c.first_of_three.result c.check_node.ensures c.new_column.ensures c.known_column.ensures c.first_of_three.ensures) ∙ c.in_ok-stop_if.ensures

@@ -1,4 +1,4 @@
-use Rattle.std.proofs.Common.{[], ◌∷◌, ◌∙◌, sym}
+use Rattle.std.proofs.Common.{[], ◌∷◌, ◌∙◌, refl, sym}
 use Rattle.rdf_values.specs.Kinds.{scope_of, kind_of}
 use Rattle.rdf_values.specs.Verdict.{check_node, expect_kind, scope_at}
 use Rattle.rdf_values.specs.declared.value.ColType.TheVariants as kind
@@ -8,23 +8,23 @@ use Rattle.graph.proofs.Gaining.{filter_gained}
 use Rattle.graph.proofs.gains.filter_gain.Goals as goal
 
 pub returns-in_err-stop_if-clause-decided : goal.returns-in_err-stop_if-clause-decided
-returns-in_err-stop_if-clause-decided c label =
+returns-in_err-stop_if-clause-decided c =
     handed_on _ _ _ c.from_residual.ensures.1
     (stopped_before (check_node (statements c.args.before.now.lines.now) c.args.node.now c.args.parent.now ∷ []) (expect_kind kind.Bool (kind_of (scope_at c.args.before.now.names.now (scope_of c.args.before.now.header.now) (statements c.args.before.now.lines.now) c.args.parent.now) c.args.before.now.names.now c.args.expr.now) ∷ []) c.check_node.result _
     (c.check_node.ensures ∙ sym (alone _)) c.in_err-stop_if.ensures)
 
 pub returns-in_err-site-clause-decided : goal.returns-in_err-site-clause-decided
-returns-in_err-site-clause-decided c label =
+returns-in_err-site-clause-decided c =
     handed_on _ _ _ c.from_residual-in_err-site.ensures.1
     (stopped_last (check_node (statements c.args.before.now.lines.now) c.args.node.now c.args.parent.now ∷ []) (expect_kind kind.Bool (kind_of (scope_at c.args.before.now.names.now (scope_of c.args.before.now.header.now) (statements c.args.before.now.lines.now) c.args.parent.now) c.args.before.now.names.now c.args.expr.now)) c.check_node.result (c.check_node.ensures ∙ sym (alone _)) c.in_ok-stop_if.ensures _ c.in_err-site.ensures.decided)
 
 pub returns-in_err-gain-clause-decided : goal.returns-in_err-gain-clause-decided
-returns-in_err-gain-clause-decided c label = no_memory _ _ c.from_residual-in_err-gain.ensures.1
+returns-in_err-gain-clause-decided c = no_memory _ _ c.from_residual-in_err-gain.ensures.1
 
 pub returns-clause-gained : goal.returns-clause-gained
-returns-clause-gained c label =
-    filter_gained c.args.before.now.header.now c.args.before.now.names.now (statements c.args.before.now.lines.now) c.args.before.now.tables.now c.args.before.now.are c.as_slice.result.now c.as_slice.ensures.value c.args.node.now c.args.parent.now c.args.expr.now label c.in_ok-site.site
-    c.in_ok-gain.gain (passed_before (check_node (statements c.args.before.now.lines.now) c.args.node.now c.args.parent.now ∷ []) ((expect_kind kind.Bool (kind_of (scope_at c.args.before.now.names.now (scope_of c.args.before.now.header.now) (statements c.args.before.now.lines.now) c.args.parent.now) c.args.before.now.names.now c.args.expr.now)) ∷ []) c.check_node.result (c.check_node.ensures ∙ sym (alone _)) c.in_ok-stop_if.ensures ∙ alone _ ∙ c.in_ok-site.ensures.decided) c.in_ok-site.ensures.checked c.in_ok-gain.ensures
+returns-clause-gained c =
+    filter_gained c.args.before.now.header.now c.args.before.now.names.now (statements c.args.before.now.lines.now) c.args.before.now.tables.now c.args.before.now.are c.args.before.now.tables.now.version_sets.items refl c.args.node.now c.args.parent.now c.args.expr.now c.args.label.now c.in_ok-site.site
+    c.in_ok-gain.gain (passed_before (check_node (statements c.args.before.now.lines.now) c.args.node.now c.args.parent.now ∷ []) ((expect_kind kind.Bool (kind_of (scope_at c.args.before.now.names.now (scope_of c.args.before.now.header.now) (statements c.args.before.now.lines.now) c.args.parent.now) c.args.before.now.names.now c.args.expr.now)) ∷ []) c.check_node.result (c.check_node.ensures ∙ sym (alone _)) c.in_ok-stop_if.ensures ∙ alone _ ∙ c.in_ok-site.ensures.decided) c.in_ok-site.ensures.checked (c.in_ok-gain.ensures c.args.node.now c.args.expr.now)
 
 pub returns-clause-decided : goal.returns-clause-decided
-returns-clause-decided c label = passed_before (check_node (statements c.args.before.now.lines.now) c.args.node.now c.args.parent.now ∷ []) ((expect_kind kind.Bool (kind_of (scope_at c.args.before.now.names.now (scope_of c.args.before.now.header.now) (statements c.args.before.now.lines.now) c.args.parent.now) c.args.before.now.names.now c.args.expr.now)) ∷ []) c.check_node.result (c.check_node.ensures ∙ sym (alone _)) c.in_ok-stop_if.ensures ∙ alone _ ∙ c.in_ok-site.ensures.decided
+returns-clause-decided c = passed_before (check_node (statements c.args.before.now.lines.now) c.args.node.now c.args.parent.now ∷ []) ((expect_kind kind.Bool (kind_of (scope_at c.args.before.now.names.now (scope_of c.args.before.now.header.now) (statements c.args.before.now.lines.now) c.args.parent.now) c.args.before.now.names.now c.args.expr.now)) ∷ []) c.check_node.result (c.check_node.ensures ∙ sym (alone _)) c.in_ok-stop_if.ensures ∙ alone _ ∙ c.in_ok-site.ensures.decided

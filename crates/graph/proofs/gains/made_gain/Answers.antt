@@ -1,7 +1,3 @@
-use Rattle.std.proofs.Common.{subst}
-use Rattle.std.specs.Prelude.{List}
-use Rattle.graph.specs.declared.var_set.VarSet.{VarSet}
-use Rattle.graph.specs.Gains.{IsColumnGain}
 use Rattle.graph.proofs.Checking.{handed_on, no_memory}
 use Rattle.graph.proofs.gains.made_gain.Goals as goal
 
@@ -12,11 +8,7 @@ pub returns-in_err-gain-clause-decided : goal.returns-in_err-gain-clause-decided
 returns-in_err-gain-clause-decided c = no_memory _ _ c.from_residual-in_err-gain.ensures.1
 
 pub returns-clause-made : goal.returns-clause-made
-returns-clause-made c = record {
-  site = c.in_ok-site.site;
-  checked = c.in_ok-site.ensures.checked;
-  gain = subst (λ (vs : List VarSet). IsColumnGain vs c.in_ok-site.site c.in_ok-gain.gain) c.as_slice.ensures.value c.in_ok-gain.ensures;
-}
+returns-clause-made c = record { site = c.in_ok-site.site; checked = c.in_ok-site.ensures.checked; gain = c.in_ok-gain.ensures }
 
 pub returns-clause-decided : goal.returns-clause-decided
 returns-clause-decided c = c.in_ok-site.ensures.decided

@@ -1,22 +1,18 @@
-use Rattle.std.proofs.Common.{refl, arith}
 use Rattle.graph.specs.Lookups.{statements}
 use Rattle.graph.proofs.Checking.{handed_on, no_memory}
 use Rattle.graph.proofs.Gaining.{vary_gained}
 use Rattle.graph.proofs.SeenRows.{few_with}
 use Rattle.graph.proofs.gains.vary_gain.Goals as goal
 
-pub overflow_cast-count : goal.overflow_cast-count
-overflow_cast-count c =
-    let f = few_with c.args.before.now.header.now c.args.before.now.names.now (statements c.args.before.now.lines.now) c.args.node.now c.args.parent.now c.args.change.now.name.now c.args.change.now.columns.now c.args.change.now.tags.now c.args.change.now.values.now c.in_ok-sites.ensures.decided in omega (arith, f)
-
 pub varied_gain-requires : goal.varied_gain-requires
-varied_gain-requires c =
-    let f = few_with c.args.before.now.header.now c.args.before.now.names.now (statements c.args.before.now.lines.now) c.args.node.now c.args.parent.now c.args.change.now.name.now c.args.change.now.columns.now c.args.change.now.tags.now c.args.change.now.values.now c.in_ok-sites.ensures.decided in omega (arith, f)
+varied_gain-requires c = record {
+  few = few_with c.args.before.now.header.now c.args.before.now.names.now (statements c.args.before.now.lines.now) c.args.node.now c.args.change.now.parent.now c.args.change.now.name.now c.args.change.now.columns.now c.args.change.now.tags.now c.args.change.now.values.now c.in_ok-sites.ensures.decided;
+}
 
 pub returns-clause-gained : goal.returns-clause-gained
 returns-clause-gained c =
-    vary_gained c.args.before.now.header.now c.args.before.now.names.now (statements c.args.before.now.lines.now) c.args.before.now.tables.now c.args.before.now.are c.args.node.now c.args.parent.now c.args.change.now.name.now c.args.change.now.columns.now c.args.change.now.tags.now c.args.change.now.values.now c.in_ok-sites.sites.items _
-    c.in_ok-gain.gain refl c.in_ok-sites.ensures.decided c.in_ok-sites.ensures.checked c.in_ok-gain.ensures
+    vary_gained c.args.before.now.header.now c.args.before.now.names.now (statements c.args.before.now.lines.now) c.args.before.now.tables.now c.args.before.now.are c.args.node.now c.args.change.now c.in_ok-sites.sites.items
+    c.in_ok-gain.gain c.in_ok-sites.ensures.decided c.in_ok-sites.ensures.checked c.in_ok-gain.ensures
 
 pub returns-in_err-sites-clause-decided : goal.returns-in_err-sites-clause-decided
 returns-in_err-sites-clause-decided c = handed_on _ _ _ c.from_residual.ensures.1 c.in_err-sites.ensures.decided

@@ -11,18 +11,18 @@ pub returns-in_err-stop_if-clause-decided : goal.returns-in_err-stop_if-clause-d
 returns-in_err-stop_if-clause-decided c =
     handed_on _ _ _ c.from_residual.ensures.1
     (stopped_before
-    (check_node (statements c.args.before.now.lines.now) c.args.node.now c.args.parent.now ∷ refuse_if (repeats c.args.change.now.columns.now) cause.NameTaken
-    ∷ targets_at c.args.before.now.names.now (scope_of c.args.before.now.header.now) (statements c.args.before.now.lines.now) c.args.parent.now c.args.change.now.columns.now ∷ check_tags (statements c.args.before.now.lines.now) c.args.change.now.tags.now c.args.change.now.name.now ∷ [])
-    (check_values c.args.before.now.names.now (scope_at c.args.before.now.names.now (scope_of c.args.before.now.header.now) (statements c.args.before.now.lines.now) c.args.parent.now) (length c.args.change.now.tags.now) c.args.change.now.columns.now c.args.change.now.values.now ∷ []) c.first_of_four.result _
+    (check_node (statements c.args.before.now.lines.now) c.args.node.now c.args.change.now.parent.now ∷ refuse_if (repeats c.args.change.now.columns.now) cause.NameTaken
+    ∷ targets_at c.args.before.now.names.now (scope_of c.args.before.now.header.now) (statements c.args.before.now.lines.now) c.args.change.now.parent.now c.args.change.now.columns.now ∷ check_tags (statements c.args.before.now.lines.now) c.args.change.now.tags.now c.args.change.now.name.now ∷ [])
+    (check_values c.args.before.now.names.now (scope_at c.args.before.now.names.now (scope_of c.args.before.now.header.now) (statements c.args.before.now.lines.now) c.args.change.now.parent.now) (length c.args.change.now.tags.now) c.args.change.now.columns.now c.args.change.now.values.now ∷ []) c.first_of_four.result _
     (four c.check_node.result c.refuse_if.result c.check_targets.result c.check_tags.result _ _ _ _ c.first_of_four.result c.check_node.ensures
     (c.refuse_if.ensures ∙ ap (λ b. refuse_if b cause.NameTaken) c.repeats.ensures) c.check_targets.ensures (c.check_tags.ensures (statements c.args.before.now.lines.now) c.args.before.now.are.variations) c.first_of_four.ensures) c.in_err-stop_if.ensures)
 
 pub returns-clause-decided : goal.returns-clause-decided
 returns-clause-decided c =
     decided_last
-    (check_node (statements c.args.before.now.lines.now) c.args.node.now c.args.parent.now ∷ refuse_if (repeats c.args.change.now.columns.now) cause.NameTaken
-    ∷ targets_at c.args.before.now.names.now (scope_of c.args.before.now.header.now) (statements c.args.before.now.lines.now) c.args.parent.now c.args.change.now.columns.now ∷ check_tags (statements c.args.before.now.lines.now) c.args.change.now.tags.now c.args.change.now.name.now ∷ [])
-    (check_values c.args.before.now.names.now (scope_at c.args.before.now.names.now (scope_of c.args.before.now.header.now) (statements c.args.before.now.lines.now) c.args.parent.now) (length c.args.change.now.tags.now) c.args.change.now.columns.now c.args.change.now.values.now) c.first_of_four.result
+    (check_node (statements c.args.before.now.lines.now) c.args.node.now c.args.change.now.parent.now ∷ refuse_if (repeats c.args.change.now.columns.now) cause.NameTaken
+    ∷ targets_at c.args.before.now.names.now (scope_of c.args.before.now.header.now) (statements c.args.before.now.lines.now) c.args.change.now.parent.now c.args.change.now.columns.now ∷ check_tags (statements c.args.before.now.lines.now) c.args.change.now.tags.now c.args.change.now.name.now ∷ [])
+    (check_values c.args.before.now.names.now (scope_at c.args.before.now.names.now (scope_of c.args.before.now.header.now) (statements c.args.before.now.lines.now) c.args.change.now.parent.now) (length c.args.change.now.tags.now) c.args.change.now.columns.now c.args.change.now.values.now) c.first_of_four.result
     (four c.check_node.result c.refuse_if.result c.check_targets.result c.check_tags.result _ _ _ _ c.first_of_four.result c.check_node.ensures
     (c.refuse_if.ensures ∙ ap (λ b. refuse_if b cause.NameTaken) c.repeats.ensures) c.check_targets.ensures (c.check_tags.ensures (statements c.args.before.now.lines.now) c.args.before.now.are.variations) c.first_of_four.ensures) c.in_ok-stop_if.ensures
     c.check_values.result c.check_values.ensures.decided

@@ -14,7 +14,7 @@ returns-in-Err c = refusal_answered c.args.script c.as_slice.result.now c.args.h
 pub finish-requires-clause-graph : goal.finish-requires-clause-graph
 finish-requires-clause-graph c =
     graph_is c.args.script c.reversed-lines.result.items c.args.header.now c.args.names.now c.reversed-lines.ensures c.requires.script c.requires.header
-    (subst (λ ls. AreAccepted c.args.names.now (scope_of c.args.header.now) (statements ls)) c.as_slice.ensures.value c.in-Ok.ensures.booked.tables.versions.accepted)
+    (subst (λ ls. AreAccepted c.args.names.now (scope_of c.args.header.now) (statements ls)) c.as_slice.ensures.value c.in-Ok.ensures.booked.versions.accepted)
 
 pub finish-requires-clause-short : goal.finish-requires-clause-short
 finish-requires-clause-short c = all_short c.args.script c.reversed-lines.result.items c.reversed-lines.ensures c.requires.script

@@ -6,5 +6,5 @@ use Rattle.graph.proofs.graph.Graph.kinds.Goals as goal
 
 pub returns : goal.returns
 returns c =
-    let booked = booked_now _ c.args.self.now c.self.inside.tables c.self.inside.rows c.self.inside.loops c.self.inside.watched.items c.self.view_is c.self.invariant in
+    let booked = booked_now c.self.view_is c.self.invariant in
     subst (AreKinds c.args.self.now.header c.args.self.now.names (booked_statements c.args.self.now)) (sym c.as_slice.ensures.value) booked.tables.versions

@@ -2,10 +2,7 @@ use Rattle.graph.proofs.Reading.{booked_now, within_list, there_too, site_set_co
 use Rattle.graph.proofs.graph.Graph.site_depends.Goals as goal
 
 pub at-requires : goal.at-requires
-at-requires c =
-    within_list c.as_slice.result.now _ c.args.s _ c.as_slice.ensures.value (site_set_count c.args.self.now c.self.inside.tables c.self.inside.rows c.self.inside.loops c.self.inside.watched.items (booked_now _ c.args.self.now c.self.inside.tables c.self.inside.rows c.self.inside.loops c.self.inside.watched.items c.self.view_is c.self.invariant)) c.requires
+at-requires c = within_list c.as_slice.ensures.value (site_set_count (booked_now c.self.view_is c.self.invariant)) c.requires
 
 pub returns : goal.returns
-returns c =
-    site_set_is c.args.self.now c.self.inside.tables c.self.inside.rows c.self.inside.loops c.self.inside.watched.items (booked_now _ c.args.self.now c.self.inside.tables c.self.inside.rows c.self.inside.loops c.self.inside.watched.items c.self.view_is c.self.invariant) c.args.s c.at.result.now
-    (there_too c.as_slice.result.now c.self.inside.tables.site_sets.items c.args.s c.at.result.now c.as_slice.ensures.value c.at.ensures)
+returns c = site_set_is (booked_now c.self.view_is c.self.invariant) c.args.s c.at.result.now (there_too _ c.as_slice.ensures.value c.at.ensures)

@@ -1,0 +1,19 @@
+use Rattle.std.proofs.Common.{arith, ap, length, ◌∙◌}
+use Rattle.std.proofs.lemmas.List.{length-map}
+use Rattle.rdf_values.specs.declared.script.Line.{Line}
+use Rattle.graph.specs.Lookups.{statements}
+use Rattle.graph.proofs.Counted.{sites_are, sites_fit}
+use Rattle.graph.proofs.before.Before.sites.Goals as goal
+
+pub returns-clause-value : goal.returns-clause-value
+returns-clause-value c = ap length c.as_slice.ensures.value ∙ sites_are c.args.self.now.header.now c.args.self.now.names.now (statements c.args.self.now.lines.now) c.args.self.now.tables.now c.args.self.now.are
+
+pub returns-clause-few : goal.returns-clause-few
+returns-clause-few c =
+    let n = length-map c.args.self.now.lines.now (λ (l : Line). l.statement) in let few = c.args.self.now.few in let e = ap length c.as_slice.ensures.value in
+    let f = sites_fit c.args.self.now.header.now c.args.self.now.names.now (statements c.args.self.now.lines.now) c.args.self.now.tables.now c.args.self.now.are c.args.self.now.short (omega (arith, n, few)) in omega (arith, f, e)
+
+pub overflow_cast-result : goal.overflow_cast-result
+overflow_cast-result c =
+    let n = length-map c.args.self.now.lines.now (λ (l : Line). l.statement) in let few = c.args.self.now.few in let e = ap length c.as_slice.ensures.value in
+    let f = sites_fit c.args.self.now.header.now c.args.self.now.names.now (statements c.args.self.now.lines.now) c.args.self.now.tables.now c.args.self.now.are c.args.self.now.short (omega (arith, n, few)) in omega (arith, f, e)

@@ -1,0 +1,18 @@
+use Rattle.graph.specs.declared.result_path.ResultPath.{ResultPath}
+use Rattle.graph.proofs.Reading.{booked_now, path_is, row_count, there_too, within_list}
+use Rattle.graph.proofs.graph.Graph.result_path.Goals as goal
+
+pub at-requires : goal.at-requires
+at-requires c = within_list c.as_slice.ensures.value (row_count (booked_now c.self.view_is c.self.invariant)) c.requires
+
+pub returns-clause-kind : goal.returns-clause-kind
+returns-clause-kind c = path_is (booked_now c.self.view_is c.self.invariant) (λ (p : ResultPath). p.kind) c.args.r c.at.result.now (there_too _ c.as_slice.ensures.value c.at.ensures)
+
+pub returns-clause-filters : goal.returns-clause-filters
+returns-clause-filters c = path_is (booked_now c.self.view_is c.self.invariant) (λ (p : ResultPath). p.filters) c.args.r c.at.result.now (there_too _ c.as_slice.ensures.value c.at.ensures)
+
+pub returns-clause-inputs : goal.returns-clause-inputs
+returns-clause-inputs c = path_is (booked_now c.self.view_is c.self.invariant) (λ (p : ResultPath). p.inputs) c.args.r c.at.result.now (there_too _ c.as_slice.ensures.value c.at.ensures)
+
+pub returns-clause-covers : goal.returns-clause-covers
+returns-clause-covers c = path_is (booked_now c.self.view_is c.self.invariant) (λ (p : ResultPath). p.covers) c.args.r c.at.result.now (there_too _ c.as_slice.ensures.value c.at.ensures)
