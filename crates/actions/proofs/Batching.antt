@@ -1,6 +1,6 @@
 -- What a batch feeds, place by place.
 use Rattle.std.proofs.Common.{ℕ, zero, suc, ◌≡◌, ◌≤◌, ◌<◌, ◌+◌, All, List, [], ◌∷◌, ◌++◌, length, map, take, drop, get_or, refl, ap, sym, subst, ◌∙◌, append-nil, append_assoc, arith, length-append, lit≤, ◌*◌, ℤ, pos}
-use Rattle.std.specs.Prelude.{flat_map, Option, Some, None, Bool, true, false, ◌||◌, nat_abs, ◌^◌}
+use Rattle.std.specs.Prelude.{flat_map, Option, Some, None, nat_abs, ◌^◌}
 use Rattle.std.specs.List.{range_with_len}
 use Rattle.std.proofs.lemmas.List.{drop_more, length-map, map-append, take_all, take_more}
 use Rattle.std.proofs.lemmas.List.FromFn.{get_or-range_with_len, length-range_with_len}

@@ -37,7 +37,7 @@ impl Model for Acc {
 }
 
 impl Acc {
-    ghost use Rattle.std.specs.Prelude.{◌≡◌, ◌↔◌, ◌≤◌, ◌<◌, ◌+◌, ◌++◌, [], List, None, Some, Err, IfOk, IsTrue, OnErr, OnOk, length, max};
+    ghost use Rattle.std.specs.Prelude.{◌≡◌, ◌↔◌, ◌≤◌, ◌<◌, ◌+◌, ◌++◌, [], List, None, Some, Err, IfOk, OnErr, OnOk, length, max};
     ghost use Rattle.rdf_values.specs.declared.fault.EntryFault.{EntryFault};
     ghost use Rattle.rdf_values.specs.Spread.{feed_fault, spread};
     ghost use Rattle.rdf_values.specs.Fold.{fold_items};
@@ -133,34 +133,6 @@ impl Acc {
             }
             Err(Memory) => Err(Memory),
         }
-    }
-
-    /// How many entries were fed.
-    pub fn entries(&self) -> u32
-        ensures { result ≡ self.now.entries }
-    {
-        self.entries
-    }
-
-    /// The highest cluster that fed, or 0.
-    pub fn last(&self) -> u32
-        ensures { result ≡ self.now.last }
-    {
-        self.last
-    }
-
-    /// Whether an entry can feed these values to the action.
-    pub fn suits(&self, items: &Items<'_>) -> bool
-        ensures { IsTrue result ↔ Suits self.now.kind items.now }
-    {
-        self.state.suits(items)
-    }
-
-    /// Whether the other one is of the same action: its columns, operation and edges.
-    pub fn same_kind(&self, other: &Acc) -> bool
-        ensures { IsTrue result ↔ (other.now.kind ≡ self.now.kind) }
-    {
-        self.state.same_kind(&other.state)
     }
 
     /// What was made of the items so far.

@@ -1,10 +1,10 @@
 // What an entry feeds to an action.
-ghost use Rattle.std.specs.Prelude.{◌≡◌, ◌↔◌, if◌then◌else◌, IsTrue, Some};
+ghost use Rattle.std.specs.Prelude.{◌≡◌, if◌then◌else◌, Some};
 ghost use Rattle.rdf_values.specs.declared.fault.EntryFault.TheVariants.{Lengths};
 ghost use Rattle.std.specs.Option.{option_to_list};
 ghost use Rattle.rdf_values.specs.declared.action.ActionKind.{ActionKind};
 ghost use Rattle.rdf_values.specs.Spread.{as_long_as, feed_fault, is_weight, numbers, scalar_value, weight_fault};
-ghost use Rattle.actions.specs.Parts.{AreAlike, IsInteger, IsNumeric, IsSingle, Suits, WeightSuits, first_numbers, first_scalar, part_value, second_part, values_of, weight_part};
+ghost use Rattle.actions.specs.Parts.{Suits, first_numbers, first_scalar, part_value, second_part, values_of, weight_part};
 
 use rdf_values::{EntryFault, Scalar};
 use std::slice;
@@ -66,52 +66,6 @@ impl Part<'_> {
         ensures { result ≡ is_weight (part_value self.now) }
     {
         self.numbers().iter().all(|w| w.unsigned_abs() < 1 << 31)
-    }
-
-    /// Whether it is a number, or a vector of at most 4,096 elements.
-    pub fn is_numeric(&self) -> bool
-        ensures { IsTrue result ↔ IsNumeric (part_value self.now) }
-    {
-        match self {
-            Part::Int(_) => true,
-            Part::Bool(_) => false,
-            Part::Vect(numbers) => numbers.len() <= 4096,
-        }
-    }
-
-    /// Whether it is a number or a truth value.
-    pub fn is_single(&self) -> bool
-        ensures { IsTrue result ↔ IsSingle (part_value self.now) }
-    {
-        matches!(self, Part::Int(_) | Part::Bool(_))
-    }
-
-    /// Whether it is a number.
-    pub fn is_integer(&self) -> bool
-        ensures { IsTrue result ↔ IsInteger (part_value self.now) }
-    {
-        matches!(self, Part::Int(_))
-    }
-
-    /// Whether both are numbers, or both vectors.
-    pub fn is_like(&self, other: &Part<'_>) -> bool
-        ensures { IsTrue result ↔ AreAlike (part_value self.now) (part_value other.now) }
-    {
-        matches!(
-            (self, other),
-            (Part::Int(_), Part::Int(_)) | (Part::Vect(_), Part::Vect(_))
-        )
-    }
-
-    /// Whether it can weigh the other value: a number, or a vector beside a vector.
-    pub fn is_weight_beside(&self, weighed: &Part<'_>) -> bool
-        ensures { IsTrue result ↔ WeightSuits (part_value weighed.now) (part_value self.now) }
-    {
-        match (weighed, self) {
-            (_, Part::Int(_)) => true,
-            (Part::Vect(_), Part::Vect(weights)) => weights.len() <= 4096,
-            _ => false,
-        }
     }
 
     /// The value, if it is no vector.

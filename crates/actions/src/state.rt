@@ -1,5 +1,5 @@
 // What an accumulator holds.
-ghost use Rattle.std.specs.Prelude.{◌≡◌, ◌↔◌, IfOk, IsTrue};
+ghost use Rattle.std.specs.Prelude.{◌≡◌, IfOk};
 ghost use Rattle.histograms.specs.Axis.{IsAxis};
 
 use crate::batch::{Batch, Sources};
@@ -79,30 +79,8 @@ fn copy_of(alloc: Global, name: &Option<Name>) -> Result<Option<Name>, Memory>
     }
 }
 
-fn same_name(name: &Name, other: &Name) -> bool
-    ensures { IsTrue result ↔ (other.now ≡ name.now) }
-{
-    name.is(other)
-}
-
-fn same_weight(weight: &Option<Name>, other: &Option<Name>) -> bool
-    ensures { IsTrue result ↔ (other.now ≡ weight.now) }
-{
-    match (weight, other) {
-        (None, None) => true,
-        (Some(weight), Some(other)) => same_name(weight, other),
-        _ => false,
-    }
-}
-
-fn same_edges(edges: &[i64], other: &[i64]) -> bool
-    ensures { IsTrue result ↔ (other.now ≡ edges.now) }
-{
-    other == edges
-}
-
 impl State {
-    ghost use Rattle.std.specs.Prelude.{◌≡◌, ◌↔◌, ◌≤◌, ◌+◌, ◌-◌, ◌++◌, [], ℕ, List, All, None, IfOk, IsTrue, OnErr, OnOk, false, length, true};
+    ghost use Rattle.std.specs.Prelude.{◌≡◌, ◌≤◌, ◌+◌, ◌-◌, ◌++◌, [], ℕ, List, All, None, IfOk, OnErr, OnOk, false, length, true};
     ghost use Rattle.rdf_values.specs.Spread.{feed_fault, spread};
     ghost use Rattle.actions.specs.Batches.{EachPlace, HasValues, SuitsAt, batch_items, places_of, values_at};
     ghost use Rattle.actions.specs.Feeding.{Fed, from_cluster};
@@ -402,81 +380,6 @@ impl State {
                 }
                 _ => unreachable!(),
             },
-        }
-    }
-
-    /// Whether an entry can feed these values to the action.
-    pub fn suits(&self, items: &Items<'_>) -> bool
-        ensures { IsTrue result ↔ Suits (kind_of self.now) items.now }
-    {
-        match (self, items) {
-            (State::Count(_), Items::Entry) => true,
-            (State::Sum { .. }, Items::One { x })
-            | (State::Min { .. }, Items::One { x })
-            | (State::Max { .. }, Items::One { x })
-            | (State::Histo1D { .. }, Items::One { x }) => x.is_numeric(),
-            (State::Take { .. }, Items::One { x }) => x.is_single(),
-            (State::Reduce { .. }, Items::One { x }) => x.is_integer(),
-            (State::Histo1D { .. }, Items::Weighted { x, w }) => {
-                x.is_numeric() && w.is_weight_beside(x)
-            }
-            (State::Histo2D { .. }, Items::Pair { x, y }) => {
-                x.is_numeric() && y.is_numeric() && x.is_like(y)
-            }
-            (State::Histo2D { .. }, Items::WeightedPair { x, y, w }) => {
-                x.is_numeric() && y.is_numeric() && x.is_like(y) && w.is_weight_beside(x)
-            }
-            _ => false,
-        }
-    }
-
-    /// Whether the other one is of the same action.
-    pub fn same_kind(&self, other: &State) -> bool
-        ensures { IsTrue result ↔ (kind_of other.now ≡ kind_of self.now) }
-    {
-        match (self, other) {
-            (State::Count(_), State::Count(_)) => true,
-            (State::Sum { column, .. }, State::Sum { column: other, .. })
-            | (State::Min { column, .. }, State::Min { column: other, .. })
-            | (State::Max { column, .. }, State::Max { column: other, .. })
-            | (State::Take { column, .. }, State::Take { column: other, .. }) => {
-                same_name(column, other)
-            }
-            (
-                State::Reduce { column, reduction },
-                State::Reduce {
-                    column: other,
-                    reduction: more,
-                },
-            ) => reduction.op == more.op && same_name(column, other),
-            (
-                State::Histo1D { hist, x, weight },
-                State::Histo1D {
-                    hist: other,
-                    x: other_x,
-                    weight: other_weight,
-                },
-            ) => {
-                same_edges(hist.edges(), other.edges())
-                    && same_name(x, other_x)
-                    && same_weight(weight, other_weight)
-            }
-            (
-                State::Histo2D { hist, x, y, weight },
-                State::Histo2D {
-                    hist: other,
-                    x: other_x,
-                    y: other_y,
-                    weight: other_weight,
-                },
-            ) => {
-                same_edges(hist.x_edges(), other.x_edges())
-                    && same_edges(hist.y_edges(), other.y_edges())
-                    && same_name(x, other_x)
-                    && same_name(y, other_y)
-                    && same_weight(weight, other_weight)
-            }
-            _ => false,
         }
     }
 
