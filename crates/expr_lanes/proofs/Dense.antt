@@ -64,27 +64,17 @@ dense_others n sel before after dense others p h = others p (outside_range n p (
 
 -- no place stops
 pub covered : (f : ℕ → Outcome ℕ ℤ) (sel : List ℕ) (before after : List ℤ) (stops : List Stopped) → EachPlace sel (λ p. f p ≡ Gives (at_place after p)) → ((p : ℕ) → is_in p sel ≡ false → at_place after p ≡ at_place before p) → Evaluated f sel sel before after stops stops
-covered f sel before after stops values others =
-    let same : EachPlace sel (λ p. told (at_place after) p ≡ f p) = λ p h. sym (values p h) in
-    let come = come_alike f (told (at_place after)) sel sel (at_place after) stops stops same (come_told (at_place after) sel stops) in
-    record {
-      left_in = come.left_in;
-      values = come.values;
-      others = others;
-      joined = come.joined;
-    }
+covered f sel before after stops values others = record {
+  come = come_alike f (told (at_place after)) sel sel (at_place after) stops stops (λ p h. sym (values p h)) (come_told (at_place after) sel stops);
+  others = others;
+}
 
 -- one does: what was written until then is written over, or is of no place that is left
 pub sifted_anew : (f : ℕ → Outcome ℕ ℤ) (sel given left : List ℕ) (before middle after : List ℤ) (stops more : List Stopped) → given ≡ sel → ((p : ℕ) → is_in p sel ≡ false → at_place middle p ≡ at_place before p) → Evaluated f given left middle after stops more
     → Evaluated f sel left before after stops more
 sifted_anew f sel given left before middle after stops more same others e =
     let here : Evaluated f sel left middle after stops more = subst (λ (l : List ℕ). Evaluated f l left middle after stops more) same e in
-    record {
-      left_in = here.left_in;
-      values = here.values;
-      others = λ p h. here.others p h ∙ others p h;
-      joined = here.joined;
-    }
+    record { come = here.come; others = λ p h. here.others p h ∙ others p h }
 
 -- ---- what each place of such a selection has, the first have
 

@@ -11,9 +11,7 @@ use Rattle.expr_lanes.proofs.Sequence.{first_in, rest_in}
 
 marked_by : (b same mark before : Bool) → (if b || same then mark else before) ≡ (if same then mark else (if b then mark else before))
 marked_by true true mark before = refl
-marked_by true false mark before = refl
-marked_by false true mark before = refl
-marked_by false false mark before = refl
+marked_by b same mark before = refl
 
 pub mark_more : (xs : List ℕ) (i q : ℕ) (mark : Bool) (before marks : List Bool) → ((p : ℕ) → is_marked marks p ≡ (if is_in p (take i xs) then mark else is_marked before p)) → i < length xs → q ≡ get_or xs i 0 → q < length marks
     → (p : ℕ) → is_marked (set marks q mark) p ≡ (if is_in p (take (i + 1) xs) then mark else is_marked before p)
@@ -36,9 +34,8 @@ filter_alike one two (x ∷ xs) h =
     ap (λ b. cond b (x ∷ filter one xs) (filter one xs)) (h x (first_in x xs)) ∙ ap (λ l. cond (two x) (x ∷ l) l) (filter_alike one two xs (λ q i. h q (rest_in q x xs i)))
 
 either_mark : (o z : Bool) → (if o then true else (if z then true else false)) ≡ (o || z)
-either_mark true z = refl
 either_mark false true = refl
-either_mark false false = refl
+either_mark o z = refl
 
 -- the marks after the selection was unmarked and then its two sides were marked
 pub rejoined : (sel zeros others : List ℕ) (m0 m1 m2 m3 : List Bool) → ((p : ℕ) → is_marked m1 p ≡ (if is_in p sel then false else is_marked m0 p)) → ((p : ℕ) → is_marked m2 p ≡ (if is_in p zeros then true else is_marked m1 p))

@@ -2,10 +2,10 @@
 use Rattle.std.proofs.Common.{◌≡◌, ◌+◌, ℕ, ℤ, Bool, true, not, List, [], ◌∷◌, ◌∙◌, length, refl, ap, subst, cond, arith}
 use Rattle.std.specs.List.{filter}
 use Rattle.std.proofs.lemmas.List.Filters.{length-filter_both}
-use Rattle.rdf_model.specs.Evaluation.{Outcome, Gives, Faults, Needs}
+use Rattle.rdf_model.specs.Evaluation.{Outcome, Gives}
 use Rattle.expr_lanes.specs.declared.stopped.Stopped.{Stopped}
-use Rattle.expr_lanes.specs.Places.{is_in, is_given, with_stop, given_in, stops_in, times, IsJoined, Evaluated, HasCome, IsSelected}
-use Rattle.expr_lanes.proofs.Sequence.{filtered_in}
+use Rattle.expr_lanes.specs.Places.{at_place, is_in, is_given, with_stop, given_in, stops_in, times, Evaluated, HasCome, IsSelected}
+use Rattle.expr_lanes.proofs.Sequence.{come_from, filtered_in}
 
 all_times : (stops : List Stopped) → times (λ s. true) stops ≡ length stops
 all_times [] = refl
@@ -13,8 +13,7 @@ all_times (s ∷ stops) = omega (arith, all_times stops)
 
 one_each : {A : Type 0} (o : Outcome ℕ A) (p n : ℕ) (ps qs : List ℕ) (stops : List Stopped) → length stops + length qs ≡ n → length (with_stop p o stops) + length (cond (is_given o) (p ∷ qs) qs) ≡ n + 1
 one_each (Gives z) p n ps qs stops h = omega arith
-one_each (Faults k) p n ps qs stops h = omega arith
-one_each (Needs c) p n ps qs stops h = omega arith
+one_each o p n ps qs stops h = omega arith
 
 -- each selected place is a stop or is left
 each_once : {A : Type 0} (f : ℕ → Outcome ℕ A) (sel : List ℕ) → length (stops_in f sel) + length (given_in f sel) ≡ length sel
@@ -22,27 +21,20 @@ each_once f [] = refl
 each_once f (p ∷ sel) = one_each (f p) p (length sel) sel (given_in f sel) (stops_in f sel) (each_once f sel) ∙ omega arith
 
 -- no place is lost
-none_lost : {A : Type 0} (f : ℕ → Outcome ℕ A) (sel left : List ℕ) (stops more : List Stopped) → left ≡ given_in f sel → IsJoined stops (stops_in f sel) more → length more + length left ≡ length stops + length sel
-none_lost f sel left stops more is joined =
-    let all : times (λ s. true) more ≡ times (λ s. true) stops + times (λ s. true) (stops_in f sel) = joined (λ s. true) in
-    omega (arith, all_times more, all_times stops, all_times (stops_in f sel), each_once f sel, ap (λ (l : List ℕ). length l) is)
+none_lost : {A : Type 0} (f : ℕ → Outcome ℕ A) (sel left : List ℕ) (number : ℕ → A) (stops more : List Stopped) → HasCome f sel left number stops more → length more + length left ≡ length stops + length sel
+none_lost f sel left number stops more e =
+    let all : times (λ s. true) more ≡ times (λ s. true) stops + times (λ s. true) (stops_in f sel) = e.joined (λ s. true) in
+    omega (arith, all_times more, all_times stops, all_times (stops_in f sel), each_once f sel, ap (λ (l : List ℕ). length l) e.left_in)
 
 -- what is left of a selection
 pub selected_next : {A : Type 0} (f : ℕ → Outcome ℕ A) (size : ℕ) (sel left : List ℕ) (number : ℕ → A) (stops more : List Stopped) → IsSelected size sel stops → HasCome f sel left number stops more → IsSelected size left more
 selected_next f size sel left number stops more ready come = record {
   small = ready.small;
-  inside = λ p h. ready.inside p (filtered_in (λ q. is_given (f q)) p sel (subst (λ (l : List ℕ). is_in p l ≡ true) come.left_in h));
-  room = omega (arith, none_lost f sel left stops more come.left_in come.joined, ready.room);
+  inside = λ p h. ready.inside p (come_from f sel left number stops more come p h);
+  room = omega (arith, none_lost f sel left number stops more come, ready.room);
 }
 
-pub selected_after : (f : ℕ → Outcome ℕ ℤ) (size : ℕ) (sel left : List ℕ) (before after : List ℤ) (stops more : List Stopped) → IsSelected size sel stops → Evaluated f sel left before after stops more → IsSelected size left more
-selected_after f size sel left before after stops more ready e = record {
-  small = ready.small;
-  inside = λ p h. ready.inside p (filtered_in (λ q. is_given (f q)) p sel (subst (λ (l : List ℕ). is_in p l ≡ true) e.left_in h));
-  room = omega (arith, none_lost f sel left stops more e.left_in e.joined, ready.room);
-}
-
-parts_of : (test : ℕ → Bool) (sel : List ℕ) → length (filter test sel) + length (filter (λ p. not (test p)) sel) ≡ length sel
+pub parts_of : (test : ℕ → Bool) (sel : List ℕ) → length (filter test sel) + length (filter (λ p. not (test p)) sel) ≡ length sel
 parts_of test sel = length-filter_both test (λ p. not (test p)) (λ p. refl) sel
 
 -- the part that passes a test
@@ -58,6 +50,6 @@ pub selected_other : (test : ℕ → Bool) (f : ℕ → Outcome ℕ ℤ) (size :
     → IsSelected size sel stops → part ≡ filter test sel → others ≡ filter (λ p. not (test p)) sel → Evaluated f others left before after stops more → IsSelected size part more
 selected_other test f size sel part others left before after stops more ready is are e = record {
   small = ready.small;
-  inside = λ p h. ready.inside p (filtered_in test p sel (subst (λ (l : List ℕ). is_in p l ≡ true) is h));
-  room = omega (arith, parts_of test sel, ap (λ (l : List ℕ). length l) is, ap (λ (l : List ℕ). length l) are, none_lost f others left stops more e.left_in e.joined, ready.room);
+  inside = (selected_part test size sel part stops ready is).inside;
+  room = omega (arith, parts_of test sel, ap (λ (l : List ℕ). length l) is, ap (λ (l : List ℕ). length l) are, none_lost f others left (at_place after) stops more e.come, ready.room);
 }

@@ -38,7 +38,7 @@ rising_range n sel first = subst (λ (l : List ℕ). AreRising l) (sym first) (r
 
 -- ---- a filter that drops nothing
 
-short : (f : ℕ → Bool) (sel : List ℕ) → length (filter f sel) ≤ length sel
+pub short : (f : ℕ → Bool) (sel : List ℕ) → length (filter f sel) ≤ length sel
 short f sel = omega (arith, length-filter f sel, count_by-le-length f sel)
 
 kept_whole : (f : ℕ → Bool) (b : Bool) (p : ℕ) (sel : List ℕ) → (length (filter f sel) ≡ length sel → filter f sel ≡ sel) → length (cond b (p ∷ filter f sel) (filter f sel)) ≡ length (p ∷ sel) → cond b (p ∷ filter f sel) (filter f sel) ≡ p ∷ sel

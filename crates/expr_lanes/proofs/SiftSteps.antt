@@ -108,8 +108,10 @@ times_append t (x ∷ xs) ys = omega (arith, times_append t xs ys)
 pub sifted : (f : ℕ → Outcome ℕ ℤ) (count : ℕ) (places0 places : List ℕ) (out0 out : List ℤ) (stops0 stops : List Stopped) (kept i : ℕ) → SiftedTo f count places0 places out0 out stops0 stops kept i → i ≡ count
     → Evaluated f (take count places0) (take kept places) out0 out stops0 stops
 sifted f count places0 places out0 out stops0 stops kept i so_far all = record {
-  left_in = so_far.front.front ∙ ap (λ n. given_in f (take n places0)) all;
-  values = so_far.values;
+  come = record {
+    left_in = so_far.front.front ∙ ap (λ n. given_in f (take n places0)) all;
+    values = so_far.values;
+    joined = λ t. ap (times t) (so_far.added ∙ ap (λ n. stops0 ++ stops_in f (take n places0)) all) ∙ times_append t stops0 (stops_in f (take count places0));
+  };
   others = so_far.others;
-  joined = λ t. ap (times t) (so_far.added ∙ ap (λ n. stops0 ++ stops_in f (take n places0)) all) ∙ times_append t stops0 (stops_in f (take count places0));
 }

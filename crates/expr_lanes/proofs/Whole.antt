@@ -1,25 +1,13 @@
 -- Sides of a choice that kept all their places.
 use Rattle.std.proofs.Common.{◌≡◌, ◌≤◌, ◌+◌, ℕ, ℤ, Bool, true, false, not, ◌||◌, ◌&&◌, List, [], ◌∷◌, ◌∙◌, length, refl, ap, sym, cond, arith}
 use Rattle.std.specs.List.{filter}
-use Rattle.std.proofs.lemmas.List.Filters.{length-filter_both}
 use Rattle.rdf_model.specs.Evaluation.{Outcome}
 use Rattle.expr_lanes.specs.declared.stopped.Stopped.{Stopped}
-use Rattle.expr_lanes.specs.Places.{is_in, is_given, EachPlace, Evaluated}
+use Rattle.expr_lanes.specs.Places.{is_in, is_given, EachPlace, HasCome}
 use Rattle.expr_lanes.proofs.Choices.{in_filter}
+use Rattle.expr_lanes.proofs.Ready.{parts_of}
+use Rattle.expr_lanes.proofs.Rising.{filter_whole, short}
 use Rattle.expr_lanes.proofs.Sequence.{first_in, rest_in}
-
--- ---- filters that keep all
-
-parts_of : (test : ℕ → Bool) (xs : List ℕ) → length (filter test xs) + length (filter (λ p. not (test p)) xs) ≡ length xs
-parts_of test xs = length-filter_both test (λ p. not (test p)) (λ p. refl) xs
-
-whole_step : (b : Bool) (x : ℕ) (xs ys : List ℕ) → length ys ≤ length xs → (length ys ≡ length xs → ys ≡ xs) → length (cond b (x ∷ ys) ys) ≡ length (x ∷ xs) → cond b (x ∷ ys) ys ≡ x ∷ xs
-whole_step true x xs ys few same h = ap (λ l. x ∷ l) (same (omega (arith, h)))
-whole_step false x xs ys few same h = absurd (omega (arith, h))
-
-filter_whole : (test : ℕ → Bool) (xs : List ℕ) → length (filter test xs) ≡ length xs → filter test xs ≡ xs
-filter_whole test [] h = refl
-filter_whole test (x ∷ xs) h = whole_step (test x) x xs (filter test xs) (omega (arith, parts_of test xs)) (filter_whole test xs) h
 
 filter_each : (test : ℕ → Bool) (xs : List ℕ) → EachPlace xs (λ p. test p ≡ true) → filter test xs ≡ xs
 filter_each test [] h = refl
@@ -33,9 +21,9 @@ pub record IsRest (all rest : List ℕ) : Type 0 where
   pub few : length rest ≤ length all
   pub same : length rest ≡ length all → rest ≡ all
 
-pub rest_left : (f : ℕ → Outcome ℕ ℤ) (sel left : List ℕ) (before after : List ℤ) (stops more : List Stopped) → Evaluated f sel left before after stops more → IsRest sel left
-rest_left f sel left before after stops more e = record {
-  few = omega (arith, ap (λ (l : List ℕ). length l) e.left_in, parts_of (λ p. is_given (f p)) sel);
+pub rest_left : (f : ℕ → Outcome ℕ ℤ) (sel left : List ℕ) (number : ℕ → ℤ) (stops more : List Stopped) → HasCome f sel left number stops more → IsRest sel left
+rest_left f sel left number stops more e = record {
+  few = omega (arith, ap (λ (l : List ℕ). length l) e.left_in, short (λ p. is_given (f p)) sel);
   same = λ h. e.left_in ∙ filter_whole (λ p. is_given (f p)) sel (ap (λ (l : List ℕ). length l) (sym e.left_in) ∙ h);
 }
 

@@ -84,18 +84,20 @@ module _ (look : ℕ → Outcome ℕ Value) (functions : List Function) where
     lane_evaluate_all End = Gives []
     lane_evaluate_all (More a rest) = one_more (lane_evaluate a) (lane_evaluate_all rest)
 
--- what an expression comes to at a place of the block
-abbrev pub lane_at : (ℕ → ℕ → Outcome ℕ Value) → List Function → NumTree → ℕ → Outcome ℕ ℤ
-lane_at look functions e p = lane_evaluate (look p) functions e
+-- in a scope, at a place of the block
+module _ {S : Type 0} (look : S → ℕ → ℕ → Outcome ℕ Value) (functions : S → List Function) (s : S) where
+  -- what an expression comes to
+  abbrev pub lane_at : NumTree → ℕ → Outcome ℕ ℤ
+  lane_at e p = lane_evaluate (look s p) (functions s) e
 
--- and the arguments of a call
-abbrev pub lanes_at : (ℕ → ℕ → Outcome ℕ Value) → List Function → Trees ℕ Callee → ℕ → Outcome ℕ (List ℤ)
-lanes_at look functions args p = lane_evaluate_all (look p) functions args
+  -- and the arguments of a call
+  abbrev pub lanes_at : Trees ℕ Callee → ℕ → Outcome ℕ (List ℤ)
+  lanes_at args p = lane_evaluate_all (look s p) (functions s) args
+
+  -- a call with the numbers that the arguments come to
+  abbrev pub called_at : Callee → Trees ℕ Callee → ℕ → Outcome ℕ ℤ
+  called_at f args p = lanes_at args p >>= lane_call (functions s) f
 
 -- what the left lanes of some levels hold at a place
 abbrev pub numbers_at : List Scratch → ℕ → List ℤ
 numbers_at lanes p = map (λ (s : Scratch). at_place s.left p) lanes
-
--- a call with the numbers that the arguments come to
-abbrev pub called_at : (ℕ → ℕ → Outcome ℕ Value) → List Function → Callee → Trees ℕ Callee → ℕ → Outcome ℕ ℤ
-called_at look functions f args p = lanes_at look functions args p >>= lane_call functions f

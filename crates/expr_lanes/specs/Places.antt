@@ -77,10 +77,8 @@ pub record HasCome {A : Type 0} (f : ℕ → Outcome ℕ A) (sel left : List ℕ
 
 -- the same where a lane holds the numbers, which is as it was at each place that wasn't selected
 pub record Evaluated (f : ℕ → Outcome ℕ ℤ) (sel left : List ℕ) (before after : List ℤ) (stops more : List Stopped) : Type 0 where
-  pub left_in : left ≡ given_in f sel
-  pub values : EachPlace left (λ p. f p ≡ Gives (at_place after p))
+  pub come : HasCome f sel left (at_place after) stops more
   pub others : (p : ℕ) → is_in p sel ≡ false → at_place after p ≡ at_place before p
-  pub joined : IsJoined stops (stops_in f sel) more
 
 -- the selected places are places of a block of that size, and there is room for a stop at each of them
 pub record IsSelected (size : ℕ) (sel : List ℕ) (stops : List Stopped) : Type 0 where

@@ -79,10 +79,7 @@ pub(crate) fn call_lanes<C: Calls>(
 {
     match (callee, lanes) {
         (Callee::Abs, [argument]) => {
-            let numbers = &Lane {
-                numbers: &argument.left,
-            };
-            run(&Magnitude { numbers }, selection, lane, stops)
+            run(&Magnitude(&Lane(&argument.left)), selection, lane, stops)
         }
         (Callee::Given(number), _) => {
             let step = Called {
@@ -92,9 +89,6 @@ pub(crate) fn call_lanes<C: Calls>(
             };
             run(&step, selection, lane, stops)
         }
-        _ => {
-            let numbers = &Same { number: 0 };
-            run(&Copied { numbers }, selection, lane, stops)
-        }
+        _ => run(&Copied(&Same(0)), selection, lane, stops),
     }
 }

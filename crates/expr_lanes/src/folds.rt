@@ -10,10 +10,11 @@ ghost use Rattle.expr_eval.specs.Inputs.{input_outcome};
 ghost use Rattle.expr_lanes.specs.Folds.{column_of, fold_named, fold_outcome, fold_read, fold_told, only_column};
 ghost use Rattle.expr_lanes.specs.LaneInputs.{IsVectorAt};
 ghost use Rattle.expr_lanes.specs.Marks.{lane_outcome};
-ghost use Rattle.expr_lanes.specs.Places.{answered_at, Evaluated, IsReady};
+ghost use Rattle.expr_lanes.specs.Places.{answered_at, EachPlace, Evaluated, IsReady};
 
 use crate::MAX_PLACES;
 use crate::kernel::{Kernel, run};
+use crate::kernels::stop_at_fault;
 use crate::lane_inputs::{LaneInputs, LaneVectors};
 use crate::selection::Selection;
 use crate::stopped::Stopped;
@@ -108,62 +109,48 @@ impl<'a, S: LaneInputs> Kernel for Folded<'a, S> {
     }
 }
 
-/// A function of a column's vectors at each place, where these stand in one list.
-#[derive(Drop)]
-struct FoldedList<'a, S: LaneInputs> {
-    fold: Fold,
-    column: u32,
+/// A column whose vectors stand in one list.
+#[derive_where(Clone, Copy)]
+struct ListedColumn<'a, S> {
+    number: u32,
     scope: &'a S,
     list: LaneVectors<'a>,
 }
 
-impl<'a, S: LaneInputs> FoldedList<'a, S> {
-    /// The same with another function.
-    #[inline(always)]
-    fn with(&self, fold: Fold) -> FoldedList<'a, S>
-        ensures fold { result.fold ≡ fold }
-        ensures column { result.column ≡ self.now.column }
-        ensures scope { result.scope.now ≡ self.now.scope.now }
-        ensures list { result.list ≡ self.now.list }
-    {
-        FoldedList {
-            fold,
-            column: self.column,
-            scope: self.scope,
-            list: self.list,
-        }
-    }
-}
+/// A function of its vectors at each place.
+#[derive(Drop)]
+struct FoldedList<'a, S: LaneInputs>(Fold, ListedColumn<'a, S>);
 
 impl<'a, S: LaneInputs> Kernel for FoldedList<'a, S> {
-    ghost can = { λ s p. IsVectorAt s.list.vectors.now (s.list.first + p) (S.look s.scope.now p s.column) };
+    ghost can = { λ s p. IsVectorAt s.1.list.vectors.now (s.1.list.first + p) (S.look s.1.scope.now p s.1.number) };
 
-    ghost gives = { λ s p. lane_outcome (fold_told s.fold (S.look s.scope.now p s.column)) };
+    ghost gives = { λ s p. lane_outcome (fold_told s.0 (S.look s.1.scope.now p s.1.number)) };
 
     #[inline(always)]
     fn at(&self, place: u32) -> Result<i64, ScalarStop> {
-        let entry = self.list.first as usize + place as usize;
-        fold_elements(self.fold, self.list.vectors.at(entry))
+        let LaneVectors { vectors, first } = self.1.list;
+        fold_elements(self.0, vectors.at(first as usize + place as usize))
     }
 }
 
 /// Writes what the function comes to at each selected place into the lane. As an operator, each function is a constant of a loop of
 /// its own.
 fn fold_list<S: LaneInputs>(
-    of: &FoldedList<'_, S>,
+    fold: Fold,
+    column: ListedColumn<'_, S>,
     selection: &mut Selection,
     lane: &mut [i64],
     stops: &mut ArrayVec<Stopped, MAX_PLACES>,
 )
-    requires can { (p : ℕ) → p < S.size of.now.scope.now → IsVectorAt of.now.list.vectors.now (of.now.list.first + p) (S.look of.now.scope.now p of.now.column) }
-    requires ready { IsReady (S.size of.now.scope.now) selection.old lane.old stops.old.items }
-    ensures { Evaluated (λ p. lane_outcome (fold_told of.now.fold (S.look of.now.scope.now p of.now.column))) selection.old selection.new lane.old lane.new stops.old.items stops.new.items }
+    requires can { EachPlace selection.old (λ p. IsVectorAt column.list.vectors.now (column.list.first + p) (S.look column.scope.now p column.number)) }
+    requires ready { IsReady (S.size column.scope.now) selection.old lane.old stops.old.items }
+    ensures { Evaluated (λ p. lane_outcome (fold_told fold (S.look column.entry.scope.now p column.entry.number))) selection.old selection.new lane.old lane.new stops.old.items stops.new.items }
 {
-    match of.fold {
-        Fold::Sum => run(&of.with(Fold::Sum), selection, lane, stops),
-        Fold::Size => run(&of.with(Fold::Size), selection, lane, stops),
-        Fold::Least => run(&of.with(Fold::Least), selection, lane, stops),
-        Fold::Greatest => run(&of.with(Fold::Greatest), selection, lane, stops),
+    match fold {
+        Fold::Sum => run(&FoldedList(Fold::Sum, column), selection, lane, stops),
+        Fold::Size => run(&FoldedList(Fold::Size, column), selection, lane, stops),
+        Fold::Least => run(&FoldedList(Fold::Least, column), selection, lane, stops),
+        Fold::Greatest => run(&FoldedList(Fold::Greatest, column), selection, lane, stops),
     }
 }
 
@@ -181,14 +168,12 @@ pub(crate) fn fold_column<S: LaneInputs>(
 {
     match scope.vectors(call.column) {
         Some(list) => {
-            let FoldCall { fold, column } = call;
-            let of = &FoldedList {
-                fold,
-                column,
+            let column = ListedColumn {
+                number: call.column,
                 scope,
                 list,
             };
-            fold_list(of, selection, lane, stops)
+            fold_list(call.fold, column, selection, lane, stops)
         }
         None => run(&Folded { scope, call }, selection, lane, stops),
     }
@@ -212,10 +197,7 @@ fn fold_input(fold: Fold, input: Input<'_>, column: u32) -> Result<i64, ScalarSt
 fn fold_elements(fold: Fold, xs: &[i64]) -> Result<i64, ScalarStop>
     ensures { answered_at result ≡ lane_outcome (fold_outcome fold (val.Vect xs.now)) }
 {
-    match fold_vector(fold, xs) {
-        Ok(z) => Ok(z),
-        Err(kind) => Err(ScalarStop::Fault(kind)),
-    }
+    stop_at_fault(fold_vector(fold, xs))
 }
 
 #[inline(always)]

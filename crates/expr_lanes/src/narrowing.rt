@@ -17,69 +17,61 @@ pub(crate) trait PlaceTest {
 
 /// The places that are marked.
 #[derive(Drop)]
-pub(crate) struct Marked<'a> {
-    pub(crate) marks: &'a [bool],
-}
+pub(crate) struct Marked<'a>(pub(crate) &'a [bool]);
 
 impl<'a> PlaceTest for Marked<'a> {
-    ghost can = { λ t p. p < length t.marks.now };
+    ghost can = { λ t p. p < length t.0.now };
 
-    ghost passes = { λ t p. is_marked t.marks.now p };
+    ghost passes = { λ t p. is_marked t.0.now p };
 
     #[inline(always)]
     fn passes_at(&self, place: u32) -> bool {
-        self.marks[place as usize]
+        self.0[place as usize]
     }
 }
 
 /// The places that are not marked.
 #[derive(Drop)]
-pub(crate) struct Unmarked<'a> {
-    pub(crate) marks: &'a [bool],
-}
+pub(crate) struct Unmarked<'a>(pub(crate) &'a [bool]);
 
 impl<'a> PlaceTest for Unmarked<'a> {
-    ghost can = { λ t p. p < length t.marks.now };
+    ghost can = { λ t p. p < length t.0.now };
 
-    ghost passes = { λ t p. not (is_marked t.marks.now p) };
+    ghost passes = { λ t p. not (is_marked t.0.now p) };
 
     #[inline(always)]
     fn passes_at(&self, place: u32) -> bool {
-        !self.marks[place as usize]
+        !self.0[place as usize]
     }
 }
 
 /// The places at which a lane holds another number than 0.
 #[derive(Drop)]
-pub(crate) struct Set<'a> {
-    pub(crate) lane: &'a [i64],
-}
+pub(crate) struct Set<'a>(pub(crate) &'a [i64]);
 
 impl<'a> PlaceTest for Set<'a> {
-    ghost can = { λ t p. p < length t.lane.now };
+    ghost can = { λ t p. p < length t.0.now };
 
-    ghost passes = { λ t p. is_set (at_place t.lane.now p) };
+    ghost passes = { λ t p. is_set (at_place t.0.now p) };
 
     #[inline(always)]
     fn passes_at(&self, place: u32) -> bool {
-        self.lane[place as usize] != 0
+        self.0[place as usize] != 0
     }
 }
 
 /// The places below a limit.
 #[derive(Drop)]
-pub(crate) struct Below {
-    pub(crate) limit: u32,
-}
+pub(crate) struct Below(pub(crate) u32);
 
 impl PlaceTest for Below {
     ghost can = { λ t p. Unit {0} };
 
-    ghost passes = { λ t p. nat_lt p t.limit };
+    ghost passes = { λ t p. nat_lt p t.0 };
 
     #[inline(always)]
     fn passes_at(&self, place: u32) -> bool {
-        place < self.limit
+        place < self.0
     }
 }
 

@@ -1,9 +1,8 @@
 // Evaluation over the places of a selection.
-ghost use Rattle.std.specs.Prelude.{◌≡◌, ◌+◌, ◌<◌, ◌≤◌, ◌∷◌, false, length, take, IfSome};
+ghost use Rattle.std.specs.Prelude.{◌≡◌, ◌+◌, ◌<◌, ◌≤◌, ◌∷◌, true, false, length, take, IfSome};
 ghost use Rattle.rdf_values.specs.NumExprTree.{num_tree, num_trees};
 ghost use Rattle.rdf_values.specs.Kinds.{args_count};
-ghost use Rattle.rdf_values.specs.Tree.{Bin as BinTree, Call as CallTree, Neg as NegTree, Not as NotTree};
-ghost use Rattle.rdf_values.specs.declared.expr.BinOp.TheVariants as op;
+ghost use Rattle.rdf_values.specs.Tree.{Call as CallTree};
 ghost use Rattle.rdf_model.specs.Evaluation.{Gives};
 ghost use Rattle.expr_lanes.specs.Able.{AreAble, IsAble, IsAbleBranch};
 ghost use Rattle.expr_lanes.specs.Branches.{branch_at, choice_at};
@@ -11,7 +10,7 @@ ghost use Rattle.expr_lanes.specs.Depths.{is_decider};
 ghost use Rattle.expr_lanes.specs.Folds.{CanLane};
 ghost use Rattle.expr_lanes.specs.Marks.{lane_at, lanes_at, numbers_at, one_more};
 ghost use Rattle.expr_lanes.specs.Places.{at_place, EachPlace, Evaluated, HasCome, IsReady, IsSelected};
-ghost use Rattle.expr_lanes.specs.Sides.{IsAtHand, side_number, HasNumber};
+ghost use Rattle.expr_lanes.specs.Sides.{IsAtHand, is_unary, side_number, sides_tree, HasNumber};
 
 use crate::MAX_PLACES;
 use crate::arguments::call_lanes;
@@ -34,8 +33,6 @@ use rdf_values::{BinOp, NumArgs, NumNode};
 
 type Stops = ArrayVec<Stopped, MAX_PLACES>;
 
-const ZERO: NumNode = NumNode::Lit(0);
-
 // A function's parameters that are lent have a lifetime each: so what takes its level of scratch beside the deeper ones is a
 // function of its own.
 
@@ -48,9 +45,9 @@ pub(crate) fn eval_node<S: LaneInputs + Calls>(
     stops: &mut Stops,
     scratch: &mut [Scratch],
 )
-    requires able { IsAble (S.can scope.now) (S.can_tell scope.now) (S.functions scope.now) (length scratch.old) (num_tree node.now) }
+    requires able { IsAble S.can S.can_tell S.functions scope.now (length scratch.old) (num_tree node.now) }
     requires ready { IsReady (S.size scope.now) selection.old lane.old stops.old.items }
-    ensures { Evaluated (lane_at (S.look scope.now) (S.functions scope.now) (num_tree node.now)) selection.old selection.new lane.old lane.new stops.old.items stops.new.items }
+    ensures { Evaluated (lane_at S.look S.functions scope.now (num_tree node.now)) selection.old selection.new lane.old lane.new stops.old.items stops.new.items }
 {
     match node {
         NumNode::Lit(number) => write_number(*number, selection, lane, stops),
@@ -65,8 +62,9 @@ pub(crate) fn eval_node<S: LaneInputs + Calls>(
             };
             eval_call(&called, selection, lane, stops, scratch)
         }
-        NumNode::Neg(right) => eval_negative(right, scope, selection, lane, stops, scratch),
-        NumNode::Not(left) => eval_inverse(left, scope, selection, lane, stops, scratch),
+        NumNode::Neg(_) | NumNode::Not(_) => {
+            eval_unary(node, scope, selection, lane, stops, scratch)
+        }
         NumNode::Bin(op, left, right) => {
             let sides = Sides {
                 op: *op,
@@ -91,47 +89,31 @@ pub(crate) fn eval_node<S: LaneInputs + Calls>(
     }
 }
 
-/// The other sign, as a difference from 0.
+/// `-x` as `0 - x`, and `!x` as `x == 0`.
 #[cycle(lanes)]
-fn eval_negative<S: LaneInputs + Calls>(
-    right: &NumNode,
+fn eval_unary<S: LaneInputs + Calls>(
+    node: &NumNode,
     scope: &S,
     selection: &mut Selection,
     lane: &mut [i64],
     stops: &mut Stops,
     scratch: &mut [Scratch],
 )
-    requires able { IsAble (S.can scope.now) (S.can_tell scope.now) (S.functions scope.now) (length scratch.old) (NegTree (num_tree right.now)) }
+    requires unary { is_unary (num_tree node.now) ≡ true }
+    requires able { IsAble S.can S.can_tell S.functions scope.now (length scratch.old) (num_tree node.now) }
     requires ready { IsReady (S.size scope.now) selection.old lane.old stops.old.items }
-    ensures { Evaluated (lane_at (S.look scope.now) (S.functions scope.now) (NegTree (num_tree right.now))) selection.old selection.new lane.old lane.new stops.old.items stops.new.items }
+    ensures { Evaluated (lane_at S.look S.functions scope.now (num_tree node.now)) selection.old selection.new lane.old lane.new stops.old.items stops.new.items }
 {
-    let sides = Sides {
-        op: BinOp::Sub,
-        left: &ZERO,
-        right,
-        scope,
+    let zero = NumNode::Lit(0);
+    let (op, left, right) = match node {
+        NumNode::Neg(right) => (BinOp::Sub, &zero, &**right),
+        NumNode::Not(left) => (BinOp::Eq, &**left, &zero),
+        _ => unreachable!(),
     };
-    eval_operator(&sides, selection, lane, stops, scratch)
-}
-
-/// The other truth value, as an equality with 0.
-#[cycle(lanes)]
-fn eval_inverse<S: LaneInputs + Calls>(
-    left: &NumNode,
-    scope: &S,
-    selection: &mut Selection,
-    lane: &mut [i64],
-    stops: &mut Stops,
-    scratch: &mut [Scratch],
-)
-    requires able { IsAble (S.can scope.now) (S.can_tell scope.now) (S.functions scope.now) (length scratch.old) (NotTree (num_tree left.now)) }
-    requires ready { IsReady (S.size scope.now) selection.old lane.old stops.old.items }
-    ensures { Evaluated (lane_at (S.look scope.now) (S.functions scope.now) (NotTree (num_tree left.now))) selection.old selection.new lane.old lane.new stops.old.items stops.new.items }
-{
     let sides = Sides {
-        op: BinOp::Eq,
+        op,
         left,
-        right: &ZERO,
+        right,
         scope,
     };
     eval_operator(&sides, selection, lane, stops, scratch)
@@ -143,14 +125,13 @@ fn write_number(number: i64, selection: &mut Selection, lane: &mut [i64], stops:
     requires room { length stops.old.items + length selection.old ≤ MAX_PLACES }
     ensures { Evaluated (λ p. Gives number) selection.old selection.new lane.old lane.new stops.old.items stops.new.items }
 {
-    let numbers = &Same { number };
-    run(&Copied { numbers }, selection, lane, stops)
+    run(&Copied(&Same(number)), selection, lane, stops)
 }
 
 /// A side that needs no evaluation: a number, or a column that is known everywhere.
 fn side_at_hand<'a, S: LaneInputs + Calls>(node: &NumNode, scope: &'a S) -> Option<Side<'a>>
     requires can { CanLane (S.can scope.now) (S.can_tell scope.now) (num_tree node.now) }
-    ensures { IfSome result (IsAtHand (S.size scope.now) (lane_at (S.look scope.now) (S.functions scope.now) (num_tree node.now))) }
+    ensures { IfSome result (IsAtHand (S.size scope.now) (lane_at S.look S.functions scope.now (num_tree node.now))) }
 {
     match node {
         NumNode::Lit(number) => Some(Side::Number(*number)),
@@ -176,9 +157,9 @@ fn eval_side<'a, S: LaneInputs + Calls>(
     stops: &mut Stops,
     scratch: &mut [Scratch],
 ) -> Side<'a>
-    requires able { IsAble (S.can scope.now) (S.can_tell scope.now) (S.functions scope.now) (length scratch.old) (num_tree node.now) }
+    requires able { IsAble S.can S.can_tell S.functions scope.now (length scratch.old) (num_tree node.now) }
     requires ready { IsReady (S.size scope.now) selection.old lane.old stops.old.items }
-    ensures come { HasCome (lane_at (S.look scope.now) (S.functions scope.now) (num_tree node.now)) selection.old selection.new (side_number result) stops.old.items stops.new.items }
+    ensures come { HasCome (lane_at S.look S.functions scope.now (num_tree node.now)) selection.old selection.new (side_number result) stops.old.items stops.new.items }
     ensures has { EachPlace selection.new (HasNumber result) }
 {
     match side_at_hand(node, scope) {
@@ -199,23 +180,22 @@ fn eval_operator<S: LaneInputs + Calls>(
     stops: &mut Stops,
     scratch: &mut [Scratch],
 )
-    requires able { IsAble (S.can sides.now.scope.now) (S.can_tell sides.now.scope.now) (S.functions sides.now.scope.now) (length scratch.old) (BinTree sides.now.op (num_tree sides.now.left.now) (num_tree sides.now.right.now)) }
+    requires able { IsAble S.can S.can_tell S.functions sides.now.scope.now (length scratch.old) (sides_tree sides.now) }
     requires ready { IsReady (S.size sides.now.scope.now) selection.old lane.old stops.old.items }
-    ensures { Evaluated (lane_at (S.look sides.now.scope.now) (S.functions sides.now.scope.now) (BinTree sides.now.op (num_tree sides.now.left.now) (num_tree sides.now.right.now))) selection.old selection.new lane.old lane.new stops.old.items stops.new.items }
+    ensures { Evaluated (lane_at S.look S.functions sides.now.scope.now (sides_tree sides.now)) selection.old selection.new lane.old lane.new stops.old.items stops.new.items }
 {
     match scratch.split_first_mut() {
         Some((level, deeper)) => match sides.op {
-            BinOp::And => eval_and(sides, selection, lane, stops, level, deeper),
-            BinOp::Or => eval_or(sides, selection, lane, stops, level, deeper),
+            BinOp::And | BinOp::Or => eval_decider(sides, selection, lane, stops, level, deeper),
             _ => eval_sides(sides, selection, lane, stops, level, deeper),
         },
         None => unreachable!(),
     }
 }
 
-/// The right side where the left one is true.
+/// `&&` and `||`: the right side where the left one doesn't decide.
 #[cycle(lanes)]
-fn eval_and<S: LaneInputs + Calls>(
+fn eval_decider<S: LaneInputs + Calls>(
     sides: &Sides<'_, S>,
     selection: &mut Selection,
     lane: &mut [i64],
@@ -223,37 +203,20 @@ fn eval_and<S: LaneInputs + Calls>(
     level: &mut Scratch,
     deeper: &mut [Scratch],
 )
-    requires able { IsAble (S.can sides.now.scope.now) (S.can_tell sides.now.scope.now) (S.functions sides.now.scope.now) (length deeper.old + 1) (BinTree op.And (num_tree sides.now.left.now) (num_tree sides.now.right.now)) }
+    requires op { is_decider sides.now.op ≡ true }
+    requires able { IsAble S.can S.can_tell S.functions sides.now.scope.now (length deeper.old + 1) (sides_tree sides.now) }
     requires ready { IsReady (S.size sides.now.scope.now) selection.old lane.old stops.old.items }
-    ensures { Evaluated (lane_at (S.look sides.now.scope.now) (S.functions sides.now.scope.now) (BinTree op.And (num_tree sides.now.left.now) (num_tree sides.now.right.now))) selection.old selection.new lane.old lane.new stops.old.items stops.new.items }
+    ensures { Evaluated (lane_at S.look S.functions sides.now.scope.now (sides_tree sides.now)) selection.old selection.new lane.old lane.new stops.old.items stops.new.items }
 {
-    let choice = Choice {
-        condition: sides.left,
-        zero: Branch::Same,
-        other: Branch::Node(sides.right),
-        scope: sides.scope,
+    let right = Branch::Node(sides.right);
+    let (zero, other) = match sides.op {
+        BinOp::Or => (right, Branch::Same),
+        _ => (Branch::Same, right),
     };
-    eval_choice(&choice, selection, lane, stops, level, deeper)
-}
-
-/// The right side where the left one is false.
-#[cycle(lanes)]
-fn eval_or<S: LaneInputs + Calls>(
-    sides: &Sides<'_, S>,
-    selection: &mut Selection,
-    lane: &mut [i64],
-    stops: &mut Stops,
-    level: &mut Scratch,
-    deeper: &mut [Scratch],
-)
-    requires able { IsAble (S.can sides.now.scope.now) (S.can_tell sides.now.scope.now) (S.functions sides.now.scope.now) (length deeper.old + 1) (BinTree op.Or (num_tree sides.now.left.now) (num_tree sides.now.right.now)) }
-    requires ready { IsReady (S.size sides.now.scope.now) selection.old lane.old stops.old.items }
-    ensures { Evaluated (lane_at (S.look sides.now.scope.now) (S.functions sides.now.scope.now) (BinTree op.Or (num_tree sides.now.left.now) (num_tree sides.now.right.now))) selection.old selection.new lane.old lane.new stops.old.items stops.new.items }
-{
     let choice = Choice {
         condition: sides.left,
-        zero: Branch::Node(sides.right),
-        other: Branch::Same,
+        zero,
+        other,
         scope: sides.scope,
     };
     eval_choice(&choice, selection, lane, stops, level, deeper)
@@ -269,9 +232,9 @@ fn eval_sides<S: LaneInputs + Calls>(
     deeper: &mut [Scratch],
 )
     requires op { is_decider sides.now.op ≡ false }
-    requires able { IsAble (S.can sides.now.scope.now) (S.can_tell sides.now.scope.now) (S.functions sides.now.scope.now) (length deeper.old + 1) (BinTree sides.now.op (num_tree sides.now.left.now) (num_tree sides.now.right.now)) }
+    requires able { IsAble S.can S.can_tell S.functions sides.now.scope.now (length deeper.old + 1) (sides_tree sides.now) }
     requires ready { IsReady (S.size sides.now.scope.now) selection.old lane.old stops.old.items }
-    ensures { Evaluated (lane_at (S.look sides.now.scope.now) (S.functions sides.now.scope.now) (BinTree sides.now.op (num_tree sides.now.left.now) (num_tree sides.now.right.now))) selection.old selection.new lane.old lane.new stops.old.items stops.new.items }
+    ensures { Evaluated (lane_at S.look S.functions sides.now.scope.now (sides_tree sides.now)) selection.old selection.new lane.old lane.new stops.old.items stops.new.items }
 {
     let Sides {
         op,
@@ -293,11 +256,11 @@ fn eval_choice<S: LaneInputs + Calls>(
     level: &mut Scratch,
     deeper: &mut [Scratch],
 )
-    requires able { IsAble (S.can choice.now.scope.now) (S.can_tell choice.now.scope.now) (S.functions choice.now.scope.now) (length deeper.old) (num_tree choice.now.condition.now) }
-    requires zero { IsAbleBranch (S.can choice.now.scope.now) (S.can_tell choice.now.scope.now) (S.functions choice.now.scope.now) (length deeper.old) choice.now.zero }
-    requires other { IsAbleBranch (S.can choice.now.scope.now) (S.can_tell choice.now.scope.now) (S.functions choice.now.scope.now) (length deeper.old) choice.now.other }
+    requires able { IsAble S.can S.can_tell S.functions choice.now.scope.now (length deeper.old) (num_tree choice.now.condition.now) }
+    requires zero { IsAbleBranch S.can S.can_tell S.functions choice.now.scope.now (length deeper.old) choice.now.zero }
+    requires other { IsAbleBranch S.can S.can_tell S.functions choice.now.scope.now (length deeper.old) choice.now.other }
     requires ready { IsReady (S.size choice.now.scope.now) selection.old lane.old stops.old.items }
-    ensures { Evaluated (choice_at (S.look choice.now.scope.now) (S.functions choice.now.scope.now) (num_tree choice.now.condition.now) choice.now.zero choice.now.other) selection.old selection.new lane.old lane.new stops.old.items stops.new.items }
+    ensures { Evaluated (choice_at S.look S.functions choice.now.scope.now (num_tree choice.now.condition.now) choice.now.zero choice.now.other) selection.old selection.new lane.old lane.new stops.old.items stops.new.items }
 {
     let Choice {
         condition,
@@ -322,9 +285,9 @@ fn eval_branch<S: LaneInputs + Calls>(
     stops: &mut Stops,
     scratch: &mut [Scratch],
 )
-    requires able { IsAbleBranch (S.can scope.now) (S.can_tell scope.now) (S.functions scope.now) (length scratch.old) branch }
+    requires able { IsAbleBranch S.can S.can_tell S.functions scope.now (length scratch.old) branch }
     requires ready { IsReady (S.size scope.now) selection.old lane.old stops.old.items }
-    ensures { Evaluated (λ p. branch_at (S.look scope.now) (S.functions scope.now) branch.entry (at_place lane.old p) p) selection.old selection.new lane.old lane.new stops.old.items stops.new.items }
+    ensures { Evaluated (λ p. branch_at S.look S.functions scope.now branch.entry (at_place lane.old p) p) selection.old selection.new lane.old lane.new stops.old.items stops.new.items }
 {
     match branch {
         Branch::Node(node) => eval_node(node, scope, selection, lane, stops, scratch),
@@ -351,9 +314,9 @@ fn eval_call<S: LaneInputs + Calls>(
     stops: &mut Stops,
     scratch: &mut [Scratch],
 )
-    requires able { IsAble (S.can called.now.scope.now) (S.can_tell called.now.scope.now) (S.functions called.now.scope.now) (length scratch.old) (CallTree called.now.callee (num_trees called.now.args.now)) }
+    requires able { IsAble S.can S.can_tell S.functions called.now.scope.now (length scratch.old) (CallTree called.now.callee (num_trees called.now.args.now)) }
     requires ready { IsReady (S.size called.now.scope.now) selection.old lane.old stops.old.items }
-    ensures { Evaluated (lane_at (S.look called.now.scope.now) (S.functions called.now.scope.now) (CallTree called.now.callee (num_trees called.now.args.now))) selection.old selection.new lane.old lane.new stops.old.items stops.new.items }
+    ensures { Evaluated (lane_at S.look S.functions called.now.scope.now (CallTree called.now.callee (num_trees called.now.args.now))) selection.old selection.new lane.old lane.new stops.old.items stops.new.items }
 {
     let Called {
         callee,
@@ -379,9 +342,9 @@ fn gather<S: LaneInputs + Calls>(
     stops: &mut Stops,
     scratch: &mut [Scratch],
 )
-    requires able { AreAble (S.can scope.now) (S.can_tell scope.now) (S.functions scope.now) (length scratch.old) (num_trees args.now) }
+    requires able { AreAble S.can S.can_tell S.functions scope.now (length scratch.old) (num_trees args.now) }
     requires ready { IsSelected (S.size scope.now) selection.old stops.old.items }
-    ensures { HasCome (lanes_at (S.look scope.now) (S.functions scope.now) (num_trees args.now)) selection.old selection.new (numbers_at (take (args_count (num_trees args.now)) scratch.new)) stops.old.items stops.new.items }
+    ensures { HasCome (lanes_at S.look S.functions scope.now (num_trees args.now)) selection.old selection.new (numbers_at (take (args_count (num_trees args.now)) scratch.new)) stops.old.items stops.new.items }
 {
     match args {
         NumArgs::End => {}
@@ -407,10 +370,10 @@ fn gather_more<S: LaneInputs + Calls>(
     level: &mut Scratch,
     deeper: &mut [Scratch],
 )
-    requires first { IsAble (S.can arguments.now.scope.now) (S.can_tell arguments.now.scope.now) (S.functions arguments.now.scope.now) (length deeper.old) (num_tree arguments.now.first.now) }
-    requires others { AreAble (S.can arguments.now.scope.now) (S.can_tell arguments.now.scope.now) (S.functions arguments.now.scope.now) (length deeper.old) (num_trees arguments.now.others.now) }
+    requires first { IsAble S.can S.can_tell S.functions arguments.now.scope.now (length deeper.old) (num_tree arguments.now.first.now) }
+    requires others { AreAble S.can S.can_tell S.functions arguments.now.scope.now (length deeper.old) (num_trees arguments.now.others.now) }
     requires ready { IsSelected (S.size arguments.now.scope.now) selection.old stops.old.items }
-    ensures { HasCome (λ p. one_more (lane_at (S.look arguments.now.scope.now) (S.functions arguments.now.scope.now) (num_tree arguments.now.first.now) p) (lanes_at (S.look arguments.now.scope.now) (S.functions arguments.now.scope.now) (num_trees arguments.now.others.now) p)) selection.old selection.new (λ p. at_place level.new.left p ∷ numbers_at (take (args_count (num_trees arguments.now.others.now)) deeper.new) p) stops.old.items stops.new.items }
+    ensures { HasCome (λ p. one_more (lane_at S.look S.functions arguments.now.scope.now (num_tree arguments.now.first.now) p) (lanes_at S.look S.functions arguments.now.scope.now (num_trees arguments.now.others.now) p)) selection.old selection.new (λ p. at_place level.new.left p ∷ numbers_at (take (args_count (num_trees arguments.now.others.now)) deeper.new) p) stops.old.items stops.new.items }
 {
     let Arguments {
         first,

@@ -15,35 +15,31 @@ pub(crate) trait Numbers {
 
 /// The same number everywhere.
 #[derive(Clone, Copy)]
-pub(crate) struct Same {
-    pub(crate) number: i64,
-}
+pub(crate) struct Same(pub(crate) i64);
 
 impl Numbers for Same {
     ghost has = { λ s p. Unit {0} };
 
-    ghost number = { λ s p. s.number };
+    ghost number = { λ s p. s.0 };
 
     #[inline(always)]
     fn at(&self, _place: u32) -> i64 {
-        self.number
+        self.0
     }
 }
 
 /// What a lane holds.
 #[derive(Clone, Copy)]
-pub(crate) struct Lane<'a> {
-    pub(crate) numbers: &'a [i64],
-}
+pub(crate) struct Lane<'a>(pub(crate) &'a [i64]);
 
 impl<'a> Numbers for Lane<'a> {
-    ghost has = { λ s p. p < length s.numbers.now };
+    ghost has = { λ s p. p < length s.0.now };
 
-    ghost number = { λ s p. at_place s.numbers.now p };
+    ghost number = { λ s p. at_place s.0.now p };
 
     #[inline(always)]
     fn at(&self, place: u32) -> i64 {
-        self.numbers[place as usize]
+        self.0[place as usize]
     }
 }
 

@@ -32,157 +32,19 @@ fn combine<A: Numbers, B: Numbers>(
     ensures { Evaluated (λ p. number_operation op (A.number left.now p) (B.number right.now p)) selection.old selection.new lane.old lane.new stops.old.items stops.new.items }
 {
     match op {
-        BinOp::Add => run(
-            &Combined {
-                op: BinOp::Add,
-                left,
-                right,
-            },
-            selection,
-            lane,
-            stops,
-        ),
-        BinOp::Sub => run(
-            &Combined {
-                op: BinOp::Sub,
-                left,
-                right,
-            },
-            selection,
-            lane,
-            stops,
-        ),
-        BinOp::Mul => run(
-            &Combined {
-                op: BinOp::Mul,
-                left,
-                right,
-            },
-            selection,
-            lane,
-            stops,
-        ),
-        BinOp::Div => run(
-            &Combined {
-                op: BinOp::Div,
-                left,
-                right,
-            },
-            selection,
-            lane,
-            stops,
-        ),
-        BinOp::Rem => run(
-            &Combined {
-                op: BinOp::Rem,
-                left,
-                right,
-            },
-            selection,
-            lane,
-            stops,
-        ),
-        BinOp::Lt => run(
-            &Combined {
-                op: BinOp::Lt,
-                left,
-                right,
-            },
-            selection,
-            lane,
-            stops,
-        ),
-        BinOp::Le => run(
-            &Combined {
-                op: BinOp::Le,
-                left,
-                right,
-            },
-            selection,
-            lane,
-            stops,
-        ),
-        BinOp::Gt => run(
-            &Combined {
-                op: BinOp::Gt,
-                left,
-                right,
-            },
-            selection,
-            lane,
-            stops,
-        ),
-        BinOp::Ge => run(
-            &Combined {
-                op: BinOp::Ge,
-                left,
-                right,
-            },
-            selection,
-            lane,
-            stops,
-        ),
-        BinOp::Eq => run(
-            &Combined {
-                op: BinOp::Eq,
-                left,
-                right,
-            },
-            selection,
-            lane,
-            stops,
-        ),
-        BinOp::Ne => run(
-            &Combined {
-                op: BinOp::Ne,
-                left,
-                right,
-            },
-            selection,
-            lane,
-            stops,
-        ),
-        BinOp::And => run(
-            &Combined {
-                op: BinOp::And,
-                left,
-                right,
-            },
-            selection,
-            lane,
-            stops,
-        ),
-        BinOp::Or => run(
-            &Combined {
-                op: BinOp::Or,
-                left,
-                right,
-            },
-            selection,
-            lane,
-            stops,
-        ),
-    }
-}
-
-/// The same, where the right numbers are a side's.
-fn combine_right<A: Numbers>(
-    op: BinOp,
-    left: &A,
-    right: Side<'_>,
-    selection: &mut Selection,
-    lane: &mut [i64],
-    stops: &mut ArrayVec<Stopped, MAX_PLACES>,
-)
-    requires left { EachPlace selection.old (A.has left.now) }
-    requires right { EachPlace selection.old (HasNumber right) }
-    requires inside { EachPlace selection.old (λ p. p < length lane.old) }
-    requires room { length stops.old.items + length selection.old ≤ MAX_PLACES }
-    ensures { Evaluated (λ p. number_operation op (A.number left.now p) (side_number right.entry p)) selection.old selection.new lane.old lane.new stops.old.items stops.new.items }
-{
-    match right {
-        Side::Number(number) => combine(op, left, &Same { number }, selection, lane, stops),
-        Side::Lane(numbers) => combine(op, left, &Lane { numbers }, selection, lane, stops),
+        BinOp::Add => run(&Combined(BinOp::Add, left, right), selection, lane, stops),
+        BinOp::Sub => run(&Combined(BinOp::Sub, left, right), selection, lane, stops),
+        BinOp::Mul => run(&Combined(BinOp::Mul, left, right), selection, lane, stops),
+        BinOp::Div => run(&Combined(BinOp::Div, left, right), selection, lane, stops),
+        BinOp::Rem => run(&Combined(BinOp::Rem, left, right), selection, lane, stops),
+        BinOp::Lt => run(&Combined(BinOp::Lt, left, right), selection, lane, stops),
+        BinOp::Le => run(&Combined(BinOp::Le, left, right), selection, lane, stops),
+        BinOp::Gt => run(&Combined(BinOp::Gt, left, right), selection, lane, stops),
+        BinOp::Ge => run(&Combined(BinOp::Ge, left, right), selection, lane, stops),
+        BinOp::Eq => run(&Combined(BinOp::Eq, left, right), selection, lane, stops),
+        BinOp::Ne => run(&Combined(BinOp::Ne, left, right), selection, lane, stops),
+        BinOp::And => run(&Combined(BinOp::And, left, right), selection, lane, stops),
+        BinOp::Or => run(&Combined(BinOp::Or, left, right), selection, lane, stops),
     }
 }
 
@@ -201,12 +63,18 @@ pub(crate) fn combine_sides(
     requires room { length stops.old.items + length selection.old ≤ MAX_PLACES }
     ensures { Evaluated (λ p. number_operation op (side_number left.entry p) (side_number right.entry p)) selection.old selection.new lane.old lane.new stops.old.items stops.new.items }
 {
-    match left {
-        Side::Number(number) => {
-            combine_right(op, &Same { number }, right, selection, lane, stops)
+    match (left, right) {
+        (Side::Number(x), Side::Number(y)) => {
+            combine(op, &Same(x), &Same(y), selection, lane, stops)
         }
-        Side::Lane(numbers) => {
-            combine_right(op, &Lane { numbers }, right, selection, lane, stops)
+        (Side::Number(x), Side::Lane(ys)) => {
+            combine(op, &Same(x), &Lane(ys), selection, lane, stops)
+        }
+        (Side::Lane(xs), Side::Number(y)) => {
+            combine(op, &Lane(xs), &Same(y), selection, lane, stops)
+        }
+        (Side::Lane(xs), Side::Lane(ys)) => {
+            combine(op, &Lane(xs), &Lane(ys), selection, lane, stops)
         }
     }
 }

@@ -96,7 +96,6 @@ pub(crate) fn rejoin(
     mark_places(&selection.places, count, false, marks);
     mark_places(&zeros.places, zeros.count, true, marks);
     mark_places(&others.places, others.count, true, marks);
-    let test = Marked { marks };
-    selection.count = keep_places(&mut selection.places, count, &test);
+    selection.count = keep_places(&mut selection.places, count, &Marked(marks));
     selection.is_dense = false;
 }

@@ -78,14 +78,14 @@ impl Selection {
         requires { EachPlace self.old (λ p. p < length lane.now) }
         ensures { self.new ≡ filter (λ p. is_set (at_place lane.now p)) self.old }
     {
-        self.keep(&Set { lane });
+        self.keep(&Set(lane));
     }
 
     /// Leaves the places below the limit selected.
     pub fn keep_below(&mut self, limit: u32)
         ensures { self.new ≡ filter (λ p. nat_lt p limit) self.old }
     {
-        self.keep(&Below { limit });
+        self.keep(&Below(limit));
     }
 
     /// Leaves the places selected that are not marked.
@@ -93,7 +93,7 @@ impl Selection {
         requires { EachPlace self.old (λ p. p < length marks.now) }
         ensures { self.new ≡ filter (λ p. not (is_marked marks.now p)) self.old }
     {
-        self.keep(&Unmarked { marks });
+        self.keep(&Unmarked(marks));
     }
 
     /// How many places are selected.

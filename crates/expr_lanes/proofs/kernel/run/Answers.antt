@@ -15,5 +15,5 @@ pub invariant_of-selection : goal.invariant_of-selection
 invariant_of-selection g c = (
   omega (arith, c.selection.invariant.0, c.sift-selection-inside.ensures.within),
   λ all. absurd (cc all),
-  rising_left _ _ _ c.selection.invariant.2 c.sift-selection-inside.ensures.evaluated.left_in,
+  rising_left _ _ _ c.selection.invariant.2 c.sift-selection-inside.ensures.evaluated.come.left_in,
 )

@@ -1,18 +1,21 @@
-use Rattle.std.proofs.Common.{rules, arith, ◌≡◌, ◌<◌, ◌∙◌, sym, length, pos, None}
+use Rattle.std.proofs.Common.{rules, arith, ◌≡◌, ◌<◌, ◌∙◌, [], ap, refl, sym, length, None}
 use Rattle.rdf_values.specs.NumExprTree.{num_tree, num_trees}
-use Rattle.rdf_values.specs.Tree.{Lit, Bin}
-use Rattle.rdf_values.specs.declared.expr.BinOp.TheVariants as op
+use Rattle.rdf_values.specs.Tree.{Bin}
 use Rattle.expr_lanes.specs.declared.TheConstants.{MAX_PLACES}
 use Rattle.expr_lanes.specs.Able.{IsAble}
+use Rattle.expr_lanes.specs.Depths.{depth}
 use Rattle.expr_lanes.specs.Folds.{fold_read}
+use Rattle.expr_lanes.specs.Marks.{lane_call}
 use Rattle.expr_lanes.specs.Places.{IsReady, IsSelected}
-use Rattle.expr_lanes.proofs.Gathered.{gathered_none, gathered_more}
-use Rattle.expr_lanes.proofs.Choices.{idle}
-use Rattle.expr_lanes.proofs.Composed.{at_hand, has_at_hand, of_negative, of_inverse, negated, inverted, called, operated, chosen}
-use Rattle.expr_lanes.proofs.Ready.{selected_next, selected_after, selected_part, selected_other}
-use Rattle.expr_lanes.proofs.Sequence.{come_from, come_of, with_numbers}
+use Rattle.expr_lanes.specs.Sides.{with_zero}
+use Rattle.expr_lanes.proofs.Gathered.{gathered_more}
+use Rattle.expr_lanes.proofs.Choices.{choice, idle}
+use Rattle.expr_lanes.proofs.Composed.{able_sides, at_hand, called, has_at_hand, operated, same_depth, with_sides}
+use Rattle.expr_lanes.proofs.Ready.{selected_next, selected_part, selected_other}
+use Rattle.expr_lanes.proofs.Sequence.{come_from, come_told, go_on}
 use Rattle.expr_lanes.proofs.Whole.{rest_left, whole}
 use Rattle.expr_lanes.proofs.nodes.+lanes.Goals as goal
+use Rattle.expr_lanes.proofs.nodes.+lanes.Goals.{eval_unary-in-Neg, eval_unary-in-Not}
 
 pub eval_side-returns-in-Some : goal.eval_side-returns-in-Some
 eval_side-returns-in-Some g t c =
@@ -20,8 +23,8 @@ eval_side-returns-in-Some g t c =
 
 pub eval_side-returns-in-None : goal.eval_side-returns-in-None
 eval_side-returns-in-None g t c =
-    let next : IsSelected (g.S.LaneInputs.size c.args.scope.now) c.eval_node.new.selection c.eval_node.new.stops.items = selected_after _ _ _ _ _ _ _ _ c.requires.ready.selected c.eval_node.ensures in
-    record { come = come_of _ _ _ _ _ _ _ c.eval_node.ensures; has = λ p h. omega (arith, next.inside p h, c.requires.ready.long) }
+    let next : IsSelected (g.S.LaneInputs.size c.args.scope.now) c.eval_node.new.selection c.eval_node.new.stops.items = selected_next _ _ _ _ _ _ _ c.requires.ready.selected c.eval_node.ensures.come in
+    record { come = c.eval_node.ensures.come; has = λ p h. omega (arith, next.inside p h, c.requires.ready.long) }
 
 pub eval_sides-eval_side-right-requires : goal.eval_sides-eval_side-right-requires
 eval_sides-eval_side-right-requires g t c =
@@ -29,25 +32,16 @@ eval_sides-eval_side-right-requires g t c =
     let ready : IsReady (g.S.LaneInputs.size c.args.sides.now.scope.now) c.eval_side-left.new.selection c.args.level.now.right c.eval_side-left.new.stops.items = record { selected = next; long = omega (arith, next.small) } in
     search rules
 
-pub eval_sides-combine_sides-requires-clause-left : goal.eval_sides-combine_sides-requires-clause-left
-eval_sides-combine_sides-requires-clause-left g t c =
-    λ p h. c.eval_side-left.ensures.has p (come_from _ _ _ _ _ _ c.eval_side-right.ensures.come p h)
-
-pub eval_sides-combine_sides-requires-clause-right : goal.eval_sides-combine_sides-requires-clause-right
-eval_sides-combine_sides-requires-clause-right g t c =
-    c.eval_side-right.ensures.has
-
-pub eval_sides-combine_sides-requires-clause-inside : goal.eval_sides-combine_sides-requires-clause-inside
-eval_sides-combine_sides-requires-clause-inside g t c =
-    let next : IsSelected (g.S.LaneInputs.size c.args.sides.now.scope.now) c.eval_side-left.new.selection c.eval_side-left.new.stops.items = selected_next _ _ _ _ _ _ _ c.requires.ready.selected c.eval_side-left.ensures.come in
-    let last : IsSelected (g.S.LaneInputs.size c.args.sides.now.scope.now) c.eval_side-right.new.selection c.eval_side-right.new.stops.items = selected_next _ _ _ _ _ _ _ next c.eval_side-right.ensures.come in
-    λ p h. omega (arith, last.inside p h, c.requires.ready.long)
-
-pub eval_sides-combine_sides-requires-clause-room : goal.eval_sides-combine_sides-requires-clause-room
-eval_sides-combine_sides-requires-clause-room g t c =
-    let next : IsSelected (g.S.LaneInputs.size c.args.sides.now.scope.now) c.eval_side-left.new.selection c.eval_side-left.new.stops.items = selected_next _ _ _ _ _ _ _ c.requires.ready.selected c.eval_side-left.ensures.come in
-    let last : IsSelected (g.S.LaneInputs.size c.args.sides.now.scope.now) c.eval_side-right.new.selection c.eval_side-right.new.stops.items = selected_next _ _ _ _ _ _ _ next c.eval_side-right.ensures.come in
-    last.room
+pub eval_sides-combine_sides-requires : goal.eval_sides-combine_sides-requires
+eval_sides-combine_sides-requires g t c =
+    let next = selected_next _ _ _ _ _ _ _ c.requires.ready.selected c.eval_side-left.ensures.come in
+    let last = selected_next _ _ _ _ _ _ _ next c.eval_side-right.ensures.come in
+    record {
+      left = λ p h. c.eval_side-left.ensures.has p (come_from _ _ _ _ _ _ c.eval_side-right.ensures.come p h);
+      right = c.eval_side-right.ensures.has;
+      inside = λ p h. omega (arith, last.inside p h, c.requires.ready.long);
+      room = last.room;
+    }
 
 pub eval_sides-returns : goal.eval_sides-returns
 eval_sides-returns g t c =
@@ -55,45 +49,40 @@ eval_sides-returns g t c =
 
 pub eval_choice-part-requires : goal.eval_choice-part-requires
 eval_choice-part-requires g t c =
-    let next : IsSelected (g.S.LaneInputs.size c.args.choice.now.scope.now) c.eval_node.new.selection c.eval_node.new.stops.items = selected_after _ _ _ _ _ _ _ _ c.requires.ready.selected c.eval_node.ensures in
+    let next : IsSelected (g.S.LaneInputs.size c.args.choice.now.scope.now) c.eval_node.new.selection c.eval_node.new.stops.items = selected_next _ _ _ _ _ _ _ c.requires.ready.selected c.eval_node.ensures.come in
     record { inside = λ p h. omega (arith, next.inside p h, c.requires.ready.long) }
 
 pub eval_choice-eval_branch-requires : goal.eval_choice-eval_branch-requires
 eval_choice-eval_branch-requires g t c =
-    let next : IsSelected (g.S.LaneInputs.size c.args.choice.now.scope.now) c.eval_node.new.selection c.eval_node.new.stops.items = selected_after _ _ _ _ _ _ _ _ c.requires.ready.selected c.eval_node.ensures in
+    let next : IsSelected (g.S.LaneInputs.size c.args.choice.now.scope.now) c.eval_node.new.selection c.eval_node.new.stops.items = selected_next _ _ _ _ _ _ _ c.requires.ready.selected c.eval_node.ensures.come in
     let half : IsSelected (g.S.LaneInputs.size c.args.choice.now.scope.now) c.part.new.others c.eval_node.new.stops.items = selected_part _ _ _ _ _ next c.part.ensures.others in
     let ready : IsReady (g.S.LaneInputs.size c.args.choice.now.scope.now) c.part.new.others c.eval_node.new.lane c.eval_node.new.stops.items = record { selected = half; long = omega (arith, c.requires.ready.long) } in
     search rules
 
 pub eval_choice-eval_branch-requires-2 : goal.eval_choice-eval_branch-requires-2
 eval_choice-eval_branch-requires-2 g t c =
-    let next : IsSelected (g.S.LaneInputs.size c.args.choice.now.scope.now) c.eval_node.new.selection c.eval_node.new.stops.items = selected_after _ _ _ _ _ _ _ _ c.requires.ready.selected c.eval_node.ensures in
+    let next : IsSelected (g.S.LaneInputs.size c.args.choice.now.scope.now) c.eval_node.new.selection c.eval_node.new.stops.items = selected_next _ _ _ _ _ _ _ c.requires.ready.selected c.eval_node.ensures.come in
     let other : IsSelected (g.S.LaneInputs.size c.args.choice.now.scope.now) c.part.new.zeros c.eval_branch.new.stops.items = selected_other _ _ _ _ _ _ _ _ _ _ _ next c.part.ensures.zeros c.part.ensures.others c.eval_branch.ensures in
     let ready : IsReady (g.S.LaneInputs.size c.args.choice.now.scope.now) c.part.new.zeros c.eval_branch.new.lane c.eval_branch.new.stops.items = record { selected = other; long = omega (arith, c.requires.ready.long) } in
     search rules
 
-pub eval_choice-rejoin-requires-clause-inside : goal.eval_choice-rejoin-requires-clause-inside
-eval_choice-rejoin-requires-clause-inside g t c =
-    let next : IsSelected (g.S.LaneInputs.size c.args.choice.now.scope.now) c.eval_node.new.selection c.eval_node.new.stops.items = selected_after _ _ _ _ _ _ _ _ c.requires.ready.selected c.eval_node.ensures in
-    λ p h. let below : p < MAX_PLACES = omega (arith, next.inside p h, next.small) in omega arith
-
-pub eval_choice-rejoin-requires-clause-others_inside : goal.eval_choice-rejoin-requires-clause-others_inside
-eval_choice-rejoin-requires-clause-others_inside g t c =
-    let next : IsSelected (g.S.LaneInputs.size c.args.choice.now.scope.now) c.eval_node.new.selection c.eval_node.new.stops.items = selected_after _ _ _ _ _ _ _ _ c.requires.ready.selected c.eval_node.ensures in
-    let half : IsSelected (g.S.LaneInputs.size c.args.choice.now.scope.now) c.part.new.others c.eval_node.new.stops.items = selected_part _ _ _ _ _ next c.part.ensures.others in
-    let rest : IsSelected (g.S.LaneInputs.size c.args.choice.now.scope.now) c.eval_branch.new.selection c.eval_branch.new.stops.items = selected_after _ _ _ _ _ _ _ _ half c.eval_branch.ensures in
-    λ p h. let below : p < MAX_PLACES = omega (arith, rest.inside p h, rest.small) in omega arith
-
-pub eval_choice-rejoin-requires-clause-zeros_inside : goal.eval_choice-rejoin-requires-clause-zeros_inside
-eval_choice-rejoin-requires-clause-zeros_inside g t c =
-    let next : IsSelected (g.S.LaneInputs.size c.args.choice.now.scope.now) c.eval_node.new.selection c.eval_node.new.stops.items = selected_after _ _ _ _ _ _ _ _ c.requires.ready.selected c.eval_node.ensures in
-    let other : IsSelected (g.S.LaneInputs.size c.args.choice.now.scope.now) c.part.new.zeros c.eval_branch.new.stops.items = selected_other _ _ _ _ _ _ _ _ _ _ _ next c.part.ensures.zeros c.part.ensures.others c.eval_branch.ensures in
-    let rest : IsSelected (g.S.LaneInputs.size c.args.choice.now.scope.now) c.eval_branch-2.new.selection c.eval_branch-2.new.stops.items = selected_after _ _ _ _ _ _ _ _ other c.eval_branch-2.ensures in
-    λ p h. let below : p < MAX_PLACES = omega (arith, rest.inside p h, rest.small) in omega arith
+pub eval_choice-rejoin-requires : goal.eval_choice-rejoin-requires
+eval_choice-rejoin-requires g t c =
+    let next = selected_next _ _ _ _ _ _ _ c.requires.ready.selected c.eval_node.ensures.come in
+    let half = selected_part _ _ _ _ _ next c.part.ensures.others in
+    let others = selected_next _ _ _ _ _ _ _ half c.eval_branch.ensures.come in
+    let other = selected_other _ _ _ _ _ _ _ _ _ _ _ next c.part.ensures.zeros c.part.ensures.others c.eval_branch.ensures in
+    let zeros = selected_next _ _ _ _ _ _ _ other c.eval_branch-2.ensures.come in
+    record {
+      inside = λ p h. let below : p < MAX_PLACES = omega (arith, next.inside p h, next.small) in omega arith;
+      zeros_inside = λ p h. let below : p < MAX_PLACES = omega (arith, zeros.inside p h, zeros.small) in omega arith;
+      others_inside = λ p h. let below : p < MAX_PLACES = omega (arith, others.inside p h, others.small) in omega arith;
+      whole = whole _ _ _ _ _ _ c.part.ensures.zeros c.part.ensures.others (rest_left _ _ _ _ _ _ c.eval_branch-2.ensures.come) (rest_left _ _ _ _ _ _ c.eval_branch.ensures.come);
+    }
 
 pub eval_choice-returns : goal.eval_choice-returns
 eval_choice-returns g t c =
-    chosen _ _ _ _ _ _ _ _ _ c.eval_node.ensures c.part.ensures.others c.part.ensures.zeros _ _ _ _ _ _ _ _ _ c.eval_branch.ensures c.eval_branch-2.ensures c.rejoin.ensures
+    choice _ _ _ _ _ _ _ _ _ c.eval_node.ensures c.part.ensures.others c.part.ensures.zeros _ _ _ _ _ _ _ _ _ c.eval_branch.ensures c.eval_branch-2.ensures c.rejoin.ensures
 
 pub gather_more-eval_node-requires : goal.gather_more-eval_node-requires
 gather_more-eval_node-requires g t c =
@@ -102,20 +91,16 @@ gather_more-eval_node-requires g t c =
 
 pub gather_more-gather-requires : goal.gather_more-gather-requires
 gather_more-gather-requires g t c =
-    let next : IsSelected (g.S.LaneInputs.size c.args.arguments.now.scope.now) c.eval_node.new.selection c.eval_node.new.stops.items = selected_after _ _ _ _ _ _ _ _ c.requires.ready c.eval_node.ensures in
+    let next : IsSelected (g.S.LaneInputs.size c.args.arguments.now.scope.now) c.eval_node.new.selection c.eval_node.new.stops.items = selected_next _ _ _ _ _ _ _ c.requires.ready c.eval_node.ensures.come in
     search rules
 
 pub gather_more-returns : goal.gather_more-returns
 gather_more-returns g t c =
-    gathered_more _ _ _ _ _ _ _ _ _ _ _ c.eval_node.ensures c.gather.ensures
+    gathered_more _ _ _ _ _ _ _ _ _ _ c.eval_node.ensures.come c.gather.ensures
 
 pub gather-returns-in-End : goal.gather-returns-in-End
 gather-returns-in-End g t c =
-    rw c.in-End.is (gathered_none c.args.scratch.now c.args.selection.now c.args.stops.now.items)
-
-pub eval_choice-rejoin-requires-clause-whole : goal.eval_choice-rejoin-requires-clause-whole
-eval_choice-rejoin-requires-clause-whole g t c =
-    whole _ _ _ _ _ _ c.part.ensures.zeros c.part.ensures.others (rest_left _ _ _ _ _ _ _ c.eval_branch-2.ensures) (rest_left _ _ _ _ _ _ _ c.eval_branch.ensures)
+    rw c.in-End.is (come_told (λ p. []) c.args.selection.now c.args.stops.now.items)
 
 pub eval_branch-returns-in-Same : goal.eval_branch-returns-in-Same
 eval_branch-returns-in-Same g t c =
@@ -135,23 +120,21 @@ pub eval_call-returns-in-None : goal.eval_call-returns-in-None
 eval_call-returns-in-None g t c =
     let scope = c.args.called.now.scope.now in
     let none : fold_read c.args.called.now.callee (num_trees c.args.called.now.args.now) ≡ None = sym c.fold_call.ensures ∙ c.in-None.is in
-    called (g.S.LaneInputs.look scope) (g.S.Calls.functions scope) _ _ _ _ _ _ c.args.called.now.callee (num_trees c.args.called.now.args.now) none
-    (with_numbers _ _ _ _ _ _ _ _ _ _ _ c.gather.ensures.left_in c.gather.ensures.joined c.gather.ensures.values (rw c.args_length.ensures at c.call_lanes.ensures))
+    called g.S.LaneInputs.look g.S.Calls.functions scope _ _ _ _ _ _ c.args.called.now.callee (num_trees c.args.called.now.args.now) none
+    (go_on _ _ _ _ _ _ _ _ c.gather.ensures (λ p zs. lane_call (g.S.Calls.functions scope) c.args.called.now.callee zs) _ _ _ (λ p h. refl) (rw c.args_length.ensures at c.call_lanes.ensures))
 
-pub eval_negative-eval_operator-requires : goal.eval_negative-eval_operator-requires
-eval_negative-eval_operator-requires g t c =
-    let able : IsAble (g.S.LaneInputs.can c.args.scope.now) (g.S.LaneInputs.can_tell c.args.scope.now) (g.S.Calls.functions c.args.scope.now) (length c.args.scratch.now) (Bin op.Sub (Lit (pos 0)) (num_tree c.args.right.now)) = of_negative _ _ _ _ _ c.requires.able in
+pub eval_unary-eval_operator-requires : goal.eval_unary-eval_operator-requires
+eval_unary-eval_operator-requires g t c =
+    let same : Bin c.match-node.op.0 (num_tree c.match-node.op.1.now) (num_tree c.match-node.op.2.now) ≡ with_zero (num_tree c.args.node.now) =
+    elim c.match-node.branch [ eval_unary-in-Neg w ↦ rw (w.op-is, w.in-Neg.is) (search rules) | eval_unary-in-Not w ↦ rw (w.op-is, w.in-Not.is) (search rules) ] in
+    let able : IsAble g.S.LaneInputs.can g.S.LaneInputs.can_tell g.S.Calls.functions c.args.scope.now (length c.args.scratch.now)
+    (Bin c.match-node.op.0 (num_tree c.match-node.op.1.now) (num_tree c.match-node.op.2.now)) =
+    able_sides _ _ _ _ _ _ _ same c.requires.able in
+    let less : depth (Bin c.match-node.op.0 (num_tree c.match-node.op.1.now) (num_tree c.match-node.op.2.now)) ≡ depth (num_tree c.args.node.now) = ap depth same ∙ same_depth (num_tree c.args.node.now) in
     search rules
 
-pub eval_negative-returns : goal.eval_negative-returns
-eval_negative-returns g t c =
-    negated (g.S.LaneInputs.look c.args.scope.now) (g.S.Calls.functions c.args.scope.now) _ _ _ _ _ _ (num_tree c.args.right.now) c.eval_operator.ensures
-
-pub eval_inverse-eval_operator-requires : goal.eval_inverse-eval_operator-requires
-eval_inverse-eval_operator-requires g t c =
-    let able : IsAble (g.S.LaneInputs.can c.args.scope.now) (g.S.LaneInputs.can_tell c.args.scope.now) (g.S.Calls.functions c.args.scope.now) (length c.args.scratch.now) (Bin op.Eq (num_tree c.args.left.now) (Lit (pos 0))) = of_inverse _ _ _ _ _ c.requires.able in
-    search rules
-
-pub eval_inverse-returns : goal.eval_inverse-returns
-eval_inverse-returns g t c =
-    inverted (g.S.LaneInputs.look c.args.scope.now) (g.S.Calls.functions c.args.scope.now) _ _ _ _ _ _ (num_tree c.args.left.now) c.eval_operator.ensures
+pub eval_unary-returns : goal.eval_unary-returns
+eval_unary-returns g t c =
+    let same : Bin c.match-node.op.0 (num_tree c.match-node.op.1.now) (num_tree c.match-node.op.2.now) ≡ with_zero (num_tree c.args.node.now) =
+    elim c.match-node.branch [ eval_unary-in-Neg w ↦ rw (w.op-is, w.in-Neg.is) (search rules) | eval_unary-in-Not w ↦ rw (w.op-is, w.in-Not.is) (search rules) ] in
+    with_sides g.S.LaneInputs.look g.S.Calls.functions c.args.scope.now _ _ _ _ _ _ (num_tree c.args.node.now) _ same c.eval_operator.ensures

@@ -8,11 +8,8 @@ use Rattle.expr_lanes.proofs.nodes.+lanes.Given as goal
 abbrev pub decreases-eval_node : goal.decreases-eval_node
 decreases-eval_node g l = 6 * depth (num_tree l.node.now) + 4
 
-abbrev pub decreases-eval_negative : goal.decreases-eval_negative
-decreases-eval_negative g l = 6 * depth (num_tree l.right.now) + 9
-
-abbrev pub decreases-eval_inverse : goal.decreases-eval_inverse
-decreases-eval_inverse g l = 6 * depth (num_tree l.left.now) + 9
+abbrev pub decreases-eval_unary : goal.decreases-eval_unary
+decreases-eval_unary g l = 6 * depth (num_tree l.node.now) + 3
 
 abbrev pub decreases-eval_side : goal.decreases-eval_side
 decreases-eval_side g l = 6 * depth (num_tree l.node.now) + 5
@@ -23,11 +20,8 @@ decreases-eval_operator g l = 6 * max (depth (num_tree l.sides.now.left.now)) (d
 abbrev pub decreases-eval_sides : goal.decreases-eval_sides
 decreases-eval_sides g l = 6 * max (depth (num_tree l.sides.now.left.now)) (depth (num_tree l.sides.now.right.now)) + 6
 
-abbrev pub decreases-eval_and : goal.decreases-eval_and
-decreases-eval_and g l = 6 * max (depth (num_tree l.sides.now.left.now)) (depth (num_tree l.sides.now.right.now)) + 7
-
-abbrev pub decreases-eval_or : goal.decreases-eval_or
-decreases-eval_or g l = 6 * max (depth (num_tree l.sides.now.left.now)) (depth (num_tree l.sides.now.right.now)) + 7
+abbrev pub decreases-eval_decider : goal.decreases-eval_decider
+decreases-eval_decider g l = 6 * max (depth (num_tree l.sides.now.left.now)) (depth (num_tree l.sides.now.right.now)) + 7
 
 abbrev pub decreases-eval_choice : goal.decreases-eval_choice
 decreases-eval_choice g l = 6 * max (depth (num_tree l.choice.now.condition.now)) (max (branch_depth l.choice.now.zero) (branch_depth l.choice.now.other)) + 6
