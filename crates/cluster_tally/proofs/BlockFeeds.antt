@@ -1,5 +1,5 @@
 -- A tally after a block fed a pass, and at the ends of a block.
-use Rattle.std.proofs.Common.{◌≡◌, ℕ, ◌+◌, ◌<◌, ◌≤◌, List, ◌++◌, length, map, Option, None, Some, inl, inr, refl, sym, ap, ◌∙◌, subst, arith}
+use Rattle.std.proofs.Common.{◌≡◌, ℕ, ◌+◌, ◌<◌, ◌≤◌, List, [], ◌++◌, length, map, Option, None, Some, inl, inr, refl, sym, ap, ap₂, ◌∙◌, subst, arith, append_assoc}
 use Rattle.std.specs.Prelude.{Err, Ok, OnOk, Result, slice_get, slice_set}
 use Rattle.std.proofs.lemmas.List.{length-map, length-set}
 use Rattle.std.proofs.lemmas.Option.{same_Some, slice_get_within}
@@ -14,16 +14,13 @@ use Rattle.actions.specs.Batches.{EachPlace, SuitsAt, batch_items, places_of, va
 use Rattle.actions.specs.Feeding.{Fed, from_cluster}
 use Rattle.actions.specs.Holding.{IsTake}
 use Rattle.actions.specs.declared.batch.Batch.{Batch}
-use Rattle.loop_pieces.specs.Flows.{both}
-use Rattle.loop_pieces.specs.LoopPieces.{counts_at, entries_over, fed_over}
-use Rattle.cluster_tally.specs.Blocks.{BlockStage, CanFeedBatch, CanTakeIn, HoldsIn, IsFedAloneIn, IsFedIn, TakesIn, TookIn, TookInIfThere, alone_in, block_begin, block_end, block_items, counts_in, fed_in, pass_done, taken_in}
+use Rattle.loop_pieces.specs.LoopPieces.{entries_over, fed_over}
+use Rattle.cluster_tally.specs.Blocks.{BlockStage, CanFeedBatch, CanTakeIn, TakesIn, TookIn, TookInIfThere, HoldsIn, block_items, pass_done}
 use Rattle.cluster_tally.specs.Laws as law
-use Rattle.cluster_tally.specs.Stages.{counted, counts_to, fed_to, first_items, first_reaches, taken_at}
-use Rattle.cluster_tally.specs.Tallies.{CanWatch, TallyView, places_there}
-use Rattle.cluster_tally.proofs.BlockSteps.{alone_next, alone_same, entries_room, fed_next, fed_same, in_before, in_from, in_same}
-use Rattle.cluster_tally.proofs.Feeds.{kind_at}
-use Rattle.cluster_tally.proofs.ListPlaces.{at_set, map_set_same, of_mapped, places_kept}
-use Rattle.cluster_tally.proofs.Steps.{alone_to, taken_from}
+use Rattle.cluster_tally.specs.Stages.{counts_by, fed_by, first_items, taken_in}
+use Rattle.cluster_tally.specs.Tallies.{CanWatch, HoldsUpTo, IsFedAlone, IsFedBy, TallyView, places_there}
+use Rattle.cluster_tally.proofs.ListPlaces.{at_set, kind_at, map_set_same, of_mapped, places_kept}
+use Rattle.cluster_tally.proofs.Steps.{entries_room, in_before, in_from, in_same, items_next}
 
 -- an action that is watched keeps no values
 pub none_kept : (k : ActionKind) → CanWatch k → IsTake k → ⊥
@@ -38,110 +35,38 @@ none_kept (kind.Histo2D e d x y w') w t = w
 
 -- ---- the ends of a block
 
-pub begins_block : law.BeginsBlock
-begins_block f watched s t block passes filters h = record {
+-- where as many entries are taken in at each place, the same is held
+held_alike : (f : LoopFacts) (watched done : List ℕ) (cluster : ℕ) (fed told fed' told' : ℕ → ℕ) (t : TallyView) → ((i : ℕ) → i < length f.kinds → fed i ≡ fed' i) → ((i : ℕ) → i < f.filters → told i ≡ told' i)
+    → HoldsUpTo f watched done cluster fed told t → HoldsUpTo f watched done cluster fed' told' t
+held_alike f watched done cluster fed told fed' told' t items counts h = record {
   facts = h.facts;
   rises = h.rises;
   above = h.above;
   kinds = h.kinds;
-  accs = λ i acc at. (let one = h.accs i acc at in record { fed = subst (HasFed acc) (fed_begun i) one.fed; few = omega (arith, one.few, taken i); last = one.last });
-  flow = h.flow ∙ map-below f.filters (counts_to f s) (counts_in f (block_begin s block)) (λ i lt. counts_begun i);
+  accs = λ i acc at. subst (λ n. IsFedBy f done cluster n i acc) (items i (omega (arith, slice_get_within t.accs i acc at, kinds_many))) (h.accs i acc at);
+  flow = h.flow ∙ map-below f.filters (λ i. counts_by f done cluster (told i) i) (λ i. counts_by f done cluster (told' i) i) (λ i lt. ap (λ n. counts_by f done cluster n i) (counts i lt));
   many = h.many;
   places = h.places;
-  alone = λ i acc at. (let one = h.alone i acc at in record { kind = one.kind; watch = one.watch; fed = subst (HasFed acc) (alone_begun i) one.fed; few = omega (arith, one.few, taken i); last = one.last });
-  trails = h.trails;
-}
-  where
-    taken : (i : ℕ) → taken_at s.entries s.passes i ≡ taken_in s.entries block 0 i
-    taken i = taken_from s.entries s.passes i (omega (arith, passes)) ∙ sym (in_from s.entries block 0 i (omega arith))
-
-    alone_begun : (i : ℕ) → alone_to f s i ≡ alone_in f (block_begin s block) i
-    alone_begun i = ap (λ n. from_cluster s.cluster (first_items f s.cluster n i)) (taken i)
-
-    fed_begun : (i : ℕ) → fed_to f s i ≡ fed_in f (block_begin s block) i
-    fed_begun i = ap (λ l. fed_over f s.done i ++ l) (alone_begun i)
-
-    counts_begun : (i : ℕ) → counts_to f s i ≡ counts_in f (block_begin s block) i
-    counts_begun i =
-        ap (λ n. both (counts_at f s.done i) (counted (first_reaches f s.cluster n i))) (taken_from s.entries s.filters i (omega (arith, filters)) ∙ sym (in_from s.entries block 0 i (omega arith)))
-
-pub ends_block : law.EndsBlock
-ends_block f watched s t passes filters h = record {
-  facts = h.facts;
-  rises = h.rises;
-  above = h.above;
-  kinds = h.kinds;
-  accs = λ i acc at. (
-      let one = h.accs i acc at in
-      let lt : i < s.passes = omega (arith, slice_get_within t.accs i acc at, kinds_many, passes) in
-      record { fed = subst (HasFed acc) (fed_ended i lt) one.fed; few = omega (arith, one.few, taken s.passes i lt); last = one.last });
-  flow = h.flow ∙ map-below f.filters (counts_in f s) (counts_to f (block_end s)) (λ i lt. counts_ended i (omega (arith, lt, filters)));
-  many = h.many;
-  places = h.places;
-  alone = λ i acc at. (
-      let one = h.alone i acc at in
-      let lt : i < s.passes = omega (arith, slice_get_within t.watched i (Some acc) at, kinds_many, passes, h.many) in
-      record { kind = one.kind; watch = one.watch; fed = subst (HasFed acc) (alone_ended i lt) one.fed; few = omega (arith, one.few, taken s.passes i lt); last = one.last });
+  alone = λ i acc at. subst (λ n. IsFedAlone f cluster n i acc) (items i (omega (arith, slice_get_within t.watched i (Some acc) at, kinds_many, h.many))) (h.alone i acc at);
   trails = h.trails;
 }
   where
     kinds_many : length t.accs ≡ length f.kinds
     kinds_many = sym (length-map t.accs kind_at) ∙ ap length h.kinds
 
-    taken : (limit i : ℕ) → i < limit → taken_in s.entries s.block limit i ≡ taken_at (s.entries + s.block) 0 i
-    taken limit i lt = in_before s.entries s.block limit i lt ∙ sym (taken_from (s.entries + s.block) 0 i (omega arith))
+pub begins_block : law.BeginsBlock
+begins_block f watched s t block passes filters h =
+    held_alike f watched s.done s.cluster (taken_in s.entries 1 s.passes) (taken_in s.entries 1 s.filters) (taken_in s.entries block 0) (taken_in s.entries block 0) t
+    (λ i lt. in_from s.entries 1 s.passes i (omega (arith, passes)) ∙ sym (in_from s.entries block 0 i (omega arith)))
+    (λ i lt. in_from s.entries 1 s.filters i (omega (arith, filters)) ∙ sym (in_from s.entries block 0 i (omega arith)))
+    h
 
-    alone_ended : (i : ℕ) → i < s.passes → alone_in f s i ≡ alone_to f (block_end s) i
-    alone_ended i lt = ap (λ n. from_cluster s.cluster (first_items f s.cluster n i)) (taken s.passes i lt)
-
-    fed_ended : (i : ℕ) → i < s.passes → fed_in f s i ≡ fed_to f (block_end s) i
-    fed_ended i lt = ap (λ l. fed_over f s.done i ++ l) (alone_ended i lt)
-
-    counts_ended : (i : ℕ) → i < s.filters → counts_in f s i ≡ counts_to f (block_end s) i
-    counts_ended i lt = ap (λ n. both (counts_at f s.done i) (counted (first_reaches f s.cluster n i))) (taken s.filters i lt)
-
--- ---- one pass
-
-module _ (f : LoopFacts) (s : BlockStage) (i : ℕ) (ne : i ≡ s.passes → ⊥) where
-  -- what is held of the other passes stays
-  fed_kept : (acc : Accumulator) → IsFedIn f s i acc → IsFedIn f (pass_done s) i acc
-  fed_kept acc h = record {
-    fed = subst (HasFed acc) (sym (fed_same f s i ne)) h.fed;
-    few = omega (arith, h.few, in_same s.entries s.block s.passes i ne);
-    last = h.last;
-  }
-
-  alone_kept : (acc : Accumulator) → IsFedAloneIn f s i acc → IsFedAloneIn f (pass_done s) i acc
-  alone_kept acc h = record {
-    kind = h.kind;
-    watch = h.watch;
-    fed = subst (HasFed acc) (sym (alone_same f s i ne)) h.fed;
-    few = omega (arith, h.few, in_same s.entries s.block s.passes i ne);
-    last = h.last;
-  }
-
-module _ (f : LoopFacts) (s : BlockStage) (batch : Batch) (acc now : Accumulator) (takes : TakesIn s.cluster batch acc now) (few_places : length (places_of batch.places) ≤ s.block) (same : block_items f s s.passes ≡ batch_items acc.kind batch) where
-  at_now : taken_in s.entries s.block s.passes s.passes ≡ s.entries
-  at_now = in_from s.entries s.block s.passes s.passes (omega arith)
-
-  at_next : taken_in s.entries s.block (s.passes + 1) s.passes ≡ s.entries + s.block
-  at_next = in_before s.entries s.block (s.passes + 1) s.passes (omega arith)
-
-  fed_more : IsFedIn f s s.passes acc → IsFedIn f (pass_done s) s.passes now
-  fed_more h = record {
-    fed = subst (HasFed now) (sym (fed_next f s ∙ ap (λ l. fed_in f s s.passes ++ from_cluster s.cluster l) same)) (takes.fed (fed_in f s s.passes) h.fed);
-    few = omega (arith, h.few, takes.entries, at_now, at_next, few_places);
-    last = omega (arith, takes.last);
-  }
-
-  alone_more : IsFedAloneIn f s s.passes acc → IsFedAloneIn f (pass_done s) s.passes now
-  alone_more h = record {
-    kind = h.kind ∙ ap Some (sym takes.kind);
-    watch = subst CanWatch (sym takes.kind) h.watch;
-    fed = subst (HasFed now) (sym (alone_next f s ∙ ap (λ l. alone_in f s s.passes ++ from_cluster s.cluster l) same)) (takes.fed (alone_in f s s.passes) h.fed);
-    few = omega (arith, h.few, takes.entries, at_now, at_next, few_places);
-    last = omega (arith, takes.last);
-  }
+pub ends_block : law.EndsBlock
+ends_block f watched s t passes filters h =
+    held_alike f watched s.done s.cluster (taken_in s.entries s.block s.passes) (taken_in s.entries s.block s.filters) (taken_in (s.entries + s.block) 1 0) (taken_in (s.entries + s.block) 1 0) t
+    (λ i lt. in_before s.entries s.block s.passes i (omega (arith, passes)) ∙ sym (in_from (s.entries + s.block) 1 0 i (omega arith)))
+    (λ i lt. in_before s.entries s.block s.filters i (omega (arith, filters)) ∙ sym (in_from (s.entries + s.block) 1 0 i (omega arith)))
+    h
 
 -- ---- a pass that is fed
 
@@ -157,34 +82,27 @@ module _ (f : LoopFacts) (watched : List ℕ) (s : BlockStage) (t : TallyView) (
   alone_kind : (acc : Accumulator) → slice_get t.watched pass ≡ Some (Some acc) → acc.kind ≡ can.kind
   alone_kind acc at = same_Some acc.kind can.kind (sym (can.holds.alone pass acc at).kind ∙ can.its_kind)
 
-  room : entries_over f s.done + s.entries + s.block ≤ 1000000
-  room = entries_room f watched s t can.holds can.within
+  at_now : taken_in s.entries s.block s.passes pass ≡ s.entries
+  at_now = in_from s.entries s.block s.passes pass (omega (arith, can.at_pass))
 
-  taken : taken_in s.entries s.block s.passes pass ≡ s.entries
-  taken = in_from s.entries s.block s.passes pass (omega (arith, can.at_pass))
+  at_next : taken_in s.entries s.block (s.passes + 1) pass ≡ s.entries + s.block
+  at_next = in_before s.entries s.block (s.passes + 1) pass (omega (arith, can.at_pass))
 
-  -- the accumulators can take the batch in
+  -- an accumulator of the pass can take the batch in
+  can_take_in : (done : List ℕ) (acc : Accumulator) → entries_over f done ≤ entries_over f s.done → acc.kind ≡ can.kind → IsFedBy f done s.cluster (taken_in s.entries s.block s.passes pass) pass acc
+      → CanTakeIn cluster batch acc
+  can_take_in done acc fewer same h = record {
+    suits = subst (λ k. EachPlace batch.places (SuitsAt k batch.sources)) (sym same) can.suits;
+    no_fault = subst (λ k. EachPlace batch.places (λ p. feed_fault k (values_at batch.sources p) ≡ None)) (sym same) can.no_fault;
+    rising = omega (arith, h.last, can.at_cluster);
+    room = omega (arith, h.few, entries_room f watched s t can.holds can.within, at_now, can.few);
+  }
+
   pub can_take : (acc : Accumulator) → slice_get t.accs pass ≡ Some acc → CanTakeIn cluster batch acc
-  can_take acc at =
-      let h = can.holds.accs pass acc at in
-      let same = sym (its_kind acc at) in
-      record {
-        suits = subst (λ k. EachPlace batch.places (SuitsAt k batch.sources)) same can.suits;
-        no_fault = subst (λ k. EachPlace batch.places (λ p. feed_fault k (values_at batch.sources p) ≡ None)) same can.no_fault;
-        rising = omega (arith, h.last, can.at_cluster);
-        room = omega (arith, h.few, room, taken, can.few);
-      }
+  can_take acc at = can_take_in s.done acc (omega arith) (its_kind acc at) (can.holds.accs pass acc at)
 
   pub can_take_alone : (acc : Accumulator) → slice_get t.watched pass ≡ Some (Some acc) → CanTakeIn cluster batch acc
-  can_take_alone acc at =
-      let h = can.holds.alone pass acc at in
-      let same = sym (alone_kind acc at) in
-      record {
-        suits = subst (λ k. EachPlace batch.places (SuitsAt k batch.sources)) same can.suits;
-        no_fault = subst (λ k. EachPlace batch.places (λ p. feed_fault k (values_at batch.sources p) ≡ None)) same can.no_fault;
-        rising = omega (arith, h.last, can.at_cluster);
-        room = omega (arith, h.few, room, taken, can.few);
-      }
+  can_take_alone acc at = can_take_in [] acc (omega arith) (alone_kind acc at) (can.holds.alone pass acc at).held
 
   pub within : pass < length t.accs
   within = slice_get_within t.accs pass its_acc.0 its_acc.1
@@ -192,34 +110,50 @@ module _ (f : LoopFacts) (watched : List ℕ) (s : BlockStage) (t : TallyView) (
   pub within_watched : pass < length t.watched
   within_watched = omega (arith, within, can.holds.many)
 
-  items_are : (k : ActionKind) → k ≡ can.kind → block_items f s s.passes ≡ batch_items k batch
-  items_are k e = ap (block_items f s) can.at_pass ∙ sym can.fed ∙ ap (λ j. batch_items j batch) (sym e)
+  -- then it was fed the block too
+  took_in : (done : List ℕ) (old now : Accumulator) → TakesIn cluster batch old now → old.kind ≡ can.kind → IsFedBy f done s.cluster (taken_in s.entries s.block s.passes pass) pass old
+      → IsFedBy f done s.cluster (taken_in s.entries s.block (s.passes + 1) pass) pass now
+  took_in done old now takes same h = record {
+    fed = subst (HasFed now) all (takes.fed (fed_by f done s.cluster (taken_in s.entries s.block s.passes pass) pass) h.fed);
+    few = omega (arith, h.few, takes.entries, at_now, at_next, can.few);
+    last = omega (arith, takes.last, can.at_cluster);
+  }
+    where
+      of : ℕ → List Fed
+      of n = from_cluster s.cluster (first_items f s.cluster n pass)
+
+      news : from_cluster cluster (batch_items old.kind batch) ≡ from_cluster s.cluster (block_items f s pass)
+      news = ap₂ from_cluster (sym can.at_cluster) (ap (λ k. batch_items k batch) same ∙ can.fed)
+
+      all : fed_by f done s.cluster (taken_in s.entries s.block s.passes pass) pass ++ from_cluster cluster (batch_items old.kind batch) ≡ fed_by f done s.cluster (taken_in s.entries s.block (s.passes + 1) pass) pass
+      all =
+          append_assoc (fed_over f done pass) (of (taken_in s.entries s.block s.passes pass)) (from_cluster cluster (batch_items old.kind batch))
+          ∙ ap (λ l. fed_over f done pass ++ l) (ap₂ (λ n l. of n ++ l) at_now news ∙ sym (items_next f s pass) ∙ ap of (sym at_next))
+
+  -- the others are as they were
+  same_taken : (i : ℕ) → (i ≡ pass → ⊥) → taken_in s.entries s.block s.passes i ≡ taken_in s.entries s.block (s.passes + 1) i
+  same_taken i ne = sym (in_same s.entries s.block s.passes i (λ e. ne (e ∙ can.at_pass)))
+
+  fed_still : (i : ℕ) → (i ≡ pass → ⊥) → (acc : Accumulator) → slice_get t.accs i ≡ Some acc → IsFedBy f s.done s.cluster (taken_in s.entries s.block (s.passes + 1) i) i acc
+  fed_still i ne acc at = subst (λ n. IsFedBy f s.done s.cluster n i acc) (same_taken i ne) (can.holds.accs i acc at)
+
+  alone_still : (i : ℕ) → (i ≡ pass → ⊥) → (acc : Accumulator) → slice_get t.watched i ≡ Some (Some acc) → IsFedAlone f s.cluster (taken_in s.entries s.block (s.passes + 1) i) i acc
+  alone_still i ne acc at = subst (λ n. IsFedAlone f s.cluster n i acc) (same_taken i ne) (can.holds.alone i acc at)
 
   module _ (accs : List Accumulator) (alone : List (Option Accumulator)) (are : TookIn pass cluster batch t.accs accs) (also : TookInIfThere pass cluster batch t.watched alone) where
-    fed_at : (old now : Accumulator) → TakesIn cluster batch old now → old.kind ≡ can.kind → IsFedIn f s pass old → IsFedIn f (pass_done s) pass now
-    fed_at old now takes same h =
-        subst (λ k. IsFedIn f (pass_done s) k now) can.at_pass
-        (fed_more f s batch old now (subst (λ c. TakesIn c batch old now) (sym can.at_cluster) takes) can.few (items_are old.kind same) (subst (λ k. IsFedIn f s k old) (sym can.at_pass) h))
-
-    alone_at : (old now : Accumulator) → TakesIn cluster batch old now → old.kind ≡ can.kind → IsFedAloneIn f s pass old → IsFedAloneIn f (pass_done s) pass now
-    alone_at old now takes same h =
-        subst (λ k. IsFedAloneIn f (pass_done s) k now) can.at_pass
-        (alone_more f s batch old now (subst (λ c. TakesIn c batch old now) (sym can.at_cluster) takes) can.few (items_are old.kind same) (subst (λ k. IsFedAloneIn f s k old) (sym can.at_pass) h))
-
-    other : (i : ℕ) → (i ≡ pass → ⊥) → i ≡ s.passes → ⊥
-    other i ne e = ne (e ∙ can.at_pass)
-
-    fed_all : (i : ℕ) (acc : Accumulator) → slice_get accs i ≡ Some acc → IsFedIn f (pass_done s) i acc
+    fed_all : (i : ℕ) (acc : Accumulator) → slice_get accs i ≡ Some acc → IsFedBy f s.done s.cluster (taken_in s.entries s.block (s.passes + 1) i) i acc
     fed_all i acc at = elim (at_set t.accs pass are.now i acc (ap (λ l. slice_get l i) (sym are.rest) ∙ at)) [
-      | inl p ↦ subst (λ k. IsFedIn f (pass_done s) k acc) (sym p.0) (subst (IsFedIn f (pass_done s) pass) (sym p.1) (fed_at are.acc are.now are.takes (its_kind are.acc are.its_place) (can.holds.accs pass are.acc are.its_place)))
-      | inr p ↦ fed_kept f s i (other i p.0) acc (can.holds.accs i acc p.1)
+      | inl p ↦ subst (λ k. IsFedBy f s.done s.cluster (taken_in s.entries s.block (s.passes + 1) k) k acc) (sym p.0)
+          (subst (IsFedBy f s.done s.cluster (taken_in s.entries s.block (s.passes + 1) pass) pass) (sym p.1)
+          (took_in s.done are.acc are.now are.takes (its_kind are.acc are.its_place) (can.holds.accs pass are.acc are.its_place)))
+      | inr p ↦ fed_still i p.0 acc p.1
     ]
 
     -- what becomes of the watched accumulators
     pub record AloneAfter : Type 0 where
       pub many : length alone ≡ length t.watched
       pub places : places_there 0 alone ≡ places_there 0 t.watched
-      pub each : (i : ℕ) (acc : Accumulator) → slice_get alone i ≡ Some (Some acc) → IsFedAloneIn f (pass_done s) i acc
+      pub each : (i : ℕ) (acc : Accumulator) → slice_get alone i ≡ Some (Some acc) → IsFedAlone f s.cluster (taken_in s.entries s.block (s.passes + 1) i) i acc
 
     unwatched : slice_get t.watched pass ≡ Some None → AloneAfter
     unwatched none =
@@ -229,19 +163,21 @@ module _ (f : LoopFacts) (watched : List ℕ) (s : BlockStage) (t : TallyView) (
           places = ap (places_there 0) same;
           each = λ i acc at. (
               let before = ap (λ l. slice_get l i) (sym same) ∙ at in
-              alone_kept f s i (other i (λ e. (let two = ap (slice_get t.watched) (sym e) ∙ before in let three = sym none ∙ two in absurd (cc)))) acc (can.holds.alone i acc before));
+              alone_still i (λ e. (let two = ap (slice_get t.watched) (sym e) ∙ before in let three = sym none ∙ two in absurd (cc))) acc before);
         }
 
     watched_one : (old : Accumulator) → slice_get t.watched pass ≡ Some (Some old) → AloneAfter
     watched_one old here =
         let is = also.some old here in
+        let was = can.holds.alone pass old here in
         record {
           many = ap length is.2 ∙ length-set t.watched pass (Some is.0);
           places = ap (places_there 0) is.2 ∙ places_kept t.watched 0 pass is.0 old here;
           each = λ i acc at. elim (at_set t.watched pass (Some is.0) i (Some acc) (ap (λ l. slice_get l i) (sym is.2) ∙ at)) [
             | inl p ↦ (let same : acc ≡ is.0 = same_Some acc is.0 p.1 in
-                subst (λ k. IsFedAloneIn f (pass_done s) k acc) (sym p.0) (subst (IsFedAloneIn f (pass_done s) pass) (sym same) (alone_at old is.0 is.1 (alone_kind old here) (can.holds.alone pass old here))))
-            | inr p ↦ alone_kept f s i (other i p.0) acc (can.holds.alone i acc p.1)
+                subst (λ k. IsFedAlone f s.cluster (taken_in s.entries s.block (s.passes + 1) k) k acc) (sym p.0) (subst (IsFedAlone f s.cluster (taken_in s.entries s.block (s.passes + 1) pass) pass) (sym same)
+                (record { kind = was.kind ∙ ap Some (sym is.1.kind); watch = subst CanWatch (sym is.1.kind) was.watch; held = took_in [] old is.0 is.1 (alone_kind old here) was.held })))
+            | inr p ↦ alone_still i p.0 acc p.1
           ];
         }
 

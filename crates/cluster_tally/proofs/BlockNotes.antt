@@ -16,7 +16,7 @@ use Rattle.loop_pieces.specs.declared.flow.Counts.{Counts}
 use Rattle.cluster_tally.specs.Blocks.{BlockStage, CanNoteCounts, HoldsIn, block_reaches, counts_in, filter_done}
 use Rattle.cluster_tally.specs.Stages.{counted}
 use Rattle.cluster_tally.specs.Tallies.{TallyView}
-use Rattle.cluster_tally.proofs.BlockSteps.{counts_next, counts_room, counts_same}
+use Rattle.cluster_tally.proofs.Steps.{counts_next, counts_room, counts_same}
 
 passed_one : (r : Reach) → cond (is_passed r) 1 0 ≤ cond (is_reached r) 1 0
 passed_one Stopped = omega arith
@@ -87,10 +87,10 @@ module _ (f : LoopFacts) (watched : List ℕ) (s : BlockStage) (t : TallyView) (
         rises = h.rises;
         above = h.above;
         kinds = h.kinds;
-        accs = λ i acc at. (let one = h.accs i acc at in record { fed = one.fed; few = one.few; last = one.last });
+        accs = h.accs;
         flow = flow_now flow is;
         many = h.many;
         places = h.places;
-        alone = λ i acc at. (let one = h.alone i acc at in record { kind = one.kind; watch = one.watch; fed = one.fed; few = one.few; last = one.last });
+        alone = h.alone;
         trails = h.trails;
       }

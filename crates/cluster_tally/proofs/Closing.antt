@@ -1,5 +1,5 @@
 -- The end of a cluster.
-use Rattle.std.proofs.Common.{◌≡◌, ℕ, zero, suc, ◌+◌, ◌<◌, ◌≤◌, List, [], ◌∷◌, ◌++◌, length, map, take, drop, set, get_or, Option, None, Some, refl, sym, ap, ap₂, ◌∙◌, subst, arith, append_assoc, append-nil}
+use Rattle.std.proofs.Common.{◌≡◌, ℕ, zero, suc, ◌+◌, ◌<◌, List, [], ◌∷◌, ◌++◌, length, map, take, drop, set, get_or, Option, None, Some, refl, sym, ap, ap₂, ◌∙◌, subst, arith, append_assoc, append-nil}
 use Rattle.std.specs.Prelude.{All, Err, Ok, OnOk, Result, flat_map, slice_get}
 use Rattle.std.specs.List.Sorted.{IsStrictlyIncreasing}
 use Rattle.std.proofs.lemmas.List.{drop-drop, drop-set-lt, drop_more, length-map, length-set, map-append, map_more, take_all, take_more_set}
@@ -28,11 +28,11 @@ use Rattle.loop_pieces.specs.declared.watch_piece.WatchPiece.{WatchPiece}
 use Rattle.loop_pieces.proofs.FedOver.{items_in_order}
 use Rattle.cluster_tally.specs.Closings.{note_of, noted_all, noted_at, piece_for, renewed, times_there}
 use Rattle.cluster_tally.specs.Feedings.{IsAtEnd, fresh_acc}
-use Rattle.cluster_tally.specs.Stages.{Stage, at_begin, counted, counts_to, fed_to, first_items, first_reaches, taken_at}
+use Rattle.cluster_tally.specs.Stages.{Stage, at_begin, counted, counts_by, fed_by, first_items, first_reaches, taken_in}
 use Rattle.cluster_tally.specs.Tallies.{CanWatch, Holds, IsFedAlone, TallyView, places_there}
 use Rattle.cluster_tally.proofs.ListPlaces.{of_mapped, ranges_same}
 use Rattle.cluster_tally.proofs.Stagings.{counts_at_begin, fed_at_begin, fresh_alone}
-use Rattle.cluster_tally.proofs.Steps.{alone_to, counted_both, entries_with, taken_from}
+use Rattle.cluster_tally.proofs.Steps.{counted_both, entries_with, in_from}
 
 -- ---- the loop over the watchers
 
@@ -174,16 +174,16 @@ module _ (f : LoopFacts) (watched : List ℕ) (s : Stage) (t : TallyView) (clust
   all_taken : s.entries ≡ length (span_rows f.spreads (slice_get f.ranges s.cluster))
   all_taken = end.entries ∙ ap (λ c. length (span_rows f.spreads (slice_get f.ranges c))) (sym end.at_cluster)
 
-  taken : (i : ℕ) → taken_at s.entries s.passes i ≡ s.entries
-  taken i = taken_from s.entries s.passes i (omega (arith, end.passes))
+  taken : (i : ℕ) → taken_in s.entries 1 s.passes i ≡ s.entries
+  taken i = in_from s.entries 1 s.passes i (omega (arith, end.passes))
 
-  items_all : (i : ℕ) → first_items f s.cluster (taken_at s.entries s.passes i) i ≡ cluster_items f i s.cluster
+  items_all : (i : ℕ) → first_items f s.cluster (taken_in s.entries 1 s.passes i) i ≡ cluster_items f i s.cluster
   items_all i = ap (λ n. first_items f s.cluster n i) (taken i) ∙ ap (flat_map (λ (r : List (List Item)). list_at r i)) (take_all s.entries (span_rows f.spreads (slice_get f.ranges s.cluster)) (omega (arith, all_taken)))
 
-  alone_all : (i : ℕ) → alone_to f s i ≡ from_cluster s.cluster (cluster_items f i s.cluster)
+  alone_all : (i : ℕ) → fed_by f [] s.cluster (taken_in s.entries 1 s.passes i) i ≡ from_cluster s.cluster (cluster_items f i s.cluster)
   alone_all i = ap (from_cluster s.cluster) (items_all i)
 
-  fed_all : (i : ℕ) → fed_to f s i ≡ fed_to f after i
+  fed_all : (i : ℕ) → fed_by f s.done s.cluster (taken_in s.entries 1 s.passes i) i ≡ fed_by f (s.done ++ s.cluster ∷ []) next (taken_in 0 1 0 i) i
   fed_all i =
       ap (λ l. fed_over f s.done i ++ l) (alone_all i ∙ sym (append-nil (from_cluster s.cluster (cluster_items f i s.cluster))))
       ∙ sym (flat_map-append (λ c. from_cluster c (cluster_items f i c)) s.done (s.cluster ∷ []))
@@ -195,12 +195,12 @@ module _ (f : LoopFacts) (watched : List ℕ) (s : Stage) (t : TallyView) (clust
   span_same None = refl
   span_same (Some r) = ranges_same f.reaches f.spreads r h.facts.rows
 
-  reaches_all : (i : ℕ) → first_reaches f s.cluster (taken_at s.entries s.filters i) i ≡ flat_map (λ (row : List Reach). if_there (slice_get row i)) (span_rows f.reaches (slice_get f.ranges s.cluster))
+  reaches_all : (i : ℕ) → first_reaches f s.cluster (taken_in s.entries 1 s.filters i) i ≡ flat_map (λ (row : List Reach). if_there (slice_get row i)) (span_rows f.reaches (slice_get f.ranges s.cluster))
   reaches_all i =
-      ap (λ n. first_reaches f s.cluster n i) (taken_from s.entries s.filters i (omega (arith, end.filters)))
+      ap (λ n. first_reaches f s.cluster n i) (in_from s.entries 1 s.filters i (omega (arith, end.filters)))
       ∙ ap (flat_map (λ (row : List Reach). if_there (slice_get row i))) (take_all s.entries (span_rows f.reaches (slice_get f.ranges s.cluster)) (omega (arith, all_taken, span_same (slice_get f.ranges s.cluster))))
 
-  counts_all : (i : ℕ) → counts_to f s i ≡ counts_to f after i
+  counts_all : (i : ℕ) → counts_by f s.done s.cluster (taken_in s.entries 1 s.filters i) i ≡ counts_by f (s.done ++ s.cluster ∷ []) next (taken_in 0 1 0 i) i
   counts_all i =
       let of = λ (row : List Reach). if_there (slice_get row i) in
       let here = span_rows f.reaches (slice_get f.ranges s.cluster) in
@@ -219,9 +219,9 @@ module _ (f : LoopFacts) (watched : List ℕ) (s : Stage) (t : TallyView) (clust
   stands : (i : ℕ) (acc : Accumulator) → slice_get t.watched i ≡ Some (Some acc) → WatchStandsFor (watch_facts f i) (s.cluster ∷ []) (piece_for acc.kind acc.filled)
   stands i acc at =
       let a = h.alone i acc at in
-      let items = in_file_order (alone_to f s i) in
+      let items = in_file_order (fed_by f [] s.cluster (taken_in s.entries 1 s.passes i) i) in
       let is = piece_is acc.kind items a.watch in
-      let filled : acc.filled ≡ fold_items acc.kind items = a.fed.filled in
+      let filled : acc.filled ≡ fold_items acc.kind items = a.held.fed.filled in
       let order : items ≡ _ = ap in_file_order (alone_all i ∙ sym (append-nil (from_cluster s.cluster (cluster_items f i s.cluster)))) ∙ items_in_order f (s.cluster ∷ []) i one_rises in
       record {
         facts = h.facts;
@@ -244,14 +244,14 @@ module _ (f : LoopFacts) (watched : List ℕ) (s : Stage) (t : TallyView) (clust
             (All-push (λ (n : Noted WatchPiece). WatchStandsFor (watch_facts f place) (n.cluster ∷ []) n.piece) r.before (note_of s.cluster r.acc) old.alone one);
       }
 
-  alone_after : (i : ℕ) (acc : Accumulator) → slice_get (map renewed t.watched) i ≡ Some (Some acc) → IsFedAlone f after i acc
+  alone_after : (i : ℕ) (acc : Accumulator) → slice_get (map renewed t.watched) i ≡ Some (Some acc) → IsFedAlone f next (taken_in 0 1 0 i) i acc
   alone_after i acc at = let of = of_mapped renewed t.watched i (Some acc) at in go of.0 of.1 of.2
     where
-      go : (o : Option Accumulator) → slice_get t.watched i ≡ Some o → Some acc ≡ renewed o → IsFedAlone f after i acc
+      go : (o : Option Accumulator) → slice_get t.watched i ≡ Some o → Some acc ≡ renewed o → IsFedAlone f next (taken_in 0 1 0 i) i acc
       go None there e = absurd (cc)
       go (Some old) there e =
           let a = h.alone i old there in
-          subst (IsFedAlone f after i) (sym (same_Some acc (fresh_acc old.kind) e)) (fresh_alone f (s.done ++ s.cluster ∷ []) next i old.kind a.kind a.watch)
+          subst (IsFedAlone f next (taken_in 0 1 0 i) i) (sym (same_Some acc (fresh_acc old.kind) e)) (fresh_alone f next i old.kind a.kind a.watch)
 
   at_own : Holds f watched after (record { accs = t.accs; watched = map renewed t.watched; flow = t.flow; trails = noted_all s.cluster t.watched t.trails })
   at_own =
@@ -264,7 +264,7 @@ module _ (f : LoopFacts) (watched : List ℕ) (s : Stage) (t : TallyView) (clust
         accs = λ i acc at. (
             let one = h.accs i acc at in
             record { fed = subst (HasFed acc) (fed_all i) one.fed; few = omega (arith, one.few, taken i, all_taken, entries_with f s.done s.cluster); last = omega (arith, one.last) });
-        flow = h.flow ∙ map-below f.filters (counts_to f s) (counts_to f after) (λ i lt. counts_all i);
+        flow = h.flow ∙ map-below f.filters _ (λ i. counts_by f (s.done ++ s.cluster ∷ []) next (taken_in 0 1 0 i) i) (λ i lt. counts_all i);
         many = length-map t.watched renewed ∙ h.many;
         places = places_renewed t.watched 0 ∙ h.places;
         alone = alone_after;

@@ -1,10 +1,7 @@
 pub mod BlockFeeds
 pub mod BlockNotes
-pub mod BlockSteps
 pub mod Closing
-pub mod Feeds
 pub mod ListPlaces
-pub mod Notings
 pub mod Pieces
 pub mod Stagings
 pub mod Steps

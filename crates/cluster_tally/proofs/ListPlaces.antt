@@ -1,12 +1,14 @@
 -- Lists by their places.
-use Rattle.std.proofs.Common.{◌≡◌, ℕ, zero, suc, ◌+◌, ◌<◌, List, [], ◌∷◌, ◌++◌, length, map, take, drop, set, Option, None, Some, ◌⊎◌, inl, inr, refl, sym, ap, ◌∙◌, arith}
+use Rattle.std.proofs.Common.{◌≡◌, ℕ, zero, suc, ◌+◌, List, [], ◌∷◌, ◌++◌, length, map, drop, set, Option, None, Some, ◌⊎◌, inl, inr, refl, sym, ap, ◌∙◌, arith}
 use Rattle.std.specs.Prelude.{◌-◌, slice_get, slice_range}
-use Rattle.std.proofs.lemmas.List.{length-drop, length-take, take_more}
-use Rattle.std.proofs.lemmas.Option.{get_or_from_slice_get, slice_get_within}
-use Rattle.lemmas.proofs.Places.{something_at}
+use Rattle.std.proofs.lemmas.List.{length-drop, length-take}
 use Rattle.rdf_values.specs.declared.span.Span.{Span}
+use Rattle.rdf_values.specs.declared.action.ActionKind.{ActionKind}
 use Rattle.actions.specs.Accumulators.{Accumulator}
 use Rattle.cluster_tally.specs.Tallies.{places_there}
+
+abbrev pub kind_at : Accumulator → ActionKind
+kind_at acc = acc.kind
 
 pub of_mapped : {A B : Type 0} (g : A → B) (xs : List A) (i : ℕ) (y : B) → slice_get (map g xs) i ≡ Some y → (x : A) × (slice_get xs i ≡ Some x) × (y ≡ g x)
 of_mapped g [] i y e = absurd (cc)
@@ -40,21 +42,6 @@ places_kept (Some a ∷ xs) n (suc i) v x at = ap (λ l. n ∷ l) (places_kept x
 -- lists of one length have as many in a range
 pub ranges_same : {A B : Type 0} (xs : List A) (ys : List B) (r : Span) → length xs ≡ length ys → length (slice_range xs r.lo r.hi) ≡ length (slice_range ys r.lo r.hi)
 ranges_same xs ys r e = omega (arith, length-take (r.hi - r.lo) (drop r.lo xs), length-take (r.hi - r.lo) (drop r.lo ys), length-drop r.lo xs, length-drop r.lo ys)
-
--- what stands at a place of a list with one more
-pub at_push : {A : Type 0} (xs : List A) (y : A) (i : ℕ) (x : A) → slice_get (xs ++ y ∷ []) i ≡ Some x → (slice_get xs i ≡ Some x) ⊎ ((i ≡ length xs) × (x ≡ y))
-at_push [] y zero x e = let same : y ≡ x = cc in inr (refl, sym same)
-at_push [] y (suc i) x e = absurd (cc)
-at_push (z ∷ zs) y zero x e = inl e
-at_push (z ∷ zs) y (suc i) x e = elim (at_push zs y i x e) [
-  | inl p ↦ inl p
-  | inr p ↦ inr (ap (λ k. suc k) p.0, p.1)
-]
-
-pub kept_at : {A : Type 0} (xs : List A) (y : A) (i : ℕ) (x : A) → slice_get xs i ≡ Some x → slice_get (xs ++ y ∷ []) i ≡ Some x
-kept_at [] y i x e = absurd (cc)
-kept_at (z ∷ zs) y zero x e = e
-kept_at (z ∷ zs) y (suc i) x e = kept_at zs y i x e
 
 pub places_more : (xs : List (Option Accumulator)) (n : ℕ) (o : Option Accumulator) → places_there n (xs ++ o ∷ []) ≡ places_there n xs ++ places_there (n + length xs) (o ∷ [])
 places_more [] n o = let e : n ≡ n + 0 = omega arith in ap (λ k. places_there k (o ∷ [])) e

@@ -3,7 +3,7 @@ use Rattle.std.proofs.Common.{◌≡◌, ℕ, ◌+◌, List, [], ◌∷◌, ◌+
 use Rattle.std.specs.Prelude.{slice_get}
 use Rattle.std.proofs.lemmas.List.{length_push, map-append}
 use Rattle.std.proofs.lemmas.Option.{same_Some, slice_get-get_or}
-use Rattle.lemmas.proofs.Places.{last_at}
+use Rattle.lemmas.proofs.Places.{before_or_last, kept_at, last_at}
 use Rattle.rdf_values.proofs.Below.{map-below}
 use Rattle.rdf_values.specs.declared.action.ActionKind.{ActionKind}
 use Rattle.rdf_model.specs.declared.loop_facts.LoopFacts.{LoopFacts}
@@ -11,11 +11,11 @@ use Rattle.actions.specs.Accumulators.{Accumulator, HasFed}
 use Rattle.loop_pieces.specs.LoopPieces.{StandsFor, counts_at}
 use Rattle.loop_pieces.specs.declared.loop_piece.LoopPiece.{LoopPiece}
 use Rattle.cluster_tally.specs.Feedings.{IsFresh, acc_if, fresh_acc, place_if, with_trail}
-use Rattle.cluster_tally.specs.Stages.{at_begin, counts_to}
+use Rattle.cluster_tally.specs.Stages.{at_begin, counts_by, taken_in}
 use Rattle.cluster_tally.specs.Tallies.{CanWatch, Holds, TallyView, places_there}
-use Rattle.cluster_tally.proofs.ListPlaces.{at_push, kept_at, places_more}
+use Rattle.cluster_tally.proofs.ListPlaces.{places_more}
 use Rattle.cluster_tally.proofs.Stagings.{counts_at_begin, fed_at_begin}
-use Rattle.cluster_tally.proofs.Steps.{taken_from}
+use Rattle.cluster_tally.proofs.Steps.{in_from}
 
 -- ---- the first
 
@@ -29,9 +29,9 @@ module _ (kinds : List ActionKind) (watched : List ℕ) (t : TallyView) (k : Act
 
   alone_now : (b : Bool) → (b ≡ true → CanWatch k) → (i : ℕ) (acc : Accumulator) → slice_get (t.watched ++ acc_if b k ∷ []) i ≡ Some (Some acc)
       → (j : ActionKind) × (slice_get (kinds ++ k ∷ []) i ≡ Some j) × CanWatch j × (acc ≡ fresh_acc j)
-  alone_now b can i acc at = elim (at_push t.watched (acc_if b k) i (Some acc) at) [
-    | inl p ↦ (let one = h.alone i acc p in (one.0, kept_at kinds k i one.0 one.1, one.2, one.3))
-    | inr p ↦ go b can p.1 (ap (slice_get (kinds ++ k ∷ [])) (p.0 ∙ h.many) ∙ last_at kinds k)
+  alone_now b can i acc at = elim (before_or_last t.watched (acc_if b k) i (Some acc) at) [
+    | inl p ↦ (let one = h.alone i acc p in (one.0, kept_at kinds (k ∷ []) i one.0 one.1, one.2, one.3))
+    | inr p ↦ go b can (sym p.1) (ap (slice_get (kinds ++ k ∷ [])) (p.0 ∙ h.many) ∙ last_at kinds k)
   ]
     where
       go : (b : Bool) → (b ≡ true → CanWatch k) → Some acc ≡ acc_if b k → slice_get (kinds ++ k ∷ []) i ≡ Some k → (j : ActionKind) × (slice_get (kinds ++ k ∷ []) i ≡ Some j) × CanWatch j × (acc ≡ fresh_acc j)
@@ -73,6 +73,6 @@ stands f watched done c t p accs flow h = record {
   kinds = ap (map (λ (acc : Accumulator). acc.kind)) accs ∙ h.kinds;
   accs = λ i d lt. (
       let one = h.accs i _ (ap (λ l. slice_get l i) (sym accs) ∙ slice_get-get_or p.accs.items i d lt) in
-      record { fed = subst (HasFed _) (fed_at_begin f done c i) one.fed; few = omega (arith, one.few, taken_from 0 0 i (omega arith)) });
-  flow = flow ∙ h.flow ∙ map-below f.filters (counts_to f (at_begin done c)) (counts_at f done) (λ i lt. counts_at_begin f done c i);
+      record { fed = subst (HasFed _) (fed_at_begin f done c i) one.fed; few = omega (arith, one.few, in_from 0 1 0 i (omega arith)) });
+  flow = flow ∙ h.flow ∙ map-below f.filters (λ i. counts_by f done c (taken_in 0 1 0 i) i) (counts_at f done) (λ i lt. counts_at_begin f done c i);
 }

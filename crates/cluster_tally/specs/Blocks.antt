@@ -1,11 +1,9 @@
 -- A tally in the midst of a block of entries: each pass and each filter takes in the whole block at once.
-use Rattle.std.specs.Prelude.{◌≡◌, ◌+◌, ◌<◌, ◌≤◌, ℕ, List, All, Option, None, Some, ◌++◌, flat_map, if◌then◌else◌, length, map, nat_lt, slice_get, slice_set, take, drop}
-use Rattle.std.specs.List.Sorted.{IsStrictlyIncreasing}
-use Rattle.rdf_values.specs.Cuts.{below}
+use Rattle.std.specs.Prelude.{◌≡◌, ◌+◌, ◌<◌, ◌≤◌, ℕ, List, Option, None, Some, ◌++◌, flat_map, length, slice_get, slice_set, take, drop}
 use Rattle.rdf_values.specs.Spread.{feed_fault}
 use Rattle.rdf_values.specs.declared.action.ActionKind.{ActionKind}
 use Rattle.rdf_values.specs.declared.item.Item.{Item}
-use Rattle.rdf_model.specs.LoopFacts.{IsLoopFacts, if_there, list_at}
+use Rattle.rdf_model.specs.LoopFacts.{if_there, list_at}
 use Rattle.rdf_model.specs.PartialResults.{span_rows}
 use Rattle.rdf_model.specs.declared.loop_facts.LoopFacts.{LoopFacts}
 use Rattle.rdf_model.specs.declared.loop_facts.Reach.{Reach}
@@ -13,12 +11,9 @@ use Rattle.actions.specs.Accumulators.{Accumulator, HasFed}
 use Rattle.actions.specs.Batches.{EachPlace, HasValues, SuitsAt, batch_items, places_of, values_at}
 use Rattle.actions.specs.Feeding.{Fed, from_cluster}
 use Rattle.actions.specs.declared.batch.Batch.{Batch}
-use Rattle.loop_pieces.specs.Flows.{both}
 use Rattle.loop_pieces.specs.declared.flow.Counts.{Counts}
-use Rattle.loop_pieces.specs.LoopPieces.{counts_at, entries_over, fed_over}
-use Rattle.loop_pieces.specs.Trails.{HaveTrails}
-use Rattle.cluster_tally.specs.Stages.{Stage, counted, first_items, first_reaches}
-use Rattle.cluster_tally.specs.Tallies.{CanWatch, TallyView, places_there}
+use Rattle.cluster_tally.specs.Stages.{Stage, counted, counts_by, taken_in}
+use Rattle.cluster_tally.specs.Tallies.{HoldsUpTo, TallyView}
 
 -- the clusters that were finished, the cluster that is worked on, how many of its entries were taken in before the block, how many the
 -- block has, and the action passes and the named filters before these places, which took the block in too
@@ -30,49 +25,13 @@ pub record BlockStage : Type 0 where
   pub passes : ℕ
   pub filters : ℕ
 
--- how many entries of the cluster are taken in at a place
-abbrev pub taken_in : ℕ → ℕ → ℕ → ℕ → ℕ
-taken_in before block limit place = if nat_lt place limit then before + block else before
-
--- what action pass i was fed of the cluster, and of all clusters up to there
-abbrev pub alone_in : LoopFacts → BlockStage → ℕ → List Fed
-alone_in f s i = from_cluster s.cluster (first_items f s.cluster (taken_in s.entries s.block s.passes i) i)
-
-abbrev pub fed_in : LoopFacts → BlockStage → ℕ → List Fed
-fed_in f s i = fed_over f s.done i ++ alone_in f s i
-
--- what was counted of named filter i
+-- what was counted of named filter i up to the stage
 abbrev pub counts_in : LoopFacts → BlockStage → ℕ → Counts
-counts_in f s i = both (counts_at f s.done i) (counted (first_reaches f s.cluster (taken_in s.entries s.block s.filters i) i))
-
--- the accumulator was fed what its pass is to be fed up to the stage
-pub record IsFedIn (f : LoopFacts) (s : BlockStage) (i : ℕ) (acc : Accumulator) : Type 0 where
-  pub fed : HasFed acc (fed_in f s i)
-  pub few : acc.entries ≤ entries_over f s.done + taken_in s.entries s.block s.passes i
-  pub last : acc.last ≤ s.cluster
-
--- and that of a watched pass what the current cluster feeds to it
-pub record IsFedAloneIn (f : LoopFacts) (s : BlockStage) (i : ℕ) (acc : Accumulator) : Type 0 where
-  pub kind : slice_get f.kinds i ≡ Some acc.kind
-  pub watch : CanWatch acc.kind
-  pub fed : HasFed acc (alone_in f s i)
-  pub few : acc.entries ≤ taken_in s.entries s.block s.passes i
-  pub last : acc.last ≤ s.cluster
+counts_in f s i = counts_by f s.done s.cluster (taken_in s.entries s.block s.filters i) i
 
 -- the tally has taken in what a loop with these facts gives up to the stage
-pub record HoldsIn (f : LoopFacts) (watched : List ℕ) (s : BlockStage) (t : TallyView) : Type 0 where
-  pub facts : IsLoopFacts f
-  pub rises : IsStrictlyIncreasing s.done
-  pub above : All (λ c. c < s.cluster) s.done
-  pub kinds : map (λ (acc : Accumulator). acc.kind) t.accs ≡ f.kinds
-  pub accs : (i : ℕ) (acc : Accumulator) → slice_get t.accs i ≡ Some acc → IsFedIn f s i acc
-  pub flow : t.flow ≡ map (counts_in f s) (below f.filters)
-  pub many : length t.watched ≡ length t.accs
-  pub places : places_there 0 t.watched ≡ watched
-  pub alone : (i : ℕ) (acc : Accumulator) → slice_get t.watched i ≡ Some (Some acc) → IsFedAloneIn f s i acc
-  pub trails : HaveTrails f watched s.done t.trails
-
--- ---- the block
+abbrev pub HoldsIn : LoopFacts → List ℕ → BlockStage → TallyView → Type 0
+HoldsIn f watched s t = HoldsUpTo f watched s.done s.cluster (taken_in s.entries s.block s.passes) (taken_in s.entries s.block s.filters) t
 
 -- before its block is taken in
 abbrev pub block_begin : Stage → ℕ → BlockStage

@@ -1,14 +1,11 @@
 -- How a tally that was told nothing comes to a later stage.
-use Rattle.std.specs.Prelude.{◌≡◌, ℕ, List, [], Some, length, replicate, slice_get}
-use Rattle.rdf_values.specs.declared.item.Item.{Item}
+use Rattle.std.specs.Prelude.{◌≡◌, ℕ, List, [], length, replicate}
 use Rattle.rdf_model.specs.LoopFacts.{IsLoopFacts}
 use Rattle.rdf_model.specs.declared.loop_facts.LoopFacts.{LoopFacts}
-use Rattle.rdf_model.specs.declared.loop_facts.Reach.{Reach}
-use Rattle.rdf_model.specs.declared.loop_facts.Reach.TheVariants.{Stopped}
 use Rattle.loop_pieces.specs.Flows.{nothing}
 use Rattle.cluster_tally.specs.Blocks.{BlockStage, HoldsIn, block_begin, block_end}
-use Rattle.cluster_tally.specs.Feedings.{IsFresh, after_filter, after_pass}
-use Rattle.cluster_tally.specs.Stages.{IsNextEntry, Stage, after_entry, at_begin}
+use Rattle.cluster_tally.specs.Feedings.{IsFresh}
+use Rattle.cluster_tally.specs.Stages.{Stage, at_begin}
 use Rattle.cluster_tally.specs.Tallies.{Holds, TallyView}
 
 -- a fresh tally of all passes holds what no cluster gives
@@ -16,24 +13,6 @@ abbrev pub FreshHolds : Type 0
 FreshHolds =
     (f : LoopFacts) (watched : List ℕ) (t : TallyView) (cluster : ℕ)
     → IsLoopFacts f → IsFresh f.kinds watched t → t.flow ≡ replicate f.filters nothing → Holds f watched (at_begin [] cluster) t
-
--- a pass to which the next entry feeds nothing is taken in
-abbrev pub SkipsPass : Type 0
-SkipsPass =
-    (f : LoopFacts) (watched : List ℕ) (s : Stage) (t : TallyView) (spreads : List (List Item)) (reaches : List Reach)
-    → Holds f watched s t → IsNextEntry f s spreads reaches → slice_get spreads s.passes ≡ Some [] → Holds f watched (after_pass s) t
-
--- so is a filter that the next entry doesn't reach
-abbrev pub SkipsFilter : Type 0
-SkipsFilter =
-    (f : LoopFacts) (watched : List ℕ) (s : Stage) (t : TallyView) (spreads : List (List Item)) (reaches : List Reach)
-    → Holds f watched s t → IsNextEntry f s spreads reaches → slice_get reaches s.filters ≡ Some Stopped → Holds f watched (after_filter s) t
-
--- once all passes and filters are taken in, so is the entry
-abbrev pub EndsEntry : Type 0
-EndsEntry =
-    (f : LoopFacts) (watched : List ℕ) (s : Stage) (t : TallyView)
-    → s.passes ≡ length f.kinds → s.filters ≡ f.filters → Holds f watched s t → Holds f watched (after_entry s) t
 
 -- before a block a tally holds what it holds between two entries
 abbrev pub BeginsBlock : Type 0

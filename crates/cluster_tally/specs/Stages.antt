@@ -1,5 +1,5 @@
 -- How far a slot has come in a loop, and what its clusters and entries so far feed and reach.
-use Rattle.std.specs.Prelude.{◌≡◌, ◌+◌, ℕ, List, ◌++◌, Some, count_by, flat_map, if◌then◌else◌, nat_lt, slice_get, take}
+use Rattle.std.specs.Prelude.{◌+◌, ℕ, List, ◌++◌, count_by, flat_map, if◌then◌else◌, nat_lt, slice_get, take}
 use Rattle.rdf_values.specs.declared.item.Item.{Item}
 use Rattle.rdf_model.specs.LoopFacts.{if_there, is_passed, is_reached, list_at}
 use Rattle.rdf_model.specs.PartialResults.{span_rows}
@@ -19,9 +19,9 @@ pub record Stage : Type 0 where
   pub passes : ℕ
   pub filters : ℕ
 
--- how many entries of the cluster are taken in at a place, where the next entry is up to below the limit
-abbrev pub taken_at : ℕ → ℕ → ℕ → ℕ
-taken_at entries limit place = if nat_lt place limit then entries + 1 else entries
+-- how many entries of the cluster are taken in at a place
+abbrev pub taken_in : ℕ → ℕ → ℕ → ℕ → ℕ
+taken_in before block limit place = if nat_lt place limit then before + block else before
 
 -- the items that the first n entries of a cluster feed to action pass i
 abbrev pub first_items : LoopFacts → ℕ → ℕ → ℕ → List Item
@@ -35,22 +35,13 @@ first_reaches f c n i = flat_map (λ row. if_there (slice_get row i)) (take n (s
 abbrev pub counted : List Reach → Counts
 counted rs = record { all = count_by is_reached rs; pass = count_by is_passed rs }
 
--- what action pass i was fed up to a stage
-abbrev pub fed_to : LoopFacts → Stage → ℕ → List Fed
-fed_to f s i = fed_over f s.done i ++ from_cluster s.cluster (first_items f s.cluster (taken_at s.entries s.passes i) i)
+-- what action pass i was fed by clusters and by the first n entries of another
+abbrev pub fed_by : LoopFacts → List ℕ → ℕ → ℕ → ℕ → List Fed
+fed_by f done c n i = fed_over f done i ++ from_cluster c (first_items f c n i)
 
--- what was counted of named filter i up to a stage
-abbrev pub counts_to : LoopFacts → Stage → ℕ → Counts
-counts_to f s i = both (counts_at f s.done i) (counted (first_reaches f s.cluster (taken_at s.entries s.filters i) i))
-
--- the next entry of the cluster, by what it feeds to each action pass and what each named filter does with it
-pub record IsNextEntry (f : LoopFacts) (s : Stage) (spreads : List (List Item)) (reaches : List Reach) : Type 0 where
-  pub spreads_at : slice_get (span_rows f.spreads (slice_get f.ranges s.cluster)) s.entries ≡ Some spreads
-  pub reaches_at : slice_get (span_rows f.reaches (slice_get f.ranges s.cluster)) s.entries ≡ Some reaches
-
--- all of the next entry is taken in
-abbrev pub after_entry : Stage → Stage
-after_entry s = record { done = s.done; cluster = s.cluster; entries = s.entries + 1; passes = 0; filters = 0 }
+-- what was counted of named filter i over them
+abbrev pub counts_by : LoopFacts → List ℕ → ℕ → ℕ → ℕ → Counts
+counts_by f done c n i = both (counts_at f done i) (counted (first_reaches f c n i))
 
 -- the beginning of a cluster
 abbrev pub at_begin : List ℕ → ℕ → Stage

@@ -7,13 +7,12 @@ use Rattle.rdf_values.specs.declared.action.ActionKind.TheVariants as kind
 use Rattle.rdf_model.specs.LoopFacts.{IsLoopFacts}
 use Rattle.rdf_model.specs.declared.loop_facts.LoopFacts.{LoopFacts}
 use Rattle.actions.specs.Accumulators.{Accumulator, HasFed}
-use Rattle.actions.specs.Feeding.{from_cluster}
 use Rattle.loop_pieces.specs.declared.flow.Counts.{Counts}
 use Rattle.merge_core.specs.declared.noted.Noted.{Noted}
 use Rattle.loop_pieces.specs.LoopPieces.{entries_over}
 use Rattle.loop_pieces.specs.Trails.{HaveTrails}
 use Rattle.loop_pieces.specs.declared.watch_piece.WatchPiece.{WatchPiece}
-use Rattle.cluster_tally.specs.Stages.{Stage, counts_to, fed_to, first_items, taken_at}
+use Rattle.cluster_tally.specs.Stages.{Stage, counts_by, fed_by, taken_in}
 
 -- the accumulator of each action pass, for each that is watched one of the current cluster alone, the counts of the named filters, and the trails
 pub record TallyView : Type 0 where
@@ -21,12 +20,6 @@ pub record TallyView : Type 0 where
   pub watched : List (Option Accumulator)
   pub flow : List Counts
   pub trails : List (List (Noted WatchPiece))
-
--- the accumulator was fed what its pass is to be fed up to the stage
-pub record IsFedTo (f : LoopFacts) (s : Stage) (i : ℕ) (acc : Accumulator) : Type 0 where
-  pub fed : HasFed acc (fed_to f s i)
-  pub few : acc.entries ≤ entries_over f s.done + taken_at s.entries s.passes i
-  pub last : acc.last ≤ s.cluster
 
 -- an action whose result can be watched
 abbrev pub CanWatch : ActionKind → Type 0
@@ -36,13 +29,17 @@ CanWatch (kind.Min c) = ⊤
 CanWatch (kind.Max c) = ⊤
 CanWatch k = ⊥
 
--- and that of a watched pass what the current cluster feeds to it
-pub record IsFedAlone (f : LoopFacts) (s : Stage) (i : ℕ) (acc : Accumulator) : Type 0 where
+-- an accumulator of an action pass, which was fed what clusters and the first n entries of another feed to the pass
+pub record IsFedBy (f : LoopFacts) (done : List ℕ) (cluster n i : ℕ) (acc : Accumulator) : Type 0 where
+  pub fed : HasFed acc (fed_by f done cluster n i)
+  pub few : acc.entries ≤ entries_over f done + n
+  pub last : acc.last ≤ cluster
+
+-- that of a watched pass, which was fed what the current cluster feeds alone
+pub record IsFedAlone (f : LoopFacts) (cluster n i : ℕ) (acc : Accumulator) : Type 0 where
   pub kind : slice_get f.kinds i ≡ Some acc.kind
   pub watch : CanWatch acc.kind
-  pub fed : HasFed acc (from_cluster s.cluster (first_items f s.cluster (taken_at s.entries s.passes i) i))
-  pub few : acc.entries ≤ taken_at s.entries s.passes i
-  pub last : acc.last ≤ s.cluster
+  pub held : IsFedBy f [] cluster n i acc
 
 -- the places at which there is an accumulator, numbered from n on
 abbrev pub places_there : ℕ → List (Option Accumulator) → List ℕ
@@ -50,15 +47,20 @@ places_there n [] = []
 places_there n (None ∷ accs) = places_there (n + 1) accs
 places_there n (Some acc ∷ accs) = n ∷ places_there (n + 1) accs
 
--- the tally has taken in what a loop with these facts gives up to the stage
-pub record Holds (f : LoopFacts) (watched : List ℕ) (s : Stage) (t : TallyView) : Type 0 where
+-- the tally has taken in what a loop with these facts gives by the clusters that are done, and by as many first entries of another as
+-- each action pass was fed and each named filter was told
+pub record HoldsUpTo (f : LoopFacts) (watched done : List ℕ) (cluster : ℕ) (fed told : ℕ → ℕ) (t : TallyView) : Type 0 where
   pub facts : IsLoopFacts f
-  pub rises : IsStrictlyIncreasing s.done
-  pub above : All (λ c. c < s.cluster) s.done
+  pub rises : IsStrictlyIncreasing done
+  pub above : All (λ c. c < cluster) done
   pub kinds : map (λ (acc : Accumulator). acc.kind) t.accs ≡ f.kinds
-  pub accs : (i : ℕ) (acc : Accumulator) → slice_get t.accs i ≡ Some acc → IsFedTo f s i acc
-  pub flow : t.flow ≡ map (counts_to f s) (below f.filters)
+  pub accs : (i : ℕ) (acc : Accumulator) → slice_get t.accs i ≡ Some acc → IsFedBy f done cluster (fed i) i acc
+  pub flow : t.flow ≡ map (λ i. counts_by f done cluster (told i) i) (below f.filters)
   pub many : length t.watched ≡ length t.accs
   pub places : places_there 0 t.watched ≡ watched
-  pub alone : (i : ℕ) (acc : Accumulator) → slice_get t.watched i ≡ Some (Some acc) → IsFedAlone f s i acc
-  pub trails : HaveTrails f watched s.done t.trails
+  pub alone : (i : ℕ) (acc : Accumulator) → slice_get t.watched i ≡ Some (Some acc) → IsFedAlone f cluster (fed i) i acc
+  pub trails : HaveTrails f watched done t.trails
+
+-- up to the stage
+abbrev pub Holds : LoopFacts → List ℕ → Stage → TallyView → Type 0
+Holds f watched s t = HoldsUpTo f watched s.done s.cluster (taken_in s.entries 1 s.passes) (taken_in s.entries 1 s.filters) t

@@ -11,12 +11,12 @@ ghost use Rattle.loop_pieces.specs.Trails.{HaveTrails};
 ghost use Rattle.actions.specs.Batches.{EachPlace, HasValues};
 ghost use Rattle.cluster_tally.specs.Blocks.{BlockStage, CanFeedBatch, CanNoteCounts, CanTakeIn, HoldsIn, TookIn, TookInIfThere, filter_done, pass_done};
 ghost use Rattle.cluster_tally.specs.Closings.{noted_all, noted_at, renewed, times_there};
-ghost use Rattle.cluster_tally.specs.Feedings.{AreFed, AreFedIfThere, CanFeed, CanNote, CanTake, IsAtEnd, IsFresh, acc_if, after_filter, after_pass, place_if, with_trail};
+ghost use Rattle.cluster_tally.specs.Feedings.{IsAtEnd, IsFresh, acc_if, place_if, with_trail};
 ghost use Rattle.cluster_tally.specs.Stages.{Stage, at_begin};
 ghost use Rattle.cluster_tally.specs.Tallies.{CanWatch, Holds, places_there};
 
 use crate::watcher::Watcher;
-use actions::{Acc, Batch, FeedStop, Items};
+use actions::{Acc, Batch};
 use loop_pieces::{Counts, Flow, LoopPiece, WatchPiece};
 use merge_core::{Noted, Trail};
 use rdf_values::{ActionKind, ListOf, Memory};
@@ -59,32 +59,6 @@ fn watcher_if(
     }
     trails.push(ListOf::new(alloc))?;
     Ok(Some(Watcher::new(alloc, kind)?))
-}
-
-// Feeds the accumulator of a pass.
-fn feed_acc(accs: &mut [Acc], pass: u32, cluster: u32, items: &Items<'_>) -> Result<(), Memory>
-    requires within { pass < length accs.old }
-    requires can { (acc : Accumulator) → slice_get accs.old pass ≡ Some acc → CanTake cluster items.now acc }
-    ensures fed { OnOk result (AreFed pass cluster items.now accs.old accs.new) }
-    ensures memory { (acc : Accumulator) → slice_get accs.old pass ≡ Some acc → OnErr result (IsTake acc.kind) }
-{
-    let acc = &mut accs[pass as usize];
-    match acc.feed(cluster, items) {
-        Ok(()) => Ok(()),
-        Err(FeedStop::Memory) => Err(Memory),
-        Err(FeedStop::Fault(_)) => unreachable!(),
-    }
-}
-
-// Feeds the accumulator of a pass that is watched, if it is.
-fn feed_watched(watched: &mut [Option<Watcher>], pass: u32, cluster: u32, items: &Items<'_>)
-    requires within { pass < length watched.old }
-    requires can { (acc : Accumulator) → slice_get watched.old pass ≡ Some (Some acc) → CanTake cluster items.now acc }
-    ensures { AreFedIfThere pass cluster items.now watched.old watched.new }
-{
-    if let Some(watcher) = &mut watched[pass as usize] {
-        watcher.feed(cluster, items);
-    }
 }
 
 // Feeds a batch to the accumulator of a pass.
@@ -187,26 +161,6 @@ impl Tally {
         self.watched.push(watcher)?;
         self.accs.push(Acc::new(self.alloc, kind)?)?;
         Ok(())
-    }
-
-    /// Takes in what the next entry of a cluster feeds to the next action pass.
-    pub fn feed(&mut self, pass: u32, cluster: u32, items: &Items<'_>) -> Result<(), Memory>
-        requires { (f : LoopFacts) × (watched : List ℕ) × (s : Stage) × CanFeed f watched s self.old pass cluster items.now }
-        ensures holds { (f : LoopFacts) (watched : List ℕ) (s : Stage) → CanFeed f watched s self.old pass cluster items.now
-            → OnOk result (Holds f watched (after_pass s) self.new) }
-        ensures memory { (f : LoopFacts) (watched : List ℕ) (s : Stage) → (can : CanFeed f watched s self.old pass cluster items.now)
-            → OnErr result (IsTake can.kind) }
-    {
-        feed_watched(self.watched.as_mut_slice(), pass, cluster, items);
-        feed_acc(self.accs.as_mut_slice(), pass, cluster, items)
-    }
-
-    /// Takes in that the next entry reaches the next named filter, and passes it or not.
-    pub fn note(&mut self, filter: u32, passed: bool)
-        requires { (f : LoopFacts) × (watched : List ℕ) × (s : Stage) × CanNote f watched s self.old filter passed }
-        ensures { (f : LoopFacts) (watched : List ℕ) (s : Stage) → CanNote f watched s self.old filter passed → Holds f watched (after_filter s) self.new }
-    {
-        self.flow.note(filter, passed);
     }
 
     /// Takes in what a block feeds to the next action pass.

@@ -11,7 +11,7 @@ ghost use Rattle.cluster_tally.specs.Blocks.{TakesIn};
 ghost use Rattle.cluster_tally.specs.Feedings.{fresh_acc};
 ghost use Rattle.cluster_tally.specs.Tallies.{CanWatch};
 
-use actions::{Acc, Batch, Filled, Items};
+use actions::{Acc, Batch, Filled};
 use loop_pieces::WatchPiece;
 use rdf_values::{ActionKind, Memory};
 use std::alloc::Global;
@@ -77,23 +77,6 @@ impl Watcher {
             kind: copy_of(alloc, kind)?,
             acc: Acc::new(alloc, kind)?,
         })
-    }
-
-    /// Takes in the items of an entry of a cluster; clusters don't fall.
-    pub fn feed(&mut self, cluster: u32, items: &Items<'_>)
-        requires suits { Suits self.old.kind items.now }
-        requires no_fault { feed_fault self.old.kind (values_of items.now) ≡ None }
-        requires rising { self.old.last ≤ cluster }
-        requires room { self.old.entries < 1000000 }
-        ensures kind { self.new.kind ≡ self.old.kind }
-        ensures entries { self.new.entries ≡ self.old.entries + 1 }
-        ensures last { self.new.last ≡ cluster }
-        ensures fed { (fed : List Fed) → HasFed self.old fed → HasFed self.new (fed ++ from_cluster cluster (spread self.old.kind (values_of items.now))) }
-    {
-        match self.acc.feed(cluster, items) {
-            Ok(()) => {}
-            Err(_) => unreachable!(),
-        }
     }
 
     /// Takes in what the places of a block feed, of one cluster; clusters don't fall.

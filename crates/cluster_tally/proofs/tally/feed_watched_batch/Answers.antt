@@ -5,15 +5,11 @@ use Rattle.actions.specs.Accumulators.{Accumulator}
 use Rattle.cluster_tally.specs.Blocks.{TakesIn}
 use Rattle.cluster_tally.proofs.tally.feed_watched_batch.Goals as goal
 
-pub feed_batch-requires-clause-rising : goal.feed_batch-requires-clause-rising
-feed_batch-requires-clause-rising c =
+pub feed_batch-requires : goal.feed_batch-requires
+feed_batch-requires c =
     let at = slice_get_read c.args.watched.now (length c.args.watched.now) c.args.pass c.index-watched-pass.result refl c.requires.within c.index-watched-pass.is in
-    (c.requires.can c.in-Some.watcher (at ∙ ap Some (c.index-watched-pass.is ∙ c.in-Some.is))).rising
-
-pub feed_batch-requires-clause-room : goal.feed_batch-requires-clause-room
-feed_batch-requires-clause-room c =
-    let at = slice_get_read c.args.watched.now (length c.args.watched.now) c.args.pass c.index-watched-pass.result refl c.requires.within c.index-watched-pass.is in
-    (c.requires.can c.in-Some.watcher (at ∙ ap Some (c.index-watched-pass.is ∙ c.in-Some.is))).room
+    let can = c.requires.can c.in-Some.watcher (at ∙ ap Some (c.index-watched-pass.is ∙ c.in-Some.is)) in
+    record { there = c.requires.there; suits = can.suits; no_fault = can.no_fault; rising = can.rising; room = can.room }
 
 pub returns-in-Some : goal.returns-in-Some
 returns-in-Some c =

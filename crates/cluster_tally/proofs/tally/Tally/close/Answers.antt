@@ -13,7 +13,7 @@ pub close_all-requires-clause-fed : goal.close_all-requires-clause-fed
 close_all-requires-clause-fed c i acc at =
     let r = c.requires in
     let h = subst (λ (t : TallyView). Holds r.0 r.1 r.2 t) (sym c.self.view_is) r.3 in
-    (_, (h.alone i acc (ap (λ l. slice_get l i) (sym c.as_mut_slice.ensures.value) ∙ at)).fed)
+    (_, (h.alone i acc (ap (λ l. slice_get l i) (sym c.as_mut_slice.ensures.value) ∙ at)).held.fed)
 
 pub returns-clause-holds : goal.returns-clause-holds
 returns-clause-holds c = λ f watched s next holds end later.

@@ -10,31 +10,27 @@ use Rattle.cluster_tally.specs.contracts.tally.Tally.{the_view}
 use Rattle.cluster_tally.proofs.BlockFeeds.{can_take, can_take_alone, holds_fed, its_acc, within, within_watched}
 use Rattle.cluster_tally.proofs.tally.Tally.feed_batch.Goals as goal
 
-pub feed_watched_batch-requires-clause-within : goal.feed_watched_batch-requires-clause-within
-feed_watched_batch-requires-clause-within c =
+pub feed_watched_batch-requires : goal.feed_watched_batch-requires
+feed_watched_batch-requires c =
     let r = c.requires in
     let can = subst (λ (t : TallyView). CanFeedBatch r.0 r.1 r.2 t c.args.pass c.args.cluster c.args.batch.now) (sym c.self.view_is) r.3 in
     let lt = within_watched r.0 r.1 r.2 (the_view c.self.inside) c.args.pass c.args.cluster c.args.batch.now can in
-    omega (arith, ap length c.as_mut_slice.ensures.value)
+    record {
+      within = omega (arith, ap length c.as_mut_slice.ensures.value);
+      there = can.there;
+      can = λ acc at. can_take_alone r.0 r.1 r.2 (the_view c.self.inside) c.args.pass c.args.cluster c.args.batch.now can acc (ap (λ l. slice_get l c.args.pass) (sym c.as_mut_slice.ensures.value) ∙ at);
+    }
 
-pub feed_watched_batch-requires-clause-can : goal.feed_watched_batch-requires-clause-can
-feed_watched_batch-requires-clause-can c acc at =
-    let r = c.requires in
-    let can = subst (λ (t : TallyView). CanFeedBatch r.0 r.1 r.2 t c.args.pass c.args.cluster c.args.batch.now) (sym c.self.view_is) r.3 in
-    can_take_alone r.0 r.1 r.2 (the_view c.self.inside) c.args.pass c.args.cluster c.args.batch.now can acc (ap (λ l. slice_get l c.args.pass) (sym c.as_mut_slice.ensures.value) ∙ at)
-
-pub feed_acc_batch-requires-clause-within : goal.feed_acc_batch-requires-clause-within
-feed_acc_batch-requires-clause-within c =
+pub feed_acc_batch-requires : goal.feed_acc_batch-requires
+feed_acc_batch-requires c =
     let r = c.requires in
     let can = subst (λ (t : TallyView). CanFeedBatch r.0 r.1 r.2 t c.args.pass c.args.cluster c.args.batch.now) (sym c.self.view_is) r.3 in
     let lt = within r.0 r.1 r.2 (the_view c.self.inside) c.args.pass c.args.cluster c.args.batch.now can in
-    omega (arith, ap length c.as_mut_slice-2.ensures.value)
-
-pub feed_acc_batch-requires-clause-can : goal.feed_acc_batch-requires-clause-can
-feed_acc_batch-requires-clause-can c acc at =
-    let r = c.requires in
-    let can = subst (λ (t : TallyView). CanFeedBatch r.0 r.1 r.2 t c.args.pass c.args.cluster c.args.batch.now) (sym c.self.view_is) r.3 in
-    can_take r.0 r.1 r.2 (the_view c.self.inside) c.args.pass c.args.cluster c.args.batch.now can acc (ap (λ l. slice_get l c.args.pass) (sym c.as_mut_slice-2.ensures.value) ∙ at)
+    record {
+      within = omega (arith, ap length c.as_mut_slice-2.ensures.value);
+      there = can.there;
+      can = λ acc at. can_take r.0 r.1 r.2 (the_view c.self.inside) c.args.pass c.args.cluster c.args.batch.now can acc (ap (λ l. slice_get l c.args.pass) (sym c.as_mut_slice-2.ensures.value) ∙ at);
+    }
 
 pub returns-clause-holds : goal.returns-clause-holds
 returns-clause-holds c = λ f watched s can.
