@@ -1,10 +1,11 @@
 -- The sets after every so many clusters are a chain.
-use Rattle.std.proofs.Common.{◌≡◌, ℕ, zero, suc, ◌+◌, ◌*◌, ◌/◌, ◌<◌, ◌≤◌, List, [], ◌∷◌, ◌++◌, length, map, Some, refl, sym, ap, ◌∙◌, subst, arith, mul-le-mul_right}
+use Rattle.std.proofs.Common.{◌≡◌, ℕ, zero, suc, ◌+◌, ◌*◌, ◌/◌, ◌<◌, ◌≤◌, List, [], ◌∷◌, ◌++◌, length, map, Some, sym, ap, ◌∙◌, subst, arith, mul-le-mul_right}
 use Rattle.std.specs.Prelude.{slice_get, option_map, Contains}
 use Rattle.std.specs.List.{All}
 use Rattle.std.specs.List.Sorted.{IsStrictlyIncreasing}
 use Rattle.std.proofs.lemmas.List.{length-map, map-append}
 use Rattle.std.proofs.lemmas.Option.{slice_get-map, slice_get_within}
+use Rattle.lemmas.proofs.Answers.{same_some}
 use Rattle.rdf_values.specs.Cuts.{below}
 use Rattle.rdf_values.proofs.Below.{length-below, slice_get-below}
 use Rattle.rdf_model.specs.PartialResults.{IsChain}
@@ -13,7 +14,6 @@ use Rattle.loop_pieces.specs.PartialLines.{ArePartialLines, IsPartialLine}
 use Rattle.loop_pieces.specs.declared.filled_result.PartialLine.{PartialLine}
 use Rattle.slot_words.specs.Chains.{AreNoted, set_before, chain_of}
 use Rattle.slot_words.proofs.Noting.{set_rises, set_within, set_many, set_grows}
-use Rattle.slot_words.proofs.Places.{same_item}
 
 -- a multiple that is counted is no greater than the number
 pub multiple_below : (c g j : ℕ) → 0 < g → j < c / g → (j + 1) * g ≤ c
@@ -26,7 +26,7 @@ multiple_below c g j some lt =
 pub at_below : {A : Type 0} (f : ℕ → A) (n j : ℕ) (x : A) → slice_get (map f (below n)) j ≡ Some x → (j < n) × (f j ≡ x)
 at_below f n j x h =
     let inside : j < n = omega (arith, slice_get_within (map f (below n)) j x h, length-map (below n) f, length-below n) in
-    (inside, same_item (slice_get (map f (below n)) j) (f j) x (slice_get-map f (below n) j ∙ ap (option_map f) (slice_get-below n j inside)) h)
+    (inside, same_some (sym (slice_get-map f (below n) j ∙ ap (option_map f) (slice_get-below n j inside)) ∙ h))
 
 module _ (os ds : List (List ℕ)) (clusters step : ℕ) (noted : AreNoted os ds clusters) (some : 0 < step) where
   abbrev set_at : ℕ → List ℕ
@@ -66,8 +66,8 @@ module _ (facts : LoopFacts) (place : ℕ) where
   line_in [] ls j set l h at there = absurd (cc)
   line_in (s ∷ ss) [] j set l h at there = elim h [ ]
   line_in (s ∷ ss) (m ∷ ms) zero set l h at there =
-      let same : s ≡ set = same_item (Some s) s set refl at in
-      let line : m ≡ l = same_item (Some m) m l refl there in
+      let same : s ≡ set = cc at in
+      let line : m ≡ l = cc there in
       subst (λ (x : PartialLine). IsPartialLine facts place set x) line (subst (λ (x : List ℕ). IsPartialLine facts place x m) same h.0)
   line_in (s ∷ ss) (m ∷ ms) (suc j) set l h at there = line_in ss ms j set l h.1 at there
 

@@ -7,7 +7,7 @@ use Rattle.std.proofs.Math.Seq.{take-suc}
 use Rattle.std.specs.List.{All}
 use Rattle.std.specs.List.Sorted.{IsStrictlyIncreasing}
 use Rattle.std.proofs.lemmas.Bool.{cases_lt, cases_Bool, cond-true, cond-false, eq-eqb, eqb-true}
-use Rattle.std.proofs.lemmas.List.Elements.{All-nil, All-cons, All-head, All-tail}
+use Rattle.std.proofs.lemmas.List.Elements.{All-nil, All-cons, All-head, All-tail, All-pop}
 use Rattle.lemmas.proofs.Parts.{take_all}
 use Rattle.rdf_values.specs.Draws.{IsUnion}
 use Rattle.rdf_values.specs.Times.{times}
@@ -201,13 +201,12 @@ run_joined : (all : List ℕ) (left ls : List Run) (r : Run) (news : List ℕ) (
 run_joined all left ls r news runs now h left_is high put =
     let split = ap members left_is ∙ members_push ls r in
     let order = in_order (members ls) (numbers_of r) (subst Rises split h.left_rise) in
-    let valid_both = subst (All IsRun) left_is h.valid in
-    let valid : IsRun r = All-last IsRun ls r valid_both in
+    let valid = All-pop IsRun left ls (Some r) left_is h.valid in
     record {
       done = numbers_of r ++ h.done;
-      runs_are = put (maximal_runs h.done) h.runs_are ∙ ap (map span_of) (sym (runs_with_run r h.done valid));
+      runs_are = put (maximal_runs h.done) h.runs_are ∙ ap (map span_of) (sym (runs_with_run r h.done valid.1));
       counts = λ x. (let e = ap (times x) split in omega (arith, h.counts x, times_append x (members ls) (numbers_of r), times_append x (numbers_of r) h.done));
-      valid = All-front IsRun ls r valid_both;
+      valid = valid.0;
       left_rise = order.first;
       news_rise = h.news_rise;
       done_rise = append_rises (numbers_of r) h.done order.second h.done_rise (λ x y s t. h.apart x y (let e = ap (times x) split in omega (arith, times_append x (members ls) (numbers_of r))) t);
@@ -219,14 +218,6 @@ run_joined all left ls r news runs now h left_is high put =
           (λ (none : times y (numbers_of r) ≤ 0). h.apart x y (let e = ap (times x) split in omega (arith, times_append x (members ls) (numbers_of r))) (omega (arith, times_append y (numbers_of r) h.done)))
           (cases_lt 0 (times y (numbers_of r)));
     }
-  where
-    All-last : (P : Run → Type 0) (xs : List Run) (x : Run) → All P (xs ++ x ∷ []) → P x
-    All-last P [] x a = All-head P x [] a
-    All-last P (y ∷ ys) x a = All-last P ys x (All-tail P y (ys ++ x ∷ []) a)
-
-    All-front : (P : Run → Type 0) (xs : List Run) (x : Run) → All P (xs ++ x ∷ []) → All P xs
-    All-front P [] x a = All-nil P
-    All-front P (y ∷ ys) x a = All-cons P y ys (All-head P y (ys ++ x ∷ []) a) (All-front P ys x (All-tail P y (ys ++ x ∷ []) a))
 
 -- no run is left, or the last one begins at the number or below it
 abbrev pub IsUnder : List Run → ℕ → Type 0

@@ -9,11 +9,9 @@ pub mod Notes
 pub mod Noting
 pub mod Places
 pub mod SeatEnds
-pub mod Sharing
 pub mod Steps
 pub mod Stretches
 pub mod Taking
 pub mod Tokens
-pub mod Totals
 pub mod Turns
 pub mod Watched

@@ -1,16 +1,14 @@
 -- The entries with a number less than a bound.
-use Rattle.std.proofs.Common.{◌≡◌, ℕ, zero, suc, ◌+◌, ◌<◌, ◌≤◌, List, [], ◌∷◌, ◌++◌, length, map, Bool, true, false, cond, ◌⊎◌, inl, inr, refl, sym, ap, ◌∙◌, ⊎_elim, arith, length-append}
+use Rattle.std.proofs.Common.{◌≡◌, ℕ, zero, suc, ◌<◌, ◌≤◌, List, [], ◌∷◌, length, Bool, true, false, cond, ◌⊎◌, inl, inr, refl, sym, ◌∙◌, ⊎_elim, arith, length-append}
 use Rattle.std.specs.Prelude.{nat_lt}
 use Rattle.std.specs.List.{concat, count_by}
-use Rattle.std.proofs.lemmas.Bool.{cases_lt, lt-ltb, le-ltb, ltb-true, cond-true, cond-false}
-use Rattle.std.proofs.lemmas.List.{map-append}
+use Rattle.std.proofs.lemmas.Bool.{cases_lt, lt-ltb, le-ltb, cond-true, cond-false}
 use Rattle.std.proofs.lemmas.List.Sorted.{sum_by-IsPermutation}
 use Rattle.std.proofs.lemmas.List.Sums.{sum_by-cons, sum_by-append, sum_by_push}
 use Rattle.rdf_values.specs.Cuts.{below}
-use Rattle.rdf_values.specs.Times.{times}
-use Rattle.rdf_values.proofs.DrawCounts.{times_append}
 use Rattle.merge_core.specs.declared.noted.Noted.{Noted}
-use Rattle.slot_words.specs.Chosen.{HaveNumbers, chosen, chosen_in, cluster_in, if_kept}
+use Rattle.slot_words.specs.Chosen.{HaveNumbers, chosen, chosen_in, if_kept}
+use Rattle.slot_words.proofs.Stretches.{times_added}
 use Rattle.slot_words.specs.NotingLaws.{AsManyAsTheBound, HigherBoundKeeps}
 
 -- 1 where n is less than the bound
@@ -60,40 +58,8 @@ module _ {P : Type 0} where
   many (o ∷ os) b (t ∷ ts) have =
       omega (arith, length-append (chosen_in o b t) (chosen os b ts), many_in o b t have.0, many os b ts have.1, sum_by-append (one_less b) o (concat os))
 
-  kept_again : (c : ℕ) (low high : Bool) (n : Noted P) → (low ≡ true → high ≡ true) → times c (map cluster_in (if_kept low n)) ≤ times c (map cluster_in (if_kept high n))
-  kept_again c false high n still = omega arith
-  kept_again c true true n still = omega arith
-  kept_again c true false n still = absurd (no (still refl))
-    where
-      no : false ≡ true → ⊥
-      no e = cc
-
-  split : (c : ℕ) (xs ys : List (Noted P)) → times c (map cluster_in (xs ++ ys)) ≡ times c (map cluster_in xs) + times c (map cluster_in ys)
-  split c xs ys = ap (times c) (map-append cluster_in xs ys) ∙ times_append c (map cluster_in xs) (map cluster_in ys)
-
-  module _ (low high c : ℕ) (le : low ≤ high) where
-    kept_in : (ns : List ℕ) (ts : List (Noted P)) → times c (map cluster_in (chosen_in ns low ts)) ≤ times c (map cluster_in (chosen_in ns high ts))
-    kept_in [] ts = omega arith
-    kept_in (n ∷ ns) [] = omega arith
-    kept_in (n ∷ ns) (t ∷ ts) =
-        omega (
-          arith,
-          split c (if_kept (nat_lt n low) t) (chosen_in ns low ts),
-          split c (if_kept (nat_lt n high) t) (chosen_in ns high ts),
-          kept_again c (nat_lt n low) (nat_lt n high) t (λ is. lt-ltb n high (less n is)),
-          kept_in ns ts,
-        )
-      where
-        less : (k : ℕ) → nat_lt k low ≡ true → k < high
-        less k is = let lt = ltb-true k low is in omega arith
-
-    kept : (os : List (List ℕ)) (ts : List (List (Noted P))) → times c (map cluster_in (chosen os low ts)) ≤ times c (map cluster_in (chosen os high ts))
-    kept [] ts = omega arith
-    kept (o ∷ os) [] = omega arith
-    kept (o ∷ os) (t ∷ ts) = omega (arith, split c (chosen_in o low t) (chosen os low ts), split c (chosen_in o high t) (chosen os high ts), kept_in o t, kept os ts)
-
 pub as_many_as_the_bound : (P : Type 0) → AsManyAsTheBound P
 as_many_as_the_bound P orders trails m bound drawn have le = many orders bound trails have ∙ sym (sum_by-IsPermutation (one_less bound) (concat orders) (below m) drawn.each_once) ∙ less_below bound m le
 
 pub higher_bound_keeps : (P : Type 0) → HigherBoundKeeps P
-higher_bound_keeps P orders trails low high c le = kept low high c le orders trails
+higher_bound_keeps P orders trails low high c le = omega (arith, times_added c low high le orders trails)

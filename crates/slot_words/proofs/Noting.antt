@@ -1,5 +1,5 @@
 -- The clusters that were noted first.
-use Rattle.std.proofs.Common.{◌≡◌, ◌⊎◌, ℕ, zero, suc, ◌+◌, ◌<◌, ◌≤◌, List, [], ◌∷◌, ◌++◌, length, map, get_or, Bool, true, false, cond, refl, sym, ap, ap₂, ◌∙◌, inl, inr, ⊎_elim, arith}
+use Rattle.std.proofs.Common.{◌≡◌, ◌⊎◌, ℕ, suc, ◌+◌, ◌<◌, ◌≤◌, List, [], ◌∷◌, ◌++◌, length, map, get_or, Bool, true, false, cond, refl, sym, ap, ap₂, ◌∙◌, inl, inr, ⊎_elim, arith}
 use Rattle.std.specs.Prelude.{nat_le, nat_lt, ◌&&◌, IsPermutation, Contains}
 use Rattle.std.specs.List.{sum_by, All as Every}
 use Rattle.std.specs.List.Sorted.{IsStrictlyIncreasing}
@@ -12,7 +12,7 @@ use Rattle.std.proofs.lemmas.List.Sums.{sum_by-cons}
 use Rattle.rdf_values.specs.Cuts.{below}
 use Rattle.rdf_values.specs.Draws.{IsUnion}
 use Rattle.rdf_values.specs.Times.{times, once_below}
-use Rattle.rdf_values.proofs.DrawCounts.{times_append, times_below, times_cons, times_self, times_contains, times_permuted, permuted_by_counts, once_inside, inside_once}
+use Rattle.rdf_values.proofs.DrawCounts.{times_append, times_below, times_contains, times_permuted, permuted_by_counts, once_inside, inside_once}
 use Rattle.rdf_values.proofs.UnionLemmas.{counted, below_rises, all_below, times_filter, rises_from, same_rising, by_counts, both_rise, two}
 use Rattle.rdf_model.specs.declared.loop_facts.LoopFacts.{LoopFacts}
 use Rattle.merge_core.specs.declared.noted.Noted.{Noted}
@@ -21,6 +21,7 @@ use Rattle.loop_pieces.specs.Watching.{WatchStandsFor}
 use Rattle.loop_pieces.specs.declared.watch_piece.WatchPiece.{WatchPiece}
 use Rattle.slot_words.specs.Chosen.{cluster_in, if_kept, added_in, added, chosen_in, chosen, HaveNumbers, AreAlone}
 use Rattle.slot_words.proofs.Noted.{as_many_as_the_bound, higher_bound_keeps}
+use Rattle.slot_words.proofs.Places.{stands_there}
 use Rattle.slot_words.proofs.Stretches.{length_added, times_added}
 use Rattle.slot_words.specs.Chains.{AreNoted, bare_entry, bare_entries, noted_before, set_before}
 use Rattle.slot_words.specs.Trails.{AreTrails}
@@ -125,36 +126,27 @@ module _ (facts : LoopFacts) (place : ℕ) where
 
 -- ---- the sets
 
-kept_among : (x : ℕ) (b : Bool) (n : Noted (Unit {0})) (ns : List (Noted (Unit {0}))) → times x (map cluster_in (if_kept b n)) ≤ times x (n.cluster ∷ [])
-kept_among x true n ns = omega arith
-kept_among x false n ns = omega arith
+split : (x : ℕ) (xs ys : List (Noted (Unit {0}))) → times x (map cluster_in (xs ++ ys)) ≡ times x (map cluster_in xs) + times x (map cluster_in ys)
+split x xs ys = ap (times x) (map-append cluster_in xs ys) ∙ times_append x (map cluster_in xs) (map cluster_in ys)
+
+kept_among : (x : ℕ) (b : Bool) (n : Noted (Unit {0})) → times x (map cluster_in (if_kept b n)) ≤ times x (n.cluster ∷ [])
+kept_among x true n = omega arith
+kept_among x false n = omega arith
 
 among_in : (x : ℕ) (ns : List ℕ) (b : ℕ) (ds : List ℕ) → times x (map cluster_in (chosen_in ns b (bare_entries ds))) ≤ times x ds
 among_in x [] b ds = omega arith
 among_in x (n ∷ ns) b [] = omega arith
 among_in x (n ∷ ns) b (d ∷ ds) =
-    omega (
-      arith,
-      ap (times x) (map-append cluster_in (if_kept (nat_lt n b) (bare_entry d)) (chosen_in ns b (bare_entries ds))),
-      times_append x (map cluster_in (if_kept (nat_lt n b) (bare_entry d))) (map cluster_in (chosen_in ns b (bare_entries ds))),
-      kept_among x (nat_lt n b) (bare_entry d) [],
-      among_in x ns b ds,
-      times_append x (d ∷ []) ds,
-    )
+    let first = if_kept (nat_lt n b) (bare_entry d) in
+    omega (arith, split x first (chosen_in ns b (bare_entries ds)), kept_among x (nat_lt n b) (bare_entry d), among_in x ns b ds, times_append x (d ∷ []) ds)
 
 -- only clusters that slots finished are chosen
 among : (x : ℕ) (os ds : List (List ℕ)) (b : ℕ) → times x (noted_before os ds b) ≤ sum_by (times x) ds
 among x [] ds b = omega arith
 among x (o ∷ os) [] b = omega arith
 among x (o ∷ os) (d ∷ ds) b =
-    omega (
-      arith,
-      ap (times x) (map-append cluster_in (chosen_in o b (bare_entries d)) (chosen os b (map bare_entries ds))),
-      times_append x (map cluster_in (chosen_in o b (bare_entries d))) (noted_before os ds b),
-      among_in x o b d,
-      among x os ds b,
-      sum_by-cons (times x) d ds,
-    )
+    let first = chosen_in o b (bare_entries d) in
+    omega (arith, split x first (chosen os b (map bare_entries ds)), among_in x o b d, among x os ds b, sum_by-cons (times x) d ds)
 
 once_at_most : (x m : ℕ) → once_below x m ≤ 1
 once_at_most x m = ⊎_elim (λ (lt : x < m). omega (arith, once_inside x m lt)) (λ (le : m ≤ x). below_none (cases_lt 0 (once_below x m)) le) (cases_lt x m)
@@ -162,11 +154,6 @@ once_at_most x m = ⊎_elim (λ (lt : x < m). omega (arith, once_inside x m lt))
     below_none : (0 < once_below x m) ⊎ (once_below x m ≤ 0) → m ≤ x → once_below x m ≤ 1
     below_none (inl some) le = let lt = inside_once x m some in absurd (omega arith)
     below_none (inr none) le = omega arith
-
-stands_there : (xs : List ℕ) (k d : ℕ) → k < length xs → 0 < times (get_or xs k d) xs
-stands_there [] k d lt = absurd (omega arith)
-stands_there (x ∷ xs) zero d lt = omega (arith, times_self x xs)
-stands_there (x ∷ xs) (suc k) d lt = omega (arith, times_cons (get_or xs k d) x xs, stands_there xs k d (omega arith))
 
 contained : (xs ys : List ℕ) → ((x : ℕ) → times x xs ≤ times x ys) → Every (Contains ys) xs
 contained xs ys h = λ k d lt. times_contains (get_or xs k d) ys (omega (arith, h (get_or xs k d), stands_there xs k d lt))

@@ -12,7 +12,7 @@ use Rattle.lemmas.proofs.Parts.{none_left}
 use Rattle.rdf_values.specs.Times.{times}
 use Rattle.rdf_values.proofs.DrawCounts.{times_append}
 use Rattle.merge_core.specs.declared.noted.Noted.{Noted}
-use Rattle.slot_words.specs.Chosen.{cluster_in, if_kept, chosen_in, chosen, added_in, added, HaveNumbers, IsStretch}
+use Rattle.slot_words.specs.Chosen.{AreOf, cluster_in, piece_in, if_kept, chosen_in, chosen, added_in, added, HaveNumbers, IsStretch}
 
 -- ---- one trail
 
@@ -119,8 +119,14 @@ module _ {P : Type 0} where
         split = ap₂ (λ l m. added l low high m) x y ∙ ap (λ j. added_in o low high t ++ added (drop j os) low high (drop j ts)) k;
       }
 
-  pub all_added : {B : Type 0} (f : Noted P → B) (os : List (List ℕ)) (ts : List (List (Noted P))) (low high i : ℕ) (old all : List B) → length os ≤ i → old ++ map f (added (drop i os) low high (drop i ts)) ≡ all → old ≡ all
-  all_added f os ts low high i old all le is = sym (append-nil old) ∙ ap (λ l. old ++ map f (added l low high (drop i ts))) (sym (none_left os i le)) ∙ is
+  none_more : {B : Type 0} (f : Noted P → B) (os : List (List ℕ)) (ts : List (List (Noted P))) (low high i : ℕ) (old all : List B) → length os ≤ i → old ++ map f (added (drop i os) low high (drop i ts)) ≡ all → old ≡ all
+  none_more f os ts low high i old all le is = sym (append-nil old) ∙ ap (λ l. old ++ map f (added l low high (drop i ts))) (sym (none_left os i le)) ∙ is
+
+  -- once all trails are gone through
+  pub all_added : (os : List (List ℕ)) (ts : List (List (Noted P))) (low high i : ℕ) (clusters : List ℕ) (pieces : List P) → length os ≤ i
+      → clusters ++ map cluster_in (added (drop i os) low high (drop i ts)) ≡ map cluster_in (added os low high ts) → pieces ++ map piece_in (added (drop i os) low high (drop i ts)) ≡ map piece_in (added os low high ts)
+      → AreOf clusters pieces (added os low high ts)
+  all_added os ts low high i clusters pieces le c p = record { clusters_are = none_more cluster_in os ts low high i clusters _ le c; pieces_are = none_more piece_in os ts low high i pieces _ le p }
 
   -- ---- sums
 

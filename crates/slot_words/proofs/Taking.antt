@@ -3,12 +3,13 @@ use Rattle.std.proofs.Common.{◌≡◌, ℕ, ◌+◌, ◌<◌, ◌≤◌, List,
 use Rattle.std.specs.Prelude.{slice_get, slice_set}
 use Rattle.std.proofs.lemmas.Option.{slice_get_within}
 use Rattle.std.proofs.lemmas.Bool.{cases_lt}
-use Rattle.lemmas.proofs.Places.{set_length}
+use Rattle.lemmas.proofs.Answers.{same_some}
+use Rattle.lemmas.proofs.Places.{before_or_last, set_at, set_length}
 use Rattle.merge_core.specs.declared.noted.Noted.{Noted}
 use Rattle.loop_pieces.specs.declared.loop_piece.LoopPiece.{LoopPiece}
 use Rattle.loop_pieces.specs.declared.watch_piece.WatchPiece.{WatchPiece}
 use Rattle.slot_words.specs.Trails.{AreTaken, AreLeft, HasSameBody}
-use Rattle.slot_words.proofs.Places.{pushed, set_other, set_same, same_item}
+use Rattle.slot_words.proofs.Places.{set_other}
 
 abbrev pub TrailOf : Type 0
 TrailOf = List (Noted WatchPiece)
@@ -39,15 +40,15 @@ next_taken w i old new now trails more p q t h at one is_now is_more =
           (λ (c : slice_get trails k ≡ Some s). h.taken k r s a c)
           (λ (c : (k ≡ length trails) × (t ≡ s)).
           let k_is : k ≡ i = c.0 ∙ h.count in
-          let same : p ≡ r = same_item (slice_get old i) p r here (ap (slice_get old) (sym k_is) ∙ a) in
+          let same : p ≡ r = same_some (sym here ∙ ap (slice_get old) (sym k_is) ∙ a) in
           subst (λ (x : LoopPiece). slice_get x.trails.items w ≡ Some s) same (one.trail ∙ ap Some c.1))
-          (pushed trails t s k (subst (λ l. slice_get l k ≡ Some s) is_more b));
+          (before_or_last trails t k s (subst (λ l. slice_get l k ≡ Some s) is_more b));
       left = λ k r s lt a b. ⊎_elim
           (λ (before : k < i). h.left k r s before a (sym (set_other new i k q (λ e. omega arith)) ∙ ap (λ l. slice_get l k) (sym is_now) ∙ b))
           (λ (most : i ≤ k).
           let k_is : k ≡ i = omega arith in
-          let same : p ≡ r = same_item (slice_get old i) p r here (ap (slice_get old) (sym k_is) ∙ a) in
-          let new_is : q ≡ s = set_same new i q s (ap (λ l. slice_get l i) (sym is_now) ∙ ap (slice_get now) (sym k_is) ∙ b) in
+          let same : p ≡ r = same_some (sym here ∙ ap (slice_get old) (sym k_is) ∙ a) in
+          let new_is : q ≡ s = same_some (sym (set_at new i q (slice_get_within new i p at)) ∙ ap (λ l. slice_get l i) (sym is_now) ∙ ap (slice_get now) (sym k_is) ∙ b) in
           subst (λ (x : LoopPiece). HasSameBody r x × (x.trails.items ≡ slice_set r.trails.items w [])) new_is
           (subst (λ (x : LoopPiece). HasSameBody x q × (q.trails.items ≡ slice_set x.trails.items w [])) same (record { accs = one.accs; flow = one.flow }, one.left)))
           (cases_lt k i);

@@ -1,22 +1,21 @@
--- Seats and shares as they are made and as they are handed back, under a rule that says no more of hands than their sums and what each is.
-use Rattle.std.proofs.Common.{◌≡◌, ℕ, suc, ◌+◌, ◌<◌, List, [], ◌∷◌, ◌++◌, length, map, replicate, refl, sym, ap, ◌∙◌, arith, append-nil}
+-- Seats and shares as they are made and as they are handed back, under a rule that says nothing of the hands' order.
+use Rattle.std.proofs.Common.{◌≡◌, ℕ, suc, ◌+◌, ◌<◌, List, [], ◌∷◌, ◌++◌, length, map, replicate, refl, sym, ap, ◌∙◌, subst, arith, append-nil}
+use Rattle.std.specs.Prelude.{IsPermutation}
 use Rattle.std.specs.List.{All, range_with_len}
 use Rattle.std.proofs.lemmas.List.{length-replicate, nil_from_length}
 use Rattle.std.proofs.lemmas.List.Elements.{All-nil, All-cons, All-head, All-tail, All-pop}
 use Rattle.std.proofs.Common.{Some}
 use Rattle.atomic_table.specs.Seated.{TableId}
 use Rattle.atomic_table.specs.Table.{State, Me, Splits, Joins, Enters}
-use Rattle.slot_words.specs.Totals.{total, Each}
-use Rattle.slot_words.specs.Hands.{others, first_alone}
-use Rattle.slot_words.proofs.Hands.{dealt_each, dealt_more, dealt_total, entered_each, entered_total, first_replicate, others_replicate, taken_each, taken_next, taken_total}
+use Rattle.slot_words.specs.Hands.{hands_in, others, first_alone}
+use Rattle.slot_words.proofs.Hands.{dealt, dealt_more, entered, first_replicate, others_replicate, taken, taken_next}
 
-module _ {H : Type 0} (Rule : List ℕ → List (List H) → Type 0)
-    (again : (words : List ℕ) (views now : List (List H)) → Rule words views → ((f : H → ℕ) → total f now ≡ total f views) → ((P : H → Type 0) → Each P views → Each P now) → Rule words now) where
+module _ {H : Type 0} (Rule : List ℕ → List H → Type 0) (again : (words : List ℕ) (hands now : List H) → IsPermutation hands now → Rule words hands → Rule words now) where
   abbrev Holds : State ℕ (List H) → Type 0
-  Holds s = Rule s.words s.views
+  Holds s = Rule s.words (hands_in s.views)
 
   deal : (id : ℕ) (h : H) (hs : List H) → Splits Holds id (h ∷ hs) hs (h ∷ [])
-  deal id h hs s rule at = again s.words s.views _ rule (dealt_total s.views id h hs at) (dealt_each s.views id h hs at)
+  deal id h hs s rule at = again s.words _ _ (dealt s.views id h hs at) rule
 
   -- a view is cut in two
   pub deals : (id : ℕ) (v : List H) → 0 < length v → Splits Holds id v (others v) (first_alone v)
@@ -25,14 +24,14 @@ module _ {H : Type 0} (Rule : List ℕ → List (List H) → Type 0)
 
   -- a view takes in another
   pub gathers : (id : ℕ) (v : List H) (other : ℕ) (w : List H) → Joins Holds id v other w (w ++ v) []
-  gathers id v other w s rule at apart there = again s.words s.views _ rule (taken_total s.views id other v w at apart there) (taken_each s.views id other v w at apart there)
+  gathers id v other w s rule at apart there = again s.words _ _ (taken s.views id other v w at apart there) rule
 
   abbrev KnowsNone : Me ℕ (List H) → Type 0
   KnowsNone me = me ≡ ([], [])
 
   -- a view comes that has no hand
   pub enters : (slots i : ℕ) → Enters Holds slots i (λ n v. KnowsNone (v, []))
-  enters slots i s rule len fits = ([], again s.words s.views _ rule (entered_total s.views) (entered_each s.views), refl)
+  enters slots i s rule len fits = ([], subst (Rule s.words) (sym (entered s.views)) rule, refl)
 
 module _ {S H : Type 0} where
   -- what holds of each one's hand

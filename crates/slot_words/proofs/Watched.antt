@@ -3,7 +3,8 @@ use Rattle.std.proofs.Common.{◌≡◌, ℕ, ◌+◌, ◌<◌, ◌≤◌, List,
 use Rattle.std.specs.Prelude.{slice_get}
 use Rattle.std.specs.List.{All}
 use Rattle.std.proofs.lemmas.Option.{slice_get-get_or, slice_get_within}
-use Rattle.lemmas.proofs.Places.{set_length}
+use Rattle.lemmas.proofs.Answers.{same_some}
+use Rattle.lemmas.proofs.Places.{before_or_last, set_length}
 use Rattle.rdf_values.specs.Cuts.{stride}
 use Rattle.rdf_model.specs.PartialResults.{IsChain}
 use Rattle.rdf_model.specs.declared.loop_facts.LoopFacts.{LoopFacts}
@@ -15,7 +16,7 @@ use Rattle.loop_pieces.specs.declared.watch_piece.WatchPiece.{WatchPiece}
 use Rattle.slot_words.specs.Chains.{AreNoted, HavePartialsOver, chain_of, noted_sets}
 use Rattle.slot_words.specs.Trails.{AreTrails, HaveAllTrails, AreTaken, AreLeft, HaveSameBodies}
 use Rattle.slot_words.proofs.Chaining.{is_chain}
-use Rattle.slot_words.proofs.Places.{pushed, set_other, same_item}
+use Rattle.slot_words.proofs.Places.{set_other}
 
 -- the trails of the results from place w on are as they were
 pub record AreAhead (w : ℕ) (old new : List LoopPiece) : Type 0 where
@@ -87,9 +88,9 @@ more_lines facts places sets w place all now lines h at one is = record {
       (λ (before : slice_get all i ≡ Some ls). h.each i other ls a before)
       (λ (last : (i ≡ length all) × (lines ≡ ls)).
       let i_is : i ≡ w = last.0 ∙ h.many in
-      let same : place ≡ other = same_item (slice_get places w) place other at (ap (slice_get places) (sym i_is) ∙ a) in
+      let same : place ≡ other = same_some (sym at ∙ ap (slice_get places) (sym i_is) ∙ a) in
       subst (λ (p : ℕ). ArePartialLines facts p sets ls) same (subst (ArePartialLines facts place sets) last.1 one))
-      (pushed all lines ls i (subst (λ l. slice_get l i ≡ Some ls) is b));
+      (before_or_last all lines i ls (subst (λ l. slice_get l i ≡ Some ls) is b));
 }
 
 -- all lines are the partial results

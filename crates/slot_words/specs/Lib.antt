@@ -8,5 +8,4 @@ pub mod Runs
 pub mod SeatEnds
 pub mod Seats
 pub mod Shares
-pub mod Totals
 pub mod Trails

@@ -1,25 +1,27 @@
 -- The rule of the book's word, and what each step does to a view.
-use Rattle.std.specs.Prelude.{◌≡◌, ℕ, ◌<◌, ◌≤◌, ◌^◌, List, [], ◌∷◌, ◌++◌, replicate, length}
+use Rattle.std.specs.Prelude.{◌≡◌, ℕ, ◌<◌, ◌≤◌, ◌^◌, List, [], ◌∷◌, ◌++◌, map, replicate, length}
+use Rattle.std.specs.List.{All}
 use Rattle.std.specs.List.Sorted.{IsStrictlyIncreasing}
 use Rattle.atomic_table.specs.Table.{State, Me, Step}
+use Rattle.rdf_values.specs.Draws.{DrawnBy}
 use Rattle.slot_words.specs.declared.hand.NoteHand.{NoteHand}
-use Rattle.slot_words.specs.Totals.{total, Each, AreShared}
+use Rattle.slot_words.specs.Hands.{hands_in}
 use Rattle.slot_words.specs.Shares.{hand_with}
 
 -- the hands share out the numbers below w, each once, and none has more than there are clusters
-pub record IsNoted (clusters slots w : ℕ) (views : List (List NoteHand)) : Type 0 where
+pub record IsNoted (clusters slots w : ℕ) (hands : List NoteHand) : Type 0 where
   pub small : (clusters < 2 ^ 32) × (slots ≤ 16)
-  pub shared : AreShared (λ h. h.drawn) slots w views
-  pub many : total (λ h. length h.drawn) views ≡ w
-  pub fits : Each (λ h. length h.drawn ≤ clusters) views
+  pub many : length hands ≡ slots
+  pub shared : DrawnBy (map (λ h. h.drawn) hands) w
+  pub fits : All (λ h. length h.drawn ≤ clusters) hands
 
 -- there is one word, and the hands share out the numbers below it
-abbrev pub AreNotings : ℕ × ℕ → List ℕ → List (List NoteHand) → Type 0
-AreNotings key words views = (w : ℕ) × (words ≡ w ∷ []) × IsNoted key.0 key.1 w views
+abbrev pub AreNotings : ℕ × ℕ → List ℕ → List NoteHand → Type 0
+AreNotings key words hands = (w : ℕ) × (words ≡ w ∷ []) × IsNoted key.0 key.1 w hands
 
 -- so it is at a table
 abbrev pub Noted : ℕ × ℕ → State ℕ (List NoteHand) → Type 0
-Noted key s = AreNotings key s.words s.views
+Noted key s = AreNotings key s.words (hands_in s.views)
 
 -- as many hands as shares, which did nothing
 abbrev pub opening_hands : ℕ × ℕ → List NoteHand

@@ -1,5 +1,5 @@
 -- What contracts see of the claims and of a seat.
-use Rattle.std.specs.Prelude.{◌≡◌, ℕ, List, [], ◌∷◌, ◌++◌, Option, None, Some, map, min, ◌+◌, ◌-◌, length, slice_index, ◌==◌, ◌<◌, ◌≤◌, nat_lt, if◌then◌else◌, IfSome, IsSomeAnd}
+use Rattle.std.specs.Prelude.{◌≡◌, ℕ, List, [], ◌∷◌, ◌++◌, Option, None, Some, map, min, ◌+◌, ◌-◌, length, slice_index, ◌<◌, ◌≤◌, nat_lt, if◌then◌else◌, IfSome, IsSomeAnd}
 use Rattle.std.specs.List.{All, Contains, range_with_len, sum_by}
 use Rattle.atomic_table.specs.Seated.{TableId}
 use Rattle.slot_words.specs.declared.hand.ClaimHand.{ClaimHand}
@@ -30,11 +30,6 @@ last_of xs = slice_index xs (length xs - 1)
 abbrev pub kept_count : Option ℕ → ℕ
 kept_count None = 0
 kept_count (Some k) = 1
-
--- 1 where the bar was lowered to b, and else 0
-abbrev pub lowers_to : ℕ → Option ℕ → ℕ
-lowers_to b None = 0
-lowers_to b (Some n) = if n == b then 1 else 0
 
 -- a seat by its hand
 abbrev pub seat_seen : TableId → ℕ → ClaimHand → SeatSeen

@@ -9,25 +9,18 @@ use Rattle.loop_pieces.specs.Watching.{WatchStandsFor}
 use Rattle.slot_words.proofs.Noting.{have_numbers, alone_added, added_once, added_some, few_added, first_set}
 use Rattle.slot_words.proofs.lines.first_line.Goals as goal
 
-pub partial_between-requires-clause-numbers : goal.partial_between-requires-clause-numbers
-partial_between-requires-clause-numbers c =
-    let n = c.requires.noted in
-    have_numbers n.0 n.1 c.args.orders.now.slots n.2 c.args.trails.now n.4.many n.5
-
-pub partial_between-requires-clause-rise : goal.partial_between-requires-clause-rise
-partial_between-requires-clause-rise c = (let n = c.requires.noted in n.4.drawn.rising)
-
-pub partial_between-requires-clause-some : goal.partial_between-requires-clause-some
-partial_between-requires-clause-some c =
-    let n = c.requires.noted in
-    added_some c.args.orders.now.slots n.2 n.3 n.4 n.0 n.1 c.args.trails.now n.5 0 c.args.below (omega arith) n.6.1 n.6.0
-
-pub partial_between-requires-clause-apart : goal.partial_between-requires-clause-apart
-partial_between-requires-clause-apart c =
+pub partial_between-requires : goal.partial_between-requires
+partial_between-requires c =
     let n = c.requires.noted in
     let os = c.args.orders.now.slots in
     let ts = c.args.trails.now in
-    (watch_facts n.0 n.1, alone_added n.0 n.1 os n.2 ts 0 c.args.below n.5, added_once os n.2 n.3 n.4 n.0 n.1 ts n.5 0 c.args.below (omega arith) n.6.1)
+    record {
+      numbers = have_numbers n.0 n.1 os n.2 ts n.4.many n.5;
+      rise = n.4.drawn.rising;
+      bounds = omega arith;
+      some = added_some os n.2 n.3 n.4 n.0 n.1 ts n.5 0 c.args.below (omega arith) n.6.1 n.6.0;
+      apart = (watch_facts n.0 n.1, alone_added n.0 n.1 os n.2 ts 0 c.args.below n.5, added_once os n.2 n.3 n.4 n.0 n.1 ts n.5 0 c.args.below (omega arith) n.6.1);
+    }
 
 pub runs_with-requires : goal.runs_with-requires
 runs_with-requires c =

@@ -1,9 +1,7 @@
 use Rattle.std.proofs.Common.{ℕ, List, ◌≡◌, [], ◌∷◌, ◌++◌, map, length, sym, ap, ◌∙◌, subst, arith, reverse, append-nil}
-use Rattle.std.specs.List.{sum_by}
 use Rattle.std.proofs.lemmas.List.{length-map, nil_from_length, reverse-append}
 use Rattle.std.proofs.lemmas.List.Elements.{All-weaker}
 use Rattle.rdf_values.specs.Draws.{DrawnBy}
-use Rattle.slot_words.specs.declared.hand.NoteHand.{NoteHand}
 use Rattle.slot_words.specs.Noting.{AreNotings}
 use Rattle.slot_words.specs.Shares.{IsOf, hand_seen, many_in, ShareSeen}
 use Rattle.std.proofs.lemmas.Simd.{map-map}
@@ -67,5 +65,5 @@ returns c =
     record {
       orders = c.from_vec-2.ensures ∙ c.reverse.ensures.items ∙ ap (λ s. map numbers_in s ++ reverse c.loop-next.lists.items) (sym (nil_from_length c.loop-next.left.items none)) ∙ c.loop-next.invariant.numbers;
       drawn = subst (λ l. DrawnBy l (many_in l)) (map-map noted_by hand_seen c.args.shares)
-          (subst (λ v. DrawnBy (map (λ (h : NoteHand). h.drawn) v) (sum_by length (map (λ (h : NoteHand). h.drawn) v))) hands (closed shared.key c.loop-next.all.id c.loop-next.all.me.0 _ _ c.close_with-closed.ensures.values.2 many));
+          (subst (λ v. DrawnBy (map noted_by v) (many_in (map noted_by v))) hands (closed shared.key c.loop-next.all.id c.loop-next.all.me.0 _ _ c.close_with-closed.ensures.values.2 many));
     }

@@ -1,9 +1,12 @@
 use Rattle.std.proofs.Common.{◌+◌, ◌-◌, [], refl, ap, ◌∙◌, arith}
 use Rattle.slot_words.specs.Noting.{AreNotings}
 use Rattle.slot_words.specs.Shares.{BookSeen, fresh_shares}
-use Rattle.slot_words.proofs.Notes.{again}
+use Rattle.slot_words.proofs.Notes.{again, opens}
 use Rattle.slot_words.proofs.Tokens.{deals, many_left, next_dealt, one_dealt}
 use Rattle.slot_words.proofs.book.Book.new.Goals as goal
+
+pub of_words-requires : goal.of_words-requires
+of_words-requires c = opens (c.args.clusters, c.args.slots) c.ranges.clusters.fits c.requires.slots
 
 pub split_seat-seat-requires : goal.split_seat-seat-requires
 split_seat-seat-requires c =

@@ -1,4 +1,4 @@
-use Rattle.std.proofs.Common.{◌≡◌, ◌≤◌, ◌<◌, [], ◌∷◌, ◌+◌, map, length, min, subst₂, Some, IfSome, sym, ap, ◌∙◌, subst, arith}
+use Rattle.std.proofs.Common.{◌≡◌, [], ◌∷◌, ◌+◌, map, length, min, subst₂, Some, sym, ap, ◌∙◌, subst, arith}
 use Rattle.std.specs.List.{Contains}
 use Rattle.std.proofs.lemmas.List.{length-map}
 use Rattle.std.proofs.lemmas.List.Elements.{All-weaker}
@@ -6,9 +6,9 @@ use Rattle.rdf_values.specs.Draws.{DrawnBy}
 use Rattle.rdf_values.proofs.DrawCounts.{sum_by-map}
 use Rattle.std.proofs.lemmas.Simd.{map-map}
 use Rattle.slot_words.specs.declared.hand.ClaimHand.{ClaimHand}
-use Rattle.slot_words.specs.Seats.{IsOf, SeatSeen, hand_seen, kept_count, last_of}
-use Rattle.slot_words.specs.Claiming.{AreClaimed, IsOver}
-use Rattle.slot_words.proofs.Steps.{again, finished, IsFinished}
+use Rattle.slot_words.specs.Seats.{IsOf, SeatSeen, hand_seen, kept_count}
+use Rattle.slot_words.specs.Claiming.{AreClaimed, IsBarred, IsClaimed, IsHand, IsOver}
+use Rattle.slot_words.proofs.Steps.{again, finished}
 use Rattle.slot_words.proofs.Draws.{drawn_by}
 use Rattle.slot_words.proofs.Tokens.{IsGathering, all_gathered, all_seen, enters, gathers, next_gathered, next_of, none_gathered}
 use Rattle.slot_words.proofs.claims.Claims.finish.Goals as goal
@@ -45,7 +45,8 @@ loop-next-preserved c =
     next_gathered hand_seen (λ (s : SeatSeen). s.table) _ c.args.seats _ _ c.in-Some.next _ _ c.loop-next.invariant c.in-Some.ensures.items _ _ _ (ap (λ m. m.0) c.next.invariant.0 ∙ ap (λ s. hand_seen s ∷ []) c.next.view_is) j.0 j.2
 
 -- what the last state of the table says of the seats that were handed in
-whole : (c : goal.After-drop-left) → IsFinished c.args.self.clusters c.word-word.result c.word-bar.result (map hand_seen c.args.seats)
+whole : (c : goal.After-drop-left)
+    → IsClaimed c.args.self.clusters c.self.inside.table.shared.key.1 c.word-word.result (map hand_seen c.args.seats) × IsBarred c.args.self.clusters c.word-bar.result (map hand_seen c.args.seats)
 whole c =
     let word = c.word-word.result in
     let bar = c.word-bar.result in
@@ -55,25 +56,27 @@ whole c =
     let hands = all_gathered hand_seen (λ (s : SeatSeen). s.table) _ c.args.seats _ _ _ c.loop-next.invariant (let gone = c.in_default.ensures.cases.0 in let left = c.loop-next.left.ok.0 in omega (arith, gone, left)) in
     let many = ap length hands ∙ length-map c.args.seats hand_seen ∙ c.requires.all ∙ sym slots in
     let end = finished shared.key c.loop-next.all.id c.loop-next.all.me.0 _ _ word bar c.close_with-closed.ensures.values.2 c.word-word.ensures c.word-bar.ensures many in
-    subst₂ (λ v n. IsFinished n word bar v) hands clusters end
+    subst₂ (λ v n. IsClaimed n shared.key.1 word v × IsBarred n bar v) hands clusters end
 
 pub returns-clause-drawn : goal.returns-clause-drawn
-returns-clause-drawn c = subst (λ lists. DrawnBy lists (min c.word-word.result c.args.self.clusters)) (map-map drawn_by hand_seen c.args.seats) (whole c).drawn
+returns-clause-drawn c = subst (λ lists. DrawnBy lists (min c.word-word.result c.args.self.clusters)) (map-map drawn_by hand_seen c.args.seats) (whole c).0.shared
 
 pub returns-clause-word : goal.returns-clause-word
-returns-clause-word c = (whole c).counted ∙ ap (λ n. min c.word-word.result c.args.self.clusters + n) (sum_by-map (λ (h : ClaimHand). kept_count h.kept) hand_seen c.args.seats)
+returns-clause-word c = (whole c).0.room ∙ ap (λ n. min c.word-word.result c.args.self.clusters + n) (sum_by-map (λ (h : ClaimHand). kept_count h.kept) hand_seen c.args.seats)
 
 pub returns-clause-kept : goal.returns-clause-kept
-returns-clause-kept c = all_seen hand_seen (λ h. IfSome h.kept (λ k. (c.args.self.clusters ≤ k) × (k < c.word-word.result))) c.args.seats (whole c).kept
+returns-clause-kept c =
+    All-weaker (λ (s : SeatSeen). IsHand c.args.self.clusters c.word-word.result (hand_seen s)) _ (λ s i. i.past) c.args.seats
+    (all_seen hand_seen (IsHand c.args.self.clusters c.word-word.result) c.args.seats (whole c).0.each)
 
 pub returns-clause-passed : goal.returns-clause-passed
-returns-clause-passed c = all_seen hand_seen (λ h. IfSome h.passed (λ p. (c.word-bar.result ≤ p) × (0 < length h.drawn) × (p ≡ last_of h.drawn))) c.args.seats (All-weaker (IsOver c.word-bar.result) _ (λ h o. o.passed) (map hand_seen c.args.seats) (whole c).over)
+returns-clause-passed c = All-weaker (λ (s : SeatSeen). IsOver c.word-bar.result (hand_seen s)) _ (λ s o. o.passed) c.args.seats (all_seen hand_seen (IsOver c.word-bar.result) c.args.seats (whole c).1.each)
 
 pub returns-clause-bar : goal.returns-clause-bar
 returns-clause-bar c =
-    let w = whole c in
+    let w = (whole c).1 in
     record {
       most = w.most;
-      below = all_seen hand_seen (λ h. IfSome h.lowered (λ n. c.word-bar.result ≤ n)) c.args.seats (All-weaker (IsOver c.word-bar.result) _ (λ h o. o.lowered) (map hand_seen c.args.seats) w.over);
-      reached = λ lt. subst (λ l. Contains l (Some c.word-bar.result)) (map-map (λ (h : ClaimHand). h.lowered) hand_seen c.args.seats) (w.reached lt);
+      below = All-weaker (λ (s : SeatSeen). IsOver c.word-bar.result (hand_seen s)) _ (λ s o. o.lowered) c.args.seats (all_seen hand_seen (IsOver c.word-bar.result) c.args.seats w.each);
+      reached = λ lt. subst (λ l. Contains l (Some c.word-bar.result)) (map-map (λ (h : ClaimHand). h.lowered) hand_seen c.args.seats) (w.least lt);
     }

@@ -4,9 +4,12 @@ use Rattle.atomic_table.specs.Table.{Me}
 use Rattle.slot_words.specs.declared.hand.ClaimHand.{ClaimHand}
 use Rattle.slot_words.specs.Seats.{ClaimsSeen, fresh_seat, fresh_seats, empty_hand, hand_of, seat_seen}
 use Rattle.slot_words.specs.Claiming.{AreClaimed}
-use Rattle.slot_words.proofs.Steps.{again}
+use Rattle.slot_words.proofs.Steps.{again, opens}
 use Rattle.slot_words.proofs.Tokens.{deals, many_left, next_dealt, one_dealt}
 use Rattle.slot_words.proofs.claims.Claims.new.Goals as goal
+
+pub of_words-requires : goal.of_words-requires
+of_words-requires c = opens (c.args.clusters, c.args.slots) c.ranges.clusters.fits c.ranges.slots.fits
 
 pub split_seat-seat-requires : goal.split_seat-seat-requires
 split_seat-seat-requires c =
