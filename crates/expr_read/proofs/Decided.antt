@@ -1,5 +1,5 @@
 -- Each text reads, or has one refusal.
-use Rattle.std.proofs.Common.{◌≡◌, ◌∙◌, ℕ, List, Ok, Err, inl, inr, sym, subst, ap, length, refl}
+use Rattle.std.proofs.Common.{◌≡◌, ◌∙◌, ℕ, List, Ok, Err, inl, inr, sym, ap, length, refl}
 use Rattle.std.specs.Prelude.{Result, ◌⊎◌}
 use Rattle.rdf_values.specs.Tokens.{Token, Placed, Refusal, tokens}
 use Rattle.rdf_values.specs.Grammar.{bare}
@@ -11,7 +11,7 @@ use Rattle.expr_read.proofs.Reading.{IsWhole}
 abbrev pub Completes : {T : Type 0} → (List Token → T → Type 0) → ScanState → Type 0
 Completes {T} reads begin = (ts : List Placed) → scan begin ts ≡ Whole → (x : T) × reads (bare ts) x
 
-module _ {T : Type 0} (reads : List Token → T → Type 0) (begin : ScanState) (whole : IsWhole reads begin) (completes : Completes reads begin) where
+module _ {T : Type 0} (reads : List Token → T → Type 0) (begin : ScanState) (whole : IsWhole reads begin) where
   same_tokens : (text : List ℕ) (ts us : List Placed) → tokens text ≡ Ok ts → tokens text ≡ Ok us → ts ≡ us
   same_tokens text ts us e f = cc (sym e ∙ f)
 
@@ -29,25 +29,18 @@ module _ {T : Type 0} (reads : List Token → T → Type 0) (begin : ScanState) 
   one_refusal text r s (at_end {ts = us} f none h) (at_scan {ts} {p} e g) = absurd (none p (ap (scan begin) (sym (same_tokens text ts us e f)) ∙ g))
   one_refusal text r s (at_end e g h) (at_end f k l) = refl
 
-  pub not_both : (text : List ℕ) (x : T) (r : Refusal) → IsText reads text x → Refuses reads begin text r → ⊥
-  not_both text x r t (at_token e) = let never = sym e ∙ t.tokens_are in cc never
-  not_both text x r t (at_scan {ts} e g) =
-      let never = sym g ∙ ap (scan begin) (same_tokens text ts t.found e t.tokens_are) ∙ whole t.found x t.reads_as in
-      cc never
-  not_both text x r t (at_end {ts} e none h) = h x (subst (λ (us : List Placed). reads (bare us) x) (same_tokens text t.found ts t.tokens_are e) t.reads_as)
-
-  abbrev Answered : List ℕ → Type 0
+  abbrev pub Answered : List ℕ → Type 0
   Answered text = ((x : T) × IsText reads text x) ⊎ ((r : Refusal) × Refuses reads begin text r)
 
-  by_end : (text : List ℕ) (ts : List Placed) (end : ScanEnd) → tokens text ≡ Ok ts → scan begin ts ≡ end → Answered text
-  by_end text ts Whole e h = let x = completes ts h in inl (x.0, record { found = ts; tokens_are = e; reads_as = x.1 })
-  by_end text ts (Refused p) e h = inr (record { cause = cause.Unexpected; place = p }, at_scan e h)
-  by_end text ts Partial e h =
+  by_end : Completes reads begin → (text : List ℕ) (ts : List Placed) (end : ScanEnd) → tokens text ≡ Ok ts → scan begin ts ≡ end → Answered text
+  by_end completes text ts Whole e h = let x = completes ts h in inl (x.0, record { found = ts; tokens_are = e; reads_as = x.1 })
+  by_end completes text ts (Refused p) e h = inr (record { cause = cause.Unexpected; place = p }, at_scan e h)
+  by_end completes text ts Partial e h =
       inr (record { cause = cause.Unexpected; place = length text }, at_end e (λ p k. let never = sym h ∙ k in cc never) (λ x r. let never = sym h ∙ whole ts x r in cc never))
 
-  by_tokens : (text : List ℕ) (found : Result (List Placed) Refusal) → tokens text ≡ found → Answered text
-  by_tokens text (Ok ts) e = by_end text ts (scan begin ts) e refl
-  by_tokens text (Err r) e = inr (r, at_token e)
+  by_tokens : Completes reads begin → (text : List ℕ) (found : Result (List Placed) Refusal) → tokens text ≡ found → Answered text
+  by_tokens completes text (Ok ts) e = by_end completes text ts (scan begin ts) e refl
+  by_tokens completes text (Err r) e = inr (r, at_token e)
 
-  pub answered : (text : List ℕ) → ((x : T) × IsText reads text x) ⊎ ((r : Refusal) × Refuses reads begin text r)
-  answered text = by_tokens text (tokens text) refl
+  pub answered : Completes reads begin → (text : List ℕ) → Answered text
+  answered completes text = by_tokens completes text (tokens text) refl

@@ -1,14 +1,13 @@
 -- What was read of the values of a Vary, from what their parts read.
-use Rattle.std.proofs.Common.{◌≡◌, ◌∙◌, List, [], ◌∷◌, ◌++◌, false, None, arith, refl, sym, ap, subst, append_assoc}
+use Rattle.std.proofs.Common.{◌≡◌, ◌∙◌, List, [], ◌∷◌, ◌++◌, None, arith, refl, ap, append_assoc}
 use Rattle.rdf_values.specs.Tree.{NamedTree}
-use Rattle.rdf_values.specs.Tokens.{Token, Op, Punct, Placed}
-use Rattle.rdf_values.specs.Grammar.{last_item, more_items, last_list, more_lists, one_list, several_lists, vector, level_of}
-use Rattle.rdf_values.specs.Scans.{OpenMark, InList, InLists, Operand, Operator, AfterBrace, AfterList, NextList, Nothing, scan, begin_values, after_list, operator, operand, beginning, after_brace, between_lists, next_list}
+use Rattle.rdf_values.specs.Tokens.{Token, Punct, Placed}
+use Rattle.rdf_values.specs.Grammar.{last_item, more_items, last_list, more_lists, one_list, several_lists, vector}
+use Rattle.rdf_values.specs.Scans.{OpenMark, InList, InLists, Operand, Operator, AfterBrace, AfterList, NextList, Nothing, scan, begin_values, after_list, operand, beginning, after_brace, between_lists, next_list}
 use Rattle.rdf_values.specs.declared.expr.Mark.TheVariants as mark
-use Rattle.rdf_values.specs.declared.vary_values.VaryValues.{VaryValues}
 use Rattle.rdf_values.specs.declared.vary_values.VaryValues.TheVariants.{Lists as ListsOf, Vector as VectorOf}
-use Rattle.expr_read.specs.Parsing.{Begins, BeginsNot, Took, Stops, continues, Listing, TookList, Listings, TookLists, TookValues, in_list, stuck_at, ends_at}
-use Rattle.expr_read.proofs.Scanned.{scan_after, first_is_not, refused_at, same_step, never, refused_end}
+use Rattle.expr_read.specs.Parsing.{Begins, BeginsNot, Took, Stops, Listing, TookList, Listings, TookLists, TookValues, in_list, stuck_at, ends_at}
+use Rattle.expr_read.proofs.Scanned.{scan_after, first_is_not, refused_at, same_step, refused_end}
 use Rattle.expr_read.proofs.Took.{bare_after, fewer_after}
 
 pub list_more : {items : List NamedTree} {a : NamedTree} {old m1 m2 new : List Placed} → Listing items old m1 → Took 0 a m1 m2 → Begins (Punct mark.Comma) m2 new → Listing (items ++ a ∷ []) old new
@@ -48,18 +47,6 @@ lists_done {es = es} l k b = record {
 }
 
 -- ---- where the scan stops
-
-braces_step : (s : List OpenMark) (t : Token) → continues 0 t ≡ false → (t ≡ Punct mark.Comma → ⊥) → (t ≡ Punct mark.CloseBrace → ⊥) → operator t (InList ∷ s) ≡ None
-braces_step s (Op o) h isnt nor = absurd (never (level_of o) h)
-braces_step s (Punct mark.Comma) h isnt nor = absurd (isnt refl)
-braces_step s (Punct mark.CloseBrace) h isnt nor = absurd (nor refl)
-braces_step s (Punct mark.OpenBracket) h isnt nor = cc h
-braces_step s (Punct mark.Question) h isnt nor = cc h
-braces_step s t h isnt nor = refl
-
-pub stuck_braces : (s : List OpenMark) (ts : List Placed) → Stops 0 ts → BeginsNot (Punct mark.Comma) ts → BeginsNot (Punct mark.CloseBrace) ts → scan (Operator, InList ∷ s) ts ≡ stuck_at ts
-stuck_braces s [] h isnt nor = refl
-stuck_braces s (p ∷ ts) h isnt nor = refused_at (Operator, InList ∷ s) p ts (braces_step s p.token h (first_is_not (Punct mark.Comma) p ts isnt) (first_is_not (Punct mark.CloseBrace) p ts nor))
 
 between_step : (s : List OpenMark) (t : Token) → (t ≡ Punct mark.Comma → ⊥) → (t ≡ Punct mark.CloseBrace → ⊥) → between_lists t s ≡ None
 between_step s (Punct mark.Comma) isnt nor = absurd (isnt refl)
@@ -122,28 +109,3 @@ took_list {m1 = m1} {new = new} b isnt k = record {
   reads = one_list k.reads refl;
   ends = scan_after begin_values (AfterBrace, InList ∷ []) b refl ∙ item_first m1 isnt ∙ k.scans [] ∙ ends_nothing new;
 }
-
--- the same, of other lists that are the same
-pub list_as : {x y : List NamedTree} {old new : List Placed} → y ≡ x → TookList x old new → TookList y old new
-list_as {x} {y} {old} {new} e k = subst (λ (z : List NamedTree). TookList z old new) (sym e) k
-
-pub listing_as : {x y : List NamedTree} {old new : List Placed} → y ≡ x → Listing x old new → Listing y old new
-listing_as {x} {y} {old} {new} e k = subst (λ (z : List NamedTree). Listing z old new) (sym e) k
-
-pub lists_as : {x y : List (List NamedTree)} {old new : List Placed} → y ≡ x → TookLists x old new → TookLists y old new
-lists_as {x} {y} {old} {new} e k = subst (λ (z : List (List NamedTree)). TookLists z old new) (sym e) k
-
-pub listings_as : {x y : List (List NamedTree)} {old new : List Placed} → y ≡ x → Listings x old new → Listings y old new
-listings_as {x} {y} {old} {new} e k = subst (λ (z : List (List NamedTree)). Listings z old new) (sym e) k
-
-pub list_to : {x : List NamedTree} {old mid new : List Placed} → new ≡ mid → TookList x old mid → TookList x old new
-list_to {x} {old} {mid} {new} e k = subst (λ (z : List Placed). TookList x old z) (sym e) k
-
-pub values_from : {v : VaryValues} {old mid new : List Placed} → mid ≡ old → TookValues v mid new → TookValues v old new
-values_from {v} {old} {mid} {new} e k = subst (λ (z : List Placed). TookValues v z new) e k
-
-pub values_as : {v w : VaryValues} {old new : List Placed} → w ≡ v → TookValues v old new → TookValues w old new
-values_as {v} {w} {old} {new} e k = subst (λ (z : VaryValues). TookValues z old new) (sym e) k
-
-pub list_from : {x : List NamedTree} {old mid new : List Placed} → mid ≡ old → TookList x mid new → TookList x old new
-list_from {x} {old} {mid} {new} e k = subst (λ (z : List Placed). TookList x z new) e k

@@ -1,6 +1,6 @@
 -- The texts of numbers.
-use Rattle.std.proofs.Common.{◌≡◌, ◌<◌, ◌≤◌, ◌^◌, ℕ, ℤ, pos, negsuc, List, [], ◌∷◌, ◌++◌, length, Bool, true, false, Some, Ok, arith, refl, ap, ◌∙◌, nat_eq}
-use Rattle.std.specs.Prelude.{◌||◌, if◌then◌else◌, decimal, nat_le, take_while}
+use Rattle.std.proofs.Common.{◌≡◌, ◌<◌, ◌≤◌, ◌^◌, ℕ, ℤ, pos, negsuc, List, [], ◌∷◌, ◌++◌, length, true, false, Some, Ok, arith, refl, ap, ◌∙◌, nat_eq}
+use Rattle.std.specs.Prelude.{decimal, nat_le}
 use Rattle.std.specs.Fmt.{signed_decimal}
 use Rattle.std.specs.List.{list_all}
 use Rattle.std.specs.Str.{all_ascii_digits}
@@ -14,7 +14,8 @@ use Rattle.rdf_values.specs.Integers.{magnitude_of}
 use Rattle.rdf_values.specs.Names.{is_word_start, is_word_byte, is_digit}
 use Rattle.rdf_values.proofs.OneText.{magnitude_decimal}
 use Rattle.expr_read.specs.Valid.{is_number}
-use Rattle.rdf_values.specs.Tokens.{Number, is_blank, word_first, number_first, mark_first, first_token}
+use Rattle.rdf_values.specs.Tokens.{Number, is_blank, number_first}
+use Rattle.expr_read.proofs.Sizes.{first_number}
 use Rattle.expr_read.proofs.Spelled.{Spells, token, is_apart, is_unequal}
 use Rattle.expr_read.proofs.Words.{stops, taken}
 
@@ -36,12 +37,6 @@ no_word c low high = rw (le_false 97 c (omega arith), le_false 65 c (omega arith
 
 no_blank : (c : ℕ) → 48 ≤ c → is_blank c ≡ false
 no_blank c low = rw (over c 32 (omega arith), over c 9 (omega arith)) refl
-
-first_number : (c : ℕ) (cs : List ℕ) → is_word_start c ≡ false → is_digit c ≡ true → first_token c cs ≡ number_first (take_while is_digit (c ∷ cs))
-unfolding first_token
-first_number c cs e h =
-    ap (λ (b : Bool). if b then word_first (take_while is_word_byte (c ∷ cs)) else (if is_digit c then number_first (take_while is_digit (c ∷ cs)) else mark_first c cs)) e
-    ∙ ap (λ (b : Bool). if b then number_first (take_while is_digit (c ∷ cs)) else mark_first c cs) h
 
 found : (ds : List ℕ) (n : ℕ) → magnitude_of 9223372036854775807 ds ≡ Some n → number_first ds ≡ Ok (Number (pos n), length ds)
 unfolding number_first

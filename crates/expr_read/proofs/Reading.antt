@@ -1,13 +1,10 @@
 -- What the tokens of a text say of the text.
-use Rattle.std.proofs.Common.{◌≡◌, ◌∙◌, ℕ, List, Ok, Err, inl, inr, sym, subst, length, refl}
-use Rattle.std.specs.Prelude.{Result, IfOk, IfErr, MatchResult}
+use Rattle.std.proofs.Common.{◌≡◌, ◌∙◌, ℕ, List, Ok, inl, inr, sym, subst, length, refl}
 use Rattle.rdf_values.specs.Tree.{NamedTree}
-use Rattle.rdf_values.specs.Tokens.{Token, Placed, tokens}
+use Rattle.rdf_values.specs.Tokens.{Token, Placed, Refusal, tokens}
 use Rattle.rdf_values.specs.Grammar.{Reads, ReadsValues, bare}
 use Rattle.rdf_values.specs.declared.vary_values.VaryValues.{VaryValues}
 use Rattle.rdf_values.specs.Scans.{ScanState, Whole, scan, begin_expr, begin_values, IsText, ReadsText, ReadsValuesText, Refuses, at_token, at_scan, at_end}
-use Rattle.rdf_values.specs.declared.expr_cause.ExprCause.{ExprCause}
-use Rattle.rdf_values.specs.declared.expr_cause.ExprCause.TheVariants as cause
 use Rattle.expr_read.specs.declared.refusal.ExprRefusal.{ExprRefusal}
 use Rattle.expr_read.specs.declared.refusal.ExprRefusal.TheVariants as no
 use Rattle.expr_read.specs.Views.{IsRefusalOf}
@@ -27,31 +24,25 @@ module _ {T : Type 0} (reads : List Token → T → Type 0) (begin : ScanState) 
 
   pub text_refused : (text : List ℕ) (ts : List Placed) (e : ExprRefusal) → tokens text ≡ Ok ts → RefusesTokensAs begin ts (length text) e → RefusesTextAs reads begin text e
   text_refused text ts no.Memory same h = tt
-  text_refused text ts (no.At why place) same (unexpected, inl refused) =
-      subst (λ (w : ExprCause). Refuses reads begin text (record { cause = w; place = place })) (sym unexpected) (at_scan same refused)
+  text_refused text ts (no.At why place) same (unexpected, inl refused) = rw unexpected (at_scan same refused)
   text_refused text ts (no.At why place) same (unexpected, inr (open_end, there)) =
-      subst (λ (w : ExprCause). Refuses reads begin text (record { cause = w; place = place })) (sym unexpected)
-      (subst (λ (p : ℕ). Refuses reads begin text (record { cause = cause.Unexpected; place = p })) (sym there)
-      (at_end same (λ p h. let never = sym open_end ∙ h in cc never) (λ x r. let never = sym open_end ∙ whole ts x r in cc never)))
+      rw (unexpected, there) (at_end same (λ p h. let never = sym open_end ∙ h in cc never) (λ x r. let never = sym open_end ∙ whole ts x r in cc never))
 
   pub reads_these : (text : List ℕ) (ts : List Placed) (x : T) → tokens text ≡ Ok ts → IsText reads text x → reads (bare ts) x
   reads_these text ts x same r = let these : r.found ≡ ts = cc (same, r.tokens_are) in subst (λ (us : List Placed). reads (bare us) x) these r.reads_as
 
-  pub none_unexpected : (text : List ℕ) (ts : List Placed) (e : ExprRefusal) (x : T) → tokens text ≡ Ok ts → RefusesTokensAs begin ts (length text) e → IsText reads text x → e ≡ no.Memory
-  none_unexpected text ts no.Memory x same h r = refl
-  none_unexpected text ts (no.At why place) x same (unexpected, inl refused) r = let never = sym refused ∙ whole ts x (reads_these text ts x same r) in cc never
-  none_unexpected text ts (no.At why place) x same (unexpected, inr (open_end, there)) r = let never = sym open_end ∙ whole ts x (reads_these text ts x same r) in cc never
+  pub not_both : (text : List ℕ) (x : T) (r : Refusal) → IsText reads text x → Refuses reads begin text r → ⊥
+  not_both text x r t (at_token e) = let never = sym e ∙ t.tokens_are in cc never
+  not_both text x r t (at_scan {ts} e g) = let never = sym g ∙ whole ts x (reads_these text ts x e t) in cc never
+  not_both text x r t (at_end {ts} e none h) = h x (reads_these text ts x e t)
+
+  -- a text that reads is refused for want of memory alone
+  pub memory_alone : (text : List ℕ) (x : T) (e : ExprRefusal) → IsText reads text x → RefusesTextAs reads begin text e → e ≡ no.Memory
+  memory_alone text x no.Memory t h = refl
+  memory_alone text x (no.At why place) t h = absurd (not_both text x _ t h)
 
 pub one_tree : (text : List ℕ) (ts : List Placed) (a b : NamedTree) → tokens text ≡ Ok ts → Reads 0 (bare ts) a → ReadsText text b → a ≡ b
 one_tree text ts a b same r q = unique (bare ts) a b r (reads_these (Reads 0) begin_expr whole text ts b same q)
-
-pub err_as : {A E : Type 0} {P Q : E → Type 0} → (r : Result A E) → ((x : E) → P x → Q x) → IfErr r P → IfErr r Q
-err_as (Ok x) f h = h
-err_as (Err e) f h = f e h
-
-pub match_as : {A E : Type 0} {P P' : A → Type 0} {Q Q' : E → Type 0} → (r : Result A E) → ((x : A) → P x → P' x) → ((e : E) → Q e → Q' e) → IfOk r P → IfErr r Q → MatchResult r P' Q'
-match_as (Ok x) f g h k = f x h
-match_as (Err e) f g h k = g e k
 
 pub one_value : (text : List ℕ) (ts : List Placed) (v w : VaryValues) → tokens text ≡ Ok ts → ReadsValues (bare ts) v → ReadsValuesText text w → v ≡ w
 one_value text ts v w same r q = unique_values (bare ts) v w r (reads_these ReadsValues begin_values whole_values text ts w same q)

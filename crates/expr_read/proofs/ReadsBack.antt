@@ -1,6 +1,6 @@
 -- The canonical text of an expression that was read from a text reads as this expression.
-use Rattle.std.proofs.Common.{◌≡◌, ◌≤◌, ◌+◌, ◌-◌, ◌∙◌, ℕ, List, [], ◌∷◌, ◌++◌, length, Ok, arith, refl, sym, ap, subst}
-use Rattle.std.proofs.lemmas.List.{append-nil}
+use Rattle.std.proofs.Common.{◌≡◌, ◌≤◌, ◌+◌, ◌-◌, ◌∙◌, ℕ, List, [], ◌++◌, length, Ok, arith, refl, sym, ap, subst}
+use Rattle.std.proofs.lemmas.List.{append-nil, length-map}
 use Rattle.rdf_values.specs.Tree.{NamedTree}
 use Rattle.rdf_values.specs.Tokens.{Token, Placed, before, tokens, tokens_within}
 use Rattle.rdf_values.specs.Grammar.{Reads, bare}
@@ -24,11 +24,7 @@ spelled_back a r few =
       reads_as = subst (λ (ts : List Token). Reads 0 ts a) (shown_whole a ∙ sym p.1) (reads_shown 0 a (omega arith));
     }
 
-bare_size : (ts : List Placed) → length (bare ts) ≡ length ts
-bare_size [] = refl
-bare_size (t ∷ ts) = omega (arith, bare_size ts)
-
 pub reads_back : (text : List ℕ) (a : NamedTree) → ReadsText text a → ReadsText (text_of a) a
 reads_back text a r =
     spelled_back a (readable r.reads_as (valid_tokens text r.found r.tokens_are))
-    (omega (arith, no_fewer (bare r.found) a r.reads_as, ap length (shown_whole a), bare_size r.found, few_tokens text r.found r.tokens_are))
+    (omega (arith, no_fewer (bare r.found) a r.reads_as, ap length (shown_whole a), length-map r.found (λ (t : Placed). t.token), few_tokens text r.found r.tokens_are))

@@ -1,13 +1,14 @@
 -- How the scan goes over what is read, and where it stops.
-use Rattle.std.proofs.Common.{◌≡◌, ◌<◌, ◌≤◌, ◌+◌, ℕ, false, List, [], ◌∷◌, Some, None, arith, refl, ap, nat_eq}
+use Rattle.std.proofs.Common.{◌≡◌, ◌<◌, ◌≤◌, ◌+◌, ℕ, Bool, true, false, List, [], ◌∷◌, Some, None, arith, refl, ap, nat_eq}
 use Rattle.std.specs.Prelude.{nat_le}
 use Rattle.std.proofs.lemmas.Bool.Decides.{nat_tests}
 use Rattle.lemmas.proofs.Orders.{le_false, le_not}
-use Rattle.rdf_values.specs.Tokens.{Token, Word, Truth, Number, Op, Punct, Placed}
+use Rattle.rdf_values.specs.Tokens.{Token, Op, Punct, Placed}
 use Rattle.rdf_values.specs.Grammar.{level_of}
-use Rattle.rdf_values.specs.Scans.{OpenMark, InParens, InIndex, InChoice, InCall, Operand, FirstArgument, AfterName, Operator, ScanState, Refused, scan_step, scan, operand, operator, after_name, first_argument}
+use Rattle.rdf_values.specs.Scans.{OpenMark, InParens, InIndex, InChoice, InCall, InList, Operand, FirstArgument, AfterName, Operator, ScanState, Refused, scan_step, scan, operand, operator, after_name, first_argument}
 use Rattle.rdf_values.specs.declared.expr.BinOp.{BinOp}
 use Rattle.rdf_values.specs.declared.expr.BinOp.TheVariants as op
+use Rattle.rdf_values.specs.declared.expr.Mark.{Mark}
 use Rattle.rdf_values.specs.declared.expr.Mark.TheVariants as mark
 use Rattle.expr_read.specs.Parsing.{Begins, BeginsNot, continues, Stops, stuck_at}
 
@@ -25,12 +26,8 @@ pub same_step : (s s' : ScanState) (p : Placed) (ts : List Placed) → scan_step
 same_step s s' p ts e = rw e refl
 
 name_step : (s : List OpenMark) (t : Token) → (t ≡ Punct mark.Open → ⊥) → after_name t s ≡ operator t s
-name_step s (Word x) isnt = refl
-name_step s (Truth b) isnt = refl
-name_step s (Number z) isnt = refl
-name_step s (Op o) isnt = refl
 name_step s (Punct mark.Open) isnt = absurd (isnt refl)
-name_step s (Punct m) isnt = refl
+name_step s t isnt = refl
 
 pub name_ends : (s : List OpenMark) (ts : List Placed) → BeginsNot (Punct mark.Open) ts → scan (AfterName, s) ts ≡ scan (Operator, s) ts
 name_ends [] [] isnt = refl
@@ -38,12 +35,8 @@ name_ends (o ∷ s) [] isnt = refl
 name_ends s (p ∷ ts) isnt = same_step (AfterName, s) (Operator, s) p ts (name_step s p.token (first_is_not (Punct mark.Open) p ts isnt))
 
 argument_step : (s : List OpenMark) (t : Token) → (t ≡ Punct mark.Close → ⊥) → first_argument t (InCall ∷ s) ≡ operand t (InCall ∷ s)
-argument_step s (Word x) isnt = refl
-argument_step s (Truth b) isnt = refl
-argument_step s (Number z) isnt = refl
-argument_step s (Op o) isnt = refl
 argument_step s (Punct mark.Close) isnt = absurd (isnt refl)
-argument_step s (Punct m) isnt = refl
+argument_step s t isnt = refl
 
 pub argument_first : (s : List OpenMark) (ts : List Placed) → BeginsNot (Punct mark.Close) ts → scan (FirstArgument, InCall ∷ s) ts ≡ scan (Operand, InCall ∷ s) ts
 argument_first s [] isnt = refl
@@ -54,51 +47,38 @@ argument_first s (p ∷ ts) isnt = same_step (FirstArgument, InCall ∷ s) (Oper
 pub never : (n : ℕ) → nat_le 0 n ≡ false → ⊥
 never n h = grind (arith, nat_tests)
 
-close_step : (s : List OpenMark) (t : Token) → continues 0 t ≡ false → (t ≡ Punct mark.Close → ⊥) → operator t (InParens ∷ s) ≡ None
-close_step s (Op o) h isnt = absurd (never (level_of o) h)
-close_step s (Punct mark.Close) h isnt = absurd (isnt refl)
-close_step s (Punct mark.OpenBracket) h isnt = cc h
-close_step s (Punct mark.Question) h isnt = cc h
-close_step s t h isnt = refl
+-- the mark that closes what is open
+abbrev pub closing : OpenMark → Mark
+closing InParens = mark.Close
+closing InIndex = mark.CloseBracket
+closing InChoice = mark.Colon
+closing InCall = mark.Close
+closing o = mark.CloseBrace
 
-pub stuck_close : (s : List OpenMark) (ts : List Placed) → Stops 0 ts → BeginsNot (Punct mark.Close) ts → scan (Operator, InParens ∷ s) ts ≡ stuck_at ts
-stuck_close s [] h isnt = refl
-stuck_close s (p ∷ ts) h isnt = refused_at (Operator, InParens ∷ s) p ts (close_step s p.token h (first_is_not (Punct mark.Close) p ts isnt))
+-- whether a comma may stand in it
+abbrev pub takes_comma : OpenMark → Bool
+takes_comma InCall = true
+takes_comma InList = true
+takes_comma o = false
 
-bracket_step : (s : List OpenMark) (t : Token) → continues 0 t ≡ false → (t ≡ Punct mark.CloseBracket → ⊥) → operator t (InIndex ∷ s) ≡ None
-bracket_step s (Op o) h isnt = absurd (never (level_of o) h)
-bracket_step s (Punct mark.CloseBracket) h isnt = absurd (isnt refl)
-bracket_step s (Punct mark.OpenBracket) h isnt = cc h
-bracket_step s (Punct mark.Question) h isnt = cc h
-bracket_step s t h isnt = refl
+inside_step : (o : OpenMark) (s : List OpenMark) (t : Token) → continues 0 t ≡ false → (t ≡ Punct (closing o) → ⊥) → (takes_comma o ≡ true → t ≡ Punct mark.Comma → ⊥) → operator t (o ∷ s) ≡ None
+inside_step o s (Op k) h isnt nor = absurd (never (level_of k) h)
+inside_step o s (Punct mark.OpenBracket) h isnt nor = cc h
+inside_step o s (Punct mark.Question) h isnt nor = cc h
+inside_step InChoice s (Punct mark.Colon) h isnt nor = absurd (isnt refl)
+inside_step InCall s (Punct mark.Comma) h isnt nor = absurd (nor refl refl)
+inside_step InList s (Punct mark.Comma) h isnt nor = absurd (nor refl refl)
+inside_step InParens s (Punct mark.Close) h isnt nor = absurd (isnt refl)
+inside_step InCall s (Punct mark.Close) h isnt nor = absurd (isnt refl)
+inside_step InIndex s (Punct mark.CloseBracket) h isnt nor = absurd (isnt refl)
+inside_step InList s (Punct mark.CloseBrace) h isnt nor = absurd (isnt refl)
+inside_step o s t h isnt nor = refl
 
-pub stuck_bracket : (s : List OpenMark) (ts : List Placed) → Stops 0 ts → BeginsNot (Punct mark.CloseBracket) ts → scan (Operator, InIndex ∷ s) ts ≡ stuck_at ts
-stuck_bracket s [] h isnt = refl
-stuck_bracket s (p ∷ ts) h isnt = refused_at (Operator, InIndex ∷ s) p ts (bracket_step s p.token h (first_is_not (Punct mark.CloseBracket) p ts isnt))
-
-colon_step : (s : List OpenMark) (t : Token) → continues 0 t ≡ false → (t ≡ Punct mark.Colon → ⊥) → operator t (InChoice ∷ s) ≡ None
-colon_step s (Op o) h isnt = absurd (never (level_of o) h)
-colon_step s (Punct mark.Colon) h isnt = absurd (isnt refl)
-colon_step s (Punct mark.OpenBracket) h isnt = cc h
-colon_step s (Punct mark.Question) h isnt = cc h
-colon_step s t h isnt = refl
-
-pub stuck_colon : (s : List OpenMark) (ts : List Placed) → Stops 0 ts → BeginsNot (Punct mark.Colon) ts → scan (Operator, InChoice ∷ s) ts ≡ stuck_at ts
-stuck_colon s [] h isnt = refl
-stuck_colon s (p ∷ ts) h isnt = refused_at (Operator, InChoice ∷ s) p ts (colon_step s p.token h (first_is_not (Punct mark.Colon) p ts isnt))
-
-arguments_step : (s : List OpenMark) (t : Token) → continues 0 t ≡ false → (t ≡ Punct mark.Comma → ⊥) → (t ≡ Punct mark.Close → ⊥) → operator t (InCall ∷ s) ≡ None
-arguments_step s (Op o) h isnt nor = absurd (never (level_of o) h)
-arguments_step s (Punct mark.Comma) h isnt nor = absurd (isnt refl)
-arguments_step s (Punct mark.Close) h isnt nor = absurd (nor refl)
-arguments_step s (Punct mark.OpenBracket) h isnt nor = cc h
-arguments_step s (Punct mark.Question) h isnt nor = cc h
-arguments_step s t h isnt nor = refl
-
-pub stuck_arguments : (s : List OpenMark) (ts : List Placed) → Stops 0 ts → BeginsNot (Punct mark.Comma) ts → BeginsNot (Punct mark.Close) ts → scan (Operator, InCall ∷ s) ts ≡ stuck_at ts
-stuck_arguments s [] h isnt nor = refl
-stuck_arguments s (p ∷ ts) h isnt nor =
-    refused_at (Operator, InCall ∷ s) p ts (arguments_step s p.token h (first_is_not (Punct mark.Comma) p ts isnt) (first_is_not (Punct mark.Close) p ts nor))
+pub stuck_inside : (o : OpenMark) (s : List OpenMark) (ts : List Placed) → Stops 0 ts → BeginsNot (Punct (closing o)) ts
+    → (takes_comma o ≡ true → BeginsNot (Punct mark.Comma) ts) → scan (Operator, o ∷ s) ts ≡ stuck_at ts
+stuck_inside o s [] h isnt nor = refl
+stuck_inside o s (p ∷ ts) h isnt nor =
+    refused_at (Operator, o ∷ s) p ts (inside_step o s p.token h (first_is_not (Punct (closing o)) p ts isnt) (λ e. first_is_not (Punct mark.Comma) p ts (nor e)))
 
 end_step : (t : Token) → continues 0 t ≡ false → operator t [] ≡ None
 end_step (Op o) h = absurd (never (level_of o) h)

@@ -1,16 +1,14 @@
 -- The canonical tokens read as the tree, and no tokens that do are fewer.
 use Rattle.std.proofs.Common.{◌≡◌, ◌≤◌, ◌<◌, ◌+◌, ◌-◌, ℕ, zero, suc, zero-add, add-zero, Bool, true, false, List, [], ◌∷◌, length, arith, refl, sym, ap, subst, length-append}
 use Rattle.std.proofs.lemmas.List.{append-nil}
-use Rattle.rdf_values.specs.declared.expr.BinOp.{BinOp}
 use Rattle.std.specs.Prelude.{nat_le}
-use Rattle.std.proofs.lemmas.Bool.Decides.{nat_tests}
 use Rattle.lemmas.proofs.Orders.{le_not, le_says, le_true}
 use Rattle.rdf_values.specs.Tree.{NamedTree, Lit, Col, Neg, Not, Bin, Cond, Pick, Call, End, More}
 use Rattle.rdf_values.specs.Tree as e
 use Rattle.rdf_values.specs.Tokens.{Token, Punct}
 use Rattle.rdf_values.specs.Grammar.{NamedTrees, Reads, ReadsArgs, number, truth, name, parenthesized, call, pick, minus_sign, not_sign, binary, conditional, tighter, no_arguments, last_argument, more_arguments, level_of}
+use Rattle.expr_read.proofs.Scanned.{level_low}
 use Rattle.rdf_values.specs.Canonical.{tree_level, enclosed, tokens_of, args_tokens, tokens_at_level}
-use Rattle.rdf_values.specs.declared.expr.BinOp.TheVariants as op
 use Rattle.rdf_values.specs.declared.expr.Mark.TheVariants as mark
 
 -- an expression reads at each looser level
@@ -20,10 +18,6 @@ looser_by (suc k) n ts a r = let e : suc k + n ≡ suc (k + n) = omega arith in 
 
 pub at_looser : (n m : ℕ) (ts : List Token) (a : NamedTree) → n ≤ m → Reads m ts a → Reads n ts a
 at_looser n m ts a h r = let e : m ≡ (m - n) + n = omega arith in looser_by (m - n) n ts a (subst (λ (k : ℕ). Reads k ts a) e r)
-
-op_low : (o : BinOp) → level_of o ≤ 6
-op_low op.Or = omega arith
-op_low o = omega arith
 
 -- in parentheses or not, it reads where the level is asked for
 enclosed_reads : (n : ℕ) (a : NamedTree) (ts : List Token) (b : Bool) → nat_le n (tree_level a) ≡ b → n ≤ 9 → Reads (tree_level a) ts a → Reads n (enclosed b ts) a
@@ -38,7 +32,8 @@ mutual
   reads_inner (Neg a) = minus_sign (enclosed_reads 7 a (tokens_of a) _ refl (omega arith) (reads_inner a))
   reads_inner (Not a) = not_sign (enclosed_reads 7 a (tokens_of a) _ refl (omega arith) (reads_inner a))
   reads_inner (Bin o a b) =
-      binary (enclosed_reads (level_of o) a (tokens_of a) _ refl (omega (arith, op_low o)) (reads_inner a)) (enclosed_reads (suc (level_of o)) b (tokens_of b) _ refl (omega (arith, op_low o)) (reads_inner b)) refl refl
+      binary (enclosed_reads (level_of o) a (tokens_of a) _ refl (omega (arith, level_low o)) (reads_inner a))
+      (enclosed_reads (suc (level_of o)) b (tokens_of b) _ refl (omega (arith, level_low o)) (reads_inner b)) refl refl
   reads_inner (Cond c a b) =
       conditional (enclosed_reads 1 c (tokens_of c) _ refl (omega arith) (reads_inner c)) (at_looser 0 (tree_level a) (tokens_of a) a (omega arith) (reads_inner a)) (at_looser 0 (tree_level b) (tokens_of b) b (omega arith) (reads_inner b)) refl
   reads_inner (Pick v i) = pick (enclosed_reads 8 v (tokens_of v) _ refl (omega arith) (reads_inner v)) (at_looser 0 (tree_level i) (tokens_of i) i (omega arith) (reads_inner i)) refl

@@ -1,6 +1,5 @@
 -- What was read, from what its parts read.
 use Rattle.std.proofs.Common.{◌≡◌, ◌<◌, ◌+◌, ◌∙◌, ℕ, suc, ℤ, Bool, List, [], ◌∷◌, ◌++◌, length, arith, refl, sym, ap, subst, append_assoc, add-one}
-use Rattle.std.specs.Prelude.{Result, Ok, Err, IfOk}
 use Rattle.rdf_values.specs.Tree.{NamedTree, End, More}
 use Rattle.rdf_values.specs.Tree as e
 use Rattle.rdf_values.specs.Tokens.{Token, Word, Truth, Number, Op, Punct, Placed}
@@ -140,29 +139,12 @@ took_more {r = r} k b x = record {
   fewer = omega (arith, k.fewer, fewer_after b, x.fewer);
 }
 
--- what was read, of another tree or up to other tokens that are the same
+-- what was read, of another tree that is the same
 pub took_as : {n : ℕ} {a b : NamedTree} {old new : List Placed} → b ≡ a → Took n a old new → Took n b old new
 took_as {n} {a} {b} {old} {new} e k = subst (λ (x : NamedTree). Took n x old new) (sym e) k
 
-pub took_to : {n : ℕ} {a : NamedTree} {old mid new : List Placed} → new ≡ mid → Took n a old mid → Took n a old new
-took_to {n} {a} {old} e k = subst (λ (x : List Placed). Took n a old x) (sym e) k
-
 pub args_as : {a b : NamedTrees} {old new : List Placed} → b ≡ a → TookArgs a old new → TookArgs b old new
 args_as {a} {b} {old} {new} e k = subst (λ (x : NamedTrees). TookArgs x old new) (sym e) k
-
-pub ok_as : {A E : Type 0} {P Q : A → Type 0} → (r : Result A E) → ((x : A) → P x → Q x) → IfOk r P → IfOk r Q
-ok_as (Ok x) f h = f x h
-ok_as (Err e) f h = h
-
--- what was read from other tokens that are the same
-pub args_from : {a : NamedTrees} {old mid new : List Placed} → mid ≡ old → TookArgs a mid new → TookArgs a old new
-args_from {a} {old} {mid} {new} e k = subst (λ (x : List Placed). TookArgs a x new) e k
-
-pub begins_from : {t : Token} {old mid new : List Placed} → mid ≡ old → Begins t mid new → Begins t old new
-begins_from {t} {old} {mid} {new} e b = subst (λ (x : List Placed). Begins t x new) e b
-
-pub took_from : {n : ℕ} {a : NamedTree} {old mid new : List Placed} → mid ≡ old → Took n a mid new → Took n a old new
-took_from {n} {a} {old} {mid} {new} e k = subst (λ (x : List Placed). Took n a x new) e k
 
 -- the token that was seen comes first
 pub begins_seen : {k t : Token} {old next new : List Placed} → k ≡ t → Begins k old next → new ≡ next → Begins t old new

@@ -1,6 +1,6 @@
 -- The tokens of a text are at most 256; their words are names, and their numbers have 64 bits.
 use Rattle.std.proofs.Common.{◌≡◌, ◌≤◌, ◌+◌, ℕ, zero, suc, Bool, true, false, List, [], ◌∷◌, length, drop, Option, Some, None, Ok, Err, arith, refl, sym, subst}
-use Rattle.std.specs.Prelude.{Result, take_while, nat_le, codes, ◌&&◌, if◌then◌else◌}
+use Rattle.std.specs.Prelude.{Result, take_while, nat_le, codes, if◌then◌else◌}
 use Rattle.std.specs.List.{prefix_len, list_all}
 use Rattle.std.proofs.lemmas.Bool.Decides.{nat_tests}
 use Rattle.lemmas.proofs.Booleans.{and_holds}

@@ -18,7 +18,7 @@ record Passes (from to : ScanState) (old : List Placed) (us : List Token) : Type
   rest : bare new ≡ us
   scans : scan from old ≡ scan to new
 
--- no `(` comes first, nor a `)`
+-- the token doesn't come first
 abbrev IsNo : Token → List Token → Type 0
 IsNo t us = (vs : List Token) → us ≡ t ∷ vs → ⊥
 
@@ -32,14 +32,8 @@ after p f = let q = f p.new p.rest in record { new = q.new; rest = q.rest; scans
 isnt_first : (t : Token) (old : List Placed) (us : List Token) → bare old ≡ us → IsNo t us → BeginsNot t old
 isnt_first t old us e isnt new b = isnt (bare new) (sym e ∙ ap bare b.is)
 
-stay_name : (s : List OpenMark) (old : List Placed) (us : List Token) → bare old ≡ us → IsNo (Punct mark.Open) us → Passes (AfterName, s) (Operator, s) old us
-stay_name s old us e isnt = record { new = old; rest = e; scans = name_ends s old (isnt_first (Punct mark.Open) old us e isnt) }
-
-stay_argument : (s : List OpenMark) (old : List Placed) (us : List Token) → bare old ≡ us → IsNo (Punct mark.Close) us → Passes (FirstArgument, InCall ∷ s) (Operand, InCall ∷ s) old us
-stay_argument s old us e isnt = record { new = old; rest = e; scans = argument_first s old (isnt_first (Punct mark.Close) old us e isnt) }
-
-stay_back : (s : List OpenMark) (old : List Placed) (us : List Token) → bare old ≡ us → IsNo (Punct mark.Close) us → Passes (Operand, InCall ∷ s) (FirstArgument, InCall ∷ s) old us
-stay_back s old us e isnt = record { new = old; rest = e; scans = sym (argument_first s old (isnt_first (Punct mark.Close) old us e isnt)) }
+stay : {from to : ScanState} {old : List Placed} {us : List Token} → (t : Token) → bare old ≡ us → IsNo t us → (BeginsNot t old → scan from old ≡ scan to old) → Passes from to old us
+stay {old = old} {us = us} t e isnt same = record { new = old; rest = e; scans = same (isnt_first t old us e isnt) }
 
 abbrev pub is_close : Token → Bool
 is_close (Punct mark.Close) = true
@@ -73,14 +67,14 @@ args_start no_arguments some = absurd (some refl)
 args_start (last_argument r) some = starts_with_it r
 args_start (more_arguments r q e) some = rw e (starts_more _ _ (starts_with_it r))
 
-no_close : (us : List Token) → starts us ≡ true → IsNo (Punct mark.Close) us
-no_close us h vs e = let no : starts us ≡ false = ap starts e in cc (h, no)
+no_first : (t : Token) (us : List Token) → is_close t ≡ true → starts us ≡ true → IsNo t us
+no_first t us c h vs e = let no : starts us ≡ not (is_close t) = ap starts e in cc (h, no, c)
 
 mutual
   scanned : {n : ℕ} {ts : List Token} {a : NamedTree} → Reads n ts a → (s : List OpenMark) (old : List Placed) (us : List Token) → IsNo (Punct mark.Open) us → bare old ≡ ts ++ us → Passes (Operand, s) (Operator, s) old us
   scanned (number {z}) s old us isnt h = pass _ _ (Number z) old us refl h
   scanned (truth {b}) s old us isnt h = pass _ _ (Truth b) old us refl h
-  scanned (name {x}) s old us isnt h = after (pass _ (AfterName, s) (Word x) old us refl h) (λ new e. stay_name s new us e isnt)
+  scanned (name {x}) s old us isnt h = after (pass _ (AfterName, s) (Word x) old us refl h) (λ new e. stay (Punct mark.Open) e isnt (name_ends s new))
   scanned (parenthesized {ts} r e) s old us isnt h =
       after (pass _ (Operand, InParens ∷ s) (Punct mark.Open) old (ts ++ Punct mark.Close ∷ us) refl (h ∙ rw (e, append_assoc) refl)) (λ m1 e1. after (scanned r (InParens ∷ s) m1 (Punct mark.Close ∷ us) (λ vs x. cc x) e1) (λ m2 e2. pass _ (Operator, s) (Punct mark.Close) m2 us refl e2))
   scanned (call {f} {ts} r e) s old us isnt h =
@@ -99,9 +93,13 @@ mutual
   scanned_args : {ts : List Token} {args : NamedTrees} → ReadsArgs ts args → (s : List OpenMark) (old : List Placed) (us : List Token) → bare old ≡ ts ++ Punct mark.Close ∷ us → Passes (FirstArgument, InCall ∷ s) (Operator, s) old us
   scanned_args no_arguments s old us h = pass _ (Operator, s) (Punct mark.Close) old us refl h
   scanned_args (last_argument {ts} r) s old us h =
-      after (stay_argument s old _ h (no_close _ (starts_more ts _ (starts_with_it r)))) (λ m1 e1. after (scanned r (InCall ∷ s) m1 (Punct mark.Close ∷ us) (λ vs x. cc x) e1) (λ m2 e2. pass _ (Operator, s) (Punct mark.Close) m2 us refl e2))
+      after (stay (Punct mark.Close) h (no_first _ _ refl (starts_more ts _ (starts_with_it r))) (argument_first s old))
+      (λ m1 e1. after (scanned r (InCall ∷ s) m1 (Punct mark.Close ∷ us) (λ vs x. cc x) e1) (λ m2 e2. pass _ (Operator, s) (Punct mark.Close) m2 us refl e2))
   scanned_args (more_arguments {ts = ts} {us = bs} r q e) s old us h =
-      after (stay_argument s old _ (h ∙ rw e (simp append_assoc)) (no_close _ (starts_more ts (Punct mark.Comma ∷ (bs ++ Punct mark.Close ∷ us)) (starts_with_it r)))) (λ m1 e1. after (scanned r (InCall ∷ s) m1 (Punct mark.Comma ∷ (bs ++ Punct mark.Close ∷ us)) (λ vs x. cc x) e1) (λ m2 e2. after (pass _ (Operand, InCall ∷ s) (Punct mark.Comma) m2 _ refl e2) (λ m3 e3. after (stay_back s m3 _ e3 (no_close _ (starts_more bs _ (args_start q (λ x. cc x))))) (λ m4 e4. scanned_args q s m4 us e4))))
+      after (stay (Punct mark.Close) (h ∙ rw e (simp append_assoc)) (no_first _ _ refl (starts_more ts (Punct mark.Comma ∷ (bs ++ Punct mark.Close ∷ us)) (starts_with_it r))) (argument_first s old))
+      (λ m1 e1. after (scanned r (InCall ∷ s) m1 (Punct mark.Comma ∷ (bs ++ Punct mark.Close ∷ us)) (λ vs x. cc x) e1)
+      (λ m2 e2. after (pass _ (Operand, InCall ∷ s) (Punct mark.Comma) m2 _ refl e2)
+      (λ m3 e3. after (stay (Punct mark.Close) e3 (no_first _ _ refl (starts_more bs _ (args_start q (λ x. cc x)))) (λ k. sym (argument_first s m3 k))) (λ m4 e4. scanned_args q s m4 us e4))))
 
 bare_empty : (ts : List Placed) → bare ts ≡ [] → ts ≡ []
 bare_empty [] h = refl
@@ -126,28 +124,20 @@ scanned_lists (last_list {ts} r e) from opens old vs h =
 scanned_lists (more_lists {ts} {us = bs} r q e) from opens old vs h =
     after (pass from (Operand, InList ∷ InLists ∷ []) (Punct mark.OpenBrace) old (ts ++ Punct mark.CloseBrace ∷ Punct mark.Comma ∷ (bs ++ Punct mark.CloseBrace ∷ vs)) opens (h ∙ rw e (simp append_assoc))) (λ m1 e1. after (scanned_list r (InLists ∷ []) m1 (Punct mark.Comma ∷ (bs ++ Punct mark.CloseBrace ∷ vs)) e1) (λ m2 e2. after (pass _ (NextList, InLists ∷ []) (Punct mark.Comma) m2 _ refl e2) (λ m3 e3. scanned_lists q (NextList, InLists ∷ []) refl m3 vs e3)))
 
-no_brace : (us : List Token) → starts us ≡ true → IsNo (Punct mark.OpenBrace) us
-no_brace us h vs e = let no : starts us ≡ false = ap starts e in cc (h, no)
-
 pub list_starts : {ts : List Token} {es : List NamedTree} → ReadsList ts es → starts ts ≡ true
 list_starts (last_item r) = starts_with_it r
 list_starts (more_items r q e) = rw e (starts_more _ _ (starts_with_it r))
 
-stay_vector : (old : List Placed) (us : List Token) → bare old ≡ us → IsNo (Punct mark.OpenBrace) us → Passes begin_values (Operand, []) old us
-stay_vector old us e isnt = record { new = old; rest = e; scans = vector_first old (isnt_first (Punct mark.OpenBrace) old us e isnt) }
-
-stay_item : (old : List Placed) (us : List Token) → bare old ≡ us → IsNo (Punct mark.OpenBrace) us → Passes (AfterBrace, InList ∷ []) (Operand, InList ∷ []) old us
-stay_item old us e isnt = record { new = old; rest = e; scans = item_first old (isnt_first (Punct mark.OpenBrace) old us e isnt) }
-
 scanned_values : {ts : List Token} {v : VaryValues} → ReadsValues ts v → (old : List Placed) → bare old ≡ ts → scan begin_values old ≡ Whole
 scanned_values (one_list {ts} r e) old h =
-    let all = after (pass begin_values (AfterBrace, InList ∷ []) (Punct mark.OpenBrace) old (ts ++ Punct mark.CloseBrace ∷ []) refl (h ∙ e)) (λ m1 e1. after (stay_item m1 (ts ++ Punct mark.CloseBrace ∷ []) e1 (no_brace _ (starts_more ts _ (list_starts r)))) (λ m2 e2. scanned_list r [] m2 [] e2)) in
+    let all = after (pass begin_values (AfterBrace, InList ∷ []) (Punct mark.OpenBrace) old (ts ++ Punct mark.CloseBrace ∷ []) refl (h ∙ e))
+    (λ m1 e1. after (stay (Punct mark.OpenBrace) e1 (no_first _ _ refl (starts_more ts _ (list_starts r))) (item_first m1)) (λ m2 e2. scanned_list r [] m2 [] e2)) in
     all.scans ∙ rw (bare_empty all.new all.rest) refl
 scanned_values (several_lists {ts} r e) old h =
     let all = after (pass begin_values (AfterBrace, InList ∷ []) (Punct mark.OpenBrace) old (ts ++ Punct mark.CloseBrace ∷ []) refl (h ∙ e)) (λ m1 e1. scanned_lists r (AfterBrace, InList ∷ []) refl m1 [] e1) in
     all.scans ∙ rw (bare_empty all.new all.rest) refl
 scanned_values (vector {ts} r) old h =
-    let all = after (stay_vector old ts h (no_brace ts (starts_with_it r))) (λ m e. scanned r [] m [] (λ vs x. cc x) (e ∙ sym (append-nil ts))) in
+    let all = after (stay (Punct mark.OpenBrace) h (no_first _ _ refl (starts_with_it r)) (vector_first old)) (λ m e. scanned r [] m [] (λ vs x. cc x) (e ∙ sym (append-nil ts))) in
     all.scans ∙ rw (bare_empty all.new all.rest) refl
 
 pub whole_values : (ts : List Placed) (v : VaryValues) → ReadsValues (bare ts) v → scan begin_values ts ≡ Whole

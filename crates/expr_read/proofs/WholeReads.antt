@@ -1,12 +1,11 @@
 -- Tokens that a scan takes whole, with nothing left open, read by the grammar.
-use Rattle.std.proofs.Common.{◌≡◌, ◌≤◌, ◌<◌, ◌∙◌, ℕ, suc, Bool, true, false, List, [], ◌∷◌, ◌++◌, arith, refl, sym, ap, subst, append_assoc, append-nil}
-use Rattle.std.specs.Prelude.{nat_le}
-use Rattle.std.proofs.lemmas.Bool.Decides.{nat_tests}
+use Rattle.std.proofs.Common.{◌≡◌, ◌≤◌, ◌∙◌, ℕ, suc, List, [], ◌∷◌, ◌++◌, inl, inr, arith, refl, sym, ap, subst, append_assoc, append-nil}
+use Rattle.lemmas.proofs.Orders.{le_or_lt}
 use Rattle.rdf_values.specs.Tree.{NamedTree, Lit, Col, Neg, Not, Bin, Cond, Pick, Call, End, More}
 use Rattle.rdf_values.specs.Tree as e
 use Rattle.rdf_values.specs.Tokens.{Token, Word, Truth, Number, Op, Punct, Placed}
 use Rattle.rdf_values.specs.Grammar.{NamedTrees, Reads, ReadsArgs, ReadsList, ReadsLists, ReadsValues, number, truth, name, parenthesized, call, pick, minus_sign, not_sign, binary, conditional, tighter, no_arguments, last_argument, more_arguments, last_item, more_items, last_list, more_lists, one_list, several_lists, vector, level_of, bare}
-use Rattle.rdf_values.specs.Scans.{OpenMark, InParens, InIndex, InChoice, InCall, InList, InLists, Operand, FirstArgument, AfterName, Operator, AfterBrace, NextList, Nothing, Whole, Partial, Refused, operand, operator, after_name, first_argument, between_lists, next_list, after_list, beginning, after_brace, continued, scan, begin_expr, begin_values}
+use Rattle.rdf_values.specs.Scans.{OpenMark, InParens, InIndex, InChoice, InCall, InList, InLists, Operand, FirstArgument, AfterName, Operator, AfterBrace, NextList, Nothing, Whole, Refused, operand, operator, after_name, first_argument, between_lists, next_list, after_list, beginning, after_brace, continued, scan, begin_expr, begin_values}
 use Rattle.rdf_values.specs.declared.expr.BinOp.{BinOp}
 use Rattle.rdf_values.specs.declared.expr.BinOp.TheVariants as op
 use Rattle.rdf_values.specs.declared.expr.Mark.TheVariants as mark
@@ -27,157 +26,58 @@ BeforeItems ts = (us : List Token) (es : List NamedTree) → ReadsList us es →
 abbrev BeforeLists : List Token → Type 0
 BeforeLists ts = (us : List Token) (ls : List (List NamedTree)) → ReadsLists us ls → (ms : List (List NamedTree)) × ReadsLists (ts ++ us) ms
 
+-- the braces and lists before a list in an outer brace
+record BetweenLists (vs : List Token) : Type 0 where
+  ts : List Token
+  before : BeforeLists ts
+  is : vs ≡ Punct mark.OpenBrace ∷ (ts ++ Punct mark.OpenBrace ∷ [])
+
 -- the braces before a list, and the lists between
-data Braced : List OpenMark → List Token → Type 0 where
-  single : {s : List OpenMark} {vs : List Token} → vs ≡ Punct mark.OpenBrace ∷ [] → s ≡ [] → Braced s vs
-  nested : {s : List OpenMark} {vs : List Token} → (ts : List Token) → BeforeLists ts → vs ≡ Punct mark.OpenBrace ∷ (ts ++ Punct mark.OpenBrace ∷ []) → s ≡ InLists ∷ [] → Braced s vs
+abbrev Braced : List OpenMark → List Token → Type 0
+Braced [] vs = vs ≡ Punct mark.OpenBrace ∷ []
+Braced (InLists ∷ []) vs = BetweenLists vs
+Braced s vs = ⊥
 
-mutual
-  -- these tokens stand before an operand of the level or tighter, and these marks are open
-  data Stands : ℕ → List OpenMark → List Token → Type 0 where
-    opened : {n : ℕ} {s : List OpenMark} {vs : List Token} → Opened s vs → n ≡ 0 → Stands n s vs
-    left : {n m : ℕ} {s : List OpenMark} {vs us ts : List Token} {a : NamedTree} → (o : BinOp) → Stands m s us → m ≤ level_of o → Reads (level_of o) ts a → vs ≡ us ++ (ts ++ Op o ∷ []) → n ≡ suc (level_of o) → Stands n s vs
-    minus : {n m : ℕ} {s : List OpenMark} {vs us : List Token} → Stands m s us → m ≤ 7 → vs ≡ us ++ Op op.Sub ∷ [] → n ≡ 7 → Stands n s vs
-    bang : {n m : ℕ} {s : List OpenMark} {vs us : List Token} → Stands m s us → m ≤ 7 → vs ≡ us ++ Punct mark.Bang ∷ [] → n ≡ 7 → Stands n s vs
-    colon : {n : ℕ} {s : List OpenMark} {vs us ts ws : List Token} {c a : NamedTree} → Stands 0 s us → Reads 1 ts c → Reads 0 ws a → vs ≡ us ++ (ts ++ Punct mark.Question ∷ (ws ++ Punct mark.Colon ∷ [])) → n ≡ 0 → Stands n s vs
+-- these tokens stand before an operand of the level or tighter, behind the innermost open mark, up to which they are Open
+data StandsBehind (Open : List Token → Type 0) : ℕ → List Token → Type 0 where
+  opened : {n : ℕ} {vs : List Token} → Open vs → n ≡ 0 → StandsBehind Open n vs
+  left : {n m : ℕ} {vs us ts : List Token} {a : NamedTree} → (o : BinOp) → StandsBehind Open m us → m ≤ level_of o → Reads (level_of o) ts a → vs ≡ us ++ (ts ++ Op o ∷ []) → n ≡ suc (level_of o) → StandsBehind Open n vs
+  minus : {n m : ℕ} {vs us : List Token} → StandsBehind Open m us → m ≤ 7 → vs ≡ us ++ Op op.Sub ∷ [] → n ≡ 7 → StandsBehind Open n vs
+  bang : {n m : ℕ} {vs us : List Token} → StandsBehind Open m us → m ≤ 7 → vs ≡ us ++ Punct mark.Bang ∷ [] → n ≡ 7 → StandsBehind Open n vs
+  colon : {n : ℕ} {vs us ts ws : List Token} {c a : NamedTree} → StandsBehind Open 0 us → Reads 1 ts c → Reads 0 ws a
+      → vs ≡ us ++ (ts ++ Punct mark.Question ∷ (ws ++ Punct mark.Colon ∷ [])) → n ≡ 0 → StandsBehind Open n vs
 
-  -- the innermost open mark comes last of these tokens, or items and a comma after it
-  data Opened : List OpenMark → List Token → Type 0 where
-    start : {s : List OpenMark} {vs : List Token} → s ≡ [] → vs ≡ [] → Opened s vs
-    parens : {m : ℕ} {s r : List OpenMark} {vs us : List Token} → Stands m r us → s ≡ InParens ∷ r → vs ≡ us ++ Punct mark.Open ∷ [] → Opened s vs
-    index : {m : ℕ} {s r : List OpenMark} {vs us ts : List Token} {v : NamedTree} → Stands m r us → Reads 8 ts v → s ≡ InIndex ∷ r → vs ≡ us ++ (ts ++ Punct mark.OpenBracket ∷ []) → Opened s vs
-    question : {s r : List OpenMark} {vs us ts : List Token} {c : NamedTree} → Stands 0 r us → Reads 1 ts c → s ≡ InChoice ∷ r → vs ≡ us ++ (ts ++ Punct mark.Question ∷ []) → Opened s vs
-    arguments : {m : ℕ} {s r : List OpenMark} {vs us : List Token} → (ts : List Token) (f : List ℕ) → Stands m r us → BeforeArgs ts → s ≡ InCall ∷ r → vs ≡ us ++ (Word f ∷ Punct mark.Open ∷ ts) → Opened s vs
-    list : {s r : List OpenMark} {vs us : List Token} → (ts : List Token) → Braced r us → BeforeItems ts → s ≡ InList ∷ r → vs ≡ us ++ ts → Opened s vs
+-- ---- the innermost open mark, with what stands before it and the items and commas after it
 
-stands_as : {n : ℕ} {r s : List OpenMark} {vs : List Token} → r ≡ s → Stands n r vs → Stands n s vs
-stands_as {n} {r} {s} {vs} e k = subst (λ (x : List OpenMark). Stands n x vs) e k
-
-braced_as : {r s : List OpenMark} {vs : List Token} → r ≡ s → Braced r vs → Braced s vs
-braced_as {r} {s} {vs} e k = subst (λ (x : List OpenMark). Braced x vs) e k
-
-low : {n : ℕ} {s : List OpenMark} {vs : List Token} → Stands n s vs → n ≤ 7
-low (opened o z) = omega arith
-low (left o st l r e z) = omega (arith, level_low o)
-low (minus st l e z) = omega arith
-low (bang st l e z) = omega arith
-low (colon st c a e z) = omega arith
-
--- below the level of every operator, an operand is wanted at level 0
-bottom : {n : ℕ} {s : List OpenMark} {vs : List Token} → Stands n s vs → n ≤ 1 → Stands 0 s vs
-bottom (opened o z) h = opened o refl
-bottom (left o st l r e z) h = absurd (omega (arith, level_high o))
-bottom (minus st l e z) h = absurd (omega arith)
-bottom (bang st l e z) h = absurd (omega arith)
-bottom (colon st c a e z) h = colon st c a e refl
-
--- ---- what was read last, as far as it goes at a level
-
-data Order (m n : ℕ) : Type 0 where
-  within : m ≤ n → Order m n
-  beyond : n < m → Order m n
-
-order_by : (m n : ℕ) (b : Bool) → nat_le m n ≡ b → Order m n
-order_by m n true h = within (grind (arith, nat_tests))
-order_by m n false h = beyond (grind (arith, nat_tests))
-
-order : (m n : ℕ) → Order m n
-order m n = order_by m n (nat_le m n) refl
-
--- the tokens end with an expression of the level, where one is wanted
-record Folded (n : ℕ) (s : List OpenMark) (all : List Token) : Type 0 where
+record InParentheses (Open : List Token → Type 0) (vs : List Token) : Type 0 where
   m : ℕ
   front : List Token
-  back : List Token
-  tree : NamedTree
-  stands : Stands m s front
-  fits : m ≤ n
-  reads : Reads n back tree
-  split : all ≡ front ++ back
-
-folded_as : {n : ℕ} {s : List OpenMark} {xs ys : List Token} → xs ≡ ys → Folded n s xs → Folded n s ys
-folded_as {n} {s} {xs} {ys} e k = subst (λ (zs : List Token). Folded n s zs) e k
-
-sign_front : (us vs : List Token) (t : Token) (ts : List Token) → vs ≡ us ++ t ∷ [] → us ++ t ∷ ts ≡ vs ++ ts
-sign_front us vs t ts e = rw e (sym (append_assoc us (t ∷ []) ts))
-
-side_front : (us ws vs : List Token) (t : Token) (ts : List Token) → vs ≡ us ++ (ws ++ t ∷ []) → us ++ (ws ++ t ∷ ts) ≡ vs ++ ts
-side_front us ws vs t ts e = rw e (simp append_assoc)
-
-fold : {m : ℕ} {s : List OpenMark} {us : List Token} → Stands m s us → (n k : ℕ) (ts : List Token) (t : NamedTree) → Reads k ts t → m ≤ k → n ≤ k → Folded n s (us ++ ts)
-fold {m} {s} {us} (opened o z) n k ts t r h l = record { m = m; front = us; back = ts; tree = t; stands = opened o z; fits = omega arith; reads = at_looser n k ts t l r; split = refl }
-fold {m} {s} {us} (colon st c a e z) n k ts t r h l = record { m = m; front = us; back = ts; tree = t; stands = colon st c a e z; fits = omega arith; reads = at_looser n k ts t l r; split = refl }
-fold {m} {s} {us} (left {us = vs} {ts = ws} {a = a} o st f q e z) n k ts t r h l =
-    elim (order m n) [
-      | within w ↦ record { m = m; front = us; back = ts; tree = t; stands = left o st f q e z; fits = w; reads = at_looser n k ts t l r; split = refl }
-      | beyond b ↦ folded_as (side_front vs ws us (Op o) ts e) (fold st n (level_of o) (ws ++ Op o ∷ ts) (Bin o a t) (binary q (at_looser (suc (level_of o)) k ts t (omega arith) r) refl refl) f (omega arith))
-    ]
-fold {m} {s} {us} (minus {us = vs} st f e z) n k ts t r h l =
-    elim (order m n) [
-      | within w ↦ record { m = m; front = us; back = ts; tree = t; stands = minus st f e z; fits = w; reads = at_looser n k ts t l r; split = refl }
-      | beyond b ↦ folded_as (sign_front vs us (Op op.Sub) ts e) (fold st n 7 (Op op.Sub ∷ ts) (Neg t) (minus_sign (at_looser 7 k ts t (omega arith) r)) f (omega arith))
-    ]
-fold {m} {s} {us} (bang {us = vs} st f e z) n k ts t r h l =
-    elim (order m n) [
-      | within w ↦ record { m = m; front = us; back = ts; tree = t; stands = bang st f e z; fits = w; reads = at_looser n k ts t l r; split = refl }
-      | beyond b ↦ folded_as (sign_front vs us (Punct mark.Bang) ts e) (fold st n 7 (Punct mark.Bang ∷ ts) (Not t) (not_sign (at_looser 7 k ts t (omega arith) r)) f (omega arith))
-    ]
-
--- the tokens end with an expression directly after the innermost open mark
-record Inside (s : List OpenMark) (all : List Token) : Type 0 where
-  front : List Token
-  back : List Token
-  tree : NamedTree
-  open_mark : Opened s front
-  reads : Reads 0 back tree
-  split : all ≡ front ++ back
-
-inside_as : {s : List OpenMark} {xs ys : List Token} → xs ≡ ys → Inside s xs → Inside s ys
-inside_as {s} {xs} {ys} e k = subst (λ (zs : List Token). Inside s zs) e k
-
-colon_front : (us ts ws vs xs : List Token) → vs ≡ us ++ (ts ++ Punct mark.Question ∷ (ws ++ Punct mark.Colon ∷ [])) → us ++ (ts ++ (Punct mark.Question ∷ (ws ++ Punct mark.Colon ∷ xs))) ≡ vs ++ xs
-colon_front us ts ws vs xs e = rw e (simp append_assoc)
-
-inside : {m : ℕ} {s : List OpenMark} {us : List Token} → Stands m s us → (k : ℕ) (ts : List Token) (t : NamedTree) → Reads k ts t → m ≤ k → Inside s (us ++ ts)
-inside {us = us} (opened o z) k ts t r h = record { front = us; back = ts; tree = t; open_mark = o; reads = at_looser 0 k ts t (omega arith) r; split = refl }
-inside {us = us} (left {us = vs} {ts = ws} {a = a} o st f q e z) k ts t r h =
-    inside_as (side_front vs ws us (Op o) ts e) (inside st (level_of o) (ws ++ Op o ∷ ts) (Bin o a t) (binary q (at_looser (suc (level_of o)) k ts t (omega arith) r) refl refl) f)
-inside {us = us} (minus {us = vs} st f e z) k ts t r h = inside_as (sign_front vs us (Op op.Sub) ts e) (inside st 7 (Op op.Sub ∷ ts) (Neg t) (minus_sign (at_looser 7 k ts t (omega arith) r)) f)
-inside {us = us} (bang {us = vs} st f e z) k ts t r h = inside_as (sign_front vs us (Punct mark.Bang) ts e) (inside st 7 (Punct mark.Bang ∷ ts) (Not t) (not_sign (at_looser 7 k ts t (omega arith) r)) f)
-inside {us = us} (colon {us = vs} {ts = ws} {ws = xs} {c = c} {a = a} st q p e z) k ts t r h =
-    inside_as (colon_front vs ws xs us ts e) (inside st 0 (ws ++ (Punct mark.Question ∷ (xs ++ Punct mark.Colon ∷ ts))) (Cond c a t) (conditional q p (at_looser 0 k ts t (omega arith) r) refl) (omega arith))
-
--- ---- what the innermost open mark is
-
-record InParentheses (s : List OpenMark) (vs : List Token) : Type 0 where
-  m : ℕ
-  front : List Token
-  stands : Stands m s front
+  stands : StandsBehind Open m front
   is : vs ≡ front ++ Punct mark.Open ∷ []
 
-record InBrackets (s : List OpenMark) (vs : List Token) : Type 0 where
+record InBrackets (Open : List Token → Type 0) (vs : List Token) : Type 0 where
   m : ℕ
   front : List Token
   back : List Token
   tree : NamedTree
-  stands : Stands m s front
+  stands : StandsBehind Open m front
   reads : Reads 8 back tree
   is : vs ≡ front ++ (back ++ Punct mark.OpenBracket ∷ [])
 
-record InConditional (s : List OpenMark) (vs : List Token) : Type 0 where
+record InConditional (Open : List Token → Type 0) (vs : List Token) : Type 0 where
   front : List Token
   back : List Token
   tree : NamedTree
-  stands : Stands 0 s front
+  stands : StandsBehind Open 0 front
   reads : Reads 1 back tree
   is : vs ≡ front ++ (back ++ Punct mark.Question ∷ [])
 
-record InArguments (s : List OpenMark) (vs : List Token) : Type 0 where
+record InArguments (Open : List Token → Type 0) (vs : List Token) : Type 0 where
   m : ℕ
   front : List Token
   back : List Token
   name : List ℕ
-  stands : Stands m s front
+  stands : StandsBehind Open m front
   before : BeforeArgs back
   is : vs ≡ front ++ (Word name ∷ Punct mark.Open ∷ back)
 
@@ -188,54 +88,91 @@ record InItems (s : List OpenMark) (vs : List Token) : Type 0 where
   before : BeforeItems back
   is : vs ≡ front ++ back
 
-in_parentheses : {z s : List OpenMark} {vs : List Token} → Opened z vs → z ≡ InParens ∷ s → InParentheses s vs
-in_parentheses (start e f) h = cc (sym e ∙ h)
-in_parentheses (parens {m = m} {us = us} st e f) h = record { m = m; front = us; stands = stands_as (cc (sym e ∙ h)) st; is = f }
-in_parentheses (index st r e f) h = cc (sym e ∙ h)
-in_parentheses (question st r e f) h = cc (sym e ∙ h)
-in_parentheses (arguments ts w st r e f) h = cc (sym e ∙ h)
-in_parentheses (list ts b r e f) h = cc (sym e ∙ h)
+abbrev Opened : List OpenMark → List Token → Type 0
+Opened [] vs = vs ≡ []
+Opened (InParens ∷ s) vs = InParentheses (Opened s) vs
+Opened (InIndex ∷ s) vs = InBrackets (Opened s) vs
+Opened (InChoice ∷ s) vs = InConditional (Opened s) vs
+Opened (InCall ∷ s) vs = InArguments (Opened s) vs
+Opened (InList ∷ s) vs = InItems s vs
+Opened (InLists ∷ s) vs = ⊥
 
-in_brackets : {z s : List OpenMark} {vs : List Token} → Opened z vs → z ≡ InIndex ∷ s → InBrackets s vs
-in_brackets (start e f) h = cc (sym e ∙ h)
-in_brackets (parens st e f) h = cc (sym e ∙ h)
-in_brackets (index {m = m} {us = us} {ts = ts} {v = v} st r e f) h = record { m = m; front = us; back = ts; tree = v; stands = stands_as (cc (sym e ∙ h)) st; reads = r; is = f }
-in_brackets (question st r e f) h = cc (sym e ∙ h)
-in_brackets (arguments ts w st r e f) h = cc (sym e ∙ h)
-in_brackets (list ts b r e f) h = cc (sym e ∙ h)
+abbrev Stands : ℕ → List OpenMark → List Token → Type 0
+Stands n s vs = StandsBehind (Opened s) n vs
 
-in_conditional : {z s : List OpenMark} {vs : List Token} → Opened z vs → z ≡ InChoice ∷ s → InConditional s vs
-in_conditional (start e f) h = cc (sym e ∙ h)
-in_conditional (parens st e f) h = cc (sym e ∙ h)
-in_conditional (index st r e f) h = cc (sym e ∙ h)
-in_conditional (question {us = us} {ts = ts} {c = c} st r e f) h = record { front = us; back = ts; tree = c; stands = stands_as (cc (sym e ∙ h)) st; reads = r; is = f }
-in_conditional (arguments ts w st r e f) h = cc (sym e ∙ h)
-in_conditional (list ts b r e f) h = cc (sym e ∙ h)
+low : {Open : List Token → Type 0} {n : ℕ} {vs : List Token} → StandsBehind Open n vs → n ≤ 7
+low (opened o z) = omega arith
+low (left o st l r e z) = omega (arith, level_low o)
+low (minus st l e z) = omega arith
+low (bang st l e z) = omega arith
+low (colon st c a e z) = omega arith
 
-in_arguments : {z s : List OpenMark} {vs : List Token} → Opened z vs → z ≡ InCall ∷ s → InArguments s vs
-in_arguments (start e f) h = cc (sym e ∙ h)
-in_arguments (parens st e f) h = cc (sym e ∙ h)
-in_arguments (index st r e f) h = cc (sym e ∙ h)
-in_arguments (question st r e f) h = cc (sym e ∙ h)
-in_arguments (arguments {m = m} {us = us} ts f st b e q) h = record { m = m; front = us; back = ts; name = f; stands = stands_as (cc (sym e ∙ h)) st; before = b; is = q }
-in_arguments (list ts b r e f) h = cc (sym e ∙ h)
+-- below the level of every operator, an operand is wanted at level 0
+bottom : {Open : List Token → Type 0} {n : ℕ} {vs : List Token} → StandsBehind Open n vs → n ≤ 1 → StandsBehind Open 0 vs
+bottom (opened o z) h = opened o refl
+bottom (left o st l r e z) h = absurd (omega (arith, level_high o))
+bottom (minus st l e z) h = absurd (omega arith)
+bottom (bang st l e z) h = absurd (omega arith)
+bottom (colon st c a e z) h = colon st c a e refl
 
-in_items : {z s : List OpenMark} {vs : List Token} → Opened z vs → z ≡ InList ∷ s → InItems s vs
-in_items (start e f) h = cc (sym e ∙ h)
-in_items (parens st e f) h = cc (sym e ∙ h)
-in_items (index st r e f) h = cc (sym e ∙ h)
-in_items (question st r e f) h = cc (sym e ∙ h)
-in_items (arguments ts w st r e f) h = cc (sym e ∙ h)
-in_items (list {us = us} ts b r e f) h = record { front = us; back = ts; braced = braced_as (cc (sym e ∙ h)) b; before = r; is = f }
+-- ---- what was read last, as far as it goes at a level
 
--- no mark is open
-at_start : {z : List OpenMark} {vs : List Token} → Opened z vs → z ≡ [] → vs ≡ []
-at_start (start e f) h = f
-at_start (parens st e f) h = cc (sym e ∙ h)
-at_start (index st r e f) h = cc (sym e ∙ h)
-at_start (question st r e f) h = cc (sym e ∙ h)
-at_start (arguments ts w st r e f) h = cc (sym e ∙ h)
-at_start (list ts b r e f) h = cc (sym e ∙ h)
+-- the tokens end with an expression of the level, where one is wanted
+record Folded (Open : List Token → Type 0) (n : ℕ) (all : List Token) : Type 0 where
+  m : ℕ
+  front : List Token
+  back : List Token
+  tree : NamedTree
+  stands : StandsBehind Open m front
+  fits : m ≤ n
+  reads : Reads n back tree
+  split : all ≡ front ++ back
+
+sign_front : (us vs : List Token) (t : Token) (ts : List Token) → vs ≡ us ++ t ∷ [] → us ++ t ∷ ts ≡ vs ++ ts
+sign_front us vs t ts e = rw e (sym (append_assoc us (t ∷ []) ts))
+
+side_front : (us ws vs : List Token) (t : Token) (ts : List Token) → vs ≡ us ++ (ws ++ t ∷ []) → us ++ (ws ++ t ∷ ts) ≡ vs ++ ts
+side_front us ws vs t ts e = rw e (simp append_assoc)
+
+fold : {Open : List Token → Type 0} {m : ℕ} {us : List Token} → StandsBehind Open m us → (n k : ℕ) (ts : List Token) (t : NamedTree) → Reads k ts t → m ≤ k → n ≤ k → Folded Open n (us ++ ts)
+fold {Open} {m} {us} (opened o z) n k ts t r h l = record { m = m; front = us; back = ts; tree = t; stands = opened o z; fits = omega arith; reads = at_looser n k ts t l r; split = refl }
+fold {Open} {m} {us} (colon st c a e z) n k ts t r h l = record { m = m; front = us; back = ts; tree = t; stands = colon st c a e z; fits = omega arith; reads = at_looser n k ts t l r; split = refl }
+fold {Open} {m} {us} (left {us = vs} {ts = ws} {a = a} o st f q e z) n k ts t r h l =
+    elim (le_or_lt m n) [
+      | inl w ↦ record { m = m; front = us; back = ts; tree = t; stands = left o st f q e z; fits = w; reads = at_looser n k ts t l r; split = refl }
+      | inr b ↦ subst (Folded Open n) (side_front vs ws us (Op o) ts e) (fold st n (level_of o) (ws ++ Op o ∷ ts) (Bin o a t) (binary q (at_looser (suc (level_of o)) k ts t (omega arith) r) refl refl) f (omega arith))
+    ]
+fold {Open} {m} {us} (minus {us = vs} st f e z) n k ts t r h l =
+    elim (le_or_lt m n) [
+      | inl w ↦ record { m = m; front = us; back = ts; tree = t; stands = minus st f e z; fits = w; reads = at_looser n k ts t l r; split = refl }
+      | inr b ↦ subst (Folded Open n) (sign_front vs us (Op op.Sub) ts e) (fold st n 7 (Op op.Sub ∷ ts) (Neg t) (minus_sign (at_looser 7 k ts t (omega arith) r)) f (omega arith))
+    ]
+fold {Open} {m} {us} (bang {us = vs} st f e z) n k ts t r h l =
+    elim (le_or_lt m n) [
+      | inl w ↦ record { m = m; front = us; back = ts; tree = t; stands = bang st f e z; fits = w; reads = at_looser n k ts t l r; split = refl }
+      | inr b ↦ subst (Folded Open n) (sign_front vs us (Punct mark.Bang) ts e) (fold st n 7 (Punct mark.Bang ∷ ts) (Not t) (not_sign (at_looser 7 k ts t (omega arith) r)) f (omega arith))
+    ]
+
+-- the tokens end with an expression directly after the innermost open mark
+record Inside (Open : List Token → Type 0) (all : List Token) : Type 0 where
+  front : List Token
+  back : List Token
+  tree : NamedTree
+  open_mark : Open front
+  reads : Reads 0 back tree
+  split : all ≡ front ++ back
+
+colon_front : (us ts ws vs xs : List Token) → vs ≡ us ++ (ts ++ Punct mark.Question ∷ (ws ++ Punct mark.Colon ∷ [])) → us ++ (ts ++ (Punct mark.Question ∷ (ws ++ Punct mark.Colon ∷ xs))) ≡ vs ++ xs
+colon_front us ts ws vs xs e = rw e (simp append_assoc)
+
+inside : {Open : List Token → Type 0} {m : ℕ} {us : List Token} → StandsBehind Open m us → (k : ℕ) (ts : List Token) (t : NamedTree) → Reads k ts t → m ≤ k → Inside Open (us ++ ts)
+inside {Open} {us = us} (opened o z) k ts t r h = record { front = us; back = ts; tree = t; open_mark = o; reads = at_looser 0 k ts t (omega arith) r; split = refl }
+inside {Open} {us = us} (left {us = vs} {ts = ws} {a = a} o st f q e z) k ts t r h =
+    subst (Inside Open) (side_front vs ws us (Op o) ts e) (inside st (level_of o) (ws ++ Op o ∷ ts) (Bin o a t) (binary q (at_looser (suc (level_of o)) k ts t (omega arith) r) refl refl) f)
+inside {Open} {us = us} (minus {us = vs} st f e z) k ts t r h = subst (Inside Open) (sign_front vs us (Op op.Sub) ts e) (inside st 7 (Op op.Sub ∷ ts) (Neg t) (minus_sign (at_looser 7 k ts t (omega arith) r)) f)
+inside {Open} {us = us} (bang {us = vs} st f e z) k ts t r h = subst (Inside Open) (sign_front vs us (Punct mark.Bang) ts e) (inside st 7 (Punct mark.Bang ∷ ts) (Not t) (not_sign (at_looser 7 k ts t (omega arith) r)) f)
+inside {Open} {us = us} (colon {us = vs} {ts = ws} {ws = xs} {c = c} {a = a} st q p e z) k ts t r h =
+    subst (Inside Open) (colon_front vs ws xs us ts e) (inside st 0 (ws ++ (Punct mark.Question ∷ (xs ++ Punct mark.Colon ∷ ts))) (Cond c a t) (conditional q p (at_looser 0 k ts t (omega arith) r) refl) (omega arith))
 
 -- ---- the scan goes on
 
@@ -285,7 +222,8 @@ module _ (place : ℕ) (ps : List Placed) (next : Finishes ps) where
   by_operand (Op op.Sub) m s us st h = values_as (append_assoc us (Op op.Sub ∷ []) (bare ps)) (next.on_operand 7 s (us ++ Op op.Sub ∷ []) (minus st (low st) refl refl) h)
   by_operand (Op o) m s us st h = cc h
   by_operand (Punct mark.Bang) m s us st h = values_as (append_assoc us (Punct mark.Bang ∷ []) (bare ps)) (next.on_operand 7 s (us ++ Punct mark.Bang ∷ []) (bang st (low st) refl refl) h)
-  by_operand (Punct mark.Open) m s us st h = values_as (append_assoc us (Punct mark.Open ∷ []) (bare ps)) (next.on_operand 0 (InParens ∷ s) (us ++ Punct mark.Open ∷ []) (opened (parens st refl refl) refl) h)
+  by_operand (Punct mark.Open) m s us st h =
+      values_as (append_assoc us (Punct mark.Open ∷ []) (bare ps)) (next.on_operand 0 (InParens ∷ s) (us ++ Punct mark.Open ∷ []) (opened (record { m = m; front = us; stands = st; is = refl }) refl) h)
   by_operand (Punct k) m s us st h = cc h
 
   by_operator : (t : Token) (m : ℕ) (s : List OpenMark) (us ts : List Token) (a : NamedTree) → Stands m s us → Reads 8 ts a → continued (operator t s) place (λ s'. scan s' ps) ≡ Whole → Values (us ++ (ts ++ t ∷ bare ps))
@@ -295,50 +233,53 @@ module _ (place : ℕ) (ps : List Placed) (next : Finishes ps) where
       (next.on_operand (suc (level_of o)) s (f.front ++ (f.back ++ Op o ∷ [])) (left o f.stands f.fits f.reads refl refl) h)
   by_operator (Punct mark.OpenBracket) m s us ts a st r h =
       values_by (us ++ (ts ++ Punct mark.OpenBracket ∷ bare ps)) (simp append_assoc) refl
-      (next.on_operand 0 (InIndex ∷ s) (us ++ (ts ++ Punct mark.OpenBracket ∷ [])) (opened (index st r refl refl) refl) h)
+      (next.on_operand 0 (InIndex ∷ s) (us ++ (ts ++ Punct mark.OpenBracket ∷ [])) (opened (record { m = m; front = us; back = ts; tree = a; stands = st; reads = r; is = refl }) refl) h)
   by_operator (Punct mark.Question) m s us ts a st r h =
       let f = fold st 1 8 ts a r (omega (arith, low st)) (omega arith) in
       values_by (f.front ++ (f.back ++ Punct mark.Question ∷ bare ps)) (simp append_assoc) (regroup us ts f.front f.back (Punct mark.Question ∷ bare ps) f.front f.split refl)
-      (next.on_operand 0 (InChoice ∷ s) (f.front ++ (f.back ++ Punct mark.Question ∷ [])) (opened (question (bottom f.stands f.fits) f.reads refl refl) refl) h)
+      (next.on_operand 0 (InChoice ∷ s) (f.front ++ (f.back ++ Punct mark.Question ∷ []))
+      (opened (record { front = f.front; back = f.back; tree = f.tree; stands = bottom f.stands f.fits; reads = f.reads; is = refl }) refl) h)
   by_operator (Punct mark.Colon) m (InChoice ∷ s) us ts a st r h =
       let i = inside st 8 ts a r (omega (arith, low st)) in
-      let q = in_conditional i.open_mark refl in
+      let q = i.open_mark in
       values_by ((q.front ++ (q.back ++ Punct mark.Question ∷ [])) ++ (i.back ++ Punct mark.Colon ∷ bare ps)) (simp append_assoc) (regroup us ts i.front i.back (Punct mark.Colon ∷ bare ps) (q.front ++ (q.back ++ Punct mark.Question ∷ [])) i.split q.is)
       (next.on_operand 0 s (q.front ++ (q.back ++ Punct mark.Question ∷ (i.back ++ Punct mark.Colon ∷ []))) (colon q.stands q.reads i.reads refl refl) h)
   by_operator (Punct mark.Comma) m (InCall ∷ s) us ts a st r h =
       let i = inside st 8 ts a r (omega (arith, low st)) in
-      let q = in_arguments i.open_mark refl in
+      let q = i.open_mark in
       let front = q.front ++ (Word q.name ∷ Punct mark.Open ∷ q.back) in
       let now : BeforeArgs (q.back ++ (i.back ++ Punct mark.Comma ∷ [])) = λ xs b rest args. args_as (simp append_assoc) (q.before (i.back ++ Punct mark.Comma ∷ xs) i.tree (More b rest) (more_arguments i.reads args refl)) in
       values_by (front ++ (i.back ++ Punct mark.Comma ∷ bare ps)) (simp append_assoc) (regroup us ts i.front i.back (Punct mark.Comma ∷ bare ps) front i.split q.is)
-      (next.on_operand 0 (InCall ∷ s) (q.front ++ (Word q.name ∷ Punct mark.Open ∷ (q.back ++ (i.back ++ Punct mark.Comma ∷ [])))) (opened (arguments (q.back ++ (i.back ++ Punct mark.Comma ∷ [])) q.name q.stands now refl refl) refl) h)
+      (next.on_operand 0 (InCall ∷ s) (q.front ++ (Word q.name ∷ Punct mark.Open ∷ (q.back ++ (i.back ++ Punct mark.Comma ∷ []))))
+      (opened (record { m = q.m; front = q.front; back = q.back ++ (i.back ++ Punct mark.Comma ∷ []); name = q.name; stands = q.stands; before = now; is = refl }) refl) h)
   by_operator (Punct mark.Comma) m (InList ∷ s) us ts a st r h =
       let i = inside st 8 ts a r (omega (arith, low st)) in
-      let q = in_items i.open_mark refl in
+      let q = i.open_mark in
       let now : BeforeItems (q.back ++ (i.back ++ Punct mark.Comma ∷ [])) = λ xs es items. items_as (simp append_assoc) (q.before (i.back ++ Punct mark.Comma ∷ xs) (i.tree ∷ es) (more_items i.reads items refl)) in
       values_by ((q.front ++ q.back) ++ (i.back ++ Punct mark.Comma ∷ bare ps)) (simp append_assoc) (regroup us ts i.front i.back (Punct mark.Comma ∷ bare ps) (q.front ++ q.back) i.split q.is)
-      (next.on_operand 0 (InList ∷ s) (q.front ++ (q.back ++ (i.back ++ Punct mark.Comma ∷ []))) (opened (list (q.back ++ (i.back ++ Punct mark.Comma ∷ [])) q.braced now refl refl) refl) h)
+      (next.on_operand 0 (InList ∷ s) (q.front ++ (q.back ++ (i.back ++ Punct mark.Comma ∷ [])))
+      (opened (record { front = q.front; back = q.back ++ (i.back ++ Punct mark.Comma ∷ []); braced = q.braced; before = now; is = refl }) refl) h)
   by_operator (Punct mark.Close) m (InParens ∷ s) us ts a st r h =
       let i = inside st 8 ts a r (omega (arith, low st)) in
-      let q = in_parentheses i.open_mark refl in
+      let q = i.open_mark in
       values_by ((q.front ++ Punct mark.Open ∷ []) ++ (i.back ++ Punct mark.Close ∷ bare ps)) (simp append_assoc) (regroup us ts i.front i.back (Punct mark.Close ∷ bare ps) (q.front ++ Punct mark.Open ∷ []) i.split q.is)
       (next.on_operator q.m s q.front (Punct mark.Open ∷ (i.back ++ Punct mark.Close ∷ [])) i.tree q.stands (tighter (parenthesized i.reads refl)) h)
   by_operator (Punct mark.Close) m (InCall ∷ s) us ts a st r h =
       let i = inside st 8 ts a r (omega (arith, low st)) in
-      let q = in_arguments i.open_mark refl in
+      let q = i.open_mark in
       let front = q.front ++ (Word q.name ∷ Punct mark.Open ∷ q.back) in
       let args = q.before i.back i.tree End (last_argument i.reads) in
       values_by (front ++ (i.back ++ Punct mark.Close ∷ bare ps)) (simp append_assoc) (regroup us ts i.front i.back (Punct mark.Close ∷ bare ps) front i.split q.is)
       (next.on_operator q.m s q.front (Word q.name ∷ Punct mark.Open ∷ ((q.back ++ i.back) ++ Punct mark.Close ∷ [])) (Call q.name args.0) q.stands (tighter (call args.1 refl)) h)
   by_operator (Punct mark.CloseBracket) m (InIndex ∷ s) us ts a st r h =
       let i = inside st 8 ts a r (omega (arith, low st)) in
-      let q = in_brackets i.open_mark refl in
+      let q = i.open_mark in
       let front = q.front ++ (q.back ++ Punct mark.OpenBracket ∷ []) in
       values_by (front ++ (i.back ++ Punct mark.CloseBracket ∷ bare ps)) (simp append_assoc) (regroup us ts i.front i.back (Punct mark.CloseBracket ∷ bare ps) front i.split q.is)
       (next.on_operator q.m s q.front (q.back ++ (Punct mark.OpenBracket ∷ (i.back ++ Punct mark.CloseBracket ∷ []))) (Pick q.tree i.tree) q.stands (pick q.reads i.reads refl) h)
   by_operator (Punct mark.CloseBrace) m (InList ∷ s) us ts a st r h =
       let i = inside st 8 ts a r (omega (arith, low st)) in
-      let q = in_items i.open_mark refl in
+      let q = i.open_mark in
       let items = q.before i.back (i.tree ∷ []) (last_item i.reads) in
       values_by ((q.front ++ q.back) ++ (i.back ++ Punct mark.CloseBrace ∷ bare ps)) (simp append_assoc) (regroup us ts i.front i.back (Punct mark.CloseBrace ∷ bare ps) (q.front ++ q.back) i.split q.is)
       (next.on_close s q.front (q.back ++ i.back) items.0 q.braced items.1 h)
@@ -346,24 +287,16 @@ module _ (place : ℕ) (ps : List Placed) (next : Finishes ps) where
 
   by_name : (t : Token) (m : ℕ) (s : List OpenMark) (us : List Token) (x : List ℕ) → Stands m s us → continued (after_name t s) place (λ s'. scan s' ps) ≡ Whole → Values (us ++ (Word x ∷ t ∷ bare ps))
   by_name (Punct mark.Open) m s us x st h = next.on_argument m s us x st h
-  by_name (Word y) m s us x st h = by_operator (Word y) m s us (Word x ∷ []) (Col x) st (tighter name) h
-  by_name (Truth b) m s us x st h = by_operator (Truth b) m s us (Word x ∷ []) (Col x) st (tighter name) h
-  by_name (Number z) m s us x st h = by_operator (Number z) m s us (Word x ∷ []) (Col x) st (tighter name) h
-  by_name (Op o) m s us x st h = by_operator (Op o) m s us (Word x ∷ []) (Col x) st (tighter name) h
-  by_name (Punct k) m s us x st h = by_operator (Punct k) m s us (Word x ∷ []) (Col x) st (tighter name) h
+  by_name t m s us x st h = by_operator t m s us (Word x ∷ []) (Col x) st (tighter name) h
 
   after_open : (t : Token) (m : ℕ) (s : List OpenMark) (us : List Token) (x : List ℕ) → Stands m s us → continued (operand t (InCall ∷ s)) place (λ s'. scan s' ps) ≡ Whole → Values (us ++ (Word x ∷ Punct mark.Open ∷ t ∷ bare ps))
   after_open t m s us x st h =
       values_as (append_assoc us (Word x ∷ Punct mark.Open ∷ []) (t ∷ bare ps))
-      (by_operand t 0 (InCall ∷ s) (us ++ (Word x ∷ Punct mark.Open ∷ [])) (opened (arguments [] x st (λ xs b rest args. (More b rest, args)) refl refl) refl) h)
+      (by_operand t 0 (InCall ∷ s) (us ++ (Word x ∷ Punct mark.Open ∷ [])) (opened (record { m = m; front = us; back = []; name = x; stands = st; before = λ xs b rest args. (More b rest, args); is = refl }) refl) h)
 
   by_argument : (t : Token) (m : ℕ) (s : List OpenMark) (us : List Token) (x : List ℕ) → Stands m s us → continued (first_argument t (InCall ∷ s)) place (λ s'. scan s' ps) ≡ Whole → Values (us ++ (Word x ∷ Punct mark.Open ∷ t ∷ bare ps))
   by_argument (Punct mark.Close) m s us x st h = next.on_operator m s us (Word x ∷ Punct mark.Open ∷ Punct mark.Close ∷ []) (Call x End) st (tighter (call no_arguments refl)) h
-  by_argument (Word y) m s us x st h = after_open (Word y) m s us x st h
-  by_argument (Truth b) m s us x st h = after_open (Truth b) m s us x st h
-  by_argument (Number z) m s us x st h = after_open (Number z) m s us x st h
-  by_argument (Op o) m s us x st h = after_open (Op o) m s us x st h
-  by_argument (Punct k) m s us x st h = after_open (Punct k) m s us x st h
+  by_argument t m s us x st h = after_open t m s us x st h
 
   by_between : (t : Token) (us ts : List Token) (es : List NamedTree) → BeforeLists us → ReadsList ts es → continued (between_lists t (InLists ∷ [])) place (λ s'. scan s' ps) ≡ Whole
       → Values (Punct mark.OpenBrace ∷ (us ++ Punct mark.OpenBrace ∷ (ts ++ Punct mark.CloseBrace ∷ t ∷ bare ps)))
@@ -379,26 +312,26 @@ module _ (place : ℕ) (ps : List Placed) (next : Finishes ps) where
       let done = us ++ Punct mark.OpenBrace ∷ (ts ++ Punct mark.CloseBrace ∷ Punct mark.Comma ∷ []) in
       let now : BeforeLists done = λ xs ls lists. lists_as (simp append_assoc) (before (Punct mark.OpenBrace ∷ (ts ++ Punct mark.CloseBrace ∷ Punct mark.Comma ∷ xs)) (es ∷ ls) (more_lists r lists refl)) in
       values_as (simp (append_assoc, append-nil))
-      (next.on_operand 0 (InList ∷ InLists ∷ []) ((Punct mark.OpenBrace ∷ (done ++ Punct mark.OpenBrace ∷ [])) ++ []) (opened (list [] (nested done now refl refl) (λ xs fs items. (fs, items)) refl refl) refl) h)
+      (next.on_operand 0 (InList ∷ InLists ∷ []) ((Punct mark.OpenBrace ∷ (done ++ Punct mark.OpenBrace ∷ [])) ++ [])
+      (opened (record { front = Punct mark.OpenBrace ∷ (done ++ Punct mark.OpenBrace ∷ []); back = []; braced = record { ts = done; before = now; is = refl }; before = λ xs fs items. (fs, items); is = refl }) refl) h)
   by_next t us ts es before r h = cc h
 
 -- ---- all tokens
 
 close_empty : (s : List OpenMark) (us ts : List Token) (es : List NamedTree) → Braced s us → ReadsList ts es → scan (after_list s) [] ≡ Whole → Values (us ++ (ts ++ Punct mark.CloseBrace ∷ []))
-close_empty s us ts es (single e z) r h = values_as (ap (λ (k : List Token). k ++ (ts ++ Punct mark.CloseBrace ∷ [])) (sym e)) (Lists (es ∷ []), one_list r refl)
-close_empty s us ts es (nested ls before e z) r h = let never : Partial ≡ Whole = subst (λ (k : List OpenMark). scan (after_list k) [] ≡ Whole) z h in cc never
+close_empty [] us ts es b r h = values_as (ap (λ (k : List Token). k ++ (ts ++ Punct mark.CloseBrace ∷ [])) (sym b)) (Lists (es ∷ []), one_list r refl)
+close_empty (o ∷ s) us ts es b r h = cc h
 
 close_more : (p : Placed) (ps : List Placed) → Finishes ps → (s : List OpenMark) (us ts : List Token) (es : List NamedTree) → Braced s us → ReadsList ts es → scan (after_list s) (p ∷ ps) ≡ Whole
     → Values (us ++ (ts ++ Punct mark.CloseBrace ∷ p.token ∷ bare ps))
-close_more p ps next s us ts es (single e z) r h = let never : Refused p.place ≡ Whole = subst (λ (k : List OpenMark). scan (after_list k) (p ∷ ps) ≡ Whole) z h in cc never
-close_more p ps next s us ts es (nested ls before e z) r h =
-    let goes = subst (λ (k : List OpenMark). scan (after_list k) (p ∷ ps) ≡ Whole) z h in
-    values_as (rw e (simp append_assoc)) (by_between p.place ps next p.token ls ts es before r goes)
+close_more p ps next [] us ts es b r h = cc h
+close_more p ps next (InLists ∷ []) us ts es b r h = values_as (rw b.is (simp append_assoc)) (by_between p.place ps next p.token b.ts ts es b.before r h)
+close_more p ps next s us ts es b r h = absurd b
 
 operator_empty : (m : ℕ) (s : List OpenMark) (us ts : List Token) (a : NamedTree) → Stands m s us → Reads 8 ts a → scan (Operator, s) [] ≡ Whole → Values (us ++ (ts ++ []))
 operator_empty m [] us ts a st r h =
     let i = inside st 8 ts a r (omega (arith, low st)) in
-    let none : i.front ≡ [] = at_start i.open_mark refl in
+    let none : i.front ≡ [] = i.open_mark in
     values_by (us ++ ts) (sym (i.split ∙ ap (λ (k : List Token). k ++ i.back) none)) (ap (λ (k : List Token). us ++ k) (sym (append-nil ts))) (Vector i.tree, vector i.reads)
 operator_empty m (k ∷ s) us ts a st r h = cc h
 
@@ -427,22 +360,24 @@ finishes (p ∷ ps) =
     }
 
 begun : Stands 0 [] []
-begun = opened (start refl refl) refl
+begun = opened refl refl
 
 first_item : (t : Token) (place : ℕ) (ps : List Placed) → continued (operand t (InList ∷ [])) place (λ s'. scan s' ps) ≡ Whole → Values (Punct mark.OpenBrace ∷ t ∷ bare ps)
 first_item t place ps h =
     by_operand place ps (finishes ps) t 0 (InList ∷ []) (Punct mark.OpenBrace ∷ [])
-    (opened (list {us = Punct mark.OpenBrace ∷ []} [] (single refl refl) (λ xs es items. (es, items)) refl refl) refl) h
+    (opened (record { front = Punct mark.OpenBrace ∷ []; back = []; braced = refl; before = λ xs es items. (es, items); is = refl }) refl) h
 
 second_brace : (t : Token) (place : ℕ) (ps : List Placed) → continued (after_brace t (InList ∷ [])) place (λ s'. scan s' ps) ≡ Whole → Values (Punct mark.OpenBrace ∷ t ∷ bare ps)
 second_brace (Punct mark.OpenBrace) place ps h =
     (finishes ps).on_operand 0 (InList ∷ InLists ∷ []) (Punct mark.OpenBrace ∷ Punct mark.OpenBrace ∷ [])
-    (opened (list {us = Punct mark.OpenBrace ∷ Punct mark.OpenBrace ∷ []} [] (nested [] (λ xs ls lists. (ls, lists)) refl refl) (λ xs es items. (es, items)) refl refl) refl) h
-second_brace (Word x) place ps h = first_item (Word x) place ps h
-second_brace (Truth b) place ps h = first_item (Truth b) place ps h
-second_brace (Number z) place ps h = first_item (Number z) place ps h
-second_brace (Op o) place ps h = first_item (Op o) place ps h
-second_brace (Punct k) place ps h = first_item (Punct k) place ps h
+    (opened (record {
+      front = Punct mark.OpenBrace ∷ Punct mark.OpenBrace ∷ [];
+      back = [];
+      braced = record { ts = []; before = λ xs ls lists. (ls, lists); is = refl };
+      before = λ xs es items. (es, items);
+      is = refl;
+    }) refl) h
+second_brace t place ps h = first_item t place ps h
 
 first_brace : (ps : List Placed) → scan (AfterBrace, InList ∷ []) ps ≡ Whole → Values (Punct mark.OpenBrace ∷ bare ps)
 first_brace [] h = cc h
@@ -450,11 +385,7 @@ first_brace (p ∷ ps) h = second_brace p.token p.place ps h
 
 first_token_read : (t : Token) (place : ℕ) (ps : List Placed) → continued (beginning t []) place (λ s'. scan s' ps) ≡ Whole → Values (t ∷ bare ps)
 first_token_read (Punct mark.OpenBrace) place ps h = first_brace ps h
-first_token_read (Word x) place ps h = by_operand place ps (finishes ps) (Word x) 0 [] [] begun h
-first_token_read (Truth b) place ps h = by_operand place ps (finishes ps) (Truth b) 0 [] [] begun h
-first_token_read (Number z) place ps h = by_operand place ps (finishes ps) (Number z) 0 [] [] begun h
-first_token_read (Op o) place ps h = by_operand place ps (finishes ps) (Op o) 0 [] [] begun h
-first_token_read (Punct k) place ps h = by_operand place ps (finishes ps) (Punct k) 0 [] [] begun h
+first_token_read t place ps h = by_operand place ps (finishes ps) t 0 [] [] begun h
 
 pub reads_values : (ts : List Placed) → scan begin_values ts ≡ Whole → Values (bare ts)
 reads_values [] h = cc h

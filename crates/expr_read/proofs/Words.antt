@@ -1,15 +1,16 @@
 -- The texts of words.
 use Rattle.std.proofs.Common.{◌≡◌, ◌≤◌, ◌∙◌, ℕ, Bool, true, false, List, [], ◌∷◌, ◌++◌, length, Ok, arith, refl, ap, subst, nat_eq}
-use Rattle.std.specs.Prelude.{take_while, not, nat_le, codes, ◌&&◌, ◌||◌, if◌then◌else◌}
+use Rattle.std.specs.Prelude.{take_while, not, nat_le, codes, ◌&&◌, ◌||◌}
 use Rattle.std.specs.List.{prefix_len, list_all}
 use Rattle.std.proofs.Math.Seq.{take-append_seam}
 use Rattle.std.proofs.lemmas.Bool.Decides.{nat_tests}
 use Rattle.lemmas.proofs.Booleans.{both_true, not_true}
 use Rattle.lemmas.proofs.Orders.{eq_says}
 use Rattle.rdf_values.specs.Names.{is_word_start, is_word_byte, is_digit, is_word, is_name, same}
-use Rattle.rdf_values.specs.Tokens.{Token, Word, Truth, Punct, is_blank, word_token, word_first, number_first, mark_first, long_mark, short_mark, first_token}
+use Rattle.rdf_values.specs.Tokens.{Token, Word, Truth, Punct, is_blank, word_token, word_first, long_mark, short_mark, first_token}
 use Rattle.rdf_values.specs.Canonical.{truth_text}
 use Rattle.rdf_values.specs.declared.expr.Mark.TheVariants as mark
+use Rattle.expr_read.proofs.Sizes.{first_word}
 use Rattle.expr_read.proofs.Spelled.{Spells, token, is_apart, is_unequal}
 
 abbrev pub stops : (ℕ → Bool) → List ℕ → Type 0
@@ -38,10 +39,6 @@ blank_by c false false e f h = rw (e, f) refl
 
 starts_byte : (c : ℕ) → is_word_start c ≡ true → is_word_byte c ≡ true
 starts_byte c h = ap (λ (b : Bool). b || is_digit c) h
-
-first_word : (c : ℕ) (cs : List ℕ) → is_word_start c ≡ true → first_token c cs ≡ word_first (take_while is_word_byte (c ∷ cs))
-unfolding first_token
-first_word c cs e = ap (λ (b : Bool). if b then word_first (take_while is_word_byte (c ∷ cs)) else (if is_digit c then number_first (take_while is_digit (c ∷ cs)) else mark_first c cs)) e
 
 short_word : (w : List ℕ) → length w ≤ 64 → word_first w ≡ Ok (word_token w, length w)
 unfolding word_first

@@ -42,15 +42,9 @@ fn parse(alloc: Global, tokens: &[Placed], end: u32) -> Result<ExprNode, ExprRef
         left: tokens,
     };
     match parser.expr() {
-        Ok(node) => {
-            if parser.left.is_empty() {
-                Ok(node)
-            } else {
-                Err(unexpected(parser.left, end))
-            }
-        }
-        Err(Fail::Unexpected) => Err(unexpected(parser.left, end)),
+        Ok(node) if parser.left.is_empty() => Ok(node),
         Err(Fail::Memory) => Err(ExprRefusal::Memory),
+        _ => Err(unexpected(parser.left, end)),
     }
 }
 
@@ -78,15 +72,9 @@ fn parse_values(alloc: Global, tokens: &[Placed], end: u32) -> Result<VaryValues
         left: tokens,
     };
     match parser.values() {
-        Ok(values) => {
-            if parser.left.is_empty() {
-                Ok(values)
-            } else {
-                Err(unexpected(parser.left, end))
-            }
-        }
-        Err(Fail::Unexpected) => Err(unexpected(parser.left, end)),
+        Ok(values) if parser.left.is_empty() => Ok(values),
         Err(Fail::Memory) => Err(ExprRefusal::Memory),
+        _ => Err(unexpected(parser.left, end)),
     }
 }
 

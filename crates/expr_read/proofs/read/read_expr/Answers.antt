@@ -1,5 +1,5 @@
 use Rattle.std.proofs.lemmas.Result.{err_from_is_err_and}
-use Rattle.expr_read.proofs.Reading.{tokens_refused, text_refused, none_unexpected, one_tree}
+use Rattle.expr_read.proofs.Reading.{tokens_refused, text_refused, memory_alone, one_tree}
 use Rattle.rdf_values.specs.Grammar.{Reads}
 use Rattle.rdf_values.specs.Scans.{begin_expr}
 use Rattle.expr_read.proofs.Whole.{whole}
@@ -19,7 +19,8 @@ returns-in_err-node-clause-err c =
 pub returns-in_err-node-clause-complete : goal.returns-in_err-node-clause-complete
 returns-in_err-node-clause-complete c a r =
     let p = err_from_is_err_and c.from_residual-in_err-node.result c.from_residual-in_err-node.ensures.1 in
-    rw (p.1, p.2) (none_unexpected (Reads 0) begin_expr whole c.args.text.now _ _ a c.in_ok-tokens.ensures (rw c.as_slice.ensures.value at c.in_err-node.ensures.err) r)
+    rw (p.1, p.2) (memory_alone (Reads 0) begin_expr whole c.args.text.now a _ r
+    (text_refused (Reads 0) begin_expr whole c.args.text.now _ _ c.in_ok-tokens.ensures (rw c.as_slice.ensures.value at c.in_err-node.ensures.err)))
 
 pub returns-clause-complete : goal.returns-clause-complete
 returns-clause-complete c a r = one_tree c.args.text.now _ _ a c.in_ok-tokens.ensures (rw c.as_slice.ensures.value at c.in_ok-node.ensures.ok) r

@@ -1,8 +1,10 @@
-use Rattle.std.proofs.lemmas.Result.{err_from_is_err_and}
+use Rattle.std.proofs.Common.{Ok, Err}
+use Rattle.std.specs.Prelude.{Result, IfOk, IfErr, MatchResult}
+use Rattle.std.proofs.lemmas.Result.{err_from_is_err_and, IfErr-weaker}
 use Rattle.rdf_values.specs.Grammar.{ReadsValues}
 use Rattle.rdf_values.specs.Scans.{begin_values}
 use Rattle.expr_read.proofs.Whole.{whole_values}
-use Rattle.expr_read.proofs.Reading.{tokens_refused, text_refused, none_unexpected, err_as, match_as, one_value}
+use Rattle.expr_read.proofs.Reading.{tokens_refused, text_refused, memory_alone, one_value}
 use Rattle.expr_read.proofs.ValidTokens.{valid_tokens}
 use Rattle.expr_read.proofs.read.read_values.Goals as goal
 
@@ -13,11 +15,16 @@ returns-in_err-tokens-clause-err c =
 
 pub returns-clause-err : goal.returns-clause-err
 returns-clause-err c =
-    err_as c.parse_values.result (λ e h. text_refused ReadsValues begin_values whole_values c.args.text.now _ e c.in_ok-tokens.ensures h) (rw c.as_slice.ensures.value at c.parse_values.ensures.err)
+    IfErr-weaker c.parse_values.result _ _ (λ e h. text_refused ReadsValues begin_values whole_values c.args.text.now _ e c.in_ok-tokens.ensures h) (rw c.as_slice.ensures.value at c.parse_values.ensures.err)
+
+match_as : {A E : Type 0} {P P' : A → Type 0} {Q Q' : E → Type 0} → (r : Result A E) → ((x : A) → P x → P' x) → ((e : E) → Q e → Q' e) → IfOk r P → IfErr r Q → MatchResult r P' Q'
+match_as (Ok x) f g h k = f x h
+match_as (Err e) f g h k = g e k
 
 pub returns-clause-complete : goal.returns-clause-complete
 returns-clause-complete c v r =
-    match_as c.parse_values.result (λ x h. one_value c.args.text.now _ x v c.in_ok-tokens.ensures h r) (λ e h. none_unexpected ReadsValues begin_values whole_values c.args.text.now _ e v c.in_ok-tokens.ensures h r)
+    match_as c.parse_values.result (λ x h. one_value c.args.text.now _ x v c.in_ok-tokens.ensures h r)
+    (λ e h. memory_alone ReadsValues begin_values whole_values c.args.text.now v e r (text_refused ReadsValues begin_values whole_values c.args.text.now _ e c.in_ok-tokens.ensures h))
     (rw c.as_slice.ensures.value at c.parse_values.ensures.ok) (rw c.as_slice.ensures.value at c.parse_values.ensures.err)
 
 pub parse_values-requires : goal.parse_values-requires

@@ -1,34 +1,33 @@
 use Rattle.std.proofs.lemmas.Grind.{common_steps}
-use Rattle.rdf_values.specs.Tree.{Lit, Col, Call, End}
+use Rattle.std.proofs.lemmas.Result.{IfOk-weaker}
 use Rattle.std.proofs.Common.{w64, SFits, to_z, of_z}
 use Rattle.std.proofs.lemmas.Int.{to_z-of_z}
 use Rattle.rdf_values.specs.declared.expr.BinOp.TheVariants as op
 use Rattle.rdf_values.specs.declared.expr.Mark.TheVariants as mark
-use Rattle.std.proofs.Common.{◌∷◌, ◌≡◌, ◌∙◌, List, ℕ, sym, subst, ap, refl, arith, rules}
+use Rattle.std.proofs.Common.{◌∷◌, ◌≡◌, ◌∙◌, List, sym, subst, ap, refl, arith, rules}
 use Rattle.rdf_values.specs.Scans.{InParens, InIndex, InChoice, InCall, Operand, Operator}
-use Rattle.rdf_values.specs.ExprTree.{trees_of}
 use Rattle.rdf_values.specs.Tokens.{Placed, Op, Punct}
 use Rattle.expr_read.specs.Views.{token_of}
 use Rattle.expr_read.specs.Parsing.{Stops, BeginsNot, stuck_at}
-use Rattle.expr_read.proofs.Took.{took_tighter, took_next, took_number, took_truth, took_name, took_minus_sign, took_not_sign, took_binary, took_conditional, took_pick, took_parens, took_call_none, took_call, took_last, took_more, took_as, took_to, args_as, args_from, begins_from, took_from, begins_seen, ok_as}
-use Rattle.expr_read.proofs.Scanned.{scan_after, argument_first, stuck_close, stuck_bracket, stuck_colon, stuck_arguments, stops_postfix, stops_binary, stops_expr}
+use Rattle.expr_read.proofs.Took.{took_tighter, took_next, took_number, took_truth, took_name, took_minus_sign, took_not_sign, took_binary, took_conditional, took_pick, took_parens, took_call_none, took_call, took_last, took_more, took_as, args_as, begins_seen}
+use Rattle.expr_read.proofs.Scanned.{scan_after, argument_first, stuck_inside, stops_postfix, stops_binary, stops_expr}
 use Rattle.expr_read.proofs.parser.Parser.+parse.Goals as goal
 
 pub args-returns-then-eat-clause-took : goal.args-returns-then-eat-clause-took
 args-returns-then-eat-clause-took t c =
-    ok_as c.more.result (λ _ e. args_as e (took_more c.in_ok-first.ensures.took c.if-eat.ensures c.in_ok-rest.ensures.took)) c.more.ensures.ok
+    IfOk-weaker c.more.result _ _ (λ _ e. args_as e (took_more c.in_ok-first.ensures.took c.if-eat.ensures c.in_ok-rest.ensures.took)) c.more.ensures.ok
 
 pub args-returns-in_err-expect-clause-stuck : goal.args-returns-in_err-expect-clause-stuck
 args-returns-in_err-expect-clause-stuck t c _ s =
     let nor = subst (λ (ts : List Placed). BeginsNot (Punct mark.Close) ts) c.if-eat.ensures.0 c.in_err-expect.ensures.err.2 in
-    c.in_ok-first.ensures.took.scans (InCall ∷ s) ∙ stuck_arguments s _ c.in_ok-first.ensures.stops c.if-eat.ensures.1 nor ∙ ap stuck_at (sym (c.in_err-expect.ensures.err.1 ∙ c.if-eat.ensures.0))
+    c.in_ok-first.ensures.took.scans (InCall ∷ s) ∙ stuck_inside InCall s _ c.in_ok-first.ensures.stops nor (λ _. c.if-eat.ensures.1) ∙ ap stuck_at (sym (c.in_err-expect.ensures.err.1 ∙ c.if-eat.ensures.0))
 
 pub args-returns-clause-took : goal.args-returns-clause-took
 args-returns-clause-took t c =
-    ok_as c.more-2.result (λ _ e. args_as e (took_last (took_to c.if-eat.ensures.0 c.in_ok-first.ensures.took) c.in_ok-expect.ensures.ok)) c.more-2.ensures.ok
+    IfOk-weaker c.more-2.result _ _ (λ _ e. args_as e (took_last (rw (← c.if-eat.ensures.0) at c.in_ok-first.ensures.took) c.in_ok-expect.ensures.ok)) c.more-2.ensures.ok
 
 pub expr-returns-then-not-eat-clause-took : goal.expr-returns-then-not-eat-clause-took
-expr-returns-then-not-eat-clause-took t c = took_to c.if-not-eat.ensures.0 (took_tighter c.in_ok-test.ensures.took)
+expr-returns-then-not-eat-clause-took t c = rw c.if-not-eat.ensures.0 (took_tighter c.in_ok-test.ensures.took)
 
 pub expr-returns-then-not-eat-clause-stops : goal.expr-returns-then-not-eat-clause-stops
 expr-returns-then-not-eat-clause-stops t c = subst (Stops 0) (sym c.if-not-eat.ensures.0) (stops_expr _ c.in_ok-test.ensures.stops c.if-not-eat.ensures.1)
@@ -36,25 +35,25 @@ expr-returns-then-not-eat-clause-stops t c = subst (Stops 0) (sym c.if-not-eat.e
 pub expr-returns-in_err-expect-clause-stuck : goal.expr-returns-in_err-expect-clause-stuck
 expr-returns-in_err-expect-clause-stuck t c _ s =
     c.in_ok-test.ensures.took.scans s ∙ scan_after (Operator, s) (Operand, InChoice ∷ s) c.if-not-eat.ensures refl ∙ c.in_ok-a.ensures.took.scans (InChoice ∷ s)
-    ∙ stuck_colon s _ c.in_ok-a.ensures.stops c.in_err-expect.ensures.err.2 ∙ ap stuck_at (sym c.in_err-expect.ensures.err.1)
+    ∙ stuck_inside InChoice s _ c.in_ok-a.ensures.stops c.in_err-expect.ensures.err.2 (λ e. absurd (cc e)) ∙ ap stuck_at (sym c.in_err-expect.ensures.err.1)
 
 pub expr-returns-clause-took : goal.expr-returns-clause-took
 expr-returns-clause-took t c =
-    ok_as c.conditional.result (λ _ e. took_as e (took_conditional c.in_ok-test.ensures.took c.if-not-eat.ensures c.in_ok-a.ensures.took c.in_ok-expect.ensures.ok c.in_ok-b.ensures.took)) c.conditional.ensures.ok
+    IfOk-weaker c.conditional.result _ _ (λ _ e. took_as e (took_conditional c.in_ok-test.ensures.took c.if-not-eat.ensures c.in_ok-a.ensures.took c.in_ok-expect.ensures.ok c.in_ok-b.ensures.took))
+    c.conditional.ensures.ok
 
 pub name_or_call-returns-then-not-eat-clause-took : goal.name_or_call-returns-then-not-eat-clause-took
-name_or_call-returns-then-not-eat-clause-took t c old b = took_as (ap Col c.in_ok-name.ensures.ok) (took_to c.if-not-eat.ensures.0 (took_name b c.if-not-eat.ensures.1))
+name_or_call-returns-then-not-eat-clause-took t c old b = rw (c.in_ok-name.ensures.ok, c.if-not-eat.ensures.0) (took_name b c.if-not-eat.ensures.1)
 
 pub name_or_call-returns-then-eat-clause-took : goal.name_or_call-returns-then-eat-clause-took
-name_or_call-returns-then-eat-clause-took t c old b = took_as (ap (λ (f : List ℕ). Call f End) c.in_ok-name.ensures.ok) (took_call_none b c.if-not-eat.ensures c.if-eat.ensures)
+name_or_call-returns-then-eat-clause-took t c old b = rw c.in_ok-name.ensures.ok (took_call_none b c.if-not-eat.ensures c.if-eat.ensures)
 
 pub name_or_call-returns-in_err-args-clause-stuck : goal.name_or_call-returns-in_err-args-clause-stuck
 name_or_call-returns-in_err-args-clause-stuck t c = grind (arith, common_steps, argument_first)
 
 pub name_or_call-returns-clause-took : goal.name_or_call-returns-clause-took
 name_or_call-returns-clause-took t c old b =
-    took_as (ap (λ (f : List ℕ). Call f (trees_of c.in_ok-args.args)) c.in_ok-name.ensures.ok)
-    (took_call b c.if-not-eat.ensures c.if-eat.ensures.1 (args_from c.if-eat.ensures.0 c.in_ok-args.ensures.took))
+    rw c.in_ok-name.ensures.ok (took_call b c.if-not-eat.ensures c.if-eat.ensures.1 (rw c.if-eat.ensures.0 at c.in_ok-args.ensures.took))
 
 pub postfix-loop-self-init : goal.postfix-loop-self-init
 postfix-loop-self-init t c = took_tighter c.in_ok-vector.ensures.took
@@ -62,7 +61,7 @@ postfix-loop-self-init t c = took_tighter c.in_ok-vector.ensures.took
 pub postfix-returns-in_err-expect-clause-stuck : goal.postfix-returns-in_err-expect-clause-stuck
 postfix-returns-in_err-expect-clause-stuck t c _ s =
     c.loop-self.invariant.scans s ∙ scan_after (Operator, s) (Operand, InIndex ∷ s) c.loop-self-test.ensures refl ∙ c.in_ok-index.ensures.took.scans (InIndex ∷ s)
-    ∙ stuck_bracket s _ c.in_ok-index.ensures.stops c.in_err-expect.ensures.err.2 ∙ ap stuck_at (sym c.in_err-expect.ensures.err.1)
+    ∙ stuck_inside InIndex s _ c.in_ok-index.ensures.stops c.in_err-expect.ensures.err.2 (λ e. absurd (cc e)) ∙ ap stuck_at (sym c.in_err-expect.ensures.err.1)
 
 pub postfix-loop-self-preserved : goal.postfix-loop-self-preserved
 postfix-loop-self-preserved t c = took_as c.in_ok-vector-2.ensures.ok (took_pick c.loop-self.invariant c.loop-self-test.ensures c.in_ok-index.ensures.took c.in_ok-expect.ensures.ok)
@@ -74,13 +73,13 @@ pub primary-returns-in_err-expect-in-Some-Punct-Open-clause-stuck : goal.primary
 primary-returns-in_err-expect-in-Some-Punct-Open-clause-stuck t c _ s =
     let opens = begins_seen (ap token_of c.in-Some-Punct-Open.field-0-is ∙ ap Punct c.in-Some-Punct-Open.field-0-0-is) c.in-Some-Punct-Open.ensures.sees c.advance-in-Some-Punct-Open.ensures in
     scan_after (Operand, s) (Operand, InParens ∷ s) opens refl ∙ c.in_ok-inner-in-Some-Punct-Open.ensures.took.scans (InParens ∷ s)
-    ∙ stuck_close s _ c.in_ok-inner-in-Some-Punct-Open.ensures.stops c.in_err-expect-in-Some-Punct-Open.ensures.err.2 ∙ ap stuck_at (sym c.in_err-expect-in-Some-Punct-Open.ensures.err.1)
+    ∙ stuck_inside InParens s _ c.in_ok-inner-in-Some-Punct-Open.ensures.stops c.in_err-expect-in-Some-Punct-Open.ensures.err.2 (λ e. absurd (cc e)) ∙ ap stuck_at (sym c.in_err-expect-in-Some-Punct-Open.ensures.err.1)
 
 pub primary-returns-in-Some-Number-clause-took : goal.primary-returns-in-Some-Number-clause-took
 primary-returns-in-Some-Number-clause-took t c =
     let fits : SFits w64 c.in-Some-Number.n = first_of (search rules, grind (arith, common_steps)) in
     let same : to_z w64 (of_z w64 c.in-Some-Number.n) ≡ c.in-Some-Number.n = to_z-of_z w64 c.in-Some-Number.n fits in
-    took_as (ap Lit same) (took_number (begins_seen (ap token_of c.in-Some-Number.field-0-is) c.in-Some-Number.ensures.sees c.advance.ensures))
+    rw same (took_number (begins_seen (ap token_of c.in-Some-Number.field-0-is) c.in-Some-Number.ensures.sees c.advance.ensures))
 
 pub primary-returns-in-Some-Truth-clause-took : goal.primary-returns-in-Some-Truth-clause-took
 primary-returns-in-Some-Truth-clause-took t c = took_truth (begins_seen (ap token_of c.in-Some-Truth.field-0-is) c.in-Some-Truth.ensures.sees c.advance-in-Some-Truth.ensures)
@@ -105,11 +104,11 @@ binary-returns-clause-stops t c =
     (stops_binary c.args.level _ (omega arith) (omega arith) c.loop-op.invariant.stops c.in_default.ensures.1)
 
 pub unary-returns-then-eat_minus-clause-took : goal.unary-returns-then-eat_minus-clause-took
-unary-returns-then-eat_minus-clause-took t c = ok_as c.negated.result (λ _ e. took_as e (took_minus_sign c.if-eat_minus.ensures c.in_ok-operand.ensures.took)) c.negated.ensures.ok
+unary-returns-then-eat_minus-clause-took t c = IfOk-weaker c.negated.result _ _ (λ _ e. took_as e (took_minus_sign c.if-eat_minus.ensures c.in_ok-operand.ensures.took)) c.negated.ensures.ok
 
 pub unary-returns-then-eat-clause-took : goal.unary-returns-then-eat-clause-took
 unary-returns-then-eat-clause-took t c =
-    ok_as c.inverted.result (λ _ e. took_as e (took_not_sign (begins_from c.if-eat_minus.ensures.0 c.if-eat.ensures) c.in_ok-operand-2.ensures.took)) c.inverted.ensures.ok
+    IfOk-weaker c.inverted.result _ _ (λ _ e. took_as e (took_not_sign (rw c.if-eat_minus.ensures.0 at c.if-eat.ensures) c.in_ok-operand-2.ensures.took)) c.inverted.ensures.ok
 
 pub unary-postfix-requires : goal.unary-postfix-requires
 unary-postfix-requires t c =
@@ -118,4 +117,4 @@ unary-postfix-requires t c =
 
 pub unary-returns-clause-took : goal.unary-returns-clause-took
 unary-returns-clause-took t c =
-    ok_as c.postfix.result (λ _ k. took_from (c.if-eat.ensures.0 ∙ c.if-eat_minus.ensures.0) (took_tighter k)) c.postfix.ensures.took
+    IfOk-weaker c.postfix.result _ _ (λ _ k. took_tighter k) (rw (c.if-eat.ensures.0 ∙ c.if-eat_minus.ensures.0) at c.postfix.ensures.took)

@@ -4,7 +4,7 @@ use Rattle.rdf_values.specs.Tokens.{Placed, Punct}
 use Rattle.rdf_values.specs.declared.expr.Mark.TheVariants as mark
 use Rattle.expr_read.specs.Parsing.{BeginsNot, stuck_at}
 use Rattle.expr_read.proofs.Scanned.{scan_after}
-use Rattle.expr_read.proofs.Lists.{lists_more, lists_done, stuck_between, stuck_next, lists_as, listings_as, list_to}
+use Rattle.expr_read.proofs.Lists.{lists_more, lists_done, stuck_between, stuck_next}
 use Rattle.expr_read.proofs.parser.Parser.lists.Goals as goal
 
 pub returns-in_err-expect-clause-stuck : goal.returns-in_err-expect-clause-stuck
@@ -13,10 +13,10 @@ returns-in_err-expect-clause-stuck c _ =
     c.loop-lists.invariant.scans ∙ c.in_ok-list.ensures.took.scans (InLists ∷ []) ∙ stuck_between _ c.if-not-eat.ensures.1 nor ∙ ap stuck_at (sym (c.in_err-expect.ensures.err.1 ∙ c.if-not-eat.ensures.0))
 
 pub returns-then-not-eat-clause-took : goal.returns-then-not-eat-clause-took
-returns-then-not-eat-clause-took c = lists_as c.in_ok-push.ensures.ok (lists_done c.loop-lists.invariant (list_to c.if-not-eat.ensures.0 c.in_ok-list.ensures.took) c.in_ok-expect.ensures.ok)
+returns-then-not-eat-clause-took c = rw c.in_ok-push.ensures.ok (lists_done c.loop-lists.invariant (rw (← c.if-not-eat.ensures.0) at c.in_ok-list.ensures.took) c.in_ok-expect.ensures.ok)
 
 pub loop-lists-preserved : goal.loop-lists-preserved
-loop-lists-preserved c = listings_as c.in_ok-push.ensures.ok (lists_more c.loop-lists.invariant c.in_ok-list.ensures.took c.if-not-eat.ensures c.in_ok-expect-2.ensures.ok)
+loop-lists-preserved c = rw c.in_ok-push.ensures.ok (lists_more c.loop-lists.invariant c.in_ok-list.ensures.took c.if-not-eat.ensures c.in_ok-expect-2.ensures.ok)
 
 pub returns-in_err-expect-2-clause-stuck : goal.returns-in_err-expect-2-clause-stuck
 returns-in_err-expect-2-clause-stuck c _ =

@@ -3,9 +3,8 @@ use Rattle.std.proofs.lemmas.Grind.{common_steps}
 use Rattle.rdf_values.specs.Tokens.{Placed, Punct}
 use Rattle.rdf_values.specs.declared.expr.Mark.TheVariants as mark
 use Rattle.expr_read.specs.Parsing.{BeginsNot}
-use Rattle.expr_read.proofs.Lists.{vector_first, item_first, took_vector, took_lists, took_list, list_from, values_as, values_from}
+use Rattle.expr_read.proofs.Lists.{vector_first, item_first, took_vector, took_lists, took_list}
 use Rattle.rdf_values.specs.Tree.{NamedTree}
-use Rattle.rdf_values.specs.declared.vary_values.VaryValues.TheVariants.{Lists}
 use Rattle.expr_read.proofs.parser.Parser.values.Goals as goal
 
 pub returns-in_err-node-clause-stuck : goal.returns-in_err-node-clause-stuck
@@ -14,7 +13,7 @@ returns-in_err-node-clause-stuck c = grind (arith, common_steps, vector_first)
 pub returns-then-not-eat-clause-took : goal.returns-then-not-eat-clause-took
 returns-then-not-eat-clause-took c =
     let isnt = subst (λ (ts : List Placed). BeginsNot (Punct mark.OpenBrace) ts) (sym c.if-not-eat.ensures.0) c.if-not-eat.ensures.1 in
-    values_from c.if-not-eat.ensures.0 (took_vector isnt c.in_ok-node.ensures.took c.in_ok-node.ensures.stops)
+    rw (← c.if-not-eat.ensures.0) (took_vector isnt c.in_ok-node.ensures.took c.in_ok-node.ensures.stops)
 
 pub returns-then-eat-clause-took : goal.returns-then-eat-clause-took
 returns-then-eat-clause-took c = took_lists c.if-not-eat.ensures c.if-eat.ensures c.in_ok-lists.ensures.took
@@ -25,4 +24,4 @@ returns-in_err-list-clause-stuck c = grind (arith, common_steps, item_first)
 pub returns-clause-took : goal.returns-clause-took
 returns-clause-took c =
     let lists = c.in_ok-push.ensures.ok ∙ ap (λ (ls : List (List NamedTree)). ls ++ c.in_ok-list.list ∷ []) c.new-lists.ensures in
-    values_as (ap Lists lists) (took_list c.if-not-eat.ensures c.if-eat.ensures.1 (list_from c.if-eat.ensures.0 c.in_ok-list.ensures.took))
+    rw lists (took_list c.if-not-eat.ensures c.if-eat.ensures.1 (rw c.if-eat.ensures.0 at c.in_ok-list.ensures.took))
