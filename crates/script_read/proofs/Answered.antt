@@ -1,10 +1,10 @@
 -- Each text is a script, or is refused.
-use Rattle.std.proofs.Common.{◌≡◌, ◌∙◌, ◌<◌, ◌≤◌, ◌+◌, ℕ, suc, List, [], ◌∷◌, ◌++◌, length, Option, Some, None, Result, Ok, Err, inl, inr, refl, sym, ap, subst, arith}
+use Rattle.std.proofs.Common.{◌≡◌, ◌∙◌, ◌<◌, ◌≤◌, ◌+◌, ℕ, suc, List, [], ◌∷◌, length, Result, Ok, Err, inl, inr, refl, arith}
 use Rattle.std.specs.Prelude.{◌⊎◌}
 use Rattle.std.proofs.lemmas.Bool.{cases_order}
 use Rattle.std.proofs.lemmas.List.{append-nil}
 use Rattle.rdf_values.specs.ScriptLines.{lines_of}
-use Rattle.rdf_values.specs.LineTokens.{LineToken, PlacedToken, bare_tokens, line_tokens}
+use Rattle.rdf_values.specs.LineTokens.{PlacedToken, bare_tokens, line_tokens}
 use Rattle.rdf_values.specs.LineForms.{Form, IsForm}
 use Rattle.rdf_values.specs.Statements.{Says, LineRefusal, FirstBad, form_strings}
 use Rattle.rdf_values.specs.Statements as refused
@@ -15,41 +15,15 @@ use Rattle.rdf_values.specs.declared.script.Script.{Script}
 use Rattle.rdf_values.specs.declared.script_cause.ScriptCause.{ScriptCause}
 use Rattle.rdf_values.specs.declared.script_cause.ScriptCause.TheVariants as cause
 use Rattle.rdf_values.specs.declared.statement.Statement.{Statement}
-use Rattle.script_read.specs.Walk.{Want, ALine, WalkEnd, Done, StuckAt, next, walk, walk_on, walk_placed, place_from}
-use Rattle.script_read.proofs.Items.{Items, items_tokens, first_items, last_items, both_items, BeginsItem, Follows, follows}
-use Rattle.script_read.proofs.Stuck.{refuses_line}
+use Rattle.script_read.specs.Walk.{ALine, WalkEnd, Done, StuckAt, walk_placed, place_from}
+use Rattle.script_read.proofs.Stuck.{line_walked, refuses_line}
 use Rattle.script_read.proofs.AnsweredStrings.{form_says}
 
 -- ---- tokens
 
-abbrev walk_on_places : List PlacedToken → List Want → WalkEnd PlacedToken
-walk_on_places ts ws = walk (λ (p : PlacedToken). p.token) ts ws
-
--- the tokens are what was wanted
-abbrev AreItems : List PlacedToken → List Want → Type 0
-AreItems ts ws = (xs : Items ws) × (bare_tokens ts ≡ items_tokens ws xs)
-
-done_step : (w : Want) (ws : List Want) (p : PlacedToken) (ps : List PlacedToken) (o : Option (List Want)) → next w p.token ≡ o → ((vs : List Want) → walk_on_places ps vs ≡ Done → AreItems ps vs)
-    → walk_on (p ∷ ps) o (λ vs. walk_on_places ps (vs ++ ws)) ≡ Done → AreItems (p ∷ ps) (w ∷ ws)
-done_step w ws p ps None n go e = cc e
-done_step w ws p ps (Some vs) n go e =
-    let s = go (vs ++ ws) e in
-    let step : Follows w p.token (Some vs) = subst (λ (o : Option (List Want)). Follows w p.token o) n (follows w p.token) in
-    let found : BeginsItem w p.token (items_tokens vs (first_items vs ws s.0)) = step (first_items vs ws s.0) in (
-      (found.item, last_items vs ws s.0),
-      ap (λ (ts : List LineToken). p.token ∷ ts) (s.1 ∙ both_items vs ws s.0) ∙ ap (λ (ts : List LineToken). ts ++ items_tokens ws (last_items vs ws s.0)) (sym found.tokens),
-    )
-
-is_done : (ts : List PlacedToken) (ws : List Want) → walk_on_places ts ws ≡ Done → AreItems ts ws
-is_done [] [] e = (tt, refl)
-is_done [] (w ∷ ws) e = cc e
-is_done (p ∷ ps) [] e = cc e
-is_done (p ∷ ps) (w ∷ ws) e = done_step w ws p ps (next w p.token) refl (λ vs h. is_done ps vs h) e
-
 -- a walk that takes all tokens of a line takes a form
 walked_form : (ts : List PlacedToken) → walk_placed ts (ALine ∷ []) ≡ Done → (f : Form) × IsForm (bare_tokens ts) f
-unfolding walk_placed
-walked_form ts e = let s = is_done ts (ALine ∷ []) e in (s.0.0.0, record { tokens = s.1 ∙ append-nil _; free = s.0.0.1 })
+walked_form ts e = let s = line_walked ts Done e in (s.0.0.0, record { tokens = s.1 ∙ append-nil _; free = s.0.0.1 })
 
 -- ---- lines
 

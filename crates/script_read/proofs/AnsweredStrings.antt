@@ -1,6 +1,6 @@
 -- A form says something, or one of its strings is the first that is bad.
-use Rattle.std.proofs.Common.{◌≡◌, ℕ, Bool, true, false, List, [], ◌∷◌, ◌++◌, Option, Some, None, refl, inl, inr}
-use Rattle.std.specs.Prelude.{◌⊎◌, codes}
+use Rattle.std.proofs.Common.{◌≡◌, ℕ, Bool, true, false, List, [], ◌∷◌, ◌++◌, Option, Some, None, refl, sym, ◌∙◌, inl, inr}
+use Rattle.std.specs.Prelude.{◌⊎◌}
 use Rattle.std.proofs.lemmas.Slice.Eq.{bytes_eq-Decides}
 use Rattle.rdf_values.specs.Names.{is_name, is_label, same}
 use Rattle.rdf_values.specs.Tree.{NamedTree}
@@ -21,7 +21,7 @@ use Rattle.rdf_values.specs.declared.vary_values.VaryValues.{VaryValues}
 use Rattle.expr_read.proofs.Decided.{answered}
 use Rattle.expr_read.proofs.Whole.{whole, whole_values}
 use Rattle.expr_read.proofs.WholeReads.{reads_expr, reads_values}
-use Rattle.script_read.proofs.FirstBads.{IsGood, AreGood, no_strings, more_strings, good_name, good_operation, good_expression, good_values, good_names}
+use Rattle.script_read.proofs.FirstBads.{IsGood, AreGood, bad_before, bad_after, good_name, good_operation, good_expression, good_values, good_names}
 
 -- ---- one string
 
@@ -33,23 +33,19 @@ OrBad A w = A ⊎ ((r : LineRefusal) × IsBad w r)
 abbrev OrFirstBad : Type 0 → List (QuotedText × Wanted) → Type 0
 OrFirstBad A ws = A ⊎ ((r : LineRefusal) × FirstBad ws r)
 
+by_test : {A : Type 0} (w : QuotedText × Wanted) (b : Bool) → (b ≡ true → A) → (b ≡ false → (r : LineRefusal) × IsBad w r) → OrBad A w
+by_test w true f g = inl (f refl)
+by_test w false f g = inr (g refl)
+
 name_or_bad : (q : QuotedText) → OrBad ((x : List ℕ) × IsName q x) (q, AName)
-name_or_bad q = by_test (is_name q.content) refl
-  where
-    by_test : (b : Bool) → is_name q.content ≡ b → OrBad ((x : List ℕ) × IsName q x) (q, AName)
-    by_test true e = inl (q.content, record { content = refl; name = e })
-    by_test false e = inr (st.Syntax q.place, st.no_name e)
+name_or_bad q = by_test (q, AName) (is_name q.content) (λ e. (q.content, record { content = refl; name = e })) (λ e. (st.Syntax q.place, st.no_name e))
 
 -- the string is that label
 abbrev IsLabel : QuotedText → List ℕ → Type 0
 IsLabel q x = (q.content ≡ x) × (is_label x ≡ true)
 
 label_or_bad : (q : QuotedText) → OrBad ((x : List ℕ) × IsLabel q x) (q, ALabel)
-label_or_bad q = by_test (is_label q.content) refl
-  where
-    by_test : (b : Bool) → is_label q.content ≡ b → OrBad ((x : List ℕ) × IsLabel q x) (q, ALabel)
-    by_test true e = inl (q.content, (refl, e))
-    by_test false e = inr (st.Syntax q.place, st.no_label e)
+label_or_bad q = by_test (q, ALabel) (is_label q.content) (λ e. (q.content, (refl, e))) (λ e. (st.Syntax q.place, st.no_label e))
 
 expression_or_bad : (q : QuotedText) → OrBad ((a : NamedTree) × ReadsText q.content a) (q, AnExpression)
 expression_or_bad q = elim (answered (Reads 0) begin_expr whole reads_expr q.content) [ inl a ↦ inl a | inr r ↦ inr (_, st.no_expression r.1) ]
@@ -57,48 +53,37 @@ expression_or_bad q = elim (answered (Reads 0) begin_expr whole reads_expr q.con
 values_or_bad : (q : QuotedText) → OrBad ((v : VaryValues) × ReadsValuesText q.content v) (q, SomeValues)
 values_or_bad q = elim (answered ReadsValues begin_values whole_values reads_values q.content) [ inl v ↦ inl v | inr r ↦ inr (_, st.no_values r.1) ]
 
--- the words of the operations are those that are compared
+-- the text is the word of none of those
+abbrev IsNone : List ℕ → List ReduceOp → Type 0
+IsNone w [] = Unit {0}
+IsNone w (o ∷ os) = (w ≡ operation_text o → ⊥) × IsNone w os
+
+-- or it's that of one
+abbrev OneOf : List ℕ → List ReduceOp → Type 0
+OneOf w os = ((o : ReduceOp) × (w ≡ operation_text o)) ⊎ IsNone w os
+
+first_or_later : (w : List ℕ) (o : ReduceOp) (os : List ReduceOp) (b : Bool) → same w (operation_text o) ≡ b → OneOf w os → OneOf w (o ∷ os)
+first_or_later w o os true e rest = inl (o, (bytes_eq-Decides w (operation_text o)).0 e)
+first_or_later w o os false e (inl k) = inl k
+first_or_later w o os false e (inr none) = inr ((λ h. let is = (bytes_eq-Decides w (operation_text o)).1 h in cc (sym is ∙ e)), none)
+
+one_of : (w : List ℕ) (os : List ReduceOp) → OneOf w os
+one_of w [] = inr tt
+one_of w (o ∷ os) = first_or_later w o os (same w (operation_text o)) refl (one_of w os)
+
+abbrev operations : List ReduceOp
+operations = op.Min ∷ op.Max ∷ op.And ∷ op.Or ∷ op.Xor ∷ op.WrapAdd ∷ []
+
+is_none : (w : List ℕ) → IsNone w operations → (o : ReduceOp) → w ≡ operation_text o → ⊥
+is_none w k op.Min = k.0
+is_none w k op.Max = k.1.0
+is_none w k op.And = k.1.1.0
+is_none w k op.Or = k.1.1.1.0
+is_none w k op.Xor = k.1.1.1.1.0
+is_none w k op.WrapAdd = k.1.1.1.1.1.0
+
 operation_or_bad : (q : QuotedText) → OrBad ((o : ReduceOp) × (q.content ≡ operation_text o)) (q, AnOperation)
-operation_or_bad q = try_min (same q.content (codes "min")) refl
-  where
-    none : (q.content ≡ codes "min" → ⊥) → (q.content ≡ codes "max" → ⊥) → (q.content ≡ codes "and" → ⊥) → (q.content ≡ codes "or" → ⊥) → (q.content ≡ codes "xor" → ⊥) → (q.content ≡ codes "wrapadd" → ⊥)
-        → (o : ReduceOp) → q.content ≡ operation_text o → ⊥
-    none a b c d e f op.Min h = a h
-    none a b c d e f op.Max h = b h
-    none a b c d e f op.And h = c h
-    none a b c d e f op.Or h = d h
-    none a b c d e f op.Xor h = e h
-    none a b c d e f op.WrapAdd h = f h
-
-    isnt : (w : List ℕ) → same q.content w ≡ false → q.content ≡ w → ⊥
-    isnt w e h = let is = (bytes_eq-Decides q.content w).1 h in cc (is, e)
-
-    try_wrapadd : (b : Bool) → same q.content (codes "wrapadd") ≡ b → (q.content ≡ codes "min" → ⊥) → (q.content ≡ codes "max" → ⊥) → (q.content ≡ codes "and" → ⊥) → (q.content ≡ codes "or" → ⊥) → (q.content ≡ codes "xor" → ⊥)
-        → OrBad ((o : ReduceOp) × (q.content ≡ operation_text o)) (q, AnOperation)
-    try_wrapadd true e i j k l m = inl (op.WrapAdd, (bytes_eq-Decides q.content (codes "wrapadd")).0 e)
-    try_wrapadd false e i j k l m = inr (st.Syntax q.place, st.no_operation (none i j k l m (isnt (codes "wrapadd") e)))
-
-    try_xor : (b : Bool) → same q.content (codes "xor") ≡ b → (q.content ≡ codes "min" → ⊥) → (q.content ≡ codes "max" → ⊥) → (q.content ≡ codes "and" → ⊥) → (q.content ≡ codes "or" → ⊥)
-        → OrBad ((o : ReduceOp) × (q.content ≡ operation_text o)) (q, AnOperation)
-    try_xor true e i j k l = inl (op.Xor, (bytes_eq-Decides q.content (codes "xor")).0 e)
-    try_xor false e i j k l = try_wrapadd (same q.content (codes "wrapadd")) refl i j k l (isnt (codes "xor") e)
-
-    try_or : (b : Bool) → same q.content (codes "or") ≡ b → (q.content ≡ codes "min" → ⊥) → (q.content ≡ codes "max" → ⊥) → (q.content ≡ codes "and" → ⊥)
-        → OrBad ((o : ReduceOp) × (q.content ≡ operation_text o)) (q, AnOperation)
-    try_or true e i j k = inl (op.Or, (bytes_eq-Decides q.content (codes "or")).0 e)
-    try_or false e i j k = try_xor (same q.content (codes "xor")) refl i j k (isnt (codes "or") e)
-
-    try_and : (b : Bool) → same q.content (codes "and") ≡ b → (q.content ≡ codes "min" → ⊥) → (q.content ≡ codes "max" → ⊥) → OrBad ((o : ReduceOp) × (q.content ≡ operation_text o)) (q, AnOperation)
-    try_and true e i j = inl (op.And, (bytes_eq-Decides q.content (codes "and")).0 e)
-    try_and false e i j = try_or (same q.content (codes "or")) refl i j (isnt (codes "and") e)
-
-    try_max : (b : Bool) → same q.content (codes "max") ≡ b → (q.content ≡ codes "min" → ⊥) → OrBad ((o : ReduceOp) × (q.content ≡ operation_text o)) (q, AnOperation)
-    try_max true e i = inl (op.Max, (bytes_eq-Decides q.content (codes "max")).0 e)
-    try_max false e i = try_and (same q.content (codes "and")) refl i (isnt (codes "max") e)
-
-    try_min : (b : Bool) → same q.content (codes "min") ≡ b → OrBad ((o : ReduceOp) × (q.content ≡ operation_text o)) (q, AnOperation)
-    try_min true e = inl (op.Min, (bytes_eq-Decides q.content (codes "min")).0 e)
-    try_min false e = try_max (same q.content (codes "max")) refl (isnt (codes "min") e)
+operation_or_bad q = elim (one_of q.content operations) [ inl o ↦ inl o | inr k ↦ inr (st.Syntax q.place, st.no_operation (is_none q.content k)) ]
 
 -- ---- several strings
 
@@ -113,19 +98,11 @@ last : {A : Type 0} (w : QuotedText × Wanted) → OrBad A w → OrFirstBad A (w
 last w (inr b) = inr (b.0, here b.1)
 last w (inl a) = inl a
 
-bad_after : (vs ws : List (QuotedText × Wanted)) (r : LineRefusal) → AreGood vs → FirstBad ws r → FirstBad (vs ++ ws) r
-bad_after vs ws r no_strings b = b
-bad_after vs ws r (more_strings {w = w} {ws = us} g a) b = later g (bad_after us ws r a b)
-
-bad_first : (vs ws : List (QuotedText × Wanted)) (r : LineRefusal) → FirstBad vs r → FirstBad (vs ++ ws) r
-bad_first vs ws r (here b) = here b
-bad_first vs ws r (later {ss = us} g b) = later g (bad_first us ws r b)
-
 -- strings and those behind them
 then_all : {A B : Type 0} (vs ws : List (QuotedText × Wanted)) → OrFirstBad A vs → (A → AreGood vs) → OrFirstBad B ws → OrFirstBad (A × B) (vs ++ ws)
-then_all vs ws (inr b) good rest = inr (b.0, bad_first vs ws b.0 b.1)
+then_all vs ws (inr b) good rest = inr (b.0, bad_before vs ws b.0 b.1)
 then_all vs ws (inl a) good (inl b) = inl (a, b)
-then_all vs ws (inl a) good (inr b) = inr (b.0, bad_after vs ws b.0 (good a) b.1)
+then_all vs ws (inl a) good (inr b) = inr (b.0, bad_after vs ws (good a) b.0 b.1)
 
 turned : {A B : Type 0} (ws : List (QuotedText × Wanted)) → (A → B) → OrFirstBad A ws → OrFirstBad B ws
 turned ws f (inl a) = inl (f a)

@@ -47,25 +47,28 @@ good_names ts xs (more_names {t = t} {ts = us} {x = x} {xs = ys} a ns) = more_st
 
 -- ---- refusals
 
+-- what refuses for one reason refuses for another
+pub refused_as : (P Q : LineRefusal → Type 0) → ((r : LineRefusal) → P r → Q r) → (e : LineStop) → RefusedFor P e → RefusedFor Q e
+refused_as P Q f (stop.Syntax place) h = f _ h
+refused_as P Q f (stop.Expression place cause) h = f _ h
+refused_as P Q f stop.Memory h = tt
+
 pub refused_here : (w : QuotedText × Wanted) (ws : List (QuotedText × Wanted)) (e : LineStop) → RefusedFor (IsBad w) e → RefusedFor (FirstBad (w ∷ ws)) e
-refused_here w ws (stop.Syntax place) h = here h
-refused_here w ws (stop.Expression place cause) h = here h
-refused_here w ws stop.Memory h = tt
+refused_here w ws e h = refused_as (IsBad w) (FirstBad (w ∷ ws)) (λ r b. here b) e h
 
 pub refused_later : (w : QuotedText × Wanted) (ws : List (QuotedText × Wanted)) (e : LineStop) → IsGood w → RefusedFor (FirstBad ws) e → RefusedFor (FirstBad (w ∷ ws)) e
-refused_later w ws (stop.Syntax place) g h = later g h
-refused_later w ws (stop.Expression place cause) g h = later g h
-refused_later w ws stop.Memory g h = tt
+refused_later w ws e g h = refused_as (FirstBad ws) (FirstBad (w ∷ ws)) (λ r b. later g b) e h
+
+pub bad_after : (vs ws : List (QuotedText × Wanted)) → AreGood vs → (r : LineRefusal) → FirstBad ws r → FirstBad (vs ++ ws) r
+bad_after vs ws no_strings r b = b
+bad_after vs ws (more_strings {ws = us} g a) r b = later g (bad_after us ws a r b)
 
 pub refused_after : (vs ws : List (QuotedText × Wanted)) (e : LineStop) → AreGood vs → RefusedFor (FirstBad ws) e → RefusedFor (FirstBad (vs ++ ws)) e
-refused_after vs ws e no_strings h = h
-refused_after vs ws e (more_strings {w = w} {ws = us} g a) h = refused_later w (us ++ ws) e g (refused_after us ws e a h)
+refused_after vs ws e a h = refused_as (FirstBad ws) (FirstBad (vs ++ ws)) (bad_after vs ws a) e h
 
-bad_before : (vs ws : List (QuotedText × Wanted)) (r : LineRefusal) → FirstBad vs r → FirstBad (vs ++ ws) r
+pub bad_before : (vs ws : List (QuotedText × Wanted)) (r : LineRefusal) → FirstBad vs r → FirstBad (vs ++ ws) r
 bad_before vs ws r (here b) = here b
 bad_before vs ws r (later {ss = us} g b) = later g (bad_before us ws r b)
 
 pub refused_before : (vs ws : List (QuotedText × Wanted)) (e : LineStop) → RefusedFor (FirstBad vs) e → RefusedFor (FirstBad (vs ++ ws)) e
-refused_before vs ws (stop.Syntax place) h = bad_before vs ws _ h
-refused_before vs ws (stop.Expression place cause) h = bad_before vs ws _ h
-refused_before vs ws stop.Memory h = tt
+refused_before vs ws e h = refused_as (FirstBad vs) (FirstBad (vs ++ ws)) (bad_before vs ws) e h

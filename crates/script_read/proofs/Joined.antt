@@ -1,6 +1,6 @@
 -- Arguments, methods and lines that were taken, from what their parts took.
-use Rattle.std.proofs.Common.{◌≡◌, ◌∙◌, ℕ, Bool, true, false, List, [], ◌∷◌, ◌++◌, Option, Some, Result, Ok, Err, refl, sym, ap, subst, append_assoc}
-use Rattle.std.specs.Prelude.{IfOk, codes, not, ◌||◌, if◌then◌else◌}
+use Rattle.std.proofs.Common.{◌≡◌, ◌∙◌, ℕ, Bool, true, false, List, [], ◌∷◌, ◌++◌, Option, Some, refl, sym, ap, subst, append_assoc}
+use Rattle.std.specs.Prelude.{codes, not, ◌||◌, if◌then◌else◌}
 use Rattle.std.proofs.lemmas.Slice.Eq.{bytes_eq-Decides}
 use Rattle.rdf_values.specs.Names.{same}
 use Rattle.rdf_values.specs.LineTokens.{LineToken, QuotedText, PlacedToken, bare_tokens}
@@ -17,10 +17,6 @@ use Rattle.script_read.specs.declared.token.Token.TheVariants as token
 use Rattle.script_read.specs.declared.token.Quoted.{Quoted}
 use Rattle.script_read.specs.declared.token.Mark.TheVariants as mark
 use Rattle.script_read.proofs.Walked.{walk_over, columns_wanted}
-
-pub ok_as : {A E : Type 0} {P Q : A → Type 0} → (r : Result A E) → ((x : A) → P x → Q x) → IfOk r P → IfOk r Q
-ok_as (Ok x) f h = f x h
-ok_as (Err e) f h = h
 
 -- one after the other
 pub took_then : {ws vs : List Want} {a b : List LineToken} {old mid new : List PlacedToken} → Took ws a old mid → Took vs b mid new → Took (ws ++ vs) (a ++ b) old new
@@ -78,19 +74,8 @@ took_histo2d xs ys x y w a b c d e f g h = record {
 pub name_word_is : (n : MethodName) → name_of (name_word n) ≡ Some n
 unfolding name_of
 name_word_is name.Define = refl
-name_word_is name.Redefine = refl
-name_word_is name.Alias = refl
-name_word_is name.Filter = refl
-name_word_is name.Vary = refl
 name_word_is (name.Action action.Count) = refl
-name_word_is name.Report = refl
-name_word_is (name.Action action.Sum) = refl
-name_word_is (name.Action action.Min) = refl
-name_word_is (name.Action action.Max) = refl
-name_word_is (name.Action action.Take) = refl
-name_word_is (name.Action action.Reduce) = refl
-name_word_is (name.Action action.Histo1D) = refl
-name_word_is (name.Action action.Histo2D) = refl
+name_word_is n = refl
 
 pub method_next : (n : MethodName) → next AMethod (t.Word (name_word n)) ≡ Some (method_wants n)
 method_next n = rw (name_word_is n) refl

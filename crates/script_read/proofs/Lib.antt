@@ -5,7 +5,6 @@ pub mod FirstLines
 pub mod Items
 pub mod Joined
 pub mod Lexemes
-pub mod LineSteps
 pub mod ManyNames
 pub mod Named
 pub mod Parts

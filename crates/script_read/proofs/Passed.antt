@@ -1,13 +1,13 @@
 -- The walk passes over every line.
-use Rattle.std.proofs.Common.{◌≡◌, ◌∙◌, ℤ, Bool, List, [], ◌∷◌, ◌++◌, Option, Some, None, true, false, refl, ap, append_assoc}
+use Rattle.std.proofs.Common.{◌≡◌, ◌∙◌, ℕ, ℤ, List, [], ◌∷◌, ◌++◌, Option, Some, None, true, refl, ap, append_assoc}
 use Rattle.std.proofs.lemmas.List.{append-nil}
 use Rattle.rdf_values.specs.LineTokens.{LineToken, QuotedText}
 use Rattle.rdf_values.specs.LineTokens as t
 use Rattle.rdf_values.specs.LineForms.{Form, Method, method_word, arguments, call, more_strings, strings_tokens, more_edges, edges_tokens, maybe_string, form_tokens, has_free_names, is_free}
 use Rattle.rdf_values.specs.LineForms as form
-use Rattle.std.specs.Prelude.{codes, ◌&&◌}
+use Rattle.std.specs.Prelude.{codes}
 use Rattle.lemmas.proofs.Booleans.{both_true}
-use Rattle.script_read.specs.Walk.{Want, ALine, AWord, AMethod, AString, MoreStrings, MoreEdges, MaybeString, AMark, WalkEnd, Done, next, walk, arguments_wants, method_wants, booking_wants, asking_wants, variation_wants, edges_wants, one_string_wants}
+use Rattle.script_read.specs.Walk.{Want, ALine, AWord, AMethod, AString, MoreStrings, MoreEdges, MaybeString, AMark, WalkEnd, Done, next, walk, name_word, arguments_wants, method_wants, booking_wants, asking_wants, variation_wants, edges_wants, one_string_wants}
 use Rattle.script_read.specs.declared.method.MethodName.{MethodName}
 use Rattle.script_read.specs.declared.method.MethodName.TheVariants as name
 use Rattle.script_read.specs.declared.method.ActionName.TheVariants as action
@@ -42,62 +42,40 @@ behind_edges zs ts k = ap (λ (us : List LineToken). walked us (MoreEdges ∷ k)
 
 -- ---- methods
 
-abbrev name_for : Method → MethodName
-name_for (form.Define c e) = name.Define
-name_for (form.Redefine c e) = name.Redefine
-name_for (form.Alias c u) = name.Alias
-name_for (form.Filter e l) = name.Filter
-name_for (form.VaryOne c v ts n) = name.Vary
-name_for (form.VaryAll cs v ts n) = name.Vary
-name_for form.Count = (name.Action action.Count)
-name_for form.Report = name.Report
-name_for (form.Sum c) = (name.Action action.Sum)
-name_for (form.Min c) = (name.Action action.Min)
-name_for (form.Max c) = (name.Action action.Max)
-name_for (form.Take c) = (name.Action action.Take)
-name_for (form.Reduce o c) = (name.Action action.Reduce)
-name_for (form.Histo1D xs x w) = (name.Action action.Histo1D)
-name_for (form.Histo2D xs ys x y w) = (name.Action action.Histo2D)
+called : (n : MethodName) (m : Method) → method_word m ≡ name_word n → walked (arguments m ++ t.Close ∷ []) (arguments_wants n) ≡ Done → walked (call (method_word m) (arguments m)) (AMethod ∷ []) ≡ Done
+called n m w h =
+    passes_on AMethod (method_wants n) [] (t.Word (method_word m)) (t.Open ∷ (arguments m ++ t.Close ∷ [])) (ap (λ (x : List ℕ). next AMethod (t.Word x)) w ∙ method_next n)
+    ∙ ap (λ (ws : List Want). walked (arguments m ++ t.Close ∷ []) ws) (append-nil (arguments_wants n)) ∙ h
 
-called : (m : Method) → next AMethod (t.Word (method_word m)) ≡ Some (method_wants (name_for m))
-called (form.Define c e) = method_next name.Define
-called (form.Redefine c e) = method_next name.Redefine
-called (form.Alias c u) = method_next name.Alias
-called (form.Filter e l) = method_next name.Filter
-called (form.VaryOne c v ts n) = method_next name.Vary
-called (form.VaryAll cs v ts n) = method_next name.Vary
-called form.Count = method_next (name.Action action.Count)
-called form.Report = method_next name.Report
-called (form.Sum c) = method_next (name.Action action.Sum)
-called (form.Min c) = method_next (name.Action action.Min)
-called (form.Max c) = method_next (name.Action action.Max)
-called (form.Take c) = method_next (name.Action action.Take)
-called (form.Reduce o c) = method_next (name.Action action.Reduce)
-called (form.Histo1D xs x w) = method_next (name.Action action.Histo1D)
-called (form.Histo2D xs ys x y w) = method_next (name.Action action.Histo2D)
-
-passes_arguments : (m : Method) → walked (arguments m ++ t.Close ∷ []) (arguments_wants (name_for m)) ≡ Done
-passes_arguments (form.Define c e) = refl
-passes_arguments (form.Redefine c e) = refl
-passes_arguments (form.Alias c u) = refl
-passes_arguments (form.Filter e l) = passes_last l
-passes_arguments (form.VaryOne c v ts n) = behind_strings ts.rest (maybe_string n) (MaybeString ∷ []) ∙ passes_last n
-passes_arguments (form.VaryAll cs v ts n) =
-    behind_strings cs.rest (t.Comma ∷ t.Quoted v ∷ t.Comma ∷ (strings_tokens ts ++ t.Comma ∷ t.Quoted n ∷ [])) (variation_wants ++ AMark mark.Comma ∷ one_string_wants)
-    ∙ behind_strings ts.rest (t.Comma ∷ t.Quoted n ∷ []) (AMark mark.Comma ∷ one_string_wants)
-passes_arguments form.Count = refl
-passes_arguments form.Report = refl
-passes_arguments (form.Sum c) = refl
-passes_arguments (form.Min c) = refl
-passes_arguments (form.Max c) = refl
-passes_arguments (form.Take c) = refl
-passes_arguments (form.Reduce o c) = refl
-passes_arguments (form.Histo1D xs x w) = behind_edges xs.rest (t.Comma ∷ t.Quoted x ∷ maybe_string w) (AMark mark.Comma ∷ AString ∷ MaybeString ∷ []) ∙ passes_last w
-passes_arguments (form.Histo2D xs ys x y w) =
-    behind_edges xs.rest (t.Comma ∷ (edges_tokens ys ++ t.Comma ∷ t.Quoted x ∷ t.Comma ∷ t.Quoted y ∷ maybe_string w)) (AMark mark.Comma ∷ (edges_wants ++ AMark mark.Comma ∷ AString ∷ AMark mark.Comma ∷ AString ∷ MaybeString ∷ []))
-    ∙ behind_edges ys.rest (t.Comma ∷ t.Quoted x ∷ t.Comma ∷ t.Quoted y ∷ maybe_string w) (AMark mark.Comma ∷ AString ∷ AMark mark.Comma ∷ AString ∷ MaybeString ∷ []) ∙ passes_last w
+method_passes : (m : Method) → walked (call (method_word m) (arguments m)) (AMethod ∷ []) ≡ Done
+method_passes (form.Define c e) = called name.Define (form.Define c e) refl refl
+method_passes (form.Redefine c e) = called name.Redefine (form.Redefine c e) refl refl
+method_passes (form.Alias c u) = called name.Alias (form.Alias c u) refl refl
+method_passes (form.Filter e l) = called name.Filter (form.Filter e l) refl (passes_last l)
+method_passes (form.VaryOne c v ts n) = called name.Vary (form.VaryOne c v ts n) refl (behind_strings ts.rest (maybe_string n) (MaybeString ∷ []) ∙ passes_last n)
+method_passes (form.VaryAll cs v ts n) =
+    called name.Vary (form.VaryAll cs v ts n) refl
+    (behind_strings cs.rest (t.Comma ∷ t.Quoted v ∷ t.Comma ∷ (strings_tokens ts ++ t.Comma ∷ t.Quoted n ∷ [])) (variation_wants ++ AMark mark.Comma ∷ one_string_wants)
+    ∙ behind_strings ts.rest (t.Comma ∷ t.Quoted n ∷ []) (AMark mark.Comma ∷ one_string_wants))
+method_passes form.Count = called (name.Action action.Count) form.Count refl refl
+method_passes form.Report = called name.Report form.Report refl refl
+method_passes (form.Sum c) = called (name.Action action.Sum) (form.Sum c) refl refl
+method_passes (form.Min c) = called (name.Action action.Min) (form.Min c) refl refl
+method_passes (form.Max c) = called (name.Action action.Max) (form.Max c) refl refl
+method_passes (form.Take c) = called (name.Action action.Take) (form.Take c) refl refl
+method_passes (form.Reduce o c) = called (name.Action action.Reduce) (form.Reduce o c) refl refl
+method_passes (form.Histo1D xs x w) =
+    called (name.Action action.Histo1D) (form.Histo1D xs x w) refl (behind_edges xs.rest (t.Comma ∷ t.Quoted x ∷ maybe_string w) (AMark mark.Comma ∷ AString ∷ MaybeString ∷ []) ∙ passes_last w)
+method_passes (form.Histo2D xs ys x y w) =
+    called (name.Action action.Histo2D) (form.Histo2D xs ys x y w) refl
+    (behind_edges xs.rest (t.Comma ∷ (edges_tokens ys ++ t.Comma ∷ t.Quoted x ∷ t.Comma ∷ t.Quoted y ∷ maybe_string w))
+    (AMark mark.Comma ∷ (edges_wants ++ AMark mark.Comma ∷ AString ∷ AMark mark.Comma ∷ AString ∷ MaybeString ∷ []))
+    ∙ behind_edges ys.rest (t.Comma ∷ t.Quoted x ∷ t.Comma ∷ t.Quoted y ∷ maybe_string w) (AMark mark.Comma ∷ AString ∷ AMark mark.Comma ∷ AString ∷ MaybeString ∷ []) ∙ passes_last w)
 
 -- ---- lines
+
+asking_passes : (word r : List ℕ) → next ALine (t.Word word) ≡ Some asking_wants → is_free r ≡ true → walked (call word (t.Word r ∷ [])) (ALine ∷ []) ≡ Done
+asking_passes word r asks free = passes_on ALine asking_wants [] (t.Word word) (t.Open ∷ t.Word r ∷ t.Close ∷ []) asks ∙ passes_on AWord [] (AMark mark.Close ∷ []) (t.Word r) (t.Close ∷ []) (is_name_next r free)
 
 pub line_passes : (f : Form) → has_free_names f ≡ true → walked (form_tokens f) (ALine ∷ []) ≡ Done
 line_passes (form.Books n p m) free =
@@ -105,8 +83,7 @@ line_passes (form.Books n p m) free =
     let body = call (method_word m) (arguments m) in
     passes_on ALine booking_wants [] (t.Word n) (t.Equals ∷ t.Word p ∷ t.Dot ∷ body) (line_next n true names.0)
     ∙ passes_on AWord [] (AMark mark.Dot ∷ AMethod ∷ []) (t.Word p) (t.Dot ∷ body) (is_name_next p names.1)
-    ∙ passes_on AMethod (method_wants (name_for m)) [] (t.Word (method_word m)) (t.Open ∷ (arguments m ++ t.Close ∷ [])) (called m)
-    ∙ ap (λ (ws : List Want). walked (arguments m ++ t.Close ∷ []) ws) (append-nil (arguments_wants (name_for m))) ∙ passes_arguments m
-line_passes (form.Print r) free = passes_on ALine asking_wants [] (t.Word (codes "Print")) (t.Open ∷ t.Word r ∷ t.Close ∷ []) refl ∙ passes_on AWord [] (AMark mark.Close ∷ []) (t.Word r) (t.Close ∷ []) (is_name_next r free)
-line_passes (form.VariationsFor r) free = passes_on ALine asking_wants [] (t.Word (codes "VariationsFor")) (t.Open ∷ t.Word r ∷ t.Close ∷ []) refl ∙ passes_on AWord [] (AMark mark.Close ∷ []) (t.Word r) (t.Close ∷ []) (is_name_next r free)
-line_passes (form.Watch r) free = passes_on ALine asking_wants [] (t.Word (codes "Watch")) (t.Open ∷ t.Word r ∷ t.Close ∷ []) refl ∙ passes_on AWord [] (AMark mark.Close ∷ []) (t.Word r) (t.Close ∷ []) (is_name_next r free)
+    ∙ method_passes m
+line_passes (form.Print r) free = asking_passes (codes "Print") r refl free
+line_passes (form.VariationsFor r) free = asking_passes (codes "VariationsFor") r refl free
+line_passes (form.Watch r) free = asking_passes (codes "Watch") r refl free

@@ -1,6 +1,5 @@
 -- What forms say, with lists that are read one by one.
-use Rattle.std.proofs.Common.{◌≡◌, ◌≤◌, ◌∙◌, ℕ, ℤ, List, [], ◌∷◌, length, take, Option, Some, None, ap}
-use Rattle.std.proofs.lemmas.List.{take_all}
+use Rattle.std.proofs.Common.{◌≡◌, ℕ, ℤ, List, [], ◌∷◌, Option, Some, None}
 use Rattle.rdf_values.specs.Scans.{ReadsValuesText}
 use Rattle.rdf_values.specs.LineTokens.{QuotedText}
 use Rattle.rdf_values.specs.LineForms.{Strings, Edges}
@@ -28,6 +27,3 @@ is_histo1d es c w edges x v e a b = rw e (st.histo1d a b)
 pub is_histo2d : (es fs : Edges) (c d : QuotedText) (w : Option QuotedText) (x_edges y_edges : List ℤ) (x y : List ℕ) (v : Option (List ℕ))
     → x_edges ≡ all_edges es → y_edges ≡ all_edges fs → IsName c x → IsName d y → IsMaybeName w v → IsAction (form.Histo2D es fs c d w) (kind.Histo2D x_edges y_edges x y v)
 is_histo2d es fs c d w x_edges y_edges x y v e f a b u = rw (e, f) (st.histo2d a b u)
-
-pub edges_all : (first : ℤ) (zs : List ℤ) (i : ℕ) (edges : List ℤ) → length zs ≤ i → edges ≡ first ∷ take i zs → edges ≡ first ∷ zs
-edges_all first zs i edges h e = e ∙ ap (λ (xs : List ℤ). first ∷ xs) (take_all i zs h)

@@ -9,7 +9,7 @@ use Rattle.rdf_values.specs.Scripts as script
 use Rattle.rdf_values.specs.declared.script.Line.{Line}
 use Rattle.rdf_values.specs.declared.script.Script.{Script}
 use Rattle.rdf_values.specs.declared.script_cause.ScriptCause.{ScriptCause}
-use Rattle.rdf_values.proofs.OneScript.{one_script, script_or_refusal, one_cause}
+use Rattle.rdf_values.proofs.OneScript.{script_or_refusal, one_cause}
 use Rattle.expr_read.proofs.ReadOnce.{read_once}
 use Rattle.script_read.specs.declared.refusal.ScriptRefusal.{ScriptRefusal}
 use Rattle.script_read.specs.declared.refusal.ScriptRefusal.TheVariants as refusal
@@ -66,13 +66,6 @@ reads_all text left number s r e = record {
 pub memory_alone : (text : List ℕ) (e : ScriptRefusal) (s : Script) → RefusesTextAs text e → IsScript text s → e ≡ refusal.Memory
 memory_alone text (refusal.At c) s bad is = absurd (script_or_refusal read_once text s c is bad)
 memory_alone text refusal.Memory s bad is = refl
-
--- a text is one script
-pub only_script : (text : List ℕ) (r s : Script) → IsScript text r → IsScript text s → r ≡ s
-only_script text r s is was = one_script read_once text r s is was
-
-pub no_script : (text : List ℕ) (s : Script) (c : ScriptCause) → RefusesScript text c → IsScript text s → ⊥
-no_script text s c bad is = script_or_refusal read_once text s c is bad
 
 -- a text that is refused is refused for that cause, or for want of memory
 pub cause_or_memory : (text : List ℕ) (e : ScriptRefusal) (c : ScriptCause) → RefusesTextAs text e → RefusesScript text c → (e ≡ refusal.At c) ⊎ (e ≡ refusal.Memory)

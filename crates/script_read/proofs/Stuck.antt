@@ -1,7 +1,7 @@
 -- Where the walk over a line's tokens is stuck, no line goes on.
 use Rattle.std.proofs.Common.{◌≡◌, ◌∙◌, ◌<◌, ◌+◌, ℕ, suc, add-one, List, [], ◌∷◌, ◌++◌, length, take, map, Option, Some, None, Ok, refl, sym, ap, subst, append_assoc}
 use Rattle.std.specs.Prelude.{slice_get, ◌==◌, false}
-use Rattle.std.proofs.lemmas.List.{append-nil, length-map}
+use Rattle.std.proofs.lemmas.List.{append-nil, length-map, map-append}
 use Rattle.rdf_values.specs.LineTokens.{LineToken, PlacedToken, bare_tokens, line_tokens}
 use Rattle.rdf_values.specs.LineForms.{Form, IsForm, BeginsLine, StopsAt}
 use Rattle.rdf_values.specs.Scripts.{RefusesLine}
@@ -29,7 +29,7 @@ BeginAlike [] us = us ≡ []
 BeginAlike (p ∷ ps) us = (rest : List LineToken) × (us ≡ p.token ∷ rest)
 
 -- what was taken begins what is wanted, and the walk is stuck behind it whatever comes later
-record Stuck (ws : List Want) (ts left : List PlacedToken) : Type 0 where
+pub record Stuck (ws : List Want) (ts left : List PlacedToken) : Type 0 where
   taken : List PlacedToken
   split : ts ≡ taken ++ left
   items : Items ws
@@ -59,19 +59,35 @@ later w ws vs p ps left n s =
       stays = λ us e. rw n (s.stays us e);
     }
 
-to_left : {ws : List Want} {ts mid : List PlacedToken} (left : List PlacedToken) → mid ≡ left → Stuck ws ts mid → Stuck ws ts left
-to_left {ws} {ts} left e s = subst (λ (x : List PlacedToken). Stuck ws ts x) e s
+-- the walk took all that was wanted, or is stuck
+abbrev pub WalkedTo : List PlacedToken → List Want → WalkEnd PlacedToken → Type 0
+WalkedTo ts ws Done = (xs : Items ws) × (bare_tokens ts ≡ items_tokens ws xs)
+WalkedTo ts ws (StuckAt left) = Stuck ws ts left
 
-stuck_step : (w : Want) (ws : List Want) (p : PlacedToken) (ps left : List PlacedToken) (o : Option (List Want)) → next w p.token ≡ o → ((vs : List Want) → walk_on_places ps vs ≡ StuckAt left → Stuck vs ps left)
-    → walk_on (p ∷ ps) o (λ vs. walk_on_places ps (vs ++ ws)) ≡ StuckAt left → Stuck (w ∷ ws) (p ∷ ps) left
-stuck_step w ws p ps left None n go e = to_left left (cc e) (at_token w ws p ps n)
-stuck_step w ws p ps left (Some vs) n go e = later w ws vs p ps left n (go (vs ++ ws) e)
+walked_on : (w : Want) (ws vs : List Want) (p : PlacedToken) (ps : List PlacedToken) (end : WalkEnd PlacedToken) → next w p.token ≡ Some vs → WalkedTo ps (vs ++ ws) end → WalkedTo (p ∷ ps) (w ∷ ws) end
+walked_on w ws vs p ps (StuckAt left) n s = later w ws vs p ps left n s
+walked_on w ws vs p ps Done n s =
+    let go : Follows w p.token (Some vs) = subst (λ (o : Option (List Want)). Follows w p.token o) n (follows w p.token) in
+    let found : BeginsItem w p.token (items_tokens vs (first_items vs ws s.0)) = go (first_items vs ws s.0) in (
+      (found.item, last_items vs ws s.0),
+      ap (λ (ts : List LineToken). p.token ∷ ts) (s.1 ∙ both_items vs ws s.0) ∙ ap (λ (ts : List LineToken). ts ++ items_tokens ws (last_items vs ws s.0)) (sym found.tokens),
+    )
 
-is_stuck : (ts : List PlacedToken) (ws : List Want) (left : List PlacedToken) → walk_on_places ts ws ≡ StuckAt left → Stuck ws ts left
-is_stuck [] [] left e = cc e
-is_stuck [] (w ∷ ws) left e = to_left left (cc e) (at_end w ws)
-is_stuck (p ∷ ps) [] left e = to_left left (cc e) (behind p ps)
-is_stuck (p ∷ ps) (w ∷ ws) left e = stuck_step w ws p ps left (next w p.token) refl (λ vs h. is_stuck ps vs left h) e
+walk_step : (w : Want) (ws : List Want) (p : PlacedToken) (ps : List PlacedToken) (o : Option (List Want)) → next w p.token ≡ o → ((vs : List Want) → WalkedTo ps vs (walk_on_places ps vs))
+    → WalkedTo (p ∷ ps) (w ∷ ws) (walk_on (p ∷ ps) o (λ vs. walk_on_places ps (vs ++ ws)))
+walk_step w ws p ps None n go = at_token w ws p ps n
+walk_step w ws p ps (Some vs) n go = walked_on w ws vs p ps (walk_on_places ps (vs ++ ws)) n (go (vs ++ ws))
+
+walked_to : (ts : List PlacedToken) (ws : List Want) → WalkedTo ts ws (walk_on_places ts ws)
+walked_to [] [] = (tt, refl)
+walked_to [] (w ∷ ws) = at_end w ws
+walked_to (p ∷ ps) [] = behind p ps
+walked_to (p ∷ ps) (w ∷ ws) = walk_step w ws p ps (next w p.token) refl (λ vs. walked_to ps vs)
+
+-- a walk over a whole line
+pub line_walked : (ts : List PlacedToken) (end : WalkEnd PlacedToken) → walk_placed ts (ALine ∷ []) ≡ end → WalkedTo ts (ALine ∷ []) end
+unfolding walk_placed
+line_walked ts end e = subst (WalkedTo ts (ALine ∷ [])) e (walked_to ts (ALine ∷ []))
 
 -- ---- lines
 
@@ -83,10 +99,6 @@ no_line ts left s us f e h =
     let over : walk_bare (bare_tokens s.taken ++ us) (ALine ∷ []) ≡ Done = ap (λ (vs : List LineToken). walk_bare vs (ALine ∷ [])) h.tokens ∙ line_passes f h.free in
     let stays = s.stays us e in
     cc (over, stays)
-
-bare_both : (ts us : List PlacedToken) → bare_tokens (ts ++ us) ≡ bare_tokens ts ++ bare_tokens us
-bare_both [] us = refl
-bare_both (p ∷ ts) us = ap (λ (l : List LineToken). p.token ∷ l) (bare_both ts us)
 
 take_taken : (ts : List PlacedToken) (us : List LineToken) → take (length ts) (bare_tokens ts ++ us) ≡ bare_tokens ts
 take_taken [] us = refl
@@ -107,7 +119,7 @@ refused_there ts [] end line s some h e =
     let not_whole : (f : Form) → IsForm (bare_tokens ts) f → ⊥ = λ f is. no_line ts [] s [] f refl (subst (λ (us : List LineToken). IsForm us f) (sym whole ∙ sym (append-nil (bare_tokens s.taken))) is) in
     subst (λ (n : ℕ). RefusesLine line (refused.Syntax n)) e (script.at_end h some line_begins not_whole)
 refused_there ts (p ∷ ps) end line s some h e =
-    let split : bare_tokens ts ≡ bare_tokens s.taken ++ p.token ∷ bare_tokens ps = ap bare_tokens s.split ∙ bare_both s.taken (p ∷ ps) in
+    let split : bare_tokens ts ≡ bare_tokens s.taken ++ p.token ∷ bare_tokens ps = ap bare_tokens s.split ∙ map-append (λ (q : PlacedToken). q.token) s.taken (p ∷ ps) in
     let before : take (length s.taken) (bare_tokens ts) ≡ bare_tokens s.taken = ap (λ (us : List LineToken). take (length s.taken) us) split ∙ take_taken s.taken (p.token ∷ bare_tokens ps) in
     let with_it : take (length s.taken + 1) (bare_tokens ts) ≡ bare_tokens s.taken ++ p.token ∷ [] = ap (λ (us : List LineToken). take (length s.taken + 1) us) split ∙ ap (λ (n : ℕ). take n (bare_tokens s.taken ++ p.token ∷ bare_tokens ps)) (add-one (length s.taken)) ∙ take_one_more s.taken p.token (bare_tokens ps) in
     let stops : StopsAt (bare_tokens ts) (length s.taken) = record {
@@ -118,8 +130,7 @@ refused_there ts (p ∷ ps) end line s some h e =
 
 -- a line whose walk is stuck is refused there
 pub refuses_line : (ts left : List PlacedToken) (end : ℕ) (line : List ℕ) → walk_placed ts (ALine ∷ []) ≡ StuckAt left → 0 < length ts → line_tokens line ≡ Ok ts → length line ≡ end → RefusesLine line (refused.Syntax (place_from left end))
-unfolding walk_placed
-refuses_line ts left end line e some h n = refused_there ts left end line (is_stuck ts (ALine ∷ []) left e) some h n
+refuses_line ts left end line e some h n = refused_there ts left end line (line_walked ts (StuckAt left) e) some h n
 
 pub refused_for : (tokens : List Placed) (left : List PlacedToken) (end : ℕ) (s : LineStop) → s ≡ stop.Syntax (place_from left end) → walk_placed (map placed_of tokens) (ALine ∷ []) ≡ StuckAt left → 0 < length tokens
     → (line : List ℕ) → line_tokens line ≡ Ok (map placed_of tokens) → length line ≡ end → RefusedFor (RefusesLine line) s

@@ -78,18 +78,12 @@ at_first : (place c : ℕ) (cs : List ℕ) (x : Lexeme) → lexeme place c cs �
 unfolding tokens_from
 at_first place c cs x e = rw e refl
 
-at_place : (found : List PlacedToken) (line : List ℕ) (i : ℕ) (x : Lexeme) → i < length line → lexeme i (get_or line i 0) (drop (i + 1) line) ≡ x
+pub at_place : (found : List PlacedToken) (line : List ℕ) (i : ℕ) (x : Lexeme) → i < length line → lexeme i (get_or line i 0) (drop (i + 1) line) ≡ x
     → goes_on found line i ≡ before found (with_lexeme i x (λ more. tokens_from (drop (i + 1) line) more (i + 1)))
 at_place found line i x h e = rw (drop_more line i 0 h) (ap (before found) (at_first i (get_or line i 0) (drop (i + 1) line) x e))
 
-pub step_blank : (found : List PlacedToken) (line : List ℕ) (i : ℕ) → i < length line → lexeme i (get_or line i 0) (drop (i + 1) line) ≡ Blank → goes_on found line i ≡ goes_on found line (i + 1)
-step_blank found line i h e = at_place found line i Blank h e
-
 pub step_comment : (found : List PlacedToken) (line : List ℕ) (i : ℕ) → i < length line → lexeme i (get_or line i 0) (drop (i + 1) line) ≡ Comment → goes_on found line i ≡ Ok found
 step_comment found line i h e = at_place found line i Comment h e ∙ ap Ok (append-nil found)
-
-pub step_bad : (found : List PlacedToken) (line : List ℕ) (i : ℕ) → i < length line → lexeme i (get_or line i 0) (drop (i + 1) line) ≡ Bad → goes_on found line i ≡ Err i
-step_bad found line i h e = at_place found line i Bad h e
 
 -- the bytes of a token stand in the line
 pub token_within : (line : List ℕ) (i : ℕ) (t : LineToken) (more : ℕ) → i < length line → lexeme i (get_or line i 0) (drop (i + 1) line) ≡ Found t more → i + (1 + more) ≤ length line

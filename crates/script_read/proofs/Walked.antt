@@ -39,12 +39,7 @@ stuck_token w old b e k = rw (b.is, e) refl
 
 pub is_its_mark : (m : Mark) → is_mark m (mark_token m) ≡ true
 is_its_mark mark.Equals = refl
-is_its_mark mark.Dot = refl
-is_its_mark mark.Open = refl
-is_its_mark mark.Close = refl
-is_its_mark mark.OpenBracket = refl
-is_its_mark mark.CloseBracket = refl
-is_its_mark mark.Comma = refl
+is_its_mark m = refl
 
 pub is_no_mark : (m : Mark) (t : LineToken) → (t ≡ mark_token m → ⊥) → is_mark m t ≡ false
 is_no_mark mark.Equals t.Equals isnt = absurd (isnt refl)
@@ -55,16 +50,6 @@ is_no_mark mark.OpenBracket t.OpenBracket isnt = absurd (isnt refl)
 is_no_mark mark.CloseBracket t.CloseBracket isnt = absurd (isnt refl)
 is_no_mark mark.Comma t.Comma isnt = absurd (isnt refl)
 is_no_mark m t isnt = refl
-
--- what holds of each mark
-each_mark : (P : LineToken → Type 0) → P t.Equals → P t.Dot → P t.Open → P t.Close → P t.OpenBracket → P t.CloseBracket → P t.Comma → (m : Mark) → P (mark_token m)
-each_mark P a b c d e f g mark.Equals = a
-each_mark P a b c d e f g mark.Dot = b
-each_mark P a b c d e f g mark.Open = c
-each_mark P a b c d e f g mark.Close = d
-each_mark P a b c d e f g mark.OpenBracket = e
-each_mark P a b c d e f g mark.CloseBracket = f
-each_mark P a b c d e f g mark.Comma = g
 
 mark_next : (m : Mark) → next (AMark m) (mark_token m) ≡ Some []
 mark_next m = rw (is_its_mark m) refl
@@ -101,27 +86,27 @@ same_first b c = let e = ap first_token (sym b.is ∙ c.is) in cc e
 
 pub no_string : (t : Token) → ((q : Quoted) → t ≡ token.Quoted q → ⊥) → next AString (token_of t) ≡ None
 no_string (token.Quoted q) isnt = absurd (isnt q refl)
-no_string (token.Mark m) isnt = each_mark (λ t. next AString t ≡ None) refl refl refl refl refl refl refl m
+no_string (token.Mark mark.Equals) isnt = refl
 no_string t isnt = refl
 
 pub no_number : (t : Token) → ((z : ℤ) → t ≡ token.Number z → ⊥) → next ANumber (token_of t) ≡ None
 no_number (token.Number z) isnt = absurd (isnt z refl)
-no_number (token.Mark m) isnt = each_mark (λ t. next ANumber t ≡ None) refl refl refl refl refl refl refl m
+no_number (token.Mark mark.Equals) isnt = refl
 no_number t isnt = refl
 
 pub no_name : (t : Token) → ((x : Word) → t ≡ token.Word x → ⊥) → next AWord (token_of t) ≡ None
 no_name (token.Word x) isnt = absurd (isnt x refl)
-no_name (token.Mark m) isnt = each_mark (λ t. next AWord t ≡ None) refl refl refl refl refl refl refl m
+no_name (token.Mark mark.Equals) isnt = refl
 no_name t isnt = refl
 
 pub no_method : (t : Token) → ((x : Word) → t ≡ token.Word x → ⊥) → next AMethod (token_of t) ≡ None
 no_method (token.Word x) isnt = absurd (isnt x refl)
-no_method (token.Mark m) isnt = each_mark (λ t. next AMethod t ≡ None) refl refl refl refl refl refl refl m
+no_method (token.Mark mark.Equals) isnt = refl
 no_method t isnt = refl
 
 pub no_line : (t : Token) → ((x : Word) → t ≡ token.Word x → ⊥) → next ALine (token_of t) ≡ None
 no_line (token.Word x) isnt = absurd (isnt x refl)
-no_line (token.Mark m) isnt = each_mark (λ t. next ALine t ≡ None) refl refl refl refl refl refl refl m
+no_line (token.Mark mark.Equals) isnt = refl
 no_line t isnt = refl
 
 pub is_name_next : (x : List ℕ) → is_free x ≡ true → next AWord (t.Word x) ≡ Some []
@@ -164,8 +149,7 @@ edges_next t isnt = refl
 vary_next : (t : Token) → ((q : Quoted) → t ≡ token.Quoted q → ⊥)
     → next VaryArguments (token_of t) ≡ (if is_mark mark.OpenBracket (token_of t) then Some (AString ∷ MoreStrings ∷ (variation_wants ++ AMark mark.Comma ∷ one_string_wants)) else None)
 vary_next (token.Quoted q) isnt = absurd (isnt q refl)
-vary_next (token.Mark m) isnt =
-    each_mark (λ t. next VaryArguments t ≡ (if is_mark mark.OpenBracket t then Some (AString ∷ MoreStrings ∷ (variation_wants ++ AMark mark.Comma ∷ one_string_wants)) else None)) refl refl refl refl refl refl refl m
+vary_next (token.Mark mark.Equals) isnt = refl
 vary_next t isnt = refl
 
 -- without a comma the call ends

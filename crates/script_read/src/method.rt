@@ -1,9 +1,10 @@
 // The methods that are called on a node: their names, and their arguments.
-ghost use Rattle.std.specs.Prelude.{◌≡◌, [], ◌∷◌, ◌++◌, Err, IfOk};
+ghost use Rattle.std.specs.Prelude.{◌≡◌, [], ◌∷◌, ◌++◌, Err, IfOk, MatchOption};
 ghost use Rattle.rdf_values.specs.LineForms.{method_word, arguments, call, strings_tokens};
 ghost use Rattle.rdf_values.specs.LineTokens.{Quoted as AsQuoted, Comma as AsComma};
+ghost use Rattle.script_read.specs.declared.method.MethodName.{MethodName as AnyMethod};
 ghost use Rattle.script_read.specs.Views.{quoted_of, strings_of, action_of, method_of};
-ghost use Rattle.script_read.specs.Walk.{name_word, name_of, Took, IsStuck, TookArguments, SeesMethod, AMethod, variation_wants, arguments_wants};
+ghost use Rattle.script_read.specs.Walk.{name_word, Took, IsStuck, TookArguments, SeesMethod, AMethod, variation_wants, arguments_wants};
 
 use crate::fail::Fail;
 use crate::form::{Action, Method, OneOrMore};
@@ -35,56 +36,27 @@ pub(crate) enum MethodName {
     Action(ActionName),
 }
 
-const NAMES: [MethodName; 14] = [
-    MethodName::Define,
-    MethodName::Redefine,
-    MethodName::Alias,
-    MethodName::Filter,
-    MethodName::Vary,
-    MethodName::Action(ActionName::Count),
-    MethodName::Report,
-    MethodName::Action(ActionName::Sum),
-    MethodName::Action(ActionName::Min),
-    MethodName::Action(ActionName::Max),
-    MethodName::Action(ActionName::Take),
-    MethodName::Action(ActionName::Reduce),
-    MethodName::Action(ActionName::Histo1D),
-    MethodName::Action(ActionName::Histo2D),
-];
-
-impl MethodName {
-    fn word(self) -> &'static [u8]
-        ensures { result.now ≡ name_word self }
-    {
-        match self {
-            MethodName::Define => b"Define".as_slice(),
-            MethodName::Redefine => b"Redefine".as_slice(),
-            MethodName::Alias => b"Alias".as_slice(),
-            MethodName::Filter => b"Filter".as_slice(),
-            MethodName::Vary => b"Vary".as_slice(),
-            MethodName::Action(ActionName::Count) => b"Count".as_slice(),
-            MethodName::Report => b"Report".as_slice(),
-            MethodName::Action(ActionName::Sum) => b"Sum".as_slice(),
-            MethodName::Action(ActionName::Min) => b"Min".as_slice(),
-            MethodName::Action(ActionName::Max) => b"Max".as_slice(),
-            MethodName::Action(ActionName::Take) => b"Take".as_slice(),
-            MethodName::Action(ActionName::Reduce) => b"Reduce".as_slice(),
-            MethodName::Action(ActionName::Histo1D) => b"Histo1D".as_slice(),
-            MethodName::Action(ActionName::Histo2D) => b"Histo2D".as_slice(),
-        }
-    }
-}
-
 // The method that the word names.
 fn method_name(word: &[u8]) -> Option<MethodName>
-    ensures { result ≡ name_of word.now }
+    ensures { MatchOption result ((n : AnyMethod) → word.now ≡ name_word n → ⊥) (λ n. word.now ≡ name_word n) }
 {
-    for name in NAMES {
-        if word == name.word() {
-            return Some(name);
-        }
+    match word {
+        b"Define" => Some(MethodName::Define),
+        b"Redefine" => Some(MethodName::Redefine),
+        b"Alias" => Some(MethodName::Alias),
+        b"Filter" => Some(MethodName::Filter),
+        b"Vary" => Some(MethodName::Vary),
+        b"Report" => Some(MethodName::Report),
+        b"Count" => Some(MethodName::Action(ActionName::Count)),
+        b"Sum" => Some(MethodName::Action(ActionName::Sum)),
+        b"Min" => Some(MethodName::Action(ActionName::Min)),
+        b"Max" => Some(MethodName::Action(ActionName::Max)),
+        b"Take" => Some(MethodName::Action(ActionName::Take)),
+        b"Reduce" => Some(MethodName::Action(ActionName::Reduce)),
+        b"Histo1D" => Some(MethodName::Action(ActionName::Histo1D)),
+        b"Histo2D" => Some(MethodName::Action(ActionName::Histo2D)),
+        _ => None,
     }
-    None
 }
 
 impl<'t, 'a> Walk<'t, 'a> {

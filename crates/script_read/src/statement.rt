@@ -212,9 +212,7 @@ fn edges(alloc: Global, numbers: &OneOrMore<i64>) -> Result<IntList, LineStop>
 {
     let mut edges = IntList::new(alloc);
     edges.push(numbers.first)?;
-    for edge in &numbers.rest {
-        edges.push(*edge)?;
-    }
+    edges.extend_from_slice(numbers.rest.as_slice())?;
     Ok(edges)
 }
 

@@ -1,8 +1,11 @@
-use Rattle.std.proofs.lemmas.Result.{err_from_is_err_and}
-use Rattle.script_read.proofs.LineSteps.{string_refuses}
+use Rattle.rdf_values.specs.Statements.{FirstBad, form_strings}
+use Rattle.rdf_values.specs.Scripts.{RefusesLine, at_string}
+use Rattle.script_read.specs.Views.{form_of}
+use Rattle.script_read.proofs.FirstBads.{handed_on, refused_as}
 use Rattle.script_read.proofs.line.read_line.Goals as goal
 
 pub returns-in_err-read_statement-clause-err : goal.returns-in_err-read_statement-clause-err
 returns-in_err-read_statement-clause-err c =
-    let p = err_from_is_err_and c.from_residual-in_err-read_statement.result c.from_residual-in_err-read_statement.ensures.1 in
-    rw (p.1, p.2) (string_refuses _ _ _ _ c.in_ok-tokens.ensures.ok (rw c.as_slice.ensures.value at c.in_ok-form.ensures.ok) c.in_err-read_statement.ensures.err)
+    let is_form = rw c.as_slice.ensures.value at c.in_ok-form.ensures.ok in
+    handed_on _ _ _ c.from_residual-in_err-read_statement.ensures.1
+    (refused_as (FirstBad (form_strings (form_of c.in_ok-form.form))) (RefusesLine c.args.line.now) (λ r bad. at_string c.in_ok-tokens.ensures.ok is_form bad) _ c.in_err-read_statement.ensures.err)

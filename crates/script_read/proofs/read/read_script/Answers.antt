@@ -1,6 +1,8 @@
 use Rattle.std.proofs.Common.{add-one}
 use Rattle.std.proofs.lemmas.Result.{err_from_is_err_and}
-use Rattle.script_read.proofs.ScriptReading.{reads_line, reads_bad, reads_all, nothing_left, only_script, no_script, memory_alone, cause_or_memory}
+use Rattle.rdf_values.proofs.OneScript.{one_script, script_or_refusal}
+use Rattle.expr_read.proofs.ReadOnce.{read_once}
+use Rattle.script_read.proofs.ScriptReading.{reads_line, reads_bad, reads_all, nothing_left, memory_alone, cause_or_memory}
 use Rattle.script_read.proofs.read.read_script.Goals as goal
 
 pub returns-in_err-add_line-clause-complete : goal.returns-in_err-add_line-clause-complete
@@ -20,7 +22,7 @@ pub returns-clause-ok : goal.returns-clause-ok
 returns-clause-ok c = reads_all _ _ _ _ c.loop-left.invariant (nothing_left _ _ c.is_empty.ensures c.loop-left-test.false)
 
 pub returns-clause-complete : goal.returns-clause-complete
-returns-clause-complete c = λ s is. only_script _ _ s (reads_all _ _ _ _ c.loop-left.invariant (nothing_left _ _ c.is_empty.ensures c.loop-left-test.false)) is
+returns-clause-complete c = λ s is. one_script read_once _ _ s (reads_all _ _ _ _ c.loop-left.invariant (nothing_left _ _ c.is_empty.ensures c.loop-left-test.false)) is
 
 pub returns-clause-first : goal.returns-clause-first
-returns-clause-first c = λ cause is. no_script _ _ cause is (reads_all _ _ _ _ c.loop-left.invariant (nothing_left _ _ c.is_empty.ensures c.loop-left-test.false))
+returns-clause-first c = λ cause is. script_or_refusal read_once _ _ cause (reads_all _ _ _ _ c.loop-left.invariant (nothing_left _ _ c.is_empty.ensures c.loop-left-test.false)) is

@@ -1,7 +1,8 @@
-use Rattle.std.proofs.Common.{◌∷◌, map, take}
-use Rattle.rdf_values.specs.Statements.{AreNames}
-use Rattle.script_read.specs.Views.{quoted_of}
+use Rattle.std.proofs.Common.{map, drop}
+use Rattle.rdf_values.specs.Statements.{all_strings}
+use Rattle.script_read.specs.Views.{quoted_of, strings_of}
+use Rattle.script_read.proofs.ManyNames.{Naming}
 use Rattle.script_read.proofs.strings.names.Given as goal
 
 abbrev pub invariant-loop-quoted : goal.invariant-loop-quoted
-invariant-loop-quoted l = AreNames (quoted_of l.strings.first ∷ map quoted_of (take l.quoted-index l.strings.rest.items)) l.names
+invariant-loop-quoted l = Naming (all_strings (strings_of l.strings)) (map quoted_of (drop l.quoted-index l.strings.rest.items)) l.names

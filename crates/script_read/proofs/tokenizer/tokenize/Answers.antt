@@ -1,9 +1,10 @@
 use Rattle.std.proofs.Common.{◌≡◌, ◌∙◌, ◌∷◌, ◌++◌, [], map, sym, refl, arith}
 use Rattle.std.proofs.lemmas.List.{drop_more, map-append}
 use Rattle.std.proofs.lemmas.Grind.{common_steps}
+use Rattle.rdf_values.specs.LineTokens.{Blank, Bad}
 use Rattle.rdf_values.specs.Scripts.{at_byte}
 use Rattle.script_read.specs.Views.{placed_of}
-use Rattle.script_read.proofs.TokenSteps.{step_blank, step_comment, step_bad, step_token, token_within, at_end}
+use Rattle.script_read.proofs.TokenSteps.{at_place, step_comment, step_token, token_within, at_end}
 use Rattle.script_read.proofs.tokenizer.tokenize.Goals as goal
 use Rattle.script_read.proofs.tokenizer.tokenize.Goals.{else-loop-place-test, then-loop-place-test+in-Comment}
 
@@ -11,14 +12,14 @@ pub loop-place-preserved-in-Blank : goal.loop-place-preserved-in-Blank
 loop-place-preserved-in-Blank c =
     let here = c.in-Blank.ensures _ _ (drop_more c.args.line.now c.loop-place.place 0 (omega arith)) in
     record {
-      same = c.loop-place.invariant.same ∙ step_blank _ c.args.line.now c.loop-place.place (omega arith) (sym here);
+      same = c.loop-place.invariant.same ∙ at_place _ c.args.line.now c.loop-place.place Blank (omega arith) (sym here);
       within = omega arith;
     }
 
 pub returns-in-Bad-clause-err : goal.returns-in-Bad-clause-err
 returns-in-Bad-clause-err c =
     let here = c.in-Bad.ensures _ _ (drop_more c.args.line.now c.loop-place.place 0 (omega arith)) in
-    at_byte (c.loop-place.invariant.same ∙ step_bad _ c.args.line.now c.loop-place.place (omega arith) (sym here))
+    at_byte (c.loop-place.invariant.same ∙ at_place _ c.args.line.now c.loop-place.place Bad (omega arith) (sym here))
 
 pub overflow_add-place-in-Found : goal.overflow_add-place-in-Found
 overflow_add-place-in-Found c =

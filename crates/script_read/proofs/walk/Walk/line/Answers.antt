@@ -1,9 +1,10 @@
 use Rattle.std.proofs.Common.{◌∙◌, ap, sym, true, false, arith}
 use Rattle.std.proofs.lemmas.Grind.{common_steps}
+use Rattle.std.proofs.lemmas.Result.{IfOk-weaker}
 use Rattle.script_read.specs.Views.{token_of, form_of}
 use Rattle.script_read.specs.Walk.{ALine}
 use Rattle.script_read.proofs.Walked.{stuck_empty, stuck_token, no_line}
-use Rattle.script_read.proofs.Joined.{ok_as, line_wanted, took_line, took_asking}
+use Rattle.script_read.proofs.Joined.{line_wanted, took_line, took_asking}
 use Rattle.script_read.proofs.walk.Walk.line.Goals as goal
 
 pub returns-in_err-first-clause-stuck : goal.returns-in_err-first-clause-stuck
@@ -18,7 +19,8 @@ returns-in_err-name-clause-stuck c h k =
 
 pub returns-then-is_free-clause-took : goal.returns-then-is_free-clause-took
 returns-then-is_free-clause-took c =
-    ok_as c.booking.result (λ f x. took_line c.in-Word.first.bytes.now (form_of f) (ap token_of c.in-Word.is) c.in_ok-first.ensures.sees c.advance.ensures (sym c.is_free.ensures ∙ c.if-is_free.true) x) c.booking.ensures.took
+    IfOk-weaker c.booking.result _ _ (λ f x. took_line c.in-Word.first.bytes.now (form_of f) (ap token_of c.in-Word.is) c.in_ok-first.ensures.sees c.advance.ensures (sym c.is_free.ensures ∙ c.if-is_free.true) x)
+    c.booking.ensures.took
 
 pub returns-then-is_free-clause-stuck : goal.returns-then-is_free-clause-stuck
 returns-then-is_free-clause-stuck c h k =

@@ -1,4 +1,4 @@
-use Rattle.std.proofs.Common.{◌∙◌, ap, sym}
+use Rattle.std.proofs.Common.{ap}
 use Rattle.script_read.specs.Views.{token_of}
 use Rattle.script_read.specs.Walk.{AMethod}
 use Rattle.script_read.proofs.Walked.{no_method, stuck_empty, stuck_token}
@@ -12,7 +12,7 @@ pub returns-in_default-clause-stuck : goal.returns-in_default-clause-stuck
 returns-in_default-clause-stuck c _ = stuck_token AMethod _ c.in_ok-word.ensures.sees (no_method _ c.in_default.not-Word)
 
 pub returns-in-Some-clause-sees : goal.returns-in-Some-clause-sees
-returns-in-Some-clause-sees c = method_seen c.in-Word.word.bytes.now _ (ap token_of c.in-Word.is) (sym c.method_name.ensures ∙ c.in-Some.is) c.in_ok-word.ensures.sees
+returns-in-Some-clause-sees c = method_seen c.in-Word.word.bytes.now c.in-Some.name (ap token_of c.in-Word.is) c.in-Some.ensures c.in_ok-word.ensures.sees
 
 pub returns-in-None-clause-stuck : goal.returns-in-None-clause-stuck
-returns-in-None-clause-stuck c _ = stuck_token AMethod _ c.in_ok-word.ensures.sees (no_method_named _ c.in-Word.word.bytes.now (ap token_of c.in-Word.is) (sym c.method_name.ensures ∙ c.in-None.is))
+returns-in-None-clause-stuck c _ = stuck_token AMethod _ c.in_ok-word.ensures.sees (no_method_named _ c.in-Word.word.bytes.now (ap token_of c.in-Word.is) c.in-None.ensures)
