@@ -58,9 +58,10 @@ ranked rank m t (from.Site s) site h = subst (λ (n : ℕ). rank n < m) site h
 ranked rank m t (from.Element s k tags) site h = subst (λ (n : ℕ). rank n < m) site h
 
 -- with one level fewer
-pub can_below : (j : JobView) (job : IsJob j) (first : ℕ) (u : Option ℕ) (count s c t p : ℕ) (kinds : List ColType) (cells : List (List ℤ)) (scratch levels fewer : ℕ) → CanFill j first u count kinds cells scratch levels s → MeetsAt j (first + p) u s c → IsSiteOf t (source_at j u c) → levels ≡ fewer + 1
-    → CanFill j first u count kinds cells scratch fewer t
-can_below j job first u count s c t p kinds cells scratch levels fewer can met site less = record {
+pub can_below : (j : JobView) (job : IsJob j) {first : ℕ} {u : Option ℕ} {count s : ℕ} (c t p : ℕ) {kinds : List ColType} {cells : List (List ℤ)} {scratch levels : ℕ} (fewer : ℕ)
+    → CanFill j first u count kinds cells scratch levels s → MeetsAt j (first + p) u s c → IsSiteOf t (source_at j u c)
+    → levels ≤ fewer + 1 → CanFill j first u count kinds cells scratch fewer t
+can_below j job {first = first} {u = u} {s = s} c t p fewer can met site less = record {
   used = can.used;
   has = in_source can.used t (source_at j u c) site (met_each j job (first + p) u s c (λ d. IsSourceIn can.used (source_at j u d)) met (can.each s met.0 can.has met.1).closed);
   kinds_are = can.kinds_are;
@@ -73,14 +74,10 @@ can_below j job first u count s c t p kinds cells scratch levels fewer can met s
       omega (arith, lower, room, less));
 }
 
--- there is a level for a site that can be filled
-pub some_level : (j : JobView) (first : ℕ) (u : Option ℕ) (count s : ℕ) (kinds : List ColType) (cells : List (List ℤ)) (scratch levels : ℕ) → CanFill j first u count kinds cells scratch levels s → 0 < levels
-some_level j first u count s kinds cells scratch levels can = let room = can.room in omega (arith, room)
-
 -- over lanes of the same kinds
-pub can_moved : (j : JobView) (first : ℕ) (u : Option ℕ) (count s : ℕ) (kinds now : List ColType) (cells : List (List ℤ)) (scratch left levels : ℕ) → CanFill j first u count kinds cells scratch levels s → now ≡ kinds → left ≡ scratch → CanFill j first u count now cells left levels s
-can_moved j first u count s kinds now cells scratch left levels can same enough =
-    subst (λ (n : ℕ). CanFill j first u count now cells n levels s) (sym enough) (subst (λ (l : List ColType). CanFill j first u count l cells scratch levels s) (sym same) can)
+pub can_moved : {j : JobView} {first : ℕ} {u : Option ℕ} {count s : ℕ} {kinds now : List ColType} {cells : List (List ℤ)} {scratch left levels : ℕ} → CanFill j first u count kinds cells scratch levels s → now ≡ kinds
+    → left ≡ scratch → CanFill j first u count now cells left levels s
+can_moved can same enough = rw (same, enough) can
 
 -- the sites of what a site reads have lower numbers: they may stand for the ranks
 pub falls_by_number : (j : JobView) (job : IsJob j) (u : Option ℕ) (s : ℕ) (x : SiteAt) → slice_get (graph_sites (job_graph j)) s ≡ Some x → EachColumn (λ c. IsRankedBelow (λ n. n) s (source_at j u c)) x.tree

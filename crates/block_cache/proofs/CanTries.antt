@@ -2,14 +2,14 @@
 use Rattle.std.proofs.Common.{◌≡◌, ◌<◌, ◌≤◌, ℕ, ℤ, zero, suc, Bool, true, false, not, List, [], ◌∷◌, length, map, take, All, get_or, Option, Some, None, refl, sym, ◌∙◌, ap, subst, arith, nat_eq, slice_get, if◌then◌else◌}
 use Rattle.std.specs.Prelude.{filter, option_map}
 use Rattle.std.proofs.lemmas.Option.{get_or_from_slice_get}
-use Rattle.lemmas.proofs.Places.{something_at}
+use Rattle.lemmas.proofs.Places.{mapped_at, something_at}
 use Rattle.rdf_values.specs.Depends.{columns_in}
 use Rattle.rdf_values.specs.Path.{history}
 use Rattle.rdf_values.specs.Tree.{NumTree}
 use Rattle.rdf_values.specs.declared.value.ColType.{ColType}
 use Rattle.expr_check.specs.NumKinds.{CheckedExpr, distinct}
 use Rattle.expr_lanes.specs.Depths.{depth}
-use Rattle.graph_numbers.specs.Graphs.{IsSiteExpr, graph_sites, graph_under}
+use Rattle.graph_numbers.specs.Graphs.{GraphView, IsSiteExpr, graph_sites, graph_under}
 use Rattle.graph_numbers.specs.Sites.{SiteAt}
 use Rattle.graph_numbers.specs.Sources.{IsBelow}
 use Rattle.graph_numbers.specs.Versions.{version_count}
@@ -19,13 +19,16 @@ use Rattle.graph_numbers.proofs.Closing.{each_at}
 use Rattle.graph_numbers.proofs.Equations.{columns_below}
 use Rattle.graph_numbers.proofs.Meeting.{In, here, there as further}
 use Rattle.block_cache.specs.Lanes.{LaneView, kinds_of}
-use Rattle.loop_keys.specs.Jobs.{JobView, IsJob, job_graph}
-use Rattle.loop_keys.specs.Keys.{key, key_count}
+use Rattle.loop_keys.specs.Jobs.{JobView, job_graph}
+use Rattle.loop_keys.specs.Keys.{key}
 use Rattle.loop_keys.specs.Store.{source_at}
 use Rattle.loop_keys.proofs.EvaluateLaws.{accepted_of}
 use Rattle.loop_keys.proofs.RowLaws.{key_small}
-use Rattle.block_cache.specs.Blocks.{AreReady, CanTry, HasLane, HasSource, IsTriable}
-use Rattle.block_cache.specs.Fills.{CanFill, IsLoaded}
+use Rattle.block_cache.specs.Blocks.{HasLane, HasSource, IsTriable}
+use Rattle.block_cache.specs.Fills.{IsLoaded}
+use Rattle.block_cache.specs.ForSites.{CanFillFor}
+use Rattle.block_cache.specs.OverBlocks.{AreReadyOver, block_job}
+use Rattle.block_cache.specs.declared.wanted.Wanted.{Wanted}
 use Rattle.block_cache.proofs.Attempts.{get_take, key_lower}
 
 -- ---- the columns of an expression
@@ -56,34 +59,45 @@ in_at (x ∷ xs) (suc k) d low = further (in_at xs k d (omega (arith, low)))
 -- ---- a site
 
 pub got_kind : (lanes : List LaneView) (k : ℕ) (l : LaneView) → slice_get lanes k ≡ Some l → slice_get (kinds_of lanes) k ≡ Some l.kind
-got_kind [] k l at = cc at
-got_kind (x ∷ lanes) zero l at = let e : x ≡ l = cc at in ap (λ (y : LaneView). Some y.kind) e
-got_kind (x ∷ lanes) (suc k) l at = got_kind lanes k l at
+got_kind lanes k l at = mapped_at (λ (x : LaneView). x.kind) lanes k l at
+
+-- the site whose expression it is
+pub site_tree : {g : GraphView} {s : ℕ} {e : CheckedExpr} → IsSiteExpr g s e → (x : SiteAt) × (slice_get (graph_sites g) s ≡ Some x) × (x.tree ≡ e.tree)
+site_tree {g = g} {s = s} {e = e} its = go (slice_get (graph_sites g) s) refl its.tree
+  where
+    go : (o : Option SiteAt) → slice_get (graph_sites g) s ≡ o → option_map (λ (x : SiteAt). x.tree) o ≡ Some e.tree → (x : SiteAt) × (slice_get (graph_sites g) s ≡ Some x) × (x.tree ≡ e.tree)
+    go None q k = cc k
+    go (Some x) q k = (x, q, cc k)
 
 module _
-    (j : JobView) (job : IsJob j) (first : ℕ) (u : Option ℕ) (count s : ℕ) (inside : s < length (graph_sites (job_graph j))) (lanes : List LaneView) (ready : AreReady j first count lanes) (cells : List (List ℤ)) (scratch levels : ℕ)
-    (can : CanFill j first u count (kinds_of lanes) cells scratch levels s) (e : CheckedExpr) (its : IsSiteExpr (job_graph j) s e)
+    {V : Type 0} {D : V → Type 0} {g : _} (w : Wanted V D g) {lanes : List LaneView} (ready : AreReadyOver w.block.now lanes) {scratch levels : ℕ} (can : CanFillFor w (kinds_of lanes) scratch levels)
+    (e : CheckedExpr) (its : IsSiteExpr (job_graph (block_job w.block.now)) w.site e)
   where
-    abbrev keys : ℕ
-    keys = key_count (job_graph j)
+    abbrev j : JobView
+    j = block_job w.block.now
 
-    abbrev HasTree : Type 0
-    HasTree = (x : SiteAt) × (slice_get (graph_sites (job_graph j)) s ≡ Some x) × (x.tree ≡ e.tree)
+    abbrev first : ℕ
+    first = w.block.now.at.now.entry
 
-    tree_of : HasTree
-    tree_of = go (slice_get (graph_sites (job_graph j)) s) refl its.tree
-      where
-        go : (o : Option SiteAt) → slice_get (graph_sites (job_graph j)) s ≡ o → option_map (λ (x : SiteAt). x.tree) o ≡ Some e.tree → HasTree
-        go None q k = cc k
-        go (Some x) q k = (x, q, cc k)
+    abbrev u : Option ℕ
+    u = w.block.now.at.now.under
+
+    abbrev count : ℕ
+    count = w.block.now.count
+
+    abbrev s : ℕ
+    s = w.site
+
+    abbrev cells : List (List ℤ)
+    cells = w.block.now.cells.now
 
     counted : (l : LaneView) (k : ℕ) → slice_get lanes k ≡ Some l → k < length lanes → l.count ≡ count
     counted l k at among = ap (λ (y : LaneView). y.count) (sym (get_or_from_slice_get lanes k l l at)) ∙ ready.counts k l among
 
     lane_below : (t : ℕ) → t < s → HasLane count (take (key (job_graph j) s u) lanes) (key (job_graph j) t u)
     lane_below t below =
-        let lower = key_lower (job_graph j) t s u u below inside in
-        let small = key_small (job_graph j) s u inside in
+        let lower = key_lower (job_graph j) t s u u below w.there in
+        let small = key_small (job_graph j) s u w.there in
         let among : key (job_graph j) t u < length lanes = omega (arith, lower, small, ready.many) in
         let l = something_at lanes (key (job_graph j) t u) among in
         (l.0, get_take lanes (key (job_graph j) s u) (key (job_graph j) t u) lower ∙ l.1, counted l.0 (key (job_graph j) t u) l.1 among)
@@ -96,19 +110,16 @@ module _
     sources : All (λ (c : ℕ × ColType). HasSource j first u count (take (key (job_graph j) s u) lanes) cells (source_at j u c.0)) e.kinds
     sources k d low =
         let c = get_or e.kinds k d in
-        let standing = subst (λ (v : NumTree). In c.0 (columns_in v)) (sym tree_of.2) (of_distinct (columns_in e.tree) (subst (In c.0) its.typed.columns (in_map (λ (c : ℕ × ColType). c.0) e.kinds (in_at e.kinds k d low)))) in
-        let each = can.each s tree_of.0 can.has tree_of.1 in
-        source_of (source_at j u c.0) (each_at (λ c. IsLoaded j first count cells (source_at j u c)) tree_of.0.tree each.loaded c.0 standing)
-        (each_at (λ d. (d < version_count j.dataset.columns (history j.script)) × IsBelow (length j.dataset.columns) s (source_at j u d)) tree_of.0.tree
-        (columns_below j.dataset.fns j.dataset.columns (graph_under (job_graph j) u) (history j.script) (accepted_of j job) s tree_of.0 tree_of.1) c.0 standing).1
+        let tree = site_tree its in
+        let standing = subst (λ (v : NumTree). In c.0 (columns_in v)) (sym tree.2) (of_distinct (columns_in e.tree) (subst (In c.0) its.typed.columns (in_map (λ (c : ℕ × ColType). c.0) e.kinds (in_at e.kinds k d low)))) in
+        let each = can.each s tree.0 can.has tree.1 in
+        source_of (source_at j u c.0) (each_at (λ c. IsLoaded j first count cells (source_at j u c)) tree.0.tree each.loaded c.0 standing)
+        (each_at (λ d. (d < version_count j.dataset.columns (history j.script)) × IsBelow (length j.dataset.columns) s (source_at j u d)) tree.0.tree
+        (columns_below j.dataset.fns j.dataset.columns (graph_under (job_graph j) u) (history j.script) (accepted_of j w.block.now.fits.job) s tree.0 tree.1) c.0 standing).1
 
-    pub triable : IsTriable j first u count lanes cells scratch s e
-    triable = record {
+    pub can_try : IsTriable j first u count lanes cells scratch s e
+    can_try = record {
       kind = λ l at. can.kinds_are s u e l.kind its (got_kind lanes (key (job_graph j) s u) l at);
-      deep = subst (λ (t : NumTree). depth t ≤ scratch) tree_of.2 (can.each s tree_of.0 can.has tree_of.1).deep;
+      deep = (let tree = site_tree its in subst (λ (t : NumTree). depth t ≤ scratch) tree.2 (can.each s tree.0 can.has tree.1).deep);
       sources = sources;
     }
-
-pub can_try : (j : JobView) (job : IsJob j) (first : ℕ) (u : Option ℕ) (count s : ℕ) → s < length (graph_sites (job_graph j)) → (lanes : List LaneView) → AreReady j first count lanes → (cells : List (List ℤ)) (scratch levels : ℕ) → CanFill j first u count (kinds_of lanes) cells scratch levels s
-    → CanTry j first u count lanes cells scratch s
-can_try j job first u count s inside lanes ready cells scratch levels can e its = triable j job first u count s inside lanes ready cells scratch levels can e its

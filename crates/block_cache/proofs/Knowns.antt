@@ -1,22 +1,21 @@
 -- What is known of a key at a place, by its lane.
-use Rattle.std.proofs.Common.{if◌then◌else◌, ◌≡◌, ◌<◌, ◌+◌, not, ℕ, zero, suc, Bool, true, false, List, [], ◌∷◌, length, map, set, Option, Some, None, refl, sym, ◌∙◌, ap, subst, arith, slice_get, get_or}
+use Rattle.std.proofs.Common.{if◌then◌else◌, ◌≡◌, ◌<◌, ◌+◌, not, ℕ, Bool, true, false, List, length, Option, Some, None, refl, sym, ◌∙◌, ap, subst, slice_get, get_or}
 use Rattle.std.specs.List.{filter}
-use Rattle.std.proofs.lemmas.List.Sums.{sum_by-set}
-use Rattle.std.proofs.lemmas.Option.{slice_get-get_or, slice_get_within, get_or_from_slice_get}
+use Rattle.std.proofs.lemmas.Option.{slice_get-get_or}
 use Rattle.rdf_values.specs.declared.value.Value.{Value}
 use Rattle.rdf_model.specs.Evaluation.{Gives}
 use Rattle.rdf_model.specs.Results.{fault_in}
 use Rattle.graph_numbers.specs.Graphs.{graph_sites}
-use Rattle.block_cache.specs.Lanes.{LaneView, is_held, is_tried, kinds_of, room_of, rooms_of, tried_count, value_of}
+use Rattle.block_cache.specs.Lanes.{LaneView, is_held, value_of}
 use Rattle.loop_keys.specs.Jobs.{JobView, job_graph}
 use Rattle.loop_keys.specs.Keys.{key, key_count}
 use Rattle.loop_keys.specs.Store.{Grows, IsRight, held_in, is_held as has_held, site_in}
 use Rattle.loop_keys.specs.declared.held.Held.{Held}
 use Rattle.loop_keys.specs.declared.held.Held.TheVariants as held
-use Rattle.block_cache.specs.Blocks.{AreReady, cells_at, held_at, held_value}
-use Rattle.block_cache.specs.Fills.{IsSameAt, begun_count, holds_at, lane_begun, lane_holds, site_fault}
+use Rattle.block_cache.specs.Blocks.{AreReady, cells_at, held_value}
+use Rattle.block_cache.specs.Fills.{IsSameAt, holds_at, lane_holds, site_fault}
 use Rattle.block_cache.proofs.BlockLaws.{held_of_lane, lane_held, right_value, value_held}
-use Rattle.block_cache.proofs.OverLaws.{get_other, get_set, held_true}
+use Rattle.block_cache.proofs.OverLaws.{held_true}
 
 -- ---- what is held
 
@@ -65,37 +64,6 @@ module _ (j : JobView) (first : ℕ) (u : Option ℕ) (count s : ℕ) (inside : 
 
   pub held_no_fault : holds_at lanes (key (job_graph j) s u) p ≡ true → site_fault j first u s p ≡ None
   held_no_fault holds = ap fault_in (held_gives holds).1
-
--- ---- a lane that is written
-
-map_set : {A : Type 0} (f : LaneView → A) (lanes : List LaneView) (k : ℕ) (own lane : LaneView) → slice_get lanes k ≡ Some own → f lane ≡ f own → map f (set lanes k lane) ≡ map f lanes
-map_set f [] k own lane at same = refl
-map_set {A = A} f (l ∷ lanes) zero own lane at same = let e : l ≡ own = cc at in let h : f lane ≡ f l = same ∙ ap f (sym e) in ap (λ (x : A). x ∷ map f lanes) h
-map_set f (l ∷ lanes) (suc k) own lane at same = ap (λ xs. f l ∷ xs) (map_set f lanes k own lane at same)
-
-pub kinds_set : (lanes : List LaneView) (k : ℕ) (own lane : LaneView) → slice_get lanes k ≡ Some own → lane.kind ≡ own.kind → kinds_of (set lanes k lane) ≡ kinds_of lanes
-kinds_set lanes k own lane at same = map_set (λ (l : LaneView). l.kind) lanes k own lane at same
-
-pub rooms_set : (lanes : List LaneView) (k : ℕ) (own lane : LaneView) → slice_get lanes k ≡ Some own → room_of lane ≡ room_of own → rooms_of (set lanes k lane) ≡ rooms_of lanes
-rooms_set lanes k own lane at same = map_set room_of lanes k own lane at same
-
-pub count_set : (lanes : List LaneView) (k m : ℕ) (own lane : LaneView) → slice_get lanes k ≡ Some own → tried_count lane ≡ tried_count own + m → begun_count (set lanes k lane) ≡ begun_count lanes + m
-count_set lanes k m own lane at more =
-    let e = sum_by-set tried_count lanes k lane own (slice_get_within lanes k own at) in
-    let same = ap tried_count (get_or_from_slice_get lanes k own own at) in
-    omega (arith, e, same, more)
-
-pub other_same : (n : ℕ) (lanes : List LaneView) (k i p : ℕ) (lane : LaneView) → (i ≡ k → ⊥) → IsSameAt n lanes (set lanes k lane) i p
-other_same n lanes k i p lane other =
-    let e = get_other lanes k i lane other in
-    (ap (λ o. lane_begun o p) e, held_of_lane n (set lanes k lane) p i ∙ ap (λ o. lane_held o p) e ∙ sym (held_of_lane n lanes p i))
-
-pub own_same : (n : ℕ) (lanes : List LaneView) (k p : ℕ) (own lane : LaneView) → slice_get lanes k ≡ Some own → is_tried lane p ≡ is_tried own p → held_at own p ≡ held_at lane p → IsSameAt n lanes (set lanes k lane) k p
-own_same n lanes k p own lane at tried held_alike =
-    let e = get_set lanes k lane (slice_get_within lanes k own at) in (
-      ap (λ o. lane_begun o p) e ∙ tried ∙ ap (λ o. lane_begun o p) (sym at),
-      held_of_lane n (set lanes k lane) p k ∙ ap (λ o. lane_held o p) e ∙ sym held_alike ∙ ap (λ o. lane_held o p) (sym at) ∙ sym (held_of_lane n lanes p k),
-    )
 
 -- the places that are left where a lane holds nothing
 pub kept_lacking : (lanes : List LaneView) (k own : ℕ) (d : LaneView) (sel copied left : List ℕ) → k ≡ own → k < length lanes → copied ≡ sel → left ≡ filter (λ p. not (is_held (get_or lanes k d) p)) copied → left ≡ filter (λ p. not (holds_at lanes own p)) sel

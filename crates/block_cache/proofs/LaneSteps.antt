@@ -3,29 +3,33 @@ use Rattle.std.proofs.Common.{◌≡◌, ◌<◌, ◌≤◌, ◌+◌, ◌||◌, 
 use Rattle.std.specs.Prelude.{count_by}
 use Rattle.std.specs.List.{filter}
 use Rattle.std.proofs.Math.Seq.{take-append_seam}
+use Rattle.lemmas.proofs.Booleans.{left_false, never_true, or_fails, right_false}
 use Rattle.rdf_values.specs.declared.value.ColType.{ColType}
+use Rattle.rdf_values.specs.declared.value.ColType.TheVariants as kinds
 use Rattle.rdf_values.specs.declared.value.Value.{Value}
 use Rattle.rdf_model.specs.Evaluation.{Outcome, Gives}
-use Rattle.rdf_values.specs.declared.value.ColType.TheVariants as kinds
 use Rattle.expr_check.specs.NumKinds.{is_vector}
 use Rattle.expr_lanes.specs.Marks.{lane_number, lane_outcome, lane_value}
-use Rattle.expr_lanes.specs.Places.{at_place, is_given, is_in, is_marked, EachPlace}
+use Rattle.expr_lanes.specs.Places.{EachPlace, IsJoined, at_place, given_in, is_given, is_in, is_marked, stops_in, times}
 use Rattle.expr_lanes.specs.Values.{HasValues}
+use Rattle.expr_lanes.specs.declared.TheConstants.{MAX_PLACES}
 use Rattle.expr_lanes.specs.declared.stopped.Stopped.{Stopped}
 use Rattle.expr_lanes.proofs.Sequence.{filtered_in, filtered_out, first_in, rest_in}
-use Rattle.lemmas.proofs.Booleans.{left_false, never_true, or_fails, right_false}
-use Rattle.expr_lanes.specs.declared.TheConstants.{MAX_PLACES}
-use Rattle.block_cache.specs.Lanes.{LaneView, IsEvaluated, IsLane, IsUnknown, room_of}
-use Rattle.block_cache.specs.Values.{HasNumbered, value_for}
+use Rattle.block_cache.specs.EachPlace.{HaveCome}
+use Rattle.block_cache.specs.Lanes.{LaneView, IsBegun, IsBegunAt, IsEvaluated, IsLane, IsUnknown, is_held, room_of}
+use Rattle.block_cache.specs.Values.{AreWritten, HasNumber, HasNumbered, value_for}
+use Rattle.block_cache.proofs.EachPlaces.{is_there, number_read, read_back, there_more, times_append, value_more}
+use Rattle.block_cache.proofs.Members.{filter_passes}
+use Rattle.block_cache.proofs.VectorLists.{kept_all}
 
 -- ---- a filter by what holds of each place
 
-kept_all : (f : ℕ → Bool) (p : ℕ) (sel : List ℕ) → f p ≡ true → filter f sel ≡ sel → filter f (p ∷ sel) ≡ p ∷ sel
-kept_all f p sel here rest = ap (λ b. cond b (p ∷ filter f sel) (filter f sel)) here ∙ ap (λ l. p ∷ l) rest
+kept_first : (f : ℕ → Bool) (p : ℕ) (sel : List ℕ) → f p ≡ true → filter f sel ≡ sel → filter f (p ∷ sel) ≡ p ∷ sel
+kept_first f p sel here rest = ap (λ b. cond b (p ∷ filter f sel) (filter f sel)) here ∙ ap (λ l. p ∷ l) rest
 
 pub filter_all : (f : ℕ → Bool) (sel : List ℕ) → EachPlace sel (λ p. f p ≡ true) → filter f sel ≡ sel
 filter_all f [] each = refl
-filter_all f (p ∷ sel) each = kept_all f p sel (each p (first_in p sel)) (filter_all f sel (λ q i. each q (rest_in q p sel i)))
+filter_all f (p ∷ sel) each = kept_first f p sel (each p (first_in p sel)) (filter_all f sel (λ q i. each q (rest_in q p sel i)))
 
 pub filter_none : (f : ℕ → Bool) (sel : List ℕ) → EachPlace sel (λ p. f p ≡ false) → filter f sel ≡ []
 filter_none f [] each = refl
@@ -38,93 +42,137 @@ written n new seen old same many =
     let long : length new ≡ n = omega arith in
     ap (λ k. take k (new ++ drop (length new) old)) (sym long) ∙ take-append_seam new (drop (length new) old)
 
--- ---- marks, seen as the lane's
-
-pub marks_as : (places sel : List ℕ) (old seen new : List Bool) → places ≡ sel → old ≡ seen → ((p : ℕ) → is_marked new p ≡ (is_in p places || is_marked old p)) → (p : ℕ) → is_marked new p ≡ (is_in p sel || is_marked seen p)
-marks_as places sel old seen new same_places same_marks marked p = marked p ∙ ap (λ l. is_in p l || is_marked old p) same_places ∙ ap (λ l. is_in p sel || is_marked l p) same_marks
-
-pub newly_as : (places sel : List ℕ) (old seen new : List Bool) → places ≡ sel → old ≡ seen → count_by (λ b. b) new ≡ count_by (λ b. b) old + count_by (λ p. not (is_marked old p)) places
-    → count_by (λ b. b) new ≡ count_by (λ b. b) seen + count_by (λ p. not (is_marked seen p)) sel
-newly_as places sel old seen new same_places same_marks newly =
-    newly ∙ ap (λ l. count_by (λ b. b) old + count_by (λ p. not (is_marked old p)) l) same_places ∙ ap (λ l. count_by (λ b. b) l + count_by (λ p. not (is_marked l p)) sel) same_marks
-
 -- ---- an evaluation
 
--- a value that is no vector
-pub scalar_value : (k : ColType) (vectors : List (List ℤ)) (z : ℤ) → is_vector k ≡ false → value_for k vectors z ≡ lane_value k z
-scalar_value kinds.Int vectors z scalar = refl
-scalar_value kinds.Bool vectors z scalar = refl
-scalar_value kinds.Vect vectors z scalar = cc scalar
-
-scalar_there : (k : ColType) (vectors : List (List ℤ)) (z : ℤ) → is_vector k ≡ false → HasNumbered k vectors z
-scalar_there kinds.Int vectors z scalar = tt
-scalar_there kinds.Bool vectors z scalar = tt
-scalar_there kinds.Vect vectors z scalar = cc scalar
-
-number_is : (y z : ℤ) → ◌≡◌ {A = Outcome ℕ ℤ} (Gives y) (Gives z) → y ≡ z
-number_is y z e = cc e
-
-module _
-    (f : ℕ → Outcome ℕ Value) (sel left : List ℕ) (kind : ColType) (count : ℕ) (numbers0 numbers : List ℤ) (vectors : List (List ℤ)) (scalar : is_vector kind ≡ false) (tried0 tried held0 held : List Bool)
-    (tried_at : (p : ℕ) → is_marked tried p ≡ (is_in p sel || is_marked tried0 p)) (held_at : (p : ℕ) → is_marked held p ≡ (is_in p left || is_marked held0 p))
-  where
-    abbrev before : LaneView
-    before = record { kind = kind; count = count; numbers = numbers0; vectors = vectors; tried = tried0; held = held0 }
-
-    abbrev after : LaneView
-    after = record { kind = kind; count = count; numbers = numbers; vectors = vectors; tried = tried; held = held }
-
-    -- the lane is one still
-    pub lane_after : (stops more : List Stopped) → IsLane before → EachPlace sel (λ p. p < count) → EachPlace sel (λ p. is_marked held0 p ≡ false) → HasValues kind f sel left numbers0 numbers stops more → length numbers ≡ length numbers0
-        → length tried ≡ length tried0 → length held ≡ length held0 → IsLane after
-    lane_after stops more lane inside unknown come long long_tried long_held = record {
-      small = omega (arith, lane.small);
-      tried = long_tried ∙ lane.tried ∙ sym long;
-      held = long_held ∙ lane.held ∙ sym long;
-      within = omega (arith, lane.within);
-      behind = λ p far. tried_at p ∙ or_fails (is_in p sel) (is_marked tried0 p) (never_true (is_in p sel) (λ i. let near : p < count = inside p i in omega arith)) (lane.behind p far);
-      begun = λ p none.
-          let no : (is_in p sel || is_marked tried0 p) ≡ false = sym (tried_at p) ∙ none in
-          held_at p ∙ or_fails (is_in p left) (is_marked held0 p) (ap (λ l. is_in p l) come.left_in ∙ filtered_out (λ p. is_given (f p)) p sel (left_false (is_in p sel) (is_marked tried0 p) no)) (lane.begun p (right_false (is_in p sel) (is_marked tried0 p) no));
-      exact = λ _ p is. ap lane_number (scalar_value kind vectors (at_place numbers p) scalar) ∙ exact_at p (is_in p left) refl (is_in p sel) refl (sym (held_at p) ∙ is);
-      there = λ p is. scalar_there kind vectors (at_place numbers p) scalar;
-    }
-      where
-        exact_at : (p : ℕ) (b : Bool) → is_in p left ≡ b → (s : Bool) → is_in p sel ≡ s → (is_in p left || is_marked held0 p) ≡ true → lane_number (lane_value kind (at_place numbers p)) ≡ at_place numbers p
-        exact_at p true among s _ is = own (f p) (come.values p among) (come.exact p among)
-          where
-            own : (o : Outcome ℕ Value) → o ≡ Gives (lane_value kind (at_place numbers p)) → lane_outcome o ≡ Gives (at_place numbers p) → lane_number (lane_value kind (at_place numbers p)) ≡ at_place numbers p
-            own o e n = number_is (lane_number (lane_value kind (at_place numbers p))) (at_place numbers p) (ap lane_outcome (sym e) ∙ n)
-        exact_at p false not_left true among is = let no : is_marked held0 p ≡ true = sym (ap (λ b. b || is_marked held0 p) not_left) ∙ is in absurd (cc (no, unknown p among))
-        exact_at p false not_left false outside_sel is =
-            let was : is_marked held0 p ≡ true = sym (ap (λ b. b || is_marked held0 p) not_left) ∙ is in
-            let same : at_place numbers p ≡ at_place numbers0 p = come.others p outside_sel in
-            ap (λ z. lane_number (lane_value kind z)) same ∙ ap lane_number (sym (scalar_value kind vectors (at_place numbers0 p) scalar)) ∙ lane.exact scalar p was ∙ sym same
-
-    -- and the key was evaluated
-    pub evaluated_after : (stops more : List Stopped) → HasValues kind f sel left numbers0 numbers stops more → length numbers ≡ length numbers0 → count_by (λ b. b) tried ≡ count_by (λ b. b) tried0 + count_by (λ p. not (is_marked tried0 p)) sel
-        → IsEvaluated f sel left before after stops more
-    evaluated_after stops more come long newly = record {
-      same = record { kind = refl; room = long };
-      count = refl;
-      left_in = come.left_in;
-      tried = tried_at;
-      held = held_at;
-      values = λ p h. come.values p h ∙ ap Gives (sym (scalar_value kind vectors (at_place numbers p) scalar));
-      kept = λ p h was. ap (value_for kind vectors) (come.others p h);
-      newly = newly;
-      joined = come.joined;
-    }
+same_given : {y z : ℤ} → ◌≡◌ {A = Outcome ℕ ℤ} (Gives y) (Gives z) → y ≡ z
+same_given e = cc e
 
 -- what came to a value was selected
-pub in_given : (f : ℕ → Outcome ℕ Value) (sel left seen : List ℕ) → seen ≡ left → left ≡ filter (λ p. is_given (f p)) sel → (p : ℕ) → is_in p seen ≡ true → is_in p sel ≡ true
-in_given f sel left seen same left_in p h = filtered_in (λ p. is_given (f p)) p sel (subst (λ (l : List ℕ). is_in p l ≡ true) (same ∙ left_in) h)
+pub given_among : (f : ℕ → Outcome ℕ Value) (sel left : List ℕ) → left ≡ given_in f sel → (p : ℕ) → is_in p left ≡ true → is_in p sel ≡ true
+given_among f sel left is p h = filtered_in (λ q. is_given (f q)) p sel (subst (λ (l : List ℕ). is_in p l ≡ true) is h)
 
--- what an evaluation wrote, seen as the lane's
-pub come_as : (kind own : ColType) (f : ℕ → Outcome ℕ Value) (sel left : List ℕ) (numbers0 seen numbers : List ℤ) (stops more : List Stopped) → kind ≡ own → numbers0 ≡ seen → HasValues kind f sel left numbers0 numbers stops more
-    → HasValues own f sel left seen numbers stops more
-come_as kind own f sel left numbers0 seen numbers stops more same_kind same_numbers come =
-    subst (λ (k : ColType). HasValues k f sel left seen numbers stops more) same_kind (subst (λ (l : List ℤ). HasValues kind f sel left l numbers stops more) same_numbers come)
+abbrev lane_of : ColType → ℕ → List ℤ → List (List ℤ) → List Bool → List Bool → LaneView
+lane_of k count numbers vectors tried held = record { kind = k; count = count; numbers = numbers; vectors = vectors; tried = tried; held = held }
+
+module _
+    {k : ColType} {count : ℕ} {numbers0 : List ℤ} {vectors0 : List (List ℤ)} {tried0 held0 : List Bool} {v : LaneView} (view_is : lane_of k count numbers0 vectors0 tried0 held0 ≡ v)
+    (lane : IsLane (lane_of k count numbers0 vectors0 tried0 held0))
+    {sel : List ℕ} (inside : EachPlace sel (λ p. p < v.count)) (unknown : EachPlace sel (λ p. is_held v p ≡ false)) (tried : List Bool) (tried_at : (p : ℕ) → is_marked tried p ≡ (is_in p sel || is_marked tried0 p))
+    (long_tried : length tried ≡ length tried0)
+    {numbers : List ℤ} {vectors : List (List ℤ)} (w : AreWritten sel numbers0 numbers vectors0 vectors)
+  where
+    not_selected : (p : ℕ) → is_marked held0 p ≡ true → is_in p sel ≡ false
+    not_selected p was = never_true (is_in p sel) (λ i. cc (was, ap (λ (l : LaneView). is_held l p) view_is, unknown p i))
+
+    -- what was held is held as it was
+    kept_value : (p : ℕ) → is_marked held0 p ≡ true → value_for k vectors (at_place numbers p) ≡ value_for k vectors0 (at_place numbers0 p)
+    kept_value p was = ap (value_for k vectors) (w.others p (not_selected p was)) ∙ value_more k vectors0 vectors (at_place numbers0 p) w.kept (lane.there p was)
+
+    kept_there : (p : ℕ) → is_marked held0 p ≡ true → HasNumbered k vectors (at_place numbers p)
+    kept_there p was = subst (HasNumbered k vectors) (sym (w.others p (not_selected p was))) (there_more k vectors0 vectors (at_place numbers0 p) w.kept (lane.there p was))
+
+    kept_exact : is_vector k ≡ false → (p : ℕ) → is_marked held0 p ≡ true → lane_number (value_for k vectors (at_place numbers p)) ≡ at_place numbers p
+    kept_exact scalar p was = ap lane_number (kept_value p was) ∙ lane.exact scalar p was ∙ sym (w.others p (not_selected p was))
+
+    behind : (p : ℕ) → count ≤ p → is_marked tried p ≡ false
+    behind p far =
+        let same : count ≡ v.count = ap (λ (l : LaneView). l.count) view_is in
+        tried_at p ∙ or_fails (is_in p sel) (is_marked tried0 p) (never_true (is_in p sel) (λ i. let near : p < v.count = inside p i in absurd (omega (arith, near, far, same)))) (lane.behind p far)
+
+    was_not : (p : ℕ) → is_marked tried p ≡ false → is_marked held0 p ≡ false
+    was_not p none = lane.begun p (right_false (is_in p sel) (is_marked tried0 p) (sym (tried_at p) ∙ none))
+
+    begun_at : (held : List Bool) → count_by (λ b. b) tried ≡ count_by (λ b. b) tried0 + count_by (λ p. not (is_marked tried0 p)) sel
+        → IsBegunAt sel (lane_of k count numbers0 vectors0 tried0 held0) (lane_of k count numbers vectors tried held)
+    begun_at held newly = record { same = record { kind = refl; room = w.long }; count = refl; tried = tried_at; newly = newly }
+
+    -- memory was wanted
+    pub lane_begun : IsLane (lane_of k count numbers vectors tried held0)
+    lane_begun = record {
+      small = omega (arith, lane.small, w.long);
+      tried = long_tried ∙ lane.tried ∙ sym w.long;
+      held = lane.held ∙ sym w.long;
+      within = omega (arith, lane.within, w.long);
+      behind = behind;
+      begun = was_not;
+      exact = kept_exact;
+      there = kept_there;
+    }
+
+    pub begun_after : count_by (λ b. b) tried ≡ count_by (λ b. b) tried0 + count_by (λ p. not (is_marked tried0 p)) sel → IsBegun sel v (lane_of k count numbers vectors tried held0)
+    begun_after newly = subst (λ (l : LaneView). IsBegun sel l (lane_of k count numbers vectors tried held0)) view_is (record { begun = begun_at held0 newly; held = λ p. refl; kept = kept_value })
+
+    -- all places came to something
+    module _
+        {f : ℕ → Outcome ℕ Value} {left : List ℕ} (left_is : left ≡ given_in f sel) (held : List Bool) (held_at : (p : ℕ) → is_marked held p ≡ (is_in p left || is_marked held0 p)) (long_held : length held ≡ length held0)
+        (value : EachPlace left (λ p. HasNumber v.kind (f p) vectors (at_place numbers p)))
+      where
+        number : (p : ℕ) → is_in p left ≡ true → HasNumber k (f p) vectors (at_place numbers p)
+        number p h = subst (λ (x : ColType). HasNumber x (f p) vectors (at_place numbers p)) (sym (ap (λ (l : LaneView). l.kind) view_is)) (value p h)
+
+        was_held : (p : ℕ) → is_in p left ≡ false → is_marked held p ≡ true → is_marked held0 p ≡ true
+        was_held p out is = ap (λ b. b || is_marked held0 p) (sym out) ∙ sym (held_at p) ∙ is
+
+        exact_at : is_vector k ≡ false → (p : ℕ) → is_marked held p ≡ true → (b : Bool) → is_in p left ≡ b → lane_number (value_for k vectors (at_place numbers p)) ≡ at_place numbers p
+        exact_at scalar p is true h = let n = number p h in ap lane_number (read_back k vectors n.value (at_place numbers p) n.fits n.numbered) ∙ number_read k vectors n.value (at_place numbers p) scalar n.fits n.numbered
+        exact_at scalar p is false h = kept_exact scalar p (was_held p h is)
+
+        there_at : (p : ℕ) → is_marked held p ≡ true → (b : Bool) → is_in p left ≡ b → HasNumbered k vectors (at_place numbers p)
+        there_at p is true h = let n = number p h in is_there k vectors n.value (at_place numbers p) n.fits n.numbered
+        there_at p is false h = kept_there p (was_held p h is)
+
+        pub lane_after : IsLane (lane_of k count numbers vectors tried held)
+        lane_after = record {
+          small = lane_begun.small;
+          tried = lane_begun.tried;
+          held = long_held ∙ lane_begun.held;
+          within = lane_begun.within;
+          behind = behind;
+          begun = λ p none.
+              held_at p ∙ or_fails (is_in p left) (is_marked held0 p) (ap (λ l. is_in p l) left_is ∙ filtered_out (λ q. is_given (f q)) p sel (left_false (is_in p sel) (is_marked tried0 p) (sym (tried_at p) ∙ none))) (was_not p none);
+          exact = λ scalar p is. exact_at scalar p is (is_in p left) refl;
+          there = λ p is. there_at p is (is_in p left) refl;
+        }
+
+        pub evaluated_after : {stops more : List Stopped} → IsJoined stops (stops_in f sel) more → count_by (λ b. b) tried ≡ count_by (λ b. b) tried0 + count_by (λ p. not (is_marked tried0 p)) sel
+            → IsEvaluated f sel left v (lane_of k count numbers vectors tried held) stops more
+        evaluated_after {stops = stops} {more = more} joined newly =
+            subst (λ (l : LaneView). IsEvaluated f sel left l (lane_of k count numbers vectors tried held) stops more) view_is
+            (record {
+              begun = begun_at held newly;
+              left_in = left_is;
+              held = held_at;
+              values = λ p h. let n = number p h in n.gives ∙ ap Gives (sym (read_back k vectors n.value (at_place numbers p) n.fits n.numbered));
+              kept = λ p out was. kept_value p was;
+              joined = joined;
+            })
+
+-- ---- at all places at once
+
+scalar_number : (k : ColType) (f : ℕ → Outcome ℕ Value) (p : ℕ) (vectors : List (List ℤ)) (z : ℤ) → is_vector k ≡ false → f p ≡ Gives (lane_value k z) → lane_outcome (f p) ≡ Gives z → HasNumber k (f p) vectors z
+scalar_number kinds.Int f p vectors z scalar gives exact = record { value = lane_value kinds.Int z; gives = gives; fits = tt; numbered = refl }
+scalar_number kinds.Bool f p vectors z scalar gives exact = record { value = lane_value kinds.Bool z; gives = gives; fits = tt; numbered = sym (same_given (ap lane_outcome (sym gives) ∙ exact)) }
+scalar_number kinds.Vect f p vectors z scalar gives exact = cc scalar
+
+module _ {k : ColType} {f : ℕ → Outcome ℕ Value} {sel left : List ℕ} {numbers0 numbers : List ℤ} {stops more : List Stopped} (come : HasValues k f sel left numbers0 numbers stops more) (vectors : List (List ℤ)) where
+  pub scalar_written : length numbers ≡ length numbers0 → AreWritten sel numbers0 numbers vectors vectors
+  scalar_written long = record { long = long; others = come.others; kept = kept_all vectors vectors refl }
+
+  pub scalar_values : {own : ColType} → k ≡ own → is_vector own ≡ false → EachPlace left (λ p. HasNumber own (f p) vectors (at_place numbers p))
+  scalar_values same scalar p h = subst (λ (x : ColType). HasNumber x (f p) vectors (at_place numbers p)) same (scalar_number k f p vectors (at_place numbers p) (ap is_vector same ∙ scalar) (come.values p h) (come.exact p h))
+
+-- ---- at one place after another
+
+module _
+    {k : ColType} {f : ℕ → Outcome ℕ Value} {sel : List ℕ} {numbers : List ℤ} {vectors : List (List ℤ)} {marks : List Bool} {stops more : List Stopped} (come : HaveCome k f sel numbers vectors marks stops more)
+  where
+    pub each_value : {own : ColType} → k ≡ own → {left : List ℕ} → left ≡ given_in f sel → EachPlace left (λ p. HasNumber own (f p) vectors (at_place numbers p))
+    each_value same is p h =
+        let given = subst (λ (l : List ℕ). is_in p l ≡ true) is h in
+        subst (λ (x : ColType). HasNumber x (f p) vectors (at_place numbers p)) same (come.values p (filtered_in (λ q. is_given (f q)) p sel given) (filter_passes sel (λ q. is_given (f q)) p given))
+
+    pub each_joined : IsJoined stops (stops_in f sel) more
+    each_joined t = ap (times t) come.stopped ∙ times_append t stops (stops_in f sel)
 
 -- ---- a block that begins
 

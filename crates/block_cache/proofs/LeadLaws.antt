@@ -1,12 +1,11 @@
 -- What an evaluation reads first is met in every entry, and a site may be filled behind it.
 use Rattle.std.proofs.Common.{if◌then◌else◌, ◌≡◌, ◌<◌, ◌≤◌, ◌+◌, ◌⊎◌, inl, inr, ℕ, ℤ, Bool, true, false, List, [], ◌∷◌, length, Option, Some, None, refl, sym, ◌∙◌, ap, subst, arith, cond, nat_eq, nat_lt, slice_get}
-use Rattle.std.specs.Prelude.{option_map}
 use Rattle.std.specs.List.{filter}
 use Rattle.std.proofs.lemmas.Bool.{lt-ltb, ltb-true}
 use Rattle.std.proofs.lemmas.Bool.Decides.{Decides-eqb}
 use Rattle.rdf_values.specs.Functions.{fn_names}
 use Rattle.rdf_values.specs.Path.{history}
-use Rattle.rdf_values.specs.Tree.{NumTree, Tree, Trees, Lit, Truth, Col, Neg, Not, Bin, Cond, Pick, Call, End, More}
+use Rattle.rdf_values.specs.Tree.{Tree, Trees, Lit, Truth, Col, Neg, Not, Bin, Cond, Pick, Call, End, More}
 use Rattle.rdf_values.specs.declared.expr.BinOp.{BinOp}
 use Rattle.rdf_values.specs.declared.expr.BinOp.TheVariants as op
 use Rattle.rdf_values.specs.declared.value.ColType.{ColType}
@@ -14,10 +13,11 @@ use Rattle.rdf_values.specs.declared.value.Value.{Value}
 use Rattle.rdf_values.specs.declared.value.Value.TheVariants as val
 use Rattle.rdf_model.specs.Evaluation.{Outcome, Gives, Faults, Needs, ◌>>=◌, evaluate, evaluate_all, operation, call_outcome, is_need, without}
 use Rattle.rdf_model.specs.Results.{fault_in}
+use Rattle.expr_check.specs.NumKinds.{CheckedExpr}
 use Rattle.expr_lanes.specs.Places.{AreRising, EachPlace, IsSelected, is_in}
 use Rattle.graph_numbers.proofs.Equations.{columns_below}
 use Rattle.graph_numbers.proofs.Extending.{versions_count}
-use Rattle.graph_numbers.specs.Graphs.{graph_sites, graph_under, graph_versions}
+use Rattle.graph_numbers.specs.Graphs.{IsSiteExpr, graph_sites, graph_under, graph_versions}
 use Rattle.graph_numbers.specs.Sites.{SiteAt}
 use Rattle.graph_numbers.specs.Sources.{IsBelow}
 use Rattle.graph_numbers.specs.Versions.{version_count}
@@ -27,21 +27,24 @@ use Rattle.block_cache.specs.Lanes.{LaneView}
 use Rattle.loop_keys.specs.Jobs.{JobView, IsJob, job_graph}
 use Rattle.loop_keys.specs.Keys.{key, key_count, place_of}
 use Rattle.loop_keys.specs.Plain.{ArePlain}
-use Rattle.loop_keys.specs.Store.{IsSiteOf, IsSourceIn, MeetsAt, site_in, source_at, version_in}
+use Rattle.loop_keys.specs.Store.{IsSiteOf, MeetsAt, site_in, source_at, version_in}
 use Rattle.loop_keys.specs.declared.rows.Place.TheVariants as stands
 use Rattle.loop_keys.proofs.EvaluateLaws.{accepted_of}
-use Rattle.loop_keys.proofs.FillLaws.{in_source}
 use Rattle.loop_keys.proofs.RowLaws.{key_small}
-use Rattle.block_cache.specs.Fills.{CanFill, IsFilledOver, IsGrownOver, IsRankedBelow, IsSameAt, IsSpentOver, below_fault, fault_over, is_below, site_fault}
-use Rattle.block_cache.specs.Leads.{IsFilledTo, IsLead, first_read, first_read_in}
+use Rattle.block_cache.specs.Fills.{CanFill, IsFilledTo, IsGrownOver, IsRankedBelow, IsSameAt, IsSpentOver, below_fault, holds_at, is_below, site_fault}
+use Rattle.block_cache.specs.ForSites.{CanFillFor, IsFilledFor, IsLeadFor, IsSpentFor, own_key}
+use Rattle.block_cache.specs.Leads.{first_read, first_read_in}
+use Rattle.block_cache.specs.OverBlocks.{AreReadyOver, block_graph, block_job, key_over}
 use Rattle.block_cache.specs.Turns.{IsFaultOf, found_or}
 use Rattle.block_cache.specs.declared.faults.PlaceFault.{PlaceFault}
-use Rattle.block_cache.proofs.CanFills.{falls_by_number, met_each, met_used, ranked}
+use Rattle.block_cache.specs.declared.wanted.Wanted.{Wanted}
+use Rattle.block_cache.proofs.CanFills.{can_below, falls_by_number, met_each, met_used, ranked}
+use Rattle.block_cache.proofs.CanTries.{site_tree}
 use Rattle.block_cache.proofs.GrownLaws.{grown_below, grown_on}
 use Rattle.block_cache.proofs.Knowns.{held_no_fault}
-use Rattle.block_cache.proofs.Members.{below_among, below_in, below_low, below_short, fault_first, over_first}
+use Rattle.block_cache.proofs.Members.{below_among, below_in, below_low, below_selected, fault_first, no_fault_over, over_first}
 use Rattle.block_cache.proofs.MetFaults.{met_fault}
-use Rattle.block_cache.proofs.UnderwayLaws.{below_both, below_found, faults_of}
+use Rattle.block_cache.proofs.UnderwayLaws.{below_both, below_found, fault_lift, fault_or, faults_of}
 
 -- ---- where what is read stands
 
@@ -115,55 +118,33 @@ met_first j entry u s x c at reads = (x, at, first_needs (without nat_eq c (vers
     gone : is_need (without nat_eq c (version_in {M = ℕ} j entry u) c) ≡ true
     gone = ap (λ b. is_need {M = ℕ} (if b then Needs c else version_in {M = ℕ} j entry u c)) ((Decides-eqb c c).1 refl)
 
--- by the tree of a site's expression
-pub lead_is : (j : JobView) (u : Option ℕ) (s t : ℕ) (o : Option SiteAt) (tree : NumTree) (c : ℕ) → slice_get (graph_sites (job_graph j)) s ≡ o → option_map (λ (x : SiteAt). x.tree) o ≡ Some tree → Some c ≡ first_read tree → IsSiteOf t (source_at j u c) → IsLead j u s t
-lead_is j u s t None tree c at is reads source = cc is
-lead_is j u s t (Some x) tree c at is reads source = record {
-  version = c;
-  source = source;
-  met = λ entry. met_first j entry u s x c at (let same : x.tree ≡ tree = cc is in ap first_read same ∙ sym reads);
-}
+-- by a site's expression
+pub met_by : {V : Type 0} {D : V → Type 0} {g : _} (w : Wanted V D g) {e : CheckedExpr} (c : ℕ) → IsSiteExpr (block_graph w.block.now) w.site e → Some c ≡ first_read e.tree → (entry : ℕ)
+    → MeetsAt (block_job w.block.now) entry w.block.now.at.now.under w.site c
+met_by w c its reads entry =
+    let x = site_tree its in
+    met_first (block_job w.block.now) entry w.block.now.at.now.under w.site x.0 c x.1 (ap first_read x.2 ∙ sym reads)
 
 -- the version is there
-pub read_there : (j : JobView) → IsJob j → (u : Option ℕ) (s : ℕ) (o : Option SiteAt) (tree : NumTree) (c : ℕ) → slice_get (graph_sites (job_graph j)) s ≡ o → option_map (λ (x : SiteAt). x.tree) o ≡ Some tree → Some c ≡ first_read tree → c < length (graph_versions (job_graph j))
-unfolding met_first
-read_there j job u s None tree c at is reads = cc is
-read_there j job u s (Some x) tree c at is reads =
-    let met = met_first j 0 u s x c at (let same : x.tree ≡ tree = cc is in ap first_read same ∙ sym reads) in
+pub met_there : {V : Type 0} {D : V → Type 0} {g : _} (w : Wanted V D g) (c entry : ℕ) → MeetsAt (block_job w.block.now) entry w.block.now.at.now.under w.site c → c < length (graph_versions (block_graph w.block.now))
+met_there w c entry met =
+    let j = block_job w.block.now in
+    let job = w.block.now.fits.job in
+    let u = w.block.now.at.now.under in
     subst (λ (n : ℕ). c < n) (sym (versions_count j.dataset.columns (fn_names j.dataset.fns) (history j.script)))
-    (met_each j job 0 u s c (λ d. (d < version_count j.dataset.columns (history j.script)) × IsBelow (length j.dataset.columns) s (source_at j u d)) met
-    (columns_below j.dataset.fns j.dataset.columns (graph_under (job_graph j) u) (history j.script) (accepted_of j job) s x at)).0
+    (met_each j job entry u w.site c (λ d. (d < version_count j.dataset.columns (history j.script)) × IsBelow (length j.dataset.columns) w.site (source_at j u d)) met
+    (columns_below j.dataset.fns j.dataset.columns (graph_under (job_graph j) u) (history j.script) (accepted_of j job) w.site met.0 met.1)).0
 
--- ---- the site that is filled before
+-- ---- a site that is held at each selected place needs no filling
 
-module _ (j : JobView) (job : IsJob j) (u : Option ℕ) (s t : ℕ) (lead : IsLead j u s t) where
-  -- it is a lower one
-  pub lead_lower : t < s
-  lead_lower =
-      let met = lead.met 0 in
-      ranked (λ n. n) s t (source_at j u lead.version) lead.source (met_each j job 0 u s lead.version (λ d. IsRankedBelow (λ n. n) s (source_at j u d)) met (falls_by_number j job u s met.0 met.1))
-
-  pub lead_key : s < length (graph_sites (job_graph j)) → key (job_graph j) t u < key_count (job_graph j)
-  lead_key inside = let low = lead_lower in key_small (job_graph j) t u (omega (arith, low, inside))
-
-  -- it can be filled where the site can
-  pub can_lead : (first count : ℕ) (kinds : List ColType) (cells : List (List ℤ)) (scratch levels : ℕ) → CanFill j first u count kinds cells scratch levels s → CanFill j first u count kinds cells scratch levels t
-  can_lead first count kinds cells scratch levels can = record {
-    used = can.used;
-    has = (let met = lead.met first in in_source can.used t (source_at j u lead.version) lead.source (met_each j job first u s lead.version (λ d. IsSourceIn can.used (source_at j u d)) met (can.each s met.0 can.has met.1).closed));
-    kinds_are = can.kinds_are;
-    rank = can.rank;
-    each = can.each;
-    room =
-        (let met = lead.met first in
-        let falls = met_each j job first u s lead.version (λ d. IsRankedBelow can.rank (can.rank s) (source_at j u d)) met (can.each s met.0 can.has met.1).falls in
-        let lower = ranked can.rank (can.rank s) t (source_at j u lead.version) lead.source falls in
-        let room = can.room in
-        omega (arith, lower, room));
-  }
-
-  pub lead_used : (used : ℕ → Bool) → ArePlain j used → used s ≡ true → used t ≡ true
-  lead_used used plain has = met_used j job 0 u s lead.version t used plain has (lead.met 0) lead.source
+pub held_filled : {V : Type 0} {D : V → Type 0} {g : _} (w : Wanted V D g) {sel : List ℕ} {lanes : List LaneView} → AreReadyOver w.block.now lanes → IsSelected w.block.now.count sel []
+    → EachPlace sel (λ p. holds_at lanes (own_key w) p ≡ true) → IsFilledFor w sel sel lanes None
+held_filled w {sel = sel} {lanes = lanes} ready selected holds = record {
+  fault = sym (no_fault_over sel _ (λ p i. held_no_fault (block_job w.block.now) w.block.now.at.now.entry w.block.now.at.now.under w.block.now.count w.site w.there lanes ready p (selected.inside p i) (holds p i)));
+  left_is = refl;
+  held = holds;
+  ready = ready;
+}
 
 -- more places may be named
 wider : (j : JobView) (first : ℕ) (u : Option ℕ) (s : ℕ) (group sel : List ℕ) (a b : List LaneView) → EachPlace group (λ p. is_in p sel ≡ true) → IsGrownOver j first u s group a b → IsGrownOver j first u s sel a b
@@ -185,82 +166,100 @@ lower_filter : (xs : List ℕ) (m n : ℕ) → m ≤ n → filter (λ q. nat_lt 
 lower_filter [] m n le = refl
 lower_filter (x ∷ xs) m n le = lower_here x xs m n le (lower_filter xs m n le) (nat_lt x n) refl (nat_lt x m) refl
 
-module _ (j : JobView) (job : IsJob j) (first : ℕ) (u : Option ℕ) (count s t : ℕ) (inside : s < length (graph_sites (job_graph j))) (lead : IsLead j u s t) (sel : List ℕ) (before mid : List LaneView) (start between : ℕ) (spent : IsSpentOver j first u t sel before mid start between) where
-  -- the lead was filled, or memory was wanted for it
-  pub led_begun : IsSpentOver j first u s sel before mid start between
-  led_begun = record {
-    grown = grown_below j first u s sel before mid sel t (lead_lower j job u s t lead) (λ p i. i) (λ p i. (lead.version, lead.met (first + p), lead.source)) spent.grown;
-    cost = spent.cost;
-  }
+-- ---- the site that is filled before
 
-  module _ (left : List ℕ) (under : Option PlaceFault) (filled : IsFilledTo j first u count t sel left mid under) where
-    left_in : EachPlace left (λ p. is_in p sel ≡ true)
-    left_in p i = below_among under sel p (subst (λ (l : List ℕ). is_in p l ≡ true) filled.left_is i)
+module _ {V : Type 0} {D : V → Type 0} {g : _} (w : Wanted V D g) (t : ℕ) (lead : IsLeadFor w t) where
+  abbrev j : JobView
+  j = block_job w.block.now
 
-    pub led_selected : IsSelected count sel [] → IsSelected count left []
-    led_selected selected = record {
-      small = selected.small;
-      inside = λ p i. selected.inside p (left_in p i);
-      room = (let e = ap (λ (l : List ℕ). length l) filled.left_is in let b = below_short under sel in let r = selected.room in omega (arith, e, b, r));
+  abbrev job : IsJob j
+  job = w.block.now.fits.job
+
+  abbrev first : ℕ
+  first = w.block.now.at.now.entry
+
+  abbrev u : Option ℕ
+  u = w.block.now.at.now.under
+
+  abbrev count : ℕ
+  count = w.block.now.count
+
+  abbrev s : ℕ
+  s = w.site
+
+  -- it is a lower one
+  pub lead_lower : t < s
+  lead_lower =
+      let met = lead.met 0 in
+      ranked (λ n. n) s t (source_at j u lead.version) lead.source (met_each j job 0 u s lead.version (λ d. IsRankedBelow (λ n. n) s (source_at j u d)) met (falls_by_number j job u s met.0 met.1))
+
+  pub lead_key : key_over w.block.now t < key_count (job_graph j)
+  lead_key = let low = lead_lower in key_small (job_graph j) t u (omega (arith, low, w.there))
+
+  -- it can be filled where the site can
+  pub can_lead : {kinds : List ColType} {scratch levels : ℕ} → CanFillFor w kinds scratch levels → CanFill j first u count kinds w.block.now.cells.now scratch levels t
+  can_lead {levels = levels} can = can_below j job lead.version t 0 levels can (lead.met (first + 0)) lead.source (omega arith)
+
+  pub lead_used : (used : ℕ → Bool) → ArePlain j used → used s ≡ true → used t ≡ true
+  lead_used used plain has = met_used j job 0 u s lead.version t used plain has (lead.met 0) lead.source
+
+  module _ {sel : List ℕ} {before mid : List LaneView} {start between : ℕ} (spent : IsSpentOver j first u t sel before mid start between) where
+    -- the lead was filled, or memory was wanted for it
+    pub led_begun : IsSpentFor w sel before mid start between
+    led_begun = record {
+      grown = grown_below j first u s sel before mid sel t lead_lower (λ p i. i) (λ p i. (lead.version, lead.met (first + p), lead.source)) spent.grown;
+      cost = spent.cost;
     }
 
-    -- a fault of the lead is the site's
-    under_own : (o : Option PlaceFault) → IsFaultOf (site_fault j first u t) sel o → IsFaultOf (site_fault j first u s) sel o
-    under_own None h = tt
-    under_own (Some x) h =
-        (h.0, ap fault_in (met_fault j job (first + x.place) u s lead.version t x.kind (lead.met (first + x.place)) lead.source (faults_of (site_in j (first + x.place) u t) x.kind h.1)))
+    module _ {left : List ℕ} {under : Option PlaceFault} (filled : IsFilledTo j first u count t sel left mid under) where
+      left_in : EachPlace left (λ p. is_in p sel ≡ true)
+      left_in p i = below_among under sel p (rw filled.left_is at i)
 
-    module _ (after : List LaneView) (end : ℕ) (spent' : IsSpentOver j first u s left mid after between end) where
-      pub led_spent : IsSpentOver j first u s sel before after start end
-      led_spent = record {
-        grown = grown_on j first u s sel before mid after led_begun.grown (wider j first u s left sel mid after left_in spent'.grown);
-        cost = (let a = spent.cost in let b = spent'.cost in omega (arith, a, b));
-      }
+      pub led_selected : IsSelected count sel [] → IsSelected count left []
+      led_selected selected = below_selected under selected filled.left_is
 
-      module _ (rising : AreRising sel) (selected : IsSelected count sel []) (last : List ℕ) (found : Option PlaceFault) (filled' : IsFilledOver j first u count s left last mid after found between end) where
-        found_is : IsFaultOf (site_fault j first u s) sel found
-        found_is = go found filled'.fault
-          where
-            lift : (o : Option PlaceFault) → IsFaultOf (site_fault j first u s) left o → IsFaultOf (site_fault j first u s) sel o
-            lift None h = tt
-            lift (Some x) h = (left_in x.place h.0, h.1)
+      -- a fault of the lead is the site's
+      under_own : (o : Option PlaceFault) → IsFaultOf (site_fault j first u t) sel o → IsFaultOf (site_fault j first u s) sel o
+      under_own None h = tt
+      under_own (Some x) h =
+          (h.0, ap fault_in (met_fault j job (first + x.place) u s lead.version t x.kind (lead.met (first + x.place)) lead.source (faults_of (site_in j (first + x.place) u t) x.kind h.1)))
 
-            go : (o : Option PlaceFault) → o ≡ fault_over (site_fault j first u s) left → IsFaultOf (site_fault j first u s) sel o
-            go o e = lift o (subst (λ (p : Option PlaceFault). IsFaultOf (site_fault j first u s) left p) (sym e) (over_first left (site_fault j first u s)))
-
-        both : (o p : Option PlaceFault) → IsFaultOf (site_fault j first u s) sel o → IsFaultOf (site_fault j first u s) sel p → IsFaultOf (site_fault j first u s) sel (found_or o p)
-        both None p h i = i
-        both (Some x) p h i = h
-
-        under_is : IsFaultOf (site_fault j first u t) sel under
-        under_is = subst (λ (p : Option PlaceFault). IsFaultOf (site_fault j first u t) sel p) (sym filled.fault) (over_first sel (site_fault j first u t))
-
-        left_low : EachPlace left (λ q. is_below under q ≡ true)
-        left_low p i = below_low under sel p (subst (λ (l : List ℕ). is_in p l ≡ true) filled.left_is i)
-
-        in_last : (p : ℕ) → is_in p sel ≡ true → is_below (found_or found under) p ≡ true → is_in p last ≡ true
-        in_last p i low = subst (λ (l : List ℕ). is_in p l ≡ true) (sym filled'.left_is) (below_in found left p in_left (below_found found under p low))
-          where
-            in_left : is_in p left ≡ true
-            in_left = subst (λ (l : List ℕ). is_in p l ≡ true) (sym filled.left_is) (below_in under sel p i (below_both (site_fault j first u s) left found under p left_low found_left low))
-              where
-                found_left : IsFaultOf (site_fault j first u s) left found
-                found_left = subst (λ (p : Option PlaceFault). IsFaultOf (site_fault j first u s) left p) (sym filled'.fault) (over_first left (site_fault j first u s))
-
-        lefts : (o : Option PlaceFault) → IsFaultOf (site_fault j first u s) left o → below_fault o left ≡ below_fault (found_or o under) sel
-        lefts None h = filled.left_is
-        lefts (Some x) h = ap (filter (λ q. nat_lt q x.place)) filled.left_is ∙ go under (left_low x.place h.0)
-          where
-            go : (o : Option PlaceFault) → is_below o x.place ≡ true → filter (λ q. nat_lt q x.place) (below_fault o sel) ≡ filter (λ q. nat_lt q x.place) sel
-            go None e = refl
-            go (Some y) e = let l = ltb-true x.place y.place e in lower_filter sel x.place y.place (omega (arith, l))
-
-        pub led_filled : IsFilledTo j first u count s sel last after (found_or found under)
-        led_filled = record {
-          fault =
-              fault_first (found_or found under) sel (site_fault j first u s) rising (both found under found_is (under_own under under_is))
-              (λ p i low. held_no_fault j first u count s inside after filled'.ready p (selected.inside p i) (filled'.held p (in_last p i low)));
-          left_is = filled'.left_is ∙ lefts found (subst (λ (p : Option PlaceFault). IsFaultOf (site_fault j first u s) left p) (sym filled'.fault) (over_first left (site_fault j first u s)));
-          held = filled'.held;
-          ready = filled'.ready;
+      module _ {after : List LaneView} {end : ℕ} (spent' : IsSpentFor w left mid after between end) where
+        pub led_spent : IsSpentFor w sel before after start end
+        led_spent = record {
+          grown = grown_on j first u s sel before mid after led_begun.grown (wider j first u s left sel mid after left_in spent'.grown);
+          cost = (let a = spent.cost in let b = spent'.cost in omega (arith, a, b));
         }
+
+        module _ (rising : AreRising sel) (selected : IsSelected count sel []) {last : List ℕ} {found : Option PlaceFault} (filled' : IsFilledFor w left last after found) where
+          found_left : IsFaultOf (site_fault j first u s) left found
+          found_left = rw filled'.fault (over_first left (site_fault j first u s))
+
+          under_is : IsFaultOf (site_fault j first u s) sel under
+          under_is = under_own under (rw filled.fault (over_first sel (site_fault j first u t)))
+
+          left_low : EachPlace left (λ q. is_below under q ≡ true)
+          left_low p i = below_low under sel p (rw filled.left_is at i)
+
+          in_last : (p : ℕ) → is_in p sel ≡ true → is_below (found_or found under) p ≡ true → is_in p last ≡ true
+          in_last p i low =
+              let in_left = below_in under sel p i (below_both (site_fault j first u s) left found under p left_low found_left low) in
+              rw filled'.left_is (below_in found left p (rw filled.left_is in_left) (below_found found under p low))
+
+          lefts : (o : Option PlaceFault) → IsFaultOf (site_fault j first u s) left o → below_fault o left ≡ below_fault (found_or o under) sel
+          lefts None h = filled.left_is
+          lefts (Some x) h = ap (filter (λ q. nat_lt q x.place)) filled.left_is ∙ go under (left_low x.place h.0)
+            where
+              go : (o : Option PlaceFault) → is_below o x.place ≡ true → filter (λ q. nat_lt q x.place) (below_fault o sel) ≡ filter (λ q. nat_lt q x.place) sel
+              go None e = refl
+              go (Some y) e = let l = ltb-true x.place y.place e in lower_filter sel x.place y.place (omega (arith, l))
+
+          pub led_filled : IsFilledFor w sel last after (found_or found under)
+          led_filled = record {
+            fault =
+                fault_first (found_or found under) sel (site_fault j first u s) rising (fault_or (site_fault j first u s) sel found under (fault_lift (site_fault j first u s) left sel found left_in found_left) under_is)
+                (λ p i low. held_no_fault j first u count s w.there after filled'.ready p (selected.inside p i) (filled'.held p (in_last p i low)));
+            left_is = filled'.left_is ∙ lefts found found_left;
+            held = filled'.held;
+            ready = filled'.ready;
+          }

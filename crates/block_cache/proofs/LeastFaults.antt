@@ -1,18 +1,15 @@
 -- The least fault so far, one stop after another.
-use Rattle.std.proofs.Common.{◌≡◌, ◌<◌, ◌≤◌, ◌+◌, ◌++◌, ℕ, Bool, true, false, List, [], ◌∷◌, length, take, get_or, Option, Some, None, All, refl, sym, subst, arith, if◌then◌else◌}
+use Rattle.std.proofs.Common.{◌≡◌, ◌<◌, ◌≤◌, ◌+◌, ◌++◌, ℕ, Bool, true, false, List, [], ◌∷◌, length, take, get_or, Option, Some, None, refl, sym, subst, arith, if◌then◌else◌}
 use Rattle.std.specs.Prelude.{nat_le}
 use Rattle.std.proofs.lemmas.Bool.{leb-true, leb-false}
 use Rattle.std.proofs.lemmas.List.{take_more}
-use Rattle.std.proofs.lemmas.List.Elements.{All-from_all_within, AllWithin-push, AllWithin-from_all, Contains-append_left, Contains-push}
+use Rattle.std.proofs.lemmas.List.Elements.{All-push, Contains-append_left, Contains-push}
 use Rattle.expr_eval.specs.declared.stop.ScalarStop.{ScalarStop}
 use Rattle.expr_eval.specs.declared.stop.ScalarStop.TheVariants.{Fault, Need}
 use Rattle.expr_lanes.specs.Places.{stopped}
 use Rattle.expr_lanes.specs.declared.stopped.Stopped.{Stopped}
 use Rattle.block_cache.specs.declared.faults.PlaceFault.{PlaceFault}
 use Rattle.block_cache.specs.Faults.{IsLeastFault, IsNotBelow, fault_at, fault_of, lesser_fault}
-
-all_more : (P : Stopped → Type 0) (xs : List Stopped) (s : Stopped) → All P xs → P s → All P (xs ++ s ∷ [])
-all_more P xs s each here = All-from_all_within P (xs ++ s ∷ []) (AllWithin-push P xs s (AllWithin-from_all P xs each) here)
 
 no_fault : (p : ℕ) (s : Stopped) → fault_of s.stop ≡ None → IsNotBelow p s
 no_fault p s none k h = absurd (cc (none, h))
@@ -21,22 +18,22 @@ lower : (p q : ℕ) → p ≤ q → (s : Stopped) → IsNotBelow q s → IsNotBe
 lower p q le s h k is = let above : q ≤ s.place = h k is in omega arith
 
 pub least_more : (xs : List Stopped) (least : Option PlaceFault) (p : ℕ) (stop : ScalarStop) → IsLeastFault xs least → IsLeastFault (xs ++ stopped p stop ∷ []) (lesser_fault least p stop)
-least_more xs None p (Need c) h = all_more (λ s. fault_of s.stop ≡ None) xs (stopped p (Need c)) h refl
-least_more xs (Some f) p (Need c) h = (Contains-append_left xs (stopped p (Need c) ∷ []) (stopped f.place (Fault f.kind)) h.0, all_more (IsNotBelow f.place) xs (stopped p (Need c)) h.1 (no_fault f.place (stopped p (Need c)) refl))
+least_more xs None p (Need c) h = All-push (λ s. fault_of s.stop ≡ None) xs (stopped p (Need c)) h refl
+least_more xs (Some f) p (Need c) h = (Contains-append_left xs (stopped p (Need c) ∷ []) (stopped f.place (Fault f.kind)) h.0, All-push (IsNotBelow f.place) xs (stopped p (Need c)) h.1 (no_fault f.place (stopped p (Need c)) refl))
 least_more xs None p (Fault k) h = (
   Contains-push xs (stopped p (Fault k)),
-  all_more (IsNotBelow p) xs (stopped p (Fault k)) (λ i d inside. no_fault p (get_or xs i d) (h i d inside)) (λ e is. omega arith),
+  All-push (IsNotBelow p) xs (stopped p (Fault k)) (λ i d inside. no_fault p (get_or xs i d) (h i d inside)) (λ e is. omega arith),
 )
 least_more xs (Some f) p (Fault k) h = by (nat_le f.place p) refl
   where
     by : (b : Bool) → nat_le f.place p ≡ b → IsLeastFault (xs ++ stopped p (Fault k) ∷ []) (if b then Some f else Some (fault_at p k))
     by true le = (
       Contains-append_left xs (stopped p (Fault k) ∷ []) (stopped f.place (Fault f.kind)) h.0,
-      all_more (IsNotBelow f.place) xs (stopped p (Fault k)) h.1 (λ e is. leb-true f.place p le),
+      All-push (IsNotBelow f.place) xs (stopped p (Fault k)) h.1 (λ e is. leb-true f.place p le),
     )
     by false gt = (
       Contains-push xs (stopped p (Fault k)),
-      all_more (IsNotBelow p) xs (stopped p (Fault k)) (λ i d inside. lower p f.place (let above : p < f.place = leb-false f.place p gt in omega arith) (get_or xs i d) (h.1 i d inside)) (λ e is. omega arith),
+      All-push (IsNotBelow p) xs (stopped p (Fault k)) (λ i d inside. lower p f.place (let above : p < f.place = leb-false f.place p gt in omega arith) (get_or xs i d) (h.1 i d inside)) (λ e is. omega arith),
     )
 
 pub least_next : (stops : List Stopped) (i : ℕ) (d : Stopped) (least : Option PlaceFault) → i < length stops → IsLeastFault (take i stops) least → IsLeastFault (take (i + 1) stops) (lesser_fault least (get_or stops i d).place (get_or stops i d).stop)

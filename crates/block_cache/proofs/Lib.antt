@@ -1,12 +1,10 @@
 pub mod Answering
 pub mod Attempts
+pub mod BegunLanes
 pub mod BlockLaws
-pub mod BrokenOff
 pub mod CanFills
 pub mod CanTries
-pub mod EachLanes
 pub mod EachPlaces
-pub mod Fulls
 pub mod GrownLaws
 pub mod Knowns
 pub mod LaneLists

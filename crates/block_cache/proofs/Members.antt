@@ -5,8 +5,9 @@ use Rattle.std.specs.List.{filter}
 use Rattle.std.proofs.lemmas.Bool.{lt-ltb}
 use Rattle.std.proofs.lemmas.Bool.Decides.{Decides-eqb}
 use Rattle.std.proofs.lemmas.List.Sums.{length-filter, count_by-le-length}
+use Rattle.lemmas.proofs.Booleans.{not_true}
 use Rattle.rdf_values.specs.declared.fault.EntryFault.{EntryFault}
-use Rattle.expr_lanes.specs.Places.{AreRising, EachPlace, is_in}
+use Rattle.expr_lanes.specs.Places.{AreRising, EachPlace, IsSelected, is_in}
 use Rattle.expr_lanes.proofs.Sequence.{filtered_in, first_in, rest_in}
 use Rattle.block_cache.specs.Faults.{fault_at}
 use Rattle.block_cache.specs.Fills.{below_fault, fault_before, fault_over, is_below}
@@ -40,13 +41,6 @@ filter_passes (q ∷ xs) f p among = passes_kept f p q (filter f xs) (f q) refl 
 pub filter_short : (f : ℕ → Bool) (xs : List ℕ) → length (filter f xs) ≤ length xs
 filter_short f xs = omega (arith, length-filter f xs, count_by-le-length f xs)
 
-same_kept : (b c : Bool) (p : ℕ) (xs ys : List ℕ) → b ≡ c → xs ≡ ys → cond b (p ∷ xs) xs ≡ cond c (p ∷ ys) ys
-same_kept b c p xs ys e f = λ i. cond (e i) (p ∷ f i) (f i)
-
-pub filter_same : (sel : List ℕ) (f g : ℕ → Bool) → EachPlace sel (λ p. f p ≡ g p) → filter f sel ≡ filter g sel
-filter_same [] f g each = refl
-filter_same (p ∷ sel) f g each = same_kept (f p) (g p) p (filter f sel) (filter g sel) (each p (first_in p sel)) (filter_same sel f g (λ q i. each q (rest_in q p sel i)))
-
 pub twice_not : (b : Bool) → not (not b) ≡ b
 twice_not true = refl
 twice_not false = refl
@@ -68,6 +62,38 @@ below_low (Some f) sel p h = filter_passes sel (λ q. nat_lt q f.place) p h
 pub below_short : (fault : Option PlaceFault) (sel : List ℕ) → length (below_fault fault sel) ≤ length sel
 below_short None sel = omega arith
 below_short (Some f) sel = filter_short (λ q. nat_lt q f.place) sel
+
+-- what a test or a fault leaves of a selection
+pub filter_selected : {count : ℕ} (f : ℕ → Bool) {sel left : List ℕ} → IsSelected count sel [] → left ≡ filter f sel → IsSelected count left []
+filter_selected f {sel = sel} selected is = record {
+  small = selected.small;
+  inside = λ p i. selected.inside p (filtered_in f p sel (rw is at i));
+  room = (let e = ap (λ (l : List ℕ). length l) is in omega (arith, selected.room, e, filter_short f sel));
+}
+
+pub below_selected : {count : ℕ} (fault : Option PlaceFault) {sel left : List ℕ} → IsSelected count sel [] → left ≡ below_fault fault sel → IsSelected count left []
+below_selected None selected is = rw is selected
+below_selected (Some f) selected is = filter_selected (λ q. nat_lt q f.place) selected is
+
+-- the places that are open: those below the fault at which the test fails
+module _ (holds : ℕ → Bool) (fault : Option PlaceFault) (was : List ℕ) {now : List ℕ} (is : now ≡ below_fault fault (filter (λ p. not (holds p)) was)) where
+  kept : EachPlace now (λ p. is_in p (filter (λ q. not (holds q)) was) ≡ true)
+  kept p i = below_among fault (filter (λ q. not (holds q)) was) p (rw is at i)
+
+  pub open_among : EachPlace now (λ p. is_in p was ≡ true)
+  open_among p i = filtered_in (λ q. not (holds q)) p was (kept p i)
+
+  pub open_low : EachPlace now (λ p. is_below fault p ≡ true)
+  open_low p i = below_low fault (filter (λ q. not (holds q)) was) p (rw is at i)
+
+  pub open_lacks : EachPlace now (λ p. holds p ≡ false)
+  open_lacks p i = not_true (holds p) (filter_passes was (λ q. not (holds q)) p (kept p i))
+
+  pub open_rest : (p : ℕ) → is_in p was ≡ true → is_below fault p ≡ true → holds p ≡ false → is_in p now ≡ true
+  open_rest p i low none = rw is (below_in fault (filter (λ q. not (holds q)) was) p (filter_in was (λ q. not (holds q)) p i (ap not none)) low)
+
+  pub open_few : length now ≤ length was
+  open_few = let e = ap (λ (l : List ℕ). length l) is in omega (arith, e, below_short fault (filter (λ q. not (holds q)) was), filter_short (λ q. not (holds q)) was)
 
 -- ---- the first fault
 

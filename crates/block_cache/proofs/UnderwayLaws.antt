@@ -5,6 +5,7 @@ use Rattle.std.specs.List.{filter}
 use Rattle.std.proofs.lemmas.Bool.{cases_lt, lt-ltb, ltb-true}
 use Rattle.std.proofs.lemmas.Bool.Decides.{Decides-eqb}
 use Rattle.std.proofs.lemmas.List.Sums.{length-filter, sum_by-cons}
+use Rattle.lemmas.proofs.Answers.{same_some}
 use Rattle.lemmas.proofs.Booleans.{not_true}
 use Rattle.rdf_values.specs.declared.fault.EntryFault.{EntryFault}
 use Rattle.rdf_values.specs.declared.memory.Memory.{Memory}
@@ -13,7 +14,6 @@ use Rattle.rdf_model.specs.Evaluation.{Outcome, Gives, Faults, Needs}
 use Rattle.rdf_model.specs.Results.{fault_in}
 use Rattle.expr_lanes.specs.Places.{AreRising, EachPlace, IsSelected, is_in}
 use Rattle.expr_lanes.proofs.Sequence.{filtered_in, first_in, rest_in}
-use Rattle.graph_numbers.specs.Graphs.{graph_sites}
 use Rattle.graph_numbers.specs.declared.source.Source.{Source}
 use Rattle.graph_numbers.specs.declared.source.Source.TheVariants as from
 use Rattle.block_cache.specs.Lanes.{LaneView}
@@ -21,21 +21,20 @@ use Rattle.block_cache.proofs.LaneSteps.{filter_none}
 use Rattle.loop_keys.specs.Jobs.{JobView, IsJob, job_graph}
 use Rattle.loop_keys.specs.Keys.{key, key_count}
 use Rattle.loop_keys.specs.Store.{IsSiteOf, MeetsAt, site_in, source_at}
-use Rattle.block_cache.specs.Blocks.{AreReady}
-use Rattle.block_cache.specs.Fills.{IsFilledOver, IsGrownOver, IsSameAt, IsSettled, IsSpentOver, below_fault, begun_at, holds_at, is_below, site_fault}
-use Rattle.block_cache.specs.Turns.{IsAttemptedOver, IsBrokenOff, IsFaultOf, IsResumedOver, IsSettledTo, IsUnderway, IsWaiting, found_or, left_to_begin, need_at}
+use Rattle.block_cache.specs.Fills.{IsGrownOver, IsPaidOver, IsSameAt, IsSettled, IsSpentOver, below_fault, begun_at, holds_at, is_below, site_fault}
+use Rattle.block_cache.specs.ForSites.{IsAttemptedFor, IsBrokenOffFor, IsPaidFor, IsResumedFor, IsSettledFor, IsSpentFor, IsUnderwayFor, own_key}
+use Rattle.block_cache.specs.OverBlocks.{AreReadyOver, block_job}
+use Rattle.block_cache.specs.Turns.{IsFaultOf, IsSettledTo, IsWaiting, found_or, left_to_begin, need_at}
 use Rattle.block_cache.specs.declared.faults.PlaceFault.{PlaceFault}
+use Rattle.block_cache.specs.declared.wanted.Wanted.{Wanted}
 use Rattle.block_cache.proofs.Attempts.{key_lower}
 use Rattle.block_cache.proofs.GrownLaws.{grown_below, grown_on, later_keys, other_places, settled_all}
 use Rattle.block_cache.proofs.Knowns.{held_no_fault, lacks_before, same_holds, same_on}
 use Rattle.block_cache.proofs.LeftToBegin.{less_left}
-use Rattle.block_cache.proofs.Members.{below_among, below_in, below_low, below_short, fault_first, filter_in, filter_passes, filter_short, over_first}
+use Rattle.block_cache.proofs.Members.{below_among, below_in, below_low, below_selected, below_short, fault_first, filter_in, filter_passes, filter_selected, filter_short, open_among, open_few, open_lacks, open_low, open_rest, over_first}
 use Rattle.block_cache.proofs.MetFaults.{met_fault}
 
 -- ---- small things
-
-true_not : (b : Bool) → b ≡ false → not b ≡ true
-true_not b h = ap not h
 
 pub count_all : (ps : List ℕ) (f : ℕ → Bool) → EachPlace ps (λ p. f p ≡ true) → count_by f ps ≡ length ps
 count_all [] f each = refl
@@ -72,7 +71,7 @@ below_both f group (Some x) (Some y) p low h below =
 
 pub faults_of : (o : Outcome ⊥ Value) (k : EntryFault) → fault_in o ≡ Some k → o ≡ Faults k
 faults_of (Gives v) k h = cc h
-faults_of (Faults f) k h = let same : f ≡ k = (let i : ◌≡◌ {A = Option EntryFault} (Some f) (Some k) = h in cc i) in ap Faults same
+faults_of (Faults f) k h = ap Faults (same_some h)
 faults_of (Needs m) k h = elim m [ ]
 
 or_none : (found : Option PlaceFault) → found_or found None ≡ found
@@ -88,51 +87,62 @@ none_open [] p none h = cc h
 none_open (q ∷ ps) p none h = absurd (omega (arith, none))
 
 -- seen from the turn before
-pub resumed_as : (j : JobView) (first : ℕ) (u : Option ℕ) (count s : ℕ) (fault seen : Option PlaceFault) (group was_open seen_open : List ℕ) (before after : List LaneView) (needs seen_needs more now_open : List ℕ) (least : Option PlaceFault) → IsResumedOver j first u count s fault group was_open before after needs more now_open least
-    → fault ≡ seen → was_open ≡ seen_open → needs ≡ seen_needs → IsResumedOver j first u count s seen group seen_open before after seen_needs more now_open least
-resumed_as j first u count s fault seen group was_open seen_open before after needs seen_needs more now_open least r same_fault same_open same_needs =
-    subst (λ (o : Option PlaceFault). IsResumedOver j first u count s o group seen_open before after seen_needs more now_open least) same_fault
-    (subst (λ (l : List ℕ). IsResumedOver j first u count s fault group l before after seen_needs more now_open least) same_open (subst (λ (l : List ℕ). IsResumedOver j first u count s fault group was_open before after l more now_open least) same_needs r))
+pub resumed_as : {V : Type 0} {D : V → Type 0} {g : _} (w : Wanted V D g) {fault seen : Option PlaceFault} {group was_open seen_open : List ℕ} {before after : List LaneView} {needs seen_needs more now_open : List ℕ}
+    {least : Option PlaceFault} → IsResumedFor w fault group was_open before after needs more now_open least
+    → fault ≡ seen → was_open ≡ seen_open → needs ≡ seen_needs → IsResumedFor w seen group seen_open before after seen_needs more now_open least
+resumed_as w r same_fault same_open same_needs = rw (sym same_fault, sym same_open, sym same_needs) r
 
-module _ (j : JobView) (job : IsJob j) (first : ℕ) (u : Option ℕ) (count s : ℕ) (inside : s < length (graph_sites (job_graph j))) where
+module _ {V : Type 0} {D : V → Type 0} {g : _} (w : Wanted V D g) where
+  abbrev j : JobView
+  j = block_job w.block.now
+
+  abbrev job : IsJob j
+  job = w.block.now.fits.job
+
+  abbrev first : ℕ
+  first = w.block.now.at.now.entry
+
+  abbrev u : Option ℕ
+  u = w.block.now.at.now.under
+
+  abbrev count : ℕ
+  count = w.block.now.count
+
+  abbrev s : ℕ
+  s = w.site
+
   abbrev n : ℕ
   n = key_count (job_graph j)
 
   abbrev own : ℕ
-  own = key (job_graph j) s u
+  own = own_key w
 
   abbrev at : ℕ → ℕ
   at t = key (job_graph j) t u
 
   other_key : (t : ℕ) → t < s → at t ≡ own → ⊥
-  other_key t low e = let l = key_lower (job_graph j) t s u u low inside in absurd (omega (arith, l, e))
+  other_key t low e = let l = key_lower (job_graph j) t s u u low w.there in absurd (omega (arith, l, e))
 
   -- ---- the first evaluation
 
   module _
-      (sel group : List ℕ) (before : List LaneView) (ready : AreReady j first count before) (selected : IsSelected count sel []) (settled : IsSettledTo j u s before sel) (group_is : group ≡ filter (λ p. not (holds_at before (key (job_graph j) s u) p)) sel)
+      {sel group : List ℕ} {before : List LaneView} (ready : AreReadyOver w.block.now before) (selected : IsSelected count sel []) (settled : IsSettledFor w before sel)
+      (group_is : group ≡ filter (λ p. not (holds_at before (own_key w) p)) sel)
     where
       abbrev lacks0 : ℕ → Bool
       lacks0 p = not (holds_at before own p)
 
-      abbrev lacks_in : List LaneView → ℕ → Bool
-      lacks_in now p = not (holds_at now (key (job_graph j) s u) p)
-
       group_in : EachPlace group (λ p. is_in p sel ≡ true)
-      group_in p h = filtered_in lacks0 p sel (subst (λ (l : List ℕ). is_in p l ≡ true) group_is h)
+      group_in p h = filtered_in lacks0 p sel (rw group_is at h)
 
       pub began_lacks : EachPlace group (λ p. holds_at before own p ≡ false)
-      began_lacks p h = not_true (holds_at before own p) (filter_passes sel lacks0 p (subst (λ (l : List ℕ). is_in p l ≡ true) group_is h))
+      began_lacks p h = not_true (holds_at before own p) (filter_passes sel lacks0 p (rw group_is at h))
 
       in_group : (p : ℕ) → is_in p sel ≡ true → holds_at before own p ≡ false → is_in p group ≡ true
-      in_group p i lacks = subst (λ (l : List ℕ). is_in p l ≡ true) (sym group_is) (filter_in sel lacks0 p i (true_not (holds_at before own p) lacks))
+      in_group p i lacks = rw group_is (filter_in sel lacks0 p i (ap not lacks))
 
       pub began_selected : IsSelected count group []
-      began_selected = record {
-        small = selected.small;
-        inside = λ p h. selected.inside p (group_in p h);
-        room = (let e = ap (λ (l : List ℕ). length l) group_is in omega (arith, selected.room, e, filter_short lacks0 sel));
-      }
+      began_selected = filter_selected lacks0 selected group_is
 
       not_begun : EachPlace group (λ p. not (begun_at before own p) ≡ true)
       not_begun p h = go (begun_at before own p) refl
@@ -141,9 +151,9 @@ module _ (j : JobView) (job : IsJob j) (first : ℕ) (u : Option ℕ) (count s :
           go true e = absurd (cc (began_lacks p h, settled p (group_in p h) s (omega arith) e))
           go false e = refl
 
-      pub began : (new : List LaneView) (needs noted lacking : List ℕ) (least : Option PlaceFault) (start now : ℕ) → IsResumedOver j first u count s None group sel before new needs noted lacking least → now ≡ start + length group
-          → IsUnderway j first u count s sel before start new least lacking noted now
-      began new needs noted lacking least start now r cost = record {
+      pub began : {new : List LaneView} {needs noted lacking : List ℕ} {least : Option PlaceFault} {start now : ℕ} → IsResumedFor w None group sel before new needs noted lacking least → now ≡ start + length group
+          → IsUnderwayFor w sel before start new least lacking noted now
+      began {new = new} {least = least} r cost = record {
         grown = grown;
         ready = r.attempted.ready;
         inside = selected.inside;
@@ -151,17 +161,17 @@ module _ (j : JobView) (job : IsJob j) (first : ℕ) (u : Option ℕ) (count s :
         settled = λ p i low t lower begun.
             let same = r.attempted.same (at t) p (inl (other_key t lower)) in
             same_holds n before new (at t) p same ∙ settled p i t (omega (arith, lower)) (sym same.0 ∙ begun);
-        fault_is = subst (λ (o : Option PlaceFault). IsFaultOf (site_fault j first u s) sel o) (sym r.least_is) (fault_or (site_fault j first u s) sel r.found None (fault_lift (site_fault j first u s) group sel r.found group_in r.attempted.found_is) tt);
+        fault_is = rw r.least_is (fault_or (site_fault j first u s) sel r.found None (fault_lift (site_fault j first u s) group sel r.found group_in r.attempted.found_is) tt);
         begun = λ p i lacks. r.attempted.begun p (in_group p i lacks);
-        among = λ p h. filtered_in (lacks_in new) p sel (below_among least (filter (lacks_in new) sel) p (seen p h));
-        low = λ p h. below_low least (filter (lacks_in new) sel) p (seen p h);
-        lacks = λ p h. lacking_lacks p h;
+        among = open_among (holds_at new own) _ _ r.open_is;
+        low = open_low (holds_at new own) _ _ r.open_is;
+        lacks = open_lacks (holds_at new own) _ _ r.open_is;
         waits = λ p h.
-            let i = filtered_in (lacks_in new) p sel (below_among least (filter (lacks_in new) sel) p (seen p h)) in
-            let low = below_low least (filter (lacks_in new) sel) p (seen p h) in
-            r.attempted.waits p (in_group p i (lacks_before n before new own p (grown.grows p) (lacking_lacks p h))) (lacking_lacks p h) (below_found r.found None p (subst (λ (o : Option PlaceFault). is_below o p ≡ true) r.least_is low));
-        rest = λ p i low lacks. subst (λ (l : List ℕ). is_in p l ≡ true) (sym r.open_is) (below_in least (filter (lacks_in new) sel) p (filter_in sel (lacks_in new) p i (true_not (holds_at new own p) lacks)) low);
-        few = (let e = ap (λ (l : List ℕ). length l) r.open_is in let a = below_short least (filter (lacks_in new) sel) in let b = filter_short (lacks_in new) sel in let m = selected.room in omega (arith, e, a, b, m));
+            let lacks = open_lacks (holds_at new own) _ _ r.open_is p h in
+            let here = in_group p (open_among (holds_at new own) _ _ r.open_is p h) (lacks_before n before new own p (grown.grows p) lacks) in
+            r.attempted.waits p here lacks (let low = open_low (holds_at new own) least _ r.open_is p h in below_found r.found None p (rw r.least_is at low));
+        rest = open_rest (holds_at new own) _ _ r.open_is;
+        few = (let m = selected.room in omega (arith, open_few (holds_at new own) _ _ r.open_is, m));
         paid =
             (let many = count_all group (λ p. not (begun_at before own p)) not_begun in
             let size = ap (λ (l : List ℕ). length l) group_is ∙ length-filter lacks0 sel in
@@ -172,19 +182,14 @@ module _ (j : JobView) (job : IsJob j) (first : ℕ) (u : Option ℕ) (count s :
           grown : IsGrownOver j first u s sel before new
           grown = r.attempted.grown sel group_in
 
-          seen : (p : ℕ) → is_in p lacking ≡ true → is_in p (below_fault least (filter (lacks_in new) sel)) ≡ true
-          seen p h = subst (λ (l : List ℕ). is_in p l ≡ true) r.open_is h
-
-          lacking_lacks : (p : ℕ) → is_in p lacking ≡ true → holds_at new own p ≡ false
-          lacking_lacks p h = not_true (holds_at new own p) (filter_passes sel (lacks_in new) p (below_among least (filter (lacks_in new) sel) p (seen p h)))
-
       -- where no place stopped, none is open
-      pub began_whole : (new : List LaneView) (needs noted lacking : List ℕ) (found : Option PlaceFault) → IsAttemptedOver j first u count s group before new needs noted found → EachPlace group (λ p. holds_at new own p ≡ true) → lacking ≡ [] → IsResumedOver j first u count s None group sel before new needs noted lacking found
-      began_whole new needs noted lacking found attempted whole none = record {
+      pub began_whole : {new : List LaneView} {needs noted lacking : List ℕ} {found : Option PlaceFault} → IsAttemptedFor w group before new needs noted found → EachPlace group (λ p. holds_at new own p ≡ true)
+          → lacking ≡ [] → IsResumedFor w None group sel before new needs noted lacking found
+      began_whole {new = new} {found = found} attempted whole none = record {
         found = found;
         attempted = attempted;
         least_is = sym (or_none found);
-        open_is = none ∙ sym (ap (below_fault found) (filter_none (lacks_in new) sel (λ p i. ap not (holds p i))) ∙ none_below found);
+        open_is = none ∙ sym (ap (below_fault found) (filter_none (λ p. not (holds_at new own p)) sel (λ p i. ap not (holds p i))) ∙ none_below found);
       }
         where
           holds : (p : ℕ) → is_in p sel ≡ true → holds_at new own p ≡ true
@@ -195,18 +200,19 @@ module _ (j : JobView) (job : IsJob j) (first : ℕ) (u : Option ℕ) (count s :
               go false e = whole p (in_group p i (lacks_before n before new own p ((attempted.grown sel group_in).grows p) e))
 
       -- else those that lack the value below the fault
-      pub began_rest : (new : List LaneView) (needs noted after was lacking : List ℕ) (found : Option PlaceFault) → IsAttemptedOver j first u count s group before new needs noted found → after ≡ noted → was ≡ sel → lacking ≡ below_fault found (filter (λ p. not (holds_at new (key (job_graph j) s u) p)) was)
-          → IsResumedOver j first u count s None group sel before new needs after lacking found
-      began_rest new needs noted after was lacking found attempted same copied open_is = record {
+      pub began_rest : {new : List LaneView} {needs noted after lacking : List ℕ} {found : Option PlaceFault} → IsAttemptedFor w group before new needs noted found → after ≡ noted
+          → lacking ≡ below_fault found (filter (λ p. not (holds_at new own p)) sel)
+          → IsResumedFor w None group sel before new needs after lacking found
+      began_rest {new = new} {needs = needs} {found = found} attempted same open_is = record {
         found = found;
-        attempted = subst (λ (l : List ℕ). IsAttemptedOver j first u count s group before new needs l found) (sym same) attempted;
+        attempted = subst (λ (l : List ℕ). IsAttemptedFor w group before new needs l found) (sym same) attempted;
         least_is = sym (or_none found);
-        open_is = open_is ∙ ap (λ l. below_fault found (filter (lacks_in new) l)) copied;
+        open_is = open_is;
       }
 
       -- memory was wanted
-      pub began_broken : (new : List LaneView) (start now : ℕ) → IsBrokenOff j first u s group before new start now → IsSpentOver j first u s sel before new start now
-      began_broken new start now b = record {
+      pub began_broken : {new : List LaneView} {start now : ℕ} → IsBrokenOffFor w group before new start now → IsSpentFor w sel before new start now
+      began_broken b = record {
         grown = b.grown sel group_in;
         cost =
             (let many = count_all group (λ p. not (begun_at before own p)) not_begun in
@@ -218,21 +224,22 @@ module _ (j : JobView) (job : IsJob j) (first : ℕ) (u : Option ℕ) (count s :
   -- ---- a turn
 
   module _
-      (sel : List ℕ) (before : List LaneView) (start : ℕ) (lanes : List LaneView) (fault : Option PlaceFault) (open_places needs : List ℕ) (now : ℕ) (h : IsUnderway j first u count s sel before start lanes fault open_places needs now) (group : List ℕ)
-      (c : ℕ) (group_is : group ≡ filter (λ p. nat_eq (need_at needs p) c) open_places) (p0 : ℕ) (first_is : is_in p0 group ≡ true)
+      {sel : List ℕ} {before : List LaneView} {start : ℕ} {lanes : List LaneView} {fault : Option PlaceFault} {open_places needs : List ℕ} {now : ℕ}
+      (h : IsUnderwayFor w sel before start lanes fault open_places needs now)
+      {group : List ℕ} (c : ℕ) (group_is : group ≡ filter (λ p. nat_eq (need_at needs p) c) open_places) (p0 : ℕ) (first_is : is_in p0 group ≡ true)
     where
       abbrev needing : ℕ → Bool
       needing p = nat_eq (need_at needs p) c
 
       group_open : EachPlace group (λ p. is_in p open_places ≡ true)
-      group_open p i = filtered_in needing p open_places (subst (λ (l : List ℕ). is_in p l ≡ true) group_is i)
+      group_open p i = filtered_in needing p open_places (rw group_is at i)
 
       turn_in : EachPlace group (λ p. is_in p sel ≡ true)
       turn_in p i = h.among p (group_open p i)
 
       waiting : EachPlace group (λ p. IsWaiting j first u s lanes p c)
       waiting p i =
-          let same : need_at needs p ≡ c = (Decides-eqb (need_at needs p) c).0 (filter_passes open_places needing p (subst (λ (l : List ℕ). is_in p l ≡ true) group_is i)) in
+          let same : need_at needs p ≡ c = (Decides-eqb (need_at needs p) c).0 (filter_passes open_places needing p (rw group_is at i)) in
           subst (λ (m : ℕ). IsWaiting j first u s lanes p m) same (h.waits p (group_open p i))
 
       pub turn_waits : IsWaiting j first u s lanes p0 c
@@ -247,51 +254,48 @@ module _ (j : JobView) (job : IsJob j) (first : ℕ) (u : Option ℕ) (count s :
 
       module _ (t : ℕ) (site : IsSiteOf t (source_at j u c)) where
         pub turn_lower : t < s
-        turn_lower = let w = turn_waits in subst (λ (m : ℕ). m < s) (same_site w.site t (source_at j u c) w.source site) w.lower
+        turn_lower = let a = turn_waits in subst (λ (m : ℕ). m < s) (same_site a.site t (source_at j u c) a.source site) a.lower
 
         pub turn_settled : IsSettledTo j u t lanes group
         turn_settled p i r le begun = let lower = turn_lower in h.settled p (turn_in p i) (h.low p (group_open p i)) r (omega (arith, le, lower)) begun
 
         lacks_t : EachPlace group (λ p. holds_at lanes (at t) p ≡ false)
-        lacks_t p i = let w = waiting p i in subst (λ (m : ℕ). holds_at lanes (at m) p ≡ false) (same_site w.site t (source_at j u c) w.source site) w.lacks
+        lacks_t p i = let a = waiting p i in subst (λ (m : ℕ). holds_at lanes (at m) p ≡ false) (same_site a.site t (source_at j u c) a.source site) a.lacks
 
         meets_t : EachPlace group (λ p. (c : ℕ) × MeetsAt j (first + p) u s c × IsSiteOf t (source_at j u c))
         meets_t p i = (c, (waiting p i).met, site)
 
         -- memory was wanted below
-        pub turn_spent : (new : List LaneView) (later : ℕ) → IsSpentOver j first u t group lanes new now later → IsSpentOver j first u s sel before new start later
-        turn_spent new later spent = record {
+        pub turn_spent : {new : List LaneView} {later : ℕ} → IsSpentOver j first u t group lanes new now later → IsSpentFor w sel before new start later
+        turn_spent {new = new} spent = record {
           grown = grown_on j first u s sel before lanes new h.grown (grown_below j first u s sel lanes new group t turn_lower turn_in meets_t spent.grown);
           cost = omega (arith, h.paid, spent.cost);
         }
 
         module _
-            (left : List ℕ) (mid : List LaneView) (under : Option PlaceFault) (then' : ℕ) (spent : IsSpentOver j first u t group lanes mid now then') (filled : IsFilledOver j first u count t group left lanes mid under now then')
-            (settles : IsSettledTo j u t mid left) (begins : EachPlace group (λ p. holds_at lanes (key (job_graph j) t u) p ≡ false → begun_at mid (key (job_graph j) t u) p ≡ true))
+            {left : List ℕ} {mid : List LaneView} {under : Option PlaceFault} {then' : ℕ} (spent : IsSpentOver j first u t group lanes mid now then')
+            (filled : IsPaidOver j first u count t group left lanes mid under now then') (settles : IsSettledTo j u t mid left)
+            (begins : EachPlace group (λ p. holds_at lanes (key (job_graph j) t u) p ≡ false → begun_at mid (key (job_graph j) t u) p ≡ true))
           where
             left_group : EachPlace left (λ p. is_in p group ≡ true)
-            left_group p i = below_among under group p (subst (λ (l : List ℕ). is_in p l ≡ true) filled.left_is i)
+            left_group p i = below_among under group p (rw filled.filled.left_is at i)
 
             group_left : (p : ℕ) → is_in p group ≡ true → is_below under p ≡ true → is_in p left ≡ true
-            group_left p i low = subst (λ (l : List ℕ). is_in p l ≡ true) (sym filled.left_is) (below_in under group p i low)
+            group_left p i low = rw filled.filled.left_is (below_in under group p i low)
 
             pub left_selected : IsSelected count left []
-            left_selected = record {
-              small = h.small;
-              inside = λ p i. h.inside p (turn_in p (left_group p i));
-              room = (let e = ap (λ (l : List ℕ). length l) filled.left_is in let b = below_short under group in let r = turn_selected.room in omega (arith, e, b, r));
-            }
+            left_selected = below_selected under turn_selected filled.filled.left_is
 
             pub left_lacks : EachPlace left (λ p. holds_at mid own p ≡ false)
-            left_lacks p i = same_holds n lanes mid own p (later_keys j first u t group lanes mid spent.grown s p turn_lower inside) ∙ h.lacks p (group_open p (left_group p i))
+            left_lacks p i = same_holds n lanes mid own p (later_keys j first u t group lanes mid spent.grown s p turn_lower w.there) ∙ h.lacks p (group_open p (left_group p i))
 
             -- memory was wanted in the site itself
-            pub turn_broken : (new : List LaneView) (last : ℕ) → IsBrokenOff j first u s left mid new then' last → IsSpentOver j first u s sel before new start last
-            turn_broken new last b = record {
+            pub turn_broken : {new : List LaneView} {last : ℕ} → IsBrokenOffFor w left mid new then' last → IsSpentFor w sel before new start last
+            turn_broken {new = new} b = record {
               grown = grown_on j first u s sel before lanes new h.grown (grown_on j first u s sel lanes mid new (grown_below j first u s sel lanes mid group t turn_lower turn_in meets_t spent.grown) (b.grown sel (λ p i. turn_in p (left_group p i))));
               cost =
-                  (let many = count_all group (λ p. not (holds_at lanes (at t) p)) (λ p i. true_not (holds_at lanes (at t) p) (lacks_t p i)) in
-                  let e = ap (λ (l : List ℕ). length l) filled.left_is in
+                  (let many = count_all group (λ p. not (holds_at lanes (at t) p)) (λ p i. ap not (lacks_t p i)) in
+                  let e = ap (λ (l : List ℕ). length l) filled.filled.left_is in
                   let short = below_short under group in
                   let newly = b.newly in
                   let few = b.few in
@@ -301,140 +305,139 @@ module _ (j : JobView) (job : IsJob j) (first : ℕ) (u : Option ℕ) (count s :
             }
 
             under_t : IsFaultOf (site_fault j first u t) group under
-            under_t = subst (λ (o : Option PlaceFault). IsFaultOf (site_fault j first u t) group o) (sym filled.fault) (over_first group (site_fault j first u t))
+            under_t = rw filled.filled.fault (over_first group (site_fault j first u t))
 
             -- the fault below is the site's own
             under_s : (o : Option PlaceFault) → IsFaultOf (site_fault j first u t) group o → IsFaultOf (site_fault j first u s) sel o
             under_s None i = tt
             under_s (Some x) i =
-                let w = waiting x.place i.0 in
-                let faults : site_in {M = ⊥} j (first + x.place) u s ≡ Faults x.kind = met_fault j job (first + x.place) u s c t x.kind w.met site (faults_of (site_in j (first + x.place) u t) x.kind i.1) in
+                let a = waiting x.place i.0 in
+                let faults : site_in {M = ⊥} j (first + x.place) u s ≡ Faults x.kind = met_fault j job (first + x.place) u s c t x.kind a.met site (faults_of (site_in j (first + x.place) u t) x.kind i.1) in
                 (turn_in x.place i.0, ap fault_in faults)
 
-            module _ (new : List LaneView) (noted lacking : List ℕ) (least : Option PlaceFault) (last : ℕ) (r : IsResumedOver j first u count s (found_or under fault) left open_places mid new needs noted lacking least) (cost : last ≡ then' + length left) where
-              abbrev lacks2 : ℕ → Bool
-              lacks2 p = not (holds_at new (key (job_graph j) s u) p)
+            module _
+                {new : List LaneView} {noted lacking : List ℕ} {least : Option PlaceFault} {last : ℕ} (r : IsResumedFor w (found_or under fault) left open_places mid new needs noted lacking least)
+                (cost : last ≡ then' + length left)
+              where
+                left_in : EachPlace left (λ p. is_in p sel ≡ true)
+                left_in p i = turn_in p (left_group p i)
 
-              left_in : EachPlace left (λ p. is_in p sel ≡ true)
-              left_in p i = turn_in p (left_group p i)
+                grown_last : IsGrownOver j first u s sel mid new
+                grown_last = r.attempted.grown sel left_in
 
-              grown_last : IsGrownOver j first u s sel mid new
-              grown_last = r.attempted.grown sel left_in
+                grown_turn : IsGrownOver j first u s sel lanes new
+                grown_turn = grown_on j first u s sel lanes mid new (grown_below j first u s sel lanes mid group t turn_lower turn_in meets_t spent.grown) grown_last
 
-              grown_turn : IsGrownOver j first u s sel lanes new
-              grown_turn = grown_on j first u s sel lanes mid new (grown_below j first u s sel lanes mid group t turn_lower turn_in meets_t spent.grown) grown_last
+                was_open : EachPlace lacking (λ p. is_in p open_places ≡ true)
+                was_open = open_among (holds_at new own) _ _ r.open_is
 
-              seen : (p : ℕ) → is_in p lacking ≡ true → is_in p (below_fault least (filter lacks2 open_places)) ≡ true
-              seen p i = subst (λ (l : List ℕ). is_in p l ≡ true) r.open_is i
+                lacking_low : EachPlace lacking (λ p. is_below least p ≡ true)
+                lacking_low = open_low (holds_at new own) _ _ r.open_is
 
-              was_open : (p : ℕ) → is_in p lacking ≡ true → is_in p open_places ≡ true
-              was_open p i = filtered_in lacks2 p open_places (below_among least (filter lacks2 open_places) p (seen p i))
+                lacking_lacks : EachPlace lacking (λ p. holds_at new own p ≡ false)
+                lacking_lacks = open_lacks (holds_at new own) _ _ r.open_is
 
-              lacking_lacks : (p : ℕ) → is_in p lacking ≡ true → holds_at new own p ≡ false
-              lacking_lacks p i = not_true (holds_at new own p) (filter_passes open_places lacks2 p (below_among least (filter lacks2 open_places) p (seen p i)))
+                -- what is below the least fault is below each
+                below_next : (p : ℕ) → is_below least p ≡ true → is_below (found_or under fault) p ≡ true
+                below_next p low = below_both (site_fault j first u s) left r.found (found_or under fault) p left_low r.attempted.found_is (rw r.least_is at low)
+                  where
+                    left_low : EachPlace left (λ q. is_below (found_or under fault) q ≡ true)
+                    left_low q i = go under (below_low under group q (rw filled.filled.left_is at i))
+                      where
+                        go : (o : Option PlaceFault) → is_below o q ≡ true → is_below (found_or o fault) q ≡ true
+                        go None k = h.low q (group_open q (left_group q i))
+                        go (Some x) k = k
 
-              -- what is below the least fault is below each
-              below_next : (p : ℕ) → is_below least p ≡ true → is_below (found_or under fault) p ≡ true
-              below_next p low = below_both (site_fault j first u s) left r.found (found_or under fault) p left_low r.attempted.found_is (subst (λ (o : Option PlaceFault). is_below o p ≡ true) r.least_is low)
-                where
-                  left_low : EachPlace left (λ q. is_below (found_or under fault) q ≡ true)
-                  left_low q i = go under (below_low under group q (subst (λ (l : List ℕ). is_in q l ≡ true) filled.left_is i))
-                    where
-                      go : (o : Option PlaceFault) → is_below o q ≡ true → is_below (found_or o fault) q ≡ true
-                      go None k = h.low q (group_open q (left_group q i))
-                      go (Some x) k = k
+                below_fault_before : (p : ℕ) → is_below least p ≡ true → is_below fault p ≡ true
+                below_fault_before p low = below_both (site_fault j first u t) group under fault p (λ q i. h.low q (group_open q i)) under_t (below_next p low)
 
-              below_fault_before : (p : ℕ) → is_below least p ≡ true → is_below fault p ≡ true
-              below_fault_before p low = below_both (site_fault j first u t) group under fault p (λ q i. h.low q (group_open q i)) under_t (below_next p low)
+                in_left : (p : ℕ) → is_in p group ≡ true → is_below least p ≡ true → is_in p left ≡ true
+                in_left p i low = group_left p i (below_found under fault p (below_next p low))
 
-              in_left : (p : ℕ) → is_in p group ≡ true → is_below least p ≡ true → is_in p left ≡ true
-              in_left p i low = group_left p i (below_found under fault p (below_next p low))
+                same_there : (k p : ℕ) → is_in p group ≡ false → IsSameAt n lanes new k p
+                same_there k p out = same_on n lanes mid new k p (other_places j first u t group lanes mid spent.grown k p out) (r.attempted.same k p (inr (not_left (is_in p left) refl)))
+                  where
+                    not_left : (b : Bool) → is_in p left ≡ b → b ≡ false
+                    not_left true i = absurd (cc (out, left_group p i))
+                    not_left false i = refl
 
-              same_there : (k p : ℕ) → is_in p group ≡ false → IsSameAt n lanes new k p
-              same_there k p out = same_on n lanes mid new k p (other_places j first u t group lanes mid spent.grown k p out) (r.attempted.same k p (inr (not_left (is_in p left) refl)))
-                where
-                  not_left : (b : Bool) → is_in p left ≡ b → b ≡ false
-                  not_left true i = absurd (cc (out, left_group p i))
-                  not_left false i = refl
+                settled_turn : EachPlace sel (λ p. is_below least p ≡ true → (r : ℕ) → r < s → begun_at new (at r) p ≡ true → holds_at new (at r) p ≡ true)
+                settled_turn p i low q lower begun = go (is_in p group) refl
+                  where
+                    go : (b : Bool) → is_in p group ≡ b → holds_at new (at q) p ≡ true
+                    go false out =
+                        let same = same_there (at q) p out in
+                        same_holds n lanes new (at q) p same ∙ h.settled p i (below_fault_before p low) q lower (sym same.0 ∙ begun)
+                    go true in' =
+                        let same = r.attempted.same (at q) p (inl (other_key q lower)) in
+                        same_holds n mid new (at q) p same ∙ before_last (cases_lt t q) (sym same.0 ∙ begun)
+                      where
+                        before_last : (t < q) ⊎ (q ≤ t) → begun_at mid (at q) p ≡ true → holds_at mid (at q) p ≡ true
+                        before_last (inr le) b = settles p (in_left p in' low) q le b
+                        before_last (inl l) b =
+                            let same = later_keys j first u t group lanes mid spent.grown q p l (omega (arith, lower, w.there)) in
+                            same_holds n lanes mid (at q) p same ∙ h.settled p i (below_fault_before p low) q lower (sym same.0 ∙ b)
 
-              settled_turn : EachPlace sel (λ p. is_below least p ≡ true → (r : ℕ) → r < s → begun_at new (at r) p ≡ true → holds_at new (at r) p ≡ true)
-              settled_turn p i low q lower begun = go (is_in p group) refl
-                where
-                  go : (b : Bool) → is_in p group ≡ b → holds_at new (at q) p ≡ true
-                  go false out =
-                      let same = same_there (at q) p out in
-                      same_holds n lanes new (at q) p same ∙ h.settled p i (below_fault_before p low) q lower (sym same.0 ∙ begun)
-                  go true in' =
-                      let same = r.attempted.same (at q) p (inl (other_key q lower)) in
-                      same_holds n mid new (at q) p same ∙ before_last (cases_lt t q) (sym same.0 ∙ begun)
-                    where
-                      before_last : (t < q) ⊎ (q ≤ t) → begun_at mid (at q) p ≡ true → holds_at mid (at q) p ≡ true
-                      before_last (inr le) b = settles p (in_left p in' low) q le b
-                      before_last (inl l) b =
-                          let same = later_keys j first u t group lanes mid spent.grown q p l (omega (arith, lower, inside)) in
-                          same_holds n lanes mid (at q) p same ∙ h.settled p i (below_fault_before p low) q lower (sym same.0 ∙ b)
+                waits_turn : EachPlace lacking (λ p. IsWaiting j first u s new p (need_at noted p))
+                waits_turn p i = go (is_in p group) refl
+                  where
+                    low : is_below least p ≡ true
+                    low = lacking_low p i
 
-              waits_turn : EachPlace lacking (λ p. IsWaiting j first u s new p (need_at noted p))
-              waits_turn p i = go (is_in p group) refl
-                where
-                  low : is_below least p ≡ true
-                  low = below_low least (filter lacks2 open_places) p (seen p i)
+                    go : (b : Bool) → is_in p group ≡ b → IsWaiting j first u s new p (need_at noted p)
+                    go true in' = r.attempted.waits p (in_left p in' low) (lacking_lacks p i) (below_found r.found (found_or under fault) p (rw r.least_is at low))
+                    go false out = subst (λ (m : ℕ). IsWaiting j first u s new p m) (sym (r.attempted.others p (not_left (is_in p left) refl))) (on (h.waits p (was_open p i)))
+                      where
+                        not_left : (b : Bool) → is_in p left ≡ b → b ≡ false
+                        not_left true k = absurd (cc (out, left_group p k))
+                        not_left false k = refl
 
-                  go : (b : Bool) → is_in p group ≡ b → IsWaiting j first u s new p (need_at noted p)
-                  go true in' = r.attempted.waits p (in_left p in' low) (lacking_lacks p i) (below_found r.found (found_or under fault) p (subst (λ (o : Option PlaceFault). is_below o p ≡ true) r.least_is low))
-                  go false out = subst (λ (m : ℕ). IsWaiting j first u s new p m) (sym (r.attempted.others p (not_left (is_in p left) refl))) (on (h.waits p (was_open p i)))
-                    where
-                      not_left : (b : Bool) → is_in p left ≡ b → b ≡ false
-                      not_left true k = absurd (cc (out, left_group p k))
-                      not_left false k = refl
+                        on : IsWaiting j first u s lanes p (need_at needs p) → IsWaiting j first u s new p (need_at needs p)
+                        on a = record { there = a.there; site = a.site; source = a.source; lower = a.lower; lacks = same_holds n lanes new (at a.site) p (same_there (at a.site) p out) ∙ a.lacks; met = a.met }
 
-                      on : IsWaiting j first u s lanes p (need_at needs p) → IsWaiting j first u s new p (need_at needs p)
-                      on w = record { there = w.there; site = w.site; source = w.source; lower = w.lower; lacks = same_holds n lanes new (at w.site) p (same_there (at w.site) p out) ∙ w.lacks; met = w.met }
+                pub turned : IsUnderwayFor w sel before start new least lacking noted last
+                turned = record {
+                  grown = grown_on j first u s sel before lanes new h.grown grown_turn;
+                  ready = r.attempted.ready;
+                  inside = h.inside;
+                  small = h.small;
+                  settled = settled_turn;
+                  fault_is =
+                      rw r.least_is
+                      (fault_or (site_fault j first u s) sel r.found (found_or under fault) (fault_lift (site_fault j first u s) left sel r.found left_in r.attempted.found_is) (fault_or (site_fault j first u s) sel under fault (under_s under under_t) h.fault_is));
+                  begun = λ p i lacks. grown_turn.stays own p (h.begun p i lacks);
+                  among = λ p i. h.among p (was_open p i);
+                  low = lacking_low;
+                  lacks = lacking_lacks;
+                  waits = waits_turn;
+                  rest = λ p i low lacks. open_rest (holds_at new own) _ _ r.open_is p (h.rest p i (below_fault_before p low) (lacks_before n lanes new own p (grown_turn.grows p) lacks)) low lacks;
+                  few = (let m = h.few in omega (arith, open_few (holds_at new own) _ _ r.open_is, m));
+                  paid =
+                      (let many = count_all group (λ p. not (holds_at lanes (at t) p)) (λ p i. ap not (lacks_t p i)) in
+                      let e = ap (λ (l : List ℕ). length l) filled.filled.left_is in
+                      let b = below_short under group in
+                      let newly = r.attempted.newly in
+                      let paid = filled.paid in
+                      let so_far = h.paid in
+                      omega (arith, cost, many, e, b, newly, paid, so_far));
+                }
 
-              pub turned : IsUnderway j first u count s sel before start new least lacking noted last
-              turned = record {
-                grown = grown_on j first u s sel before lanes new h.grown grown_turn;
-                ready = r.attempted.ready;
-                inside = h.inside;
-                small = h.small;
-                settled = settled_turn;
-                fault_is =
-                    subst (λ (o : Option PlaceFault). IsFaultOf (site_fault j first u s) sel o) (sym r.least_is)
-                    (fault_or (site_fault j first u s) sel r.found (found_or under fault) (fault_lift (site_fault j first u s) left sel r.found left_in r.attempted.found_is) (fault_or (site_fault j first u s) sel under fault (under_s under under_t) h.fault_is));
-                begun = λ p i lacks. grown_turn.stays own p (h.begun p i lacks);
-                among = λ p i. h.among p (was_open p i);
-                low = λ p i. below_low least (filter lacks2 open_places) p (seen p i);
-                lacks = λ p i. lacking_lacks p i;
-                waits = waits_turn;
-                rest = λ p i low lacks.
-                    subst (λ (l : List ℕ). is_in p l ≡ true) (sym r.open_is)
-                    (below_in least (filter lacks2 open_places) p (filter_in open_places lacks2 p (h.rest p i (below_fault_before p low) (lacks_before n lanes new own p (grown_turn.grows p) lacks)) (true_not (holds_at new own p) lacks)) low);
-                few = (let e = ap (λ (l : List ℕ). length l) r.open_is in let a = below_short least (filter lacks2 open_places) in let b = filter_short lacks2 open_places in let m = h.few in omega (arith, e, a, b, m));
-                paid =
-                    (let many = count_all group (λ p. not (holds_at lanes (at t) p)) (λ p i. true_not (holds_at lanes (at t) p) (lacks_t p i)) in
-                    let e = ap (λ (l : List ℕ). length l) filled.left_is in
-                    let b = below_short under group in
-                    let newly = r.attempted.newly in
-                    let paid = filled.paid in
-                    let so_far = h.paid in
-                    omega (arith, cost, many, e, b, newly, paid, so_far));
-              }
-
-              -- something was newly begun
-              pub turned_less : left_to_begin count new < left_to_begin count lanes
-              turned_less = less_left lanes new (at t) p0 count (r.attempted.ready.many ∙ sym h.ready.many) grown_turn.stays (h.inside p0 (turn_in p0 first_is)) not_begun (grown_last.stays (at t) p0 (begins p0 first_is (lacks_t p0 first_is)))
-                where
-                  not_begun : begun_at lanes (at t) p0 ≡ false
-                  not_begun = go (begun_at lanes (at t) p0) refl
-                    where
-                      go : (b : Bool) → begun_at lanes (at t) p0 ≡ b → b ≡ false
-                      go true e = absurd (cc (lacks_t p0 first_is, turn_settled p0 first_is t (omega arith) e))
-                      go false e = refl
+                -- something was newly begun
+                pub turned_less : left_to_begin count new < left_to_begin count lanes
+                turned_less = less_left lanes new (at t) p0 count (r.attempted.ready.many ∙ sym h.ready.many) grown_turn.stays (h.inside p0 (turn_in p0 first_is)) not_begun (grown_last.stays (at t) p0 (begins p0 first_is (lacks_t p0 first_is)))
+                  where
+                    not_begun : begun_at lanes (at t) p0 ≡ false
+                    not_begun = go (begun_at lanes (at t) p0) refl
+                      where
+                        go : (b : Bool) → begun_at lanes (at t) p0 ≡ b → b ≡ false
+                        go true e = absurd (cc (lacks_t p0 first_is, turn_settled p0 first_is t (omega arith) e))
+                        go false e = refl
 
   -- ---- the end
 
   module _
-      (sel : List ℕ) (before : List LaneView) (start : ℕ) (lanes : List LaneView) (fault : Option PlaceFault) (open_places needs : List ℕ) (now : ℕ) (h : IsUnderway j first u count s sel before start lanes fault open_places needs now)
+      {sel : List ℕ} {before : List LaneView} {start : ℕ} {lanes : List LaneView} {fault : Option PlaceFault} {open_places needs : List ℕ} {now : ℕ}
+      (h : IsUnderwayFor w sel before start lanes fault open_places needs now)
     where
       module _ (none : length open_places ≡ 0) where
         all_held : EachPlace sel (λ p. is_below fault p ≡ true → holds_at lanes own p ≡ true)
@@ -444,28 +447,30 @@ module _ (j : JobView) (job : IsJob j) (first : ℕ) (u : Option ℕ) (count s :
             go true e = refl
             go false e = absurd (none_open open_places p none (h.rest p i low e))
 
-        pub ended_filled : (left : List ℕ) → AreRising sel → left ≡ below_fault fault sel → IsFilledOver j first u count s sel left before lanes fault start now
-        ended_filled left rising left_is = record {
-          fault = fault_first fault sel (site_fault j first u s) rising h.fault_is (λ p i low. held_no_fault j first u count s inside lanes h.ready p (h.inside p i) (all_held p i low));
-          left_is = left_is;
-          held = λ p i. let k = subst (λ (l : List ℕ). is_in p l ≡ true) left_is i in all_held p (below_among fault sel p k) (below_low fault sel p k);
-          ready = h.ready;
+        pub ended_filled : {left : List ℕ} → AreRising sel → left ≡ below_fault fault sel → IsPaidFor w sel left before lanes fault start now
+        ended_filled rising left_is = record {
+          filled = record {
+            fault = fault_first fault sel (site_fault j first u s) rising h.fault_is (λ p i low. held_no_fault j first u count s w.there lanes h.ready p (h.inside p i) (all_held p i low));
+            left_is = left_is;
+            held = λ p i. let k = rw left_is at i in all_held p (below_among fault sel p k) (below_low fault sel p k);
+            ready = h.ready;
+          };
           paid = h.paid;
         }
 
-        pub ended_settled : (left : List ℕ) → left ≡ below_fault fault sel → IsSettledTo j u s lanes left
-        ended_settled left left_is p i t le begun = go (cases_lt t s)
+        pub ended_settled : {left : List ℕ} → left ≡ below_fault fault sel → IsSettledFor w lanes left
+        ended_settled left_is p i t le begun = go (cases_lt t s)
           where
             k : is_in p (below_fault fault sel) ≡ true
-            k = subst (λ (l : List ℕ). is_in p l ≡ true) left_is i
+            k = rw left_is at i
 
             go : (t < s) ⊎ (s ≤ t) → holds_at lanes (at t) p ≡ true
             go (inl low) = h.settled p (below_among fault sel p k) (below_low fault sel p k) t low begun
             go (inr high) = let same : s ≡ t = omega (arith, le, high) in subst (λ (m : ℕ). holds_at lanes (at m) p ≡ true) same (all_held p (below_among fault sel p k) (below_low fault sel p k))
 
 -- where all was settled, all is
-pub settled_if : (j : JobView) (first : ℕ) (u : Option ℕ) (count s : ℕ) (sel left : List ℕ) (before after : List LaneView) (start end : ℕ) (r : Result (Option PlaceFault) Memory) → IsSettled before sel → IsSpentOver j first u s sel before after start end → OnOk r (IsSettledTo j u s after left)
-    → IfOk r (λ fault. IsFilledOver j first u count s sel left before after fault start end) → OnOk r (IsSettled after left)
-settled_if j first u count s sel left before after start end (Ok fault) was spent settled filled =
-    settled_all j first u s sel before after spent.grown left (λ p i. below_among fault sel p (subst (λ (l : List ℕ). is_in p l ≡ true) filled.left_is i)) was settled
-settled_if j first u count s sel left before after start end (Err e) was spent settled filled = tt
+pub settled_if : {V : Type 0} {D : V → Type 0} {g : _} (w : Wanted V D g) {sel : List ℕ} (left : List ℕ) {before after : List LaneView} {start end : ℕ} (r : Result (Option PlaceFault) Memory) → IsSettled before sel
+    → IsSpentFor w sel before after start end → OnOk r (IsSettledFor w after left)
+    → IfOk r (λ fault. IsPaidFor w sel left before after fault start end) → OnOk r (IsSettled after left)
+settled_if w left (Ok fault) was spent settled paid = settled_all _ _ _ _ _ _ _ spent.grown _ (λ p i. below_among fault _ p (rw paid.filled.left_is at i)) was settled
+settled_if w left (Err e) was spent settled paid = tt

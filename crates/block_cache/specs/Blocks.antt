@@ -114,22 +114,22 @@ IsTelling j entry u cells s (Gives v) = site_in {M = ⊥} j entry u s ≡ Gives 
 IsTelling j entry u cells s (Faults k) = site_in {M = ⊥} j entry u s ≡ Faults k
 IsTelling j entry u cells s (Needs c) = IsMissing j u cells s c × MeetsAt j entry u s c
 
--- the site's lane after the site was evaluated at the places of a selection, with what was told at each; the other lanes are as they
--- were, and what is held is right
-pub record IsTriedOver (j : JobView) (first : ℕ) (u : Option ℕ) (count s : ℕ) (sel left : List ℕ) (before after : List LaneView) (stops more : List Stopped) : Type 0 where
+-- of all lanes that of the key alone is another
+pub record IsLaneSet (k : ℕ) (before after : List LaneView) : Type 0 where
   pub own : LaneView
-  pub is_own : slice_get before (key (job_graph j) s u) ≡ Some own
+  pub is_own : slice_get before k ≡ Some own
   pub lane : LaneView
-  pub written : after ≡ slice_set before (key (job_graph j) s u) lane
+  pub written : after ≡ slice_set before k lane
+
+-- the site was evaluated at the places of a selection, with what was told at each, and what is held is right
+pub record IsTriedOver (j : JobView) (first : ℕ) (u : Option ℕ) (count s : ℕ) (sel left : List ℕ) (before after : List LaneView) (stops more : List Stopped) : Type 0 where
+  pub at : IsLaneSet (key (job_graph j) s u) before after
   pub told : ℕ → Outcome ℕ Value
   pub telling : (p : ℕ) → p < count → IsTelling j (first + p) u (cells_at (key_count (job_graph j)) (take (key (job_graph j) s u) before) p) s (told p)
-  pub evaluated : IsEvaluated told sel left own lane stops more
+  pub evaluated : IsEvaluated told sel left at.own at.lane stops more
   pub ready : AreReady j first count after
 
--- the site's lane where memory was wanted in the midst of that; the other lanes are as they were
+-- memory was wanted in the midst of that
 pub record IsBegunOver (j : JobView) (u : Option ℕ) (s : ℕ) (sel : List ℕ) (before after : List LaneView) : Type 0 where
-  pub own : LaneView
-  pub is_own : slice_get before (key (job_graph j) s u) ≡ Some own
-  pub lane : LaneView
-  pub written : after ≡ slice_set before (key (job_graph j) s u) lane
-  pub begun : IsBegun sel own lane
+  pub at : IsLaneSet (key (job_graph j) s u) before after
+  pub begun : IsBegun sel at.own at.lane

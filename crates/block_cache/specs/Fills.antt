@@ -135,12 +135,15 @@ pub record IsSpentOver (j : JobView) (first : ℕ) (u : Option ℕ) (s : ℕ) (s
   pub cost : end + 2 * begun_count before ≤ start + 2 * begun_count after
 
 -- the first fault among the places, which are left below it, each with the site's value held
-pub record IsFilledOver (j : JobView) (first : ℕ) (u : Option ℕ) (count s : ℕ) (sel left : List ℕ) (before after : List LaneView) (found : Option PlaceFault) (start end : ℕ) : Type 0 where
+pub record IsFilledTo (j : JobView) (first : ℕ) (u : Option ℕ) (count s : ℕ) (sel left : List ℕ) (after : List LaneView) (found : Option PlaceFault) : Type 0 where
   pub fault : found ≡ fault_over (site_fault j first u s) sel
   pub left_is : left ≡ below_fault found sel
   pub held : EachPlace left (λ p. holds_at after (key (job_graph j) s u) p ≡ true)
   pub ready : AreReady j first count after
-  -- where the site wasn't held, its first evaluation was the last, or is paid by the sites that it lacked
+
+-- and where the site wasn't held, its first evaluation was the last, or is paid by the sites that it lacked
+pub record IsPaidOver (j : JobView) (first : ℕ) (u : Option ℕ) (count s : ℕ) (sel left : List ℕ) (before after : List LaneView) (found : Option PlaceFault) (start end : ℕ) : Type 0 where
+  pub filled : IsFilledTo j first u count s sel left after found
   pub paid : end + 2 * begun_count before + count_by (λ p. not (holds_at before (key (job_graph j) s u) p)) sel ≤ start + 2 * begun_count after
 
 -- the first fault among the places; left are those below it at which the filter is true; and below it all is settled as before

@@ -68,26 +68,27 @@ pub record IsUnknown (size : ℕ) (l : LaneView) : Type 0 where
   pub held : (p : ℕ) → is_held l p ≡ false
   pub none : tried_count l ≡ 0
 
--- the key's evaluation was begun at the places of a selection, and no more came of it: what is held is as it was
-pub record IsBegun (sel : List ℕ) (before after : LaneView) : Type 0 where
+-- the key's evaluation was begun at the places of a selection
+pub record IsBegunAt (sel : List ℕ) (before after : LaneView) : Type 0 where
   pub same : IsSameLane before after
   pub count : after.count ≡ before.count
   pub tried : (p : ℕ) → is_tried after p ≡ (is_in p sel || is_tried before p)
+  pub newly : tried_count after ≡ tried_count before + count_by (λ p. not (is_tried before p)) sel
+
+-- and no more came of it: what is held is as it was
+pub record IsBegun (sel : List ℕ) (before after : LaneView) : Type 0 where
+  pub begun : IsBegunAt sel before after
   pub held : (p : ℕ) → is_held after p ≡ is_held before p
   pub kept : (p : ℕ) → is_held before p ≡ true → value_of after p ≡ value_of before p
-  pub newly : tried_count after ≡ tried_count before + count_by (λ p. not (is_tried before p)) sel
 
 -- the key was evaluated at the places of a selection: the evaluation was begun at each, and those that came to a value hold it; the
 -- others are stops; what was held is as it was
 pub record IsEvaluated (f : ℕ → Outcome ℕ Value) (sel left : List ℕ) (before after : LaneView) (stops more : List Stopped) : Type 0 where
-  pub same : IsSameLane before after
-  pub count : after.count ≡ before.count
+  pub begun : IsBegunAt sel before after
   pub left_in : left ≡ given_in f sel
-  pub tried : (p : ℕ) → is_tried after p ≡ (is_in p sel || is_tried before p)
   pub held : (p : ℕ) → is_held after p ≡ (is_in p left || is_held before p)
   pub values : EachPlace left (λ p. f p ≡ Gives (value_of after p))
   pub kept : (p : ℕ) → is_in p sel ≡ false → is_held before p ≡ true → value_of after p ≡ value_of before p
-  pub newly : tried_count after ≡ tried_count before + count_by (λ p. not (is_tried before p)) sel
   pub joined : IsJoined stops (stops_in f sel) more
 
 -- ---- the lanes of all keys

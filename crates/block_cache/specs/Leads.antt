@@ -1,14 +1,8 @@
 -- What the evaluation of a site reads first.
-use Rattle.std.specs.Prelude.{◌≡◌, ℕ, true, List, Option, None, Some}
+use Rattle.std.specs.Prelude.{ℕ, Option, None, Some}
 use Rattle.rdf_values.specs.Tree.{Tree, Trees, Lit, Truth, Col, Neg, Not, Bin, Cond, Pick, Call, End, More}
-use Rattle.expr_lanes.specs.Places.{EachPlace}
-use Rattle.block_cache.specs.Lanes.{LaneView}
-use Rattle.loop_keys.specs.Jobs.{JobView, job_graph}
-use Rattle.loop_keys.specs.Keys.{key}
+use Rattle.loop_keys.specs.Jobs.{JobView}
 use Rattle.loop_keys.specs.Store.{IsSiteOf, MeetsAt, source_at}
-use Rattle.block_cache.specs.Blocks.{AreReady}
-use Rattle.block_cache.specs.Fills.{below_fault, fault_over, holds_at, site_fault}
-use Rattle.block_cache.specs.declared.faults.PlaceFault.{PlaceFault}
 
 -- a number reads nothing, and what stands behind it is read next
 abbrev pub or_behind : {C F : Type 0} → Tree C F → Option C → Option C → Option C
@@ -37,10 +31,3 @@ pub record IsLead (j : JobView) (u : Option ℕ) (s t : ℕ) : Type 0 where
   pub version : ℕ
   pub source : IsSiteOf t (source_at j u version)
   pub met : (entry : ℕ) → MeetsAt j entry u s version
-
--- the site was filled at the places: the first fault among them, which are left below it, each with the site's value held
-pub record IsFilledTo (j : JobView) (first : ℕ) (u : Option ℕ) (count s : ℕ) (sel left : List ℕ) (after : List LaneView) (found : Option PlaceFault) : Type 0 where
-  pub fault : found ≡ fault_over (site_fault j first u s) sel
-  pub left_is : left ≡ below_fault found sel
-  pub held : EachPlace left (λ p. holds_at after (key (job_graph j) s u) p ≡ true)
-  pub ready : AreReady j first count after

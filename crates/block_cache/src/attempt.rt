@@ -1,14 +1,11 @@
 // One evaluation of a site over a block.
-ghost use Rattle.std.specs.Prelude.{◌≡◌, ◌+◌, ◌++◌, ◌<◌, ◌≤◌, ℕ, true, false, length, slice_get, Some, All, OnOk, OnErr};
-ghost use Rattle.rdf_values.specs.Functions.{fn_names};
-ghost use Rattle.rdf_model.specs.Laws.{FitsOutcome};
-ghost use Rattle.entry_fns.specs.Lists.{functions_in};
-ghost use Rattle.expr_check.specs.NumKinds.{CallsFit, is_plain};
+ghost use Rattle.std.specs.Prelude.{◌≡◌, ◌+◌, ◌++◌, ◌<◌, ◌≤◌, ℕ, true, false, length, slice_get, Some, OnOk, OnErr};
+ghost use Rattle.expr_check.specs.NumKinds.{is_plain};
 ghost use Rattle.expr_lanes.specs.Depths.{depth};
 ghost use Rattle.expr_lanes.specs.Places.{EachPlace, IsSelected};
 ghost use Rattle.block_cache.specs.Lanes.{IsBegun, IsEvaluated, LaneView, is_held};
 ghost use Rattle.block_cache.specs.ForSites.{CanTryFor, IfPlain, IsBegunFor, IsTriedFor, own_key};
-ghost use Rattle.block_cache.specs.OverBlocks.{AreReadyOver, IsReadOver, key_over, look_over, outcome_over};
+ghost use Rattle.block_cache.specs.OverBlocks.{AreReadOver, AreReadyOver, CallsFitOver, FitAt, key_over, outcome_over};
 
 use crate::Lane;
 use crate::able::can_evaluate;
@@ -23,31 +20,6 @@ use loop_keys::reading::{expression, key};
 use rdf_values::Memory;
 use std::sync::ledger::Ledger;
 
-/// Evaluates a site's expression at one selected place after another into the lane of its key.
-#[inline(never)]
-fn each_own<L: Ledger>(
-    values: &SiteValues<'_>,
-    own: &mut Lane,
-    selection: &mut Selection,
-    stops: &mut ArrayVec<Stopped, MAX_PLACES>,
-    steps: &mut Steps<L>,
-) -> Result<(), Memory>
-    requires kind { values.now.expr.now.kind ≡ own.old.kind }
-    requires can { All (λ c. IsReadOver values.now.view.block.now values.now.view.lanes.now c.0) values.now.expr.now.kinds }
-    requires fit { (p : ℕ) → p < values.now.view.block.now.count → All (λ c. FitsOutcome c.1 (look_over values.now.view.block.now values.now.view.lanes.now p c.0)) values.now.expr.now.kinds }
-    requires calls { CallsFit (fn_names (functions_in values.now.view.block.now.at.now.job.now.functions.now)) values.now.expr.now.tree }
-    requires block { values.now.view.block.now.count ≡ own.old.count }
-    requires selected { IsSelected values.now.view.block.now.count selection.old stops.old.items }
-    requires unknown { EachPlace selection.old (λ p. is_held own.old p ≡ false) }
-    ensures evaluated { OnOk result (IsEvaluated (outcome_over values.now.view.block.now values.now.view.lanes.now values.now.expr.now.tree) selection.old selection.new own.old own.new stops.old.items stops.new.items) }
-    ensures begun { OnErr result (IsBegun selection.old own.old own.new) }
-    ensures steps { OnOk result (steps.new ≡ steps.old + length selection.old) }
-    ensures few { steps.new ≤ steps.old + length selection.old }
-    ensures plain { is_plain values.now.expr.now.kinds values.now.expr.now.tree ≡ true → OnErr result ⊥ }
-{
-    own.evaluate_each(values, selection, stops, steps)
-}
-
 /// Evaluates a site's expression at the selected places into the lane of its key: at all places at once where it can be.
 #[inline(always)]
 fn try_own<L: Ledger>(
@@ -59,9 +31,9 @@ fn try_own<L: Ledger>(
     steps: &mut Steps<L>,
 ) -> Result<(), Memory>
     requires kind { values.now.expr.now.kind ≡ own.old.kind }
-    requires can { All (λ c. IsReadOver values.now.view.block.now values.now.view.lanes.now c.0) values.now.expr.now.kinds }
-    requires fit { (p : ℕ) → p < values.now.view.block.now.count → All (λ c. FitsOutcome c.1 (look_over values.now.view.block.now values.now.view.lanes.now p c.0)) values.now.expr.now.kinds }
-    requires calls { CallsFit (fn_names (functions_in values.now.view.block.now.at.now.job.now.functions.now)) values.now.expr.now.tree }
+    requires can { AreReadOver values.now.view.block.now values.now.view.lanes.now values.now.expr.now }
+    requires fit { (p : ℕ) → p < values.now.view.block.now.count → FitAt values.now.view.block.now values.now.view.lanes.now values.now.expr.now p }
+    requires calls { CallsFitOver values.now.view.block.now values.now.expr.now.tree }
     requires deep { depth values.now.expr.now.tree ≤ length scratch.old }
     requires block { values.now.view.block.now.count ≡ own.old.count }
     requires selected { IsSelected values.now.view.block.now.count selection.old stops.old.items }
@@ -73,7 +45,7 @@ fn try_own<L: Ledger>(
     ensures plain { is_plain values.now.expr.now.kinds values.now.expr.now.tree ≡ true → OnErr result ⊥ }
 {
     if !can_evaluate(values.expr, &values.view) {
-        return each_own(values, own, selection, stops, steps);
+        return own.evaluate_each(values, selection, stops, steps);
     }
     let evaluation = Evaluation {
         expr: values.expr,

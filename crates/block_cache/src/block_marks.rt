@@ -5,7 +5,7 @@ ghost use Rattle.expr_lanes.specs.LaneInputs.{is_known, HasMarks};
 ghost use Rattle.expr_lanes.specs.Places.{is_in, is_marked, EachPlace};
 ghost use Rattle.block_cache.specs.BlockMarks.{AreWrittenMarks};
 
-use crate::marks::{are_marked, clear_first, mark};
+use crate::marks::{are_marked, mark};
 use expr_lanes::{Known, Selection};
 use rdf_values::Memory;
 use std::alloc::Global;
@@ -89,13 +89,6 @@ impl BlockMarks {
         self.extent = Extent::Some;
     }
 
-    /// How many places the block has.
-    pub(crate) fn count(&self) -> usize
-        ensures { result ≡ self.now.count }
-    {
-        self.count
-    }
-
     /// Leaves the places selected that aren't marked.
     pub(crate) fn keep_unmarked(&self, selection: &mut Selection)
         requires { EachPlace selection.old (λ p. p < self.now.count) }
@@ -108,17 +101,11 @@ impl BlockMarks {
         }
     }
 
-    /// Whether each place of the block is known to be marked.
-    pub(crate) fn is_full(&self) -> bool
-        ensures { result ≡ true → (p : ℕ) → p < self.now.count → is_marked self.now.marks p ≡ true }
-    {
-        matches!(self.extent, Extent::All)
-    }
-
-    /// Whether each selected place is known to be marked.
+    /// Whether each selected place is marked.
     pub(crate) fn has_all(&self, selection: &Selection) -> bool
         requires { EachPlace selection.now (λ p. p < self.now.count) }
-        ensures { result ≡ true → EachPlace selection.now (λ p. is_marked self.now.marks p ≡ true) }
+        ensures marked { result ≡ true → EachPlace selection.now (λ p. is_marked self.now.marks p ≡ true) }
+        ensures exact { EachPlace selection.now (λ p. is_marked self.now.marks p ≡ true) → result ≡ true }
     {
         match self.extent {
             Extent::All => true,
@@ -155,7 +142,9 @@ fn clear(extent: Extent, count: usize, written: &mut [bool])
     ensures { (p : ℕ) → is_marked written.new p ≡ false }
 {
     if let Extent::Some = extent {
-        clear_first(written, count);
+        for i in 0..count {
+            written[i] = false;
+        }
     }
 }
 

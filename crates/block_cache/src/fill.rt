@@ -7,7 +7,7 @@ ghost use Rattle.block_cache.specs.Lanes.{kinds_of};
 ghost use Rattle.loop_keys.specs.Store.{IsSiteOf};
 ghost use Rattle.block_cache.specs.Fills.{IsSettled, begun_at, below_fault, holds_at};
 ghost use Rattle.block_cache.specs.Turns.{found_or};
-ghost use Rattle.block_cache.specs.ForSites.{CanFillFor, CanTryFor, IfPlain, IsAttemptedFor, IsBrokenOffFor, IsFilledFor, IsResumedFor, IsSettledFor, IsSpentFor, IsUnderwayFor, own_key};
+ghost use Rattle.block_cache.specs.ForSites.{CanFillFor, CanTryFor, IfPlain, IsAttemptedFor, IsBrokenOffFor, IsPaidFor, IsResumedFor, IsSettledFor, IsSpentFor, IsUnderwayFor, own_key};
 ghost use Rattle.block_cache.specs.OverBlocks.{AreReadyOver, block_graph, source_over};
 
 use crate::Lane;
@@ -167,7 +167,7 @@ fn fill_site<L: Ledger>(
     requires selected { IsSelected wanted.now.block.now.count selection.old [] }
     requires settled { IsSettledFor wanted.now lanes.old selection.old }
     ensures spent { IsSpentFor wanted.now selection.old lanes.old lanes.new steps.old steps.new }
-    ensures filled { IfOk result (λ fault. IsFilledFor wanted.now selection.old selection.new lanes.old lanes.new fault steps.old steps.new) }
+    ensures filled { IfOk result (λ fault. IsPaidFor wanted.now selection.old selection.new lanes.old lanes.new fault steps.old steps.new) }
     ensures settled { OnOk result (IsSettledFor wanted.now lanes.new selection.new) }
     ensures begun { OnOk result (EachPlace selection.old (λ p. holds_at lanes.old (own_key wanted.now) p ≡ false → begun_at lanes.new (own_key wanted.now) p ≡ true)) }
     ensures plain { IfPlain wanted.now (OnErr result ⊥) }
@@ -205,13 +205,10 @@ pub fn fill<L: Ledger>(
     requires selected { IsSelected wanted.now.block.now.count selection.old [] }
     requires settled { IsSettled lanes.old selection.old }
     ensures spent { IsSpentFor wanted.now selection.old lanes.old lanes.new steps.old steps.new }
-    ensures filled { IfOk result (λ fault. IsFilledFor wanted.now selection.old selection.new lanes.old lanes.new fault steps.old steps.new) }
+    ensures filled { IfOk result (λ fault. IsPaidFor wanted.now selection.old selection.new lanes.old lanes.new fault steps.old steps.new) }
     ensures settled { OnOk result (IsSettled lanes.new selection.new) }
     ensures plain { IfPlain wanted.now (OnErr result ⊥) }
 {
-    if lanes[key(wanted.block.at, wanted.site)].is_full() {
-        return Ok(None);
-    }
     match levels.split_first_mut() {
         Some(first) => fill_site(wanted, lanes, selection, first, scratch, steps),
         None => unreachable!(),

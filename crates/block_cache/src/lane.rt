@@ -105,17 +105,11 @@ impl Lane {
         self.alloc
     }
 
-    /// Whether each place of the block is known to hold a value.
-    pub fn is_full(&self) -> bool
-        ensures { result ≡ true → (p : ℕ) → p < self.now.count → is_held self.now p ≡ true }
-    {
-        self.held.is_full()
-    }
-
-    /// Whether each selected place is known to hold a value.
+    /// Whether each selected place holds a value.
     pub fn holds_all(&self, selection: &Selection) -> bool
         requires { EachPlace selection.now (λ p. p < self.now.count) }
-        ensures { result ≡ true → EachPlace selection.now (λ p. is_held self.now p ≡ true) }
+        ensures held { result ≡ true → EachPlace selection.now (λ p. is_held self.now p ≡ true) }
+        ensures exact { EachPlace selection.now (λ p. is_held self.now p ≡ true) → result ≡ true }
     {
         self.held.has_all(selection)
     }
@@ -183,6 +177,7 @@ impl Lane {
 
     /// Evaluates the key at one selected place after another, of which nothing is held, in a step each. Where it comes to a value the place stays
     /// selected, and the lane holds the value; each other place becomes a stop. Where memory is wanted, what is held stays.
+    #[inline(never)]
     pub fn evaluate_each<E: PlaceValues, L: Ledger>(
         &mut self,
         evaluation: &E,

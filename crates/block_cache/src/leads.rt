@@ -7,7 +7,7 @@ ghost use Rattle.block_cache.specs.Lanes.{kinds_of};
 ghost use Rattle.loop_keys.specs.Store.{IsSiteOf};
 ghost use Rattle.block_cache.specs.Fills.{IsSettled, holds_at};
 ghost use Rattle.block_cache.specs.Leads.{first_read, first_read_in};
-ghost use Rattle.block_cache.specs.ForSites.{CanFillFor, IfPlain, IsFilledToFor, IsLeadFor, IsSpentFor};
+ghost use Rattle.block_cache.specs.ForSites.{CanFillFor, IfPlain, IsFilledFor, IsLeadFor, IsSpentFor};
 ghost use Rattle.block_cache.specs.OverBlocks.{AreReadyOver, block_graph, key_over, source_over};
 
 use crate::Lane;
@@ -85,7 +85,8 @@ fn is_held(block: &Block<'_>, lanes: &[Lane], key: usize, selection: &Selection)
     requires key { key < length lanes.now }
     requires ready { AreReadyOver block.now lanes.now }
     requires inside { EachPlace selection.now (λ p. p < block.now.count) }
-    ensures { result ≡ true → EachPlace selection.now (λ p. holds_at lanes.now key p ≡ true) }
+    ensures held { result ≡ true → EachPlace selection.now (λ p. holds_at lanes.now key p ≡ true) }
+    ensures exact { EachPlace selection.now (λ p. holds_at lanes.now key p ≡ true) → result ≡ true }
 {
     lanes[key].holds_all(selection)
 }
@@ -119,7 +120,7 @@ pub fn fill_led<L: Ledger>(
     requires selected { IsSelected wanted.now.block.now.count selection.old [] }
     requires settled { IsSettled lanes.old selection.old }
     ensures spent { IsSpentFor wanted.now selection.old lanes.old lanes.new steps.old steps.new }
-    ensures filled { IfOk result (IsFilledToFor wanted.now selection.old selection.new lanes.new) }
+    ensures filled { IfOk result (IsFilledFor wanted.now selection.old selection.new lanes.new) }
     ensures settled { OnOk result (IsSettled lanes.new selection.new) }
     ensures plain { IfPlain wanted.now (OnErr result ⊥) }
 {

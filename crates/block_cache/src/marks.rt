@@ -5,17 +5,6 @@ ghost use Rattle.expr_lanes.specs.Places.{is_in, is_marked, AreRising, EachPlace
 
 use expr_lanes::Selection;
 
-/// Takes the marks of the first places away.
-pub(crate) fn clear_first(marks: &mut [bool], count: usize)
-    requires { count ≤ length marks.old }
-    ensures first { (p : ℕ) → p < count → is_marked marks.new p ≡ false }
-    ensures rest { (p : ℕ) → count ≤ p → is_marked marks.new p ≡ is_marked marks.old p }
-{
-    for i in 0..count {
-        marks[i] = false;
-    }
-}
-
 /// Marks the places of a list.
 fn mark_listed(places: &[u32], marks: &mut [bool])
     requires inside { EachPlace places.now (λ p. p < length marks.old) }
@@ -54,7 +43,8 @@ pub(crate) fn mark(selection: &Selection, marks: &mut [bool])
 /// Whether each selected place is marked.
 pub(crate) fn are_marked(selection: &Selection, marks: &[bool]) -> bool
     requires { EachPlace selection.now (λ p. p < length marks.now) }
-    ensures { result ≡ true → EachPlace selection.now (λ p. is_marked marks.now p ≡ true) }
+    ensures marked { result ≡ true → EachPlace selection.now (λ p. is_marked marks.now p ≡ true) }
+    ensures exact { EachPlace selection.now (λ p. is_marked marks.now p ≡ true) → result ≡ true }
 {
     let places = selection.as_slice();
     for place in places {

@@ -10,7 +10,7 @@ ghost use Rattle.graph_numbers.specs.Sources.{cell_value};
 ghost use Rattle.block_cache.specs.Lanes.{LaneView};
 ghost use Rattle.loop_keys.specs.Store.{held_in, held_or_need, row_in};
 ghost use Rattle.block_cache.specs.Blocks.{cells_at, element_of};
-ghost use Rattle.block_cache.specs.OverBlocks.{HasNumbersOver, IsReadOver, look_over};
+ghost use Rattle.block_cache.specs.OverBlocks.{HasNumbersOver, IsReadOver, cell_over, columns_over, look_over};
 
 use crate::Lane;
 use crate::block::Block;
@@ -63,25 +63,16 @@ pub(crate) fn look<'a: 's, 's>(
 /// The value of a column at a place: a number as it was loaded, or the elements where the table has them.
 fn cell<'a>(block: &Block<'a>, place: u32, col: u32) -> Input<'a>
     requires place { place < block.now.count }
-    requires column { col < length block.now.at.now.job.now.columns.now.table.columns }
-    requires loaded { kind_at block.now.at.now.job.now.columns.now.table.columns col ≡ Some kind.Int → HasNumbersOver block.now col }
-    ensures { (c : ℕ) → input_outcome c result ≡ cell_value (slice_get (row_in block.now.at.now.job.now.columns.now.table.rows (block.now.at.now.entry + place)) col) }
+    requires column { col < length (columns_over block.now) }
+    requires loaded { kind_at (columns_over block.now) col ≡ Some kind.Int → HasNumbersOver block.now col }
+    ensures { (c : ℕ) → input_outcome c result ≡ cell_over block.now place col }
 {
     let columns = block.at.job.columns;
     match columns.columns()[col as usize].kind {
-        ColType::Int => Input::Int(number(block.cells, place, col)),
+        ColType::Int => Input::Int(block.cells[col as usize].as_slice()[place as usize]),
         ColType::Vect => Input::Vect(columns.vec_at(block.at.entry + place, col)),
         ColType::Bool => unreachable!(),
     }
-}
-
-/// The number of a column at a place.
-fn number(cells: &[CellLane], place: u32, col: u32) -> i64
-    requires column { col < length cells.now }
-    requires place { (numbers : List ℤ) → slice_get cells.now col ≡ Some numbers → place < length numbers }
-    ensures { (numbers : List ℤ) → slice_get cells.now col ≡ Some numbers → result ≡ at_place numbers place }
-{
-    cells[col as usize].as_slice()[place as usize]
 }
 
 /// What is held of a key at a place.
@@ -98,21 +89,13 @@ fn element<'s>(vector: Input<'s>, place: u32, tags: u32) -> Input<'s>
     ensures { (c : ℕ) → input_outcome c result ≡ element_of (input_outcome c vector.entry) place tags }
 {
     match vector {
-        Input::Vect(zs) => tagged(zs, place, tags),
+        Input::Vect(zs) if zs.len() != tags as usize => Input::Faulted(EntryFault::VaryCount),
+        Input::Vect(zs) => match zs.get(place as usize) {
+            Some(z) => Input::Int(*z),
+            None => Input::Faulted(EntryFault::Index),
+        },
         Input::Int(_) | Input::Bool(_) => Input::Int(0),
         Input::Faulted(kind) => Input::Faulted(kind),
         Input::Missing => Input::Missing,
-    }
-}
-
-fn tagged(zs: &[i64], place: u32, tags: u32) -> Input<'_>
-    ensures { (c : ℕ) → input_outcome c result ≡ tag_element tags place (Value.Vect zs.now) }
-{
-    if zs.len() != tags as usize {
-        return Input::Faulted(EntryFault::VaryCount);
-    }
-    match zs.get(place as usize) {
-        Some(z) => Input::Int(*z),
-        None => Input::Faulted(EntryFault::Index),
     }
 }

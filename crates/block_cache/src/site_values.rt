@@ -1,15 +1,12 @@
 // A site's evaluation at one place of a block after another.
-ghost use Rattle.std.specs.Prelude.{◌≡◌, ◌<◌, ◌+◌, ℕ, true, All, IfOk};
-ghost use Rattle.rdf_values.specs.Functions.{fn_names};
+ghost use Rattle.std.specs.Prelude.{◌≡◌, ◌<◌, ◌+◌, ℕ, true, IfOk};
 ghost use Rattle.rdf_values.specs.Tables.{FitsKind};
 ghost use Rattle.rdf_values.specs.declared.value.ColType.{ColType as KindOf};
-ghost use Rattle.rdf_model.specs.Laws.{FitsOutcome};
-ghost use Rattle.entry_fns.specs.Lists.{functions_in};
-ghost use Rattle.expr_check.specs.NumKinds.{CallsFit, is_plain};
+ghost use Rattle.expr_check.specs.NumKinds.{is_plain};
 ghost use Rattle.expr_eval.specs.Answers.{scalar_outcome, scalar_value};
 ghost use Rattle.expr_eval.specs.EvalAnswers.{AnswersAs};
 ghost use Rattle.block_cache.specs.Values.{IsScalarAnswer};
-ghost use Rattle.block_cache.specs.OverBlocks.{IsReadOver, look_over, outcome_over};
+ghost use Rattle.block_cache.specs.OverBlocks.{AreReadOver, CallsFitOver, FitAt, outcome_over};
 
 use crate::PlaceValues;
 use crate::place_view::PlaceView;
@@ -30,9 +27,9 @@ pub(crate) struct SiteValues<'a> {
 
 impl<'a> PlaceValues for SiteValues<'a> {
     ghost can = { λ v p. (p < v.view.block.now.count)
-        × All (λ c. IsReadOver v.view.block.now v.view.lanes.now c.0) v.expr.now.kinds
-        × All (λ c. FitsOutcome c.1 (look_over v.view.block.now v.view.lanes.now p c.0)) v.expr.now.kinds
-        × CallsFit (fn_names (functions_in v.view.block.now.at.now.job.now.functions.now)) v.expr.now.tree };
+        × AreReadOver v.view.block.now v.view.lanes.now v.expr.now
+        × FitAt v.view.block.now v.view.lanes.now v.expr.now p
+        × CallsFitOver v.view.block.now v.expr.now.tree };
 
     ghost gives = { λ v p. outcome_over v.view.block.now v.view.lanes.now v.expr.now.tree p };
 

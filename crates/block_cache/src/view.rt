@@ -1,8 +1,6 @@
 // The columns of an evaluation over a block, by what is held.
-ghost use Rattle.std.specs.Prelude.{◌<◌, ◌+◌, ℕ, length, slice_get, IfSome};
+ghost use Rattle.std.specs.Prelude.{◌<◌, ◌+◌, ℕ, IfSome};
 ghost use Rattle.expr_lanes.specs.LaneInputs.{IsVectorAt};
-ghost use Rattle.graph_numbers.specs.Sources.{cell_value};
-ghost use Rattle.loop_keys.specs.Store.{row_in};
 ghost use Rattle.block_cache.specs.OverBlocks.{IsReadOver, IsWholeOver, look_over};
 
 use crate::Lane;
@@ -64,17 +62,9 @@ fn table_vectors<'a>(block: &Block<'a>, _lanes: &[Lane], version: u32) -> Option
     requires version { IsReadOver block.now _lanes.now version }
     ensures { IfSome result (λ l. (p : ℕ) → p < block.now.count → IsVectorAt l.vectors.now (l.first + p) (look_over block.now _lanes.now p version)) }
 {
-    match place(block.at, version) {
-        Place::Cell { col } => column_vectors(block, col),
-        Place::Key { .. } | Place::Element { .. } => None,
-    }
-}
-
-/// The vectors of a column of the table, if it has vectors.
-fn column_vectors<'a>(block: &Block<'a>, col: u32) -> Option<LaneVectors<'a>>
-    requires column { col < length block.now.at.now.job.now.columns.now.table.columns }
-    ensures { IfSome result (λ l. (p : ℕ) → p < block.now.count → IsVectorAt l.vectors.now (l.first + p) (cell_value (slice_get (row_in block.now.at.now.job.now.columns.now.table.rows (block.now.at.now.entry + p)) col))) }
-{
+    let Place::Cell { col } = place(block.at, version) else {
+        return None;
+    };
     let columns = block.at.job.columns;
     match columns.columns()[col as usize].kind {
         ColType::Vect => Some(LaneVectors {

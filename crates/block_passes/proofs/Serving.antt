@@ -13,7 +13,7 @@ use Rattle.loop_keys.specs.Store.{row_of, IsSourceIn}
 use Rattle.rdf_values.specs.declared.value.Value.{Value}
 use Rattle.loop_keys.specs.Turns.{HasAllDemands}
 use Rattle.block_cache.specs.Blocks.{AreReady}
-use Rattle.block_cache.specs.Leads.{IsFilledTo}
+use Rattle.block_cache.specs.Fills.{IsFilledTo}
 use Rattle.block_cache.specs.Fills.{IsSettled, IsSpentOver, site_fault, below_fault, fault_over}
 use Rattle.block_cache.specs.declared.faults.PlaceFault.{PlaceFault}
 use Rattle.block_passes.specs.Inputs.{DemandsSource, IsAtHand, IsServedTo, source_fault}

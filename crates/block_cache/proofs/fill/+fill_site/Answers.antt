@@ -1,77 +1,91 @@
-use Rattle.std.proofs.Common.{◌≡◌, ◌+◌, ◌∙◌, arith, length, refl, rules}
-use Rattle.block_cache.specs.Lanes.{kinds_of}
+use Rattle.std.proofs.Common.{◌≡◌, ◌+◌, ◌∙◌, arith, length, rules}
 use Rattle.loop_keys.specs.Jobs.{job_of}
-use Rattle.block_cache.proofs.CanFills.{can_below, can_moved, met_used, some_level}
+use Rattle.block_cache.proofs.CanFills.{can_below, can_moved, met_used}
 use Rattle.block_cache.proofs.CanTries.{can_try}
 use Rattle.block_cache.proofs.UnderwayLaws.{ended_filled, ended_settled, left_lacks, left_selected, resumed_as, turn_broken, turn_lower, turn_selected, turn_settled, turn_spent, turn_waits, turned, turned_less}
 use Rattle.block_cache.proofs.fill.+fill_site.Goals as goal
 
 pub begin-requires-clause-can : goal.begin-requires-clause-can
-begin-requires-clause-can g t c = can_try (job_of c.args.wanted.now.block.now.at.now.job.now) c.args.wanted.now.block.now.fits.job c.args.wanted.now.block.now.at.now.entry c.args.wanted.now.block.now.at.now.under c.args.wanted.now.block.now.count c.args.wanted.now.site c.args.wanted.now.there c.args.lanes.now c.requires.ready c.args.wanted.now.block.now.cells.now _ _ c.requires.can
+begin-requires-clause-can g t c = can_try c.args.wanted.now c.requires.ready c.requires.can
 
 pub needed_site-site-requires-clause-version : goal.needed_site-site-requires-clause-version
-needed_site-site-requires-clause-version g t c = (turn_waits (job_of c.args.wanted.now.block.now.at.now.job.now) c.args.wanted.now.block.now.fits.job c.args.wanted.now.block.now.at.now.entry c.args.wanted.now.block.now.at.now.under c.args.wanted.now.block.now.count c.args.wanted.now.site c.args.wanted.now.there _ _ _ _ _ _ _ _ c.loop-level.invariant c.next_group.new.self.group c.next_group.result c.next_group.ensures.group _ c.next_group.ensures.first).there
+needed_site-site-requires-clause-version g t c = (turn_waits c.args.wanted.now c.loop-level.invariant c.next_group.result c.next_group.ensures.group _ c.next_group.ensures.first).there
 
 pub needed_site-site-requires-clause-site : goal.needed_site-site-requires-clause-site
-needed_site-site-requires-clause-site g t c = let w = turn_waits (job_of c.args.wanted.now.block.now.at.now.job.now) c.args.wanted.now.block.now.fits.job c.args.wanted.now.block.now.at.now.entry c.args.wanted.now.block.now.at.now.under c.args.wanted.now.block.now.count c.args.wanted.now.site c.args.wanted.now.there _ _ _ _ _ _ _ _ c.loop-level.invariant c.next_group.new.self.group c.next_group.result c.next_group.ensures.group _ c.next_group.ensures.first in (w.site, w.source)
+needed_site-site-requires-clause-site g t c = let waits = turn_waits c.args.wanted.now c.loop-level.invariant c.next_group.result c.next_group.ensures.group _ c.next_group.ensures.first in (waits.site, waits.source)
 
 pub unreachable-requires : goal.unreachable-requires
 unreachable-requires g t c =
-    let w = turn_waits (job_of c.args.wanted.now.block.now.at.now.job.now) c.args.wanted.now.block.now.fits.job c.args.wanted.now.block.now.at.now.entry c.args.wanted.now.block.now.at.now.under c.args.wanted.now.block.now.count c.args.wanted.now.site c.args.wanted.now.there _ _ _ _ _ _ _ _ c.loop-level.invariant c.next_group.new.self.group c.next_group.result c.next_group.ensures.group _ c.next_group.ensures.first in
-    let below = can_below (job_of c.args.wanted.now.block.now.at.now.job.now) c.args.wanted.now.block.now.fits.job c.args.wanted.now.block.now.at.now.entry c.args.wanted.now.block.now.at.now.under c.args.wanted.now.block.now.count c.args.wanted.now.site _ c.needed_site-site.result _ (kinds_of c.args.lanes.now) c.args.wanted.now.block.now.cells.now (length c.args.scratch.now) _ (length c.args.levels.1.now) c.requires.can w.met c.needed_site-site.ensures refl in
-    let some = some_level _ _ _ _ _ _ _ _ _ below in
-    omega (arith, some, c.in-None.ensures.cases, c.loop-level.auto.deeper)
+    let waits = turn_waits c.args.wanted.now c.loop-level.invariant c.next_group.result c.next_group.ensures.group _ c.next_group.ensures.first in
+    let below = can_below _ c.args.wanted.now.block.now.fits.job _ c.needed_site-site.result _ (length c.args.levels.1.now) c.requires.can waits.met c.needed_site-site.ensures (omega arith) in
+    let room = below.room in
+    omega (arith, room, c.in-None.ensures.cases, c.loop-level.auto.deeper)
 
 pub invariant_of-needed : goal.invariant_of-needed
 invariant_of-needed g t c =
-    let lower = turn_lower (job_of c.args.wanted.now.block.now.at.now.job.now) c.args.wanted.now.block.now.fits.job c.args.wanted.now.block.now.at.now.entry c.args.wanted.now.block.now.at.now.under c.args.wanted.now.block.now.count c.args.wanted.now.site c.args.wanted.now.there _ _ _ _ _ _ _ _ c.loop-level.invariant c.next_group.new.self.group c.next_group.result c.next_group.ensures.group _ c.next_group.ensures.first c.needed_site-site.result c.needed_site-site.ensures in
+    let lower = turn_lower c.args.wanted.now c.loop-level.invariant c.next_group.result c.next_group.ensures.group _ c.next_group.ensures.first c.needed_site-site.result c.needed_site-site.ensures in
     record { there = omega (arith, lower, c.args.wanted.now.there) }
 
 pub fill_site-requires : goal.fill_site-requires
 fill_site-requires g t c κs within =
-    let w = turn_waits (job_of c.args.wanted.now.block.now.at.now.job.now) c.args.wanted.now.block.now.fits.job c.args.wanted.now.block.now.at.now.entry c.args.wanted.now.block.now.at.now.under c.args.wanted.now.block.now.count c.args.wanted.now.site c.args.wanted.now.there _ _ _ _ _ _ _ _ c.loop-level.invariant c.next_group.new.self.group c.next_group.result c.next_group.ensures.group _ c.next_group.ensures.first in
-    let lower = turn_lower (job_of c.args.wanted.now.block.now.at.now.job.now) c.args.wanted.now.block.now.fits.job c.args.wanted.now.block.now.at.now.entry c.args.wanted.now.block.now.at.now.under c.args.wanted.now.block.now.count c.args.wanted.now.site c.args.wanted.now.there _ _ _ _ _ _ _ _ c.loop-level.invariant c.next_group.new.self.group c.next_group.result c.next_group.ensures.group _ c.next_group.ensures.first c.needed_site-site.result c.needed_site-site.ensures in
+    let waits = turn_waits c.args.wanted.now c.loop-level.invariant c.next_group.result c.next_group.ensures.group _ c.next_group.ensures.first in
+    let lower = turn_lower c.args.wanted.now c.loop-level.invariant c.next_group.result c.next_group.ensures.group _ c.next_group.ensures.first c.needed_site-site.result c.needed_site-site.ensures in
     let many : length c.in-Some.next.1.now + 1 ≡ length c.loop-level.deeper = c.in-Some.ensures.cases.1 in
-    let below = can_below (job_of c.args.wanted.now.block.now.at.now.job.now) c.args.wanted.now.block.now.fits.job c.args.wanted.now.block.now.at.now.entry c.args.wanted.now.block.now.at.now.under c.args.wanted.now.block.now.count c.args.wanted.now.site _ c.needed_site-site.result _ (kinds_of c.args.lanes.now) c.args.wanted.now.block.now.cells.now (length c.args.scratch.now) _ (length c.in-Some.next.1.now + 1) c.requires.can w.met c.needed_site-site.ensures (omega (arith, many, c.loop-level.auto.deeper)) in
-    let can = can_moved (job_of c.args.wanted.now.block.now.at.now.job.now) c.args.wanted.now.block.now.at.now.entry c.args.wanted.now.block.now.at.now.under c.args.wanted.now.block.now.count c.needed_site-site.result (kinds_of c.args.lanes.now) (kinds_of c.loop-level.lanes) c.args.wanted.now.block.now.cells.now (length c.args.scratch.now) (length c.loop-level.scratch) (length c.in-Some.next.1.now + 1) below c.loop-level.invariant.grown.kinds (c.loop-level.auto.scratch ∙ c.begin.auto.scratch) in
-    (omega (arith, lower, c.decreases), (search rules, (c.loop-level.invariant.ready, (can, (turn_selected (job_of c.args.wanted.now.block.now.at.now.job.now) c.args.wanted.now.block.now.fits.job c.args.wanted.now.block.now.at.now.entry c.args.wanted.now.block.now.at.now.under c.args.wanted.now.block.now.count c.args.wanted.now.site c.args.wanted.now.there _ _ _ _ _ _ _ _ c.loop-level.invariant c.next_group.new.self.group c.next_group.result c.next_group.ensures.group _ c.next_group.ensures.first, turn_settled (job_of c.args.wanted.now.block.now.at.now.job.now) c.args.wanted.now.block.now.fits.job c.args.wanted.now.block.now.at.now.entry c.args.wanted.now.block.now.at.now.under c.args.wanted.now.block.now.count c.args.wanted.now.site c.args.wanted.now.there _ _ _ _ _ _ _ _ c.loop-level.invariant c.next_group.new.self.group c.next_group.result c.next_group.ensures.group _ c.next_group.ensures.first c.needed_site-site.result c.needed_site-site.ensures)))))
+    let below = can_below _ c.args.wanted.now.block.now.fits.job _ c.needed_site-site.result _ (length c.in-Some.next.1.now + 1) c.requires.can waits.met c.needed_site-site.ensures (omega (arith, many, c.loop-level.auto.deeper)) in
+    let can = can_moved below c.loop-level.invariant.grown.kinds (c.loop-level.auto.scratch ∙ c.begin.auto.scratch) in
+    let selected = turn_selected c.args.wanted.now c.loop-level.invariant c.next_group.result c.next_group.ensures.group _ c.next_group.ensures.first in
+    let settled = turn_settled c.args.wanted.now c.loop-level.invariant c.next_group.result c.next_group.ensures.group _ c.next_group.ensures.first c.needed_site-site.result c.needed_site-site.ensures in
+    (omega (arith, lower, c.decreases), (search rules, (c.loop-level.invariant.ready, (can, (selected, settled)))))
 
 pub returns-in_err-below-in-Some-clause-spent : goal.returns-in_err-below-in-Some-clause-spent
-returns-in_err-below-in-Some-clause-spent g t c = turn_spent (job_of c.args.wanted.now.block.now.at.now.job.now) c.args.wanted.now.block.now.fits.job c.args.wanted.now.block.now.at.now.entry c.args.wanted.now.block.now.at.now.under c.args.wanted.now.block.now.count c.args.wanted.now.site c.args.wanted.now.there _ _ _ _ _ _ _ _ c.loop-level.invariant c.next_group.new.self.group c.next_group.result c.next_group.ensures.group _ c.next_group.ensures.first c.needed_site-site.result c.needed_site-site.ensures c.fill_site.new.lanes c.fill_site.new.steps c.in_err-below-in-Some.ensures.spent
+returns-in_err-below-in-Some-clause-spent g t c =
+    turn_spent c.args.wanted.now c.loop-level.invariant c.next_group.result c.next_group.ensures.group _ c.next_group.ensures.first c.needed_site-site.result c.needed_site-site.ensures c.in_err-below-in-Some.ensures.spent
 
 pub returns-in_err-below-in-Some-clause-plain : goal.returns-in_err-below-in-Some-clause-plain
 returns-in_err-below-in-Some-clause-plain g t c =
-    let w = turn_waits (job_of c.args.wanted.now.block.now.at.now.job.now) c.args.wanted.now.block.now.fits.job c.args.wanted.now.block.now.at.now.entry c.args.wanted.now.block.now.at.now.under c.args.wanted.now.block.now.count c.args.wanted.now.site c.args.wanted.now.there _ _ _ _ _ _ _ _ c.loop-level.invariant c.next_group.new.self.group c.next_group.result c.next_group.ensures.group _ c.next_group.ensures.first in
-    λ used p q. absurd (c.in_err-below-in-Some.ensures.plain used p (met_used (job_of c.args.wanted.now.block.now.at.now.job.now) c.args.wanted.now.block.now.fits.job _ c.args.wanted.now.block.now.at.now.under c.args.wanted.now.site _ c.needed_site-site.result used p q w.met c.needed_site-site.ensures))
+    let waits = turn_waits c.args.wanted.now c.loop-level.invariant c.next_group.result c.next_group.ensures.group _ c.next_group.ensures.first in
+    λ used p q. absurd (c.in_err-below-in-Some.ensures.plain used p (met_used (job_of c.args.wanted.now.block.now.at.now.job.now) c.args.wanted.now.block.now.fits.job _ _ _ _ c.needed_site-site.result used p q waits.met c.needed_site-site.ensures))
 
 pub resume-requires-clause-can : goal.resume-requires-clause-can
 resume-requires-clause-can g t c =
-    can_try (job_of c.args.wanted.now.block.now.at.now.job.now) c.args.wanted.now.block.now.fits.job c.args.wanted.now.block.now.at.now.entry c.args.wanted.now.block.now.at.now.under c.args.wanted.now.block.now.count c.args.wanted.now.site c.args.wanted.now.there c.fill_site.new.lanes c.in_ok-below-in-Some.ensures.filled.ready c.args.wanted.now.block.now.cells.now (length c.fill_site.new.scratch) _
-    (can_moved (job_of c.args.wanted.now.block.now.at.now.job.now) c.args.wanted.now.block.now.at.now.entry c.args.wanted.now.block.now.at.now.under c.args.wanted.now.block.now.count c.args.wanted.now.site (kinds_of c.args.lanes.now) (kinds_of c.fill_site.new.lanes) c.args.wanted.now.block.now.cells.now (length c.args.scratch.now) (length c.fill_site.new.scratch) _ c.requires.can (c.in_ok-below-in-Some.ensures.spent.grown.kinds ∙ c.loop-level.invariant.grown.kinds) (c.fill_site.auto.scratch ∙ c.loop-level.auto.scratch ∙ c.begin.auto.scratch))
+    can_try c.args.wanted.now c.in_ok-below-in-Some.ensures.filled.filled.ready
+    (can_moved c.requires.can (c.in_ok-below-in-Some.ensures.spent.grown.kinds ∙ c.loop-level.invariant.grown.kinds) (c.fill_site.auto.scratch ∙ c.loop-level.auto.scratch ∙ c.begin.auto.scratch))
 
 pub resume-requires-clause-selected : goal.resume-requires-clause-selected
-resume-requires-clause-selected g t c = left_selected (job_of c.args.wanted.now.block.now.at.now.job.now) c.args.wanted.now.block.now.fits.job c.args.wanted.now.block.now.at.now.entry c.args.wanted.now.block.now.at.now.under c.args.wanted.now.block.now.count c.args.wanted.now.site c.args.wanted.now.there _ _ _ _ _ _ _ _ c.loop-level.invariant c.next_group.new.self.group c.next_group.result c.next_group.ensures.group _ c.next_group.ensures.first c.needed_site-site.result c.needed_site-site.ensures c.fill_site.new.selection c.fill_site.new.lanes c.in_ok-below-in-Some.below c.fill_site.new.steps c.in_ok-below-in-Some.ensures.spent c.in_ok-below-in-Some.ensures.filled c.in_ok-below-in-Some.ensures.settled c.in_ok-below-in-Some.ensures.begun
+resume-requires-clause-selected g t c =
+    left_selected c.args.wanted.now c.loop-level.invariant c.next_group.result c.next_group.ensures.group _ c.next_group.ensures.first c.needed_site-site.result c.needed_site-site.ensures
+    c.in_ok-below-in-Some.ensures.spent c.in_ok-below-in-Some.ensures.filled c.in_ok-below-in-Some.ensures.settled c.in_ok-below-in-Some.ensures.begun
 
 pub resume-requires-clause-lacks : goal.resume-requires-clause-lacks
-resume-requires-clause-lacks g t c = left_lacks (job_of c.args.wanted.now.block.now.at.now.job.now) c.args.wanted.now.block.now.fits.job c.args.wanted.now.block.now.at.now.entry c.args.wanted.now.block.now.at.now.under c.args.wanted.now.block.now.count c.args.wanted.now.site c.args.wanted.now.there _ _ _ _ _ _ _ _ c.loop-level.invariant c.next_group.new.self.group c.next_group.result c.next_group.ensures.group _ c.next_group.ensures.first c.needed_site-site.result c.needed_site-site.ensures c.fill_site.new.selection c.fill_site.new.lanes c.in_ok-below-in-Some.below c.fill_site.new.steps c.in_ok-below-in-Some.ensures.spent c.in_ok-below-in-Some.ensures.filled c.in_ok-below-in-Some.ensures.settled c.in_ok-below-in-Some.ensures.begun
+resume-requires-clause-lacks g t c =
+    left_lacks c.args.wanted.now c.loop-level.invariant c.next_group.result c.next_group.ensures.group _ c.next_group.ensures.first c.needed_site-site.result c.needed_site-site.ensures
+    c.in_ok-below-in-Some.ensures.spent c.in_ok-below-in-Some.ensures.filled c.in_ok-below-in-Some.ensures.settled c.in_ok-below-in-Some.ensures.begun
 
 pub loop-level-smaller : goal.loop-level-smaller
-loop-level-smaller g t c = turned_less (job_of c.args.wanted.now.block.now.at.now.job.now) c.args.wanted.now.block.now.fits.job c.args.wanted.now.block.now.at.now.entry c.args.wanted.now.block.now.at.now.under c.args.wanted.now.block.now.count c.args.wanted.now.site c.args.wanted.now.there _ _ _ _ _ _ _ _ c.loop-level.invariant c.next_group.new.self.group c.next_group.result c.next_group.ensures.group _ c.next_group.ensures.first c.needed_site-site.result c.needed_site-site.ensures c.fill_site.new.selection c.fill_site.new.lanes c.in_ok-below-in-Some.below c.fill_site.new.steps c.in_ok-below-in-Some.ensures.spent c.in_ok-below-in-Some.ensures.filled c.in_ok-below-in-Some.ensures.settled c.in_ok-below-in-Some.ensures.begun c.resume.new.lanes c.resume.new.level.needs c.resume.new.level.lacking c.in_ok-fault-2.fault c.resume.new.steps (resumed_as (job_of c.args.wanted.now.block.now.at.now.job.now) c.args.wanted.now.block.now.at.now.entry c.args.wanted.now.block.now.at.now.under c.args.wanted.now.block.now.count c.args.wanted.now.site _ _ c.fill_site.new.selection _ _ c.fill_site.new.lanes c.resume.new.lanes _ _ c.resume.new.level.needs c.resume.new.level.lacking c.in_ok-fault-2.fault c.in_ok-fault-2.ensures.resumed c.lowered.ensures c.next_group.ensures.lacking c.next_group.ensures.needs) c.in_ok-fault-2.ensures.steps
+loop-level-smaller g t c =
+    turned_less c.args.wanted.now c.loop-level.invariant c.next_group.result c.next_group.ensures.group _ c.next_group.ensures.first c.needed_site-site.result c.needed_site-site.ensures
+    c.in_ok-below-in-Some.ensures.spent c.in_ok-below-in-Some.ensures.filled c.in_ok-below-in-Some.ensures.settled c.in_ok-below-in-Some.ensures.begun
+    (resumed_as c.args.wanted.now c.in_ok-fault-2.ensures.resumed c.lowered.ensures c.next_group.ensures.lacking c.next_group.ensures.needs) c.in_ok-fault-2.ensures.steps
 
 pub loop-level-preserved : goal.loop-level-preserved
-loop-level-preserved g t c = turned (job_of c.args.wanted.now.block.now.at.now.job.now) c.args.wanted.now.block.now.fits.job c.args.wanted.now.block.now.at.now.entry c.args.wanted.now.block.now.at.now.under c.args.wanted.now.block.now.count c.args.wanted.now.site c.args.wanted.now.there _ _ _ _ _ _ _ _ c.loop-level.invariant c.next_group.new.self.group c.next_group.result c.next_group.ensures.group _ c.next_group.ensures.first c.needed_site-site.result c.needed_site-site.ensures c.fill_site.new.selection c.fill_site.new.lanes c.in_ok-below-in-Some.below c.fill_site.new.steps c.in_ok-below-in-Some.ensures.spent c.in_ok-below-in-Some.ensures.filled c.in_ok-below-in-Some.ensures.settled c.in_ok-below-in-Some.ensures.begun c.resume.new.lanes c.resume.new.level.needs c.resume.new.level.lacking c.in_ok-fault-2.fault c.resume.new.steps (resumed_as (job_of c.args.wanted.now.block.now.at.now.job.now) c.args.wanted.now.block.now.at.now.entry c.args.wanted.now.block.now.at.now.under c.args.wanted.now.block.now.count c.args.wanted.now.site _ _ c.fill_site.new.selection _ _ c.fill_site.new.lanes c.resume.new.lanes _ _ c.resume.new.level.needs c.resume.new.level.lacking c.in_ok-fault-2.fault c.in_ok-fault-2.ensures.resumed c.lowered.ensures c.next_group.ensures.lacking c.next_group.ensures.needs) c.in_ok-fault-2.ensures.steps
+loop-level-preserved g t c =
+    turned c.args.wanted.now c.loop-level.invariant c.next_group.result c.next_group.ensures.group _ c.next_group.ensures.first c.needed_site-site.result c.needed_site-site.ensures
+    c.in_ok-below-in-Some.ensures.spent c.in_ok-below-in-Some.ensures.filled c.in_ok-below-in-Some.ensures.settled c.in_ok-below-in-Some.ensures.begun
+    (resumed_as c.args.wanted.now c.in_ok-fault-2.ensures.resumed c.lowered.ensures c.next_group.ensures.lacking c.next_group.ensures.needs) c.in_ok-fault-2.ensures.steps
 
 pub returns-clause-filled : goal.returns-clause-filled
-returns-clause-filled g t c = ended_filled (job_of c.args.wanted.now.block.now.at.now.job.now) c.args.wanted.now.block.now.fits.job c.args.wanted.now.block.now.at.now.entry c.args.wanted.now.block.now.at.now.under c.args.wanted.now.block.now.count c.args.wanted.now.site c.args.wanted.now.there _ _ _ _ _ _ _ _ c.loop-level.invariant (omega (arith, c.len.ensures.count, c.loop-level-test.false)) c.keep_below.new.selection c.begin.ensures.rising c.keep_below.ensures
+returns-clause-filled g t c = ended_filled c.args.wanted.now c.loop-level.invariant (omega (arith, c.len.ensures.count, c.loop-level-test.false)) c.begin.ensures.rising c.keep_below.ensures
 
 pub returns-clause-settled : goal.returns-clause-settled
-returns-clause-settled g t c = ended_settled (job_of c.args.wanted.now.block.now.at.now.job.now) c.args.wanted.now.block.now.fits.job c.args.wanted.now.block.now.at.now.entry c.args.wanted.now.block.now.at.now.under c.args.wanted.now.block.now.count c.args.wanted.now.site c.args.wanted.now.there _ _ _ _ _ _ _ _ c.loop-level.invariant (omega (arith, c.len.ensures.count, c.loop-level-test.false)) c.keep_below.new.selection c.keep_below.ensures
+returns-clause-settled g t c = ended_settled c.args.wanted.now c.loop-level.invariant (omega (arith, c.len.ensures.count, c.loop-level-test.false)) c.keep_below.ensures
 
 pub returns-in_err-fault-clause-plain : goal.returns-in_err-fault-clause-plain
 returns-in_err-fault-clause-plain g t c = λ used p q. absurd (c.in_err-fault.ensures.plain used p q)
 
 pub returns-in_err-fault-2-clause-spent : goal.returns-in_err-fault-2-clause-spent
-returns-in_err-fault-2-clause-spent g t c = turn_broken (job_of c.args.wanted.now.block.now.at.now.job.now) c.args.wanted.now.block.now.fits.job c.args.wanted.now.block.now.at.now.entry c.args.wanted.now.block.now.at.now.under c.args.wanted.now.block.now.count c.args.wanted.now.site c.args.wanted.now.there _ _ _ _ _ _ _ _ c.loop-level.invariant c.next_group.new.self.group c.next_group.result c.next_group.ensures.group _ c.next_group.ensures.first c.needed_site-site.result c.needed_site-site.ensures c.fill_site.new.selection c.fill_site.new.lanes c.in_ok-below-in-Some.below c.fill_site.new.steps c.in_ok-below-in-Some.ensures.spent c.in_ok-below-in-Some.ensures.filled c.in_ok-below-in-Some.ensures.settled c.in_ok-below-in-Some.ensures.begun c.resume.new.lanes c.resume.new.steps c.in_err-fault-2.ensures.broken
+returns-in_err-fault-2-clause-spent g t c =
+    turn_broken c.args.wanted.now c.loop-level.invariant c.next_group.result c.next_group.ensures.group _ c.next_group.ensures.first c.needed_site-site.result c.needed_site-site.ensures
+    c.in_ok-below-in-Some.ensures.spent c.in_ok-below-in-Some.ensures.filled c.in_ok-below-in-Some.ensures.settled c.in_ok-below-in-Some.ensures.begun c.in_err-fault-2.ensures.broken
 
 pub returns-in_err-fault-2-clause-plain : goal.returns-in_err-fault-2-clause-plain
 returns-in_err-fault-2-clause-plain g t c = λ used p q. absurd (c.in_err-fault-2.ensures.plain used p q)

@@ -1,12 +1,12 @@
-use Rattle.std.proofs.Common.{◌+◌, ℕ, subst}
-use Rattle.std.proofs.lemmas.Option.{IfSome_then}
+use Rattle.std.proofs.Common.{◌+◌, ℕ, arith, subst}
 use Rattle.rdf_values.specs.declared.value.Value.{Value}
 use Rattle.rdf_model.specs.Evaluation.{Outcome}
 use Rattle.expr_lanes.specs.LaneInputs.{IsVectorAt}
-use Rattle.loop_keys.specs.Jobs.{job_of}
-use Rattle.block_cache.proofs.TableVectors.{column_seen}
+use Rattle.block_cache.proofs.TableVectors.{column_seen, vector_of_entry}
+use Rattle.block_cache.specs.OverBlocks.{block_job}
 use Rattle.block_cache.proofs.view.table_vectors.Goals as goal
 
-pub returns-in-Cell : goal.returns-in-Cell
-returns-in-Cell g c =
-    IfSome_then c.column_vectors.result c.column_vectors.ensures (λ l each p low. subst (λ (o : Outcome ℕ Value). IsVectorAt l.vectors.now (l.first + p) o) (column_seen (job_of c.args.block.now.at.now.job.now) _ _ _ _ c.in-Cell.col c.in-Cell.ensures) (each p low))
+pub returns-in-Vect : goal.returns-in-Vect
+returns-in-Vect g c = λ p low.
+    subst (λ (o : Outcome ℕ Value). IsVectorAt c.vects.result.now (c.args.block.now.at.now.entry + p) o) (column_seen (block_job c.args.block.now) _ _ _ _ c.in-Cell.col c.in-Cell.ensures)
+    (vector_of_entry (block_job c.args.block.now).dataset.rows c.in-Cell.col _ c.vects.result.now c.vects.ensures (omega (arith, c.args.block.now.within, low)))

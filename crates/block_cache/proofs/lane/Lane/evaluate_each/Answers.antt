@@ -1,10 +1,10 @@
-use Rattle.std.proofs.Common.{◌≡◌, ◌<◌, ◌∙◌, not, ℕ, List, ap, sym, subst, refl, true, false}
-use Rattle.expr_lanes.specs.Places.{is_in, is_marked, EachPlace}
+use Rattle.std.proofs.Common.{◌≡◌, ◌<◌, ◌∙◌, not, ℕ, List, ap, sym, subst, true}
+use Rattle.expr_lanes.specs.Places.{is_in, is_marked}
 use Rattle.expr_lanes.proofs.Sequence.{filtered_in}
 use Rattle.block_cache.specs.Lanes.{LaneView}
-use Rattle.block_cache.specs.Values.{AreWritten}
-use Rattle.block_cache.proofs.EachLanes.{begun_after, come_to, evaluated_each, lane_begun, lane_each, on_err}
+use Rattle.block_cache.proofs.Answering.{on_err}
 use Rattle.block_cache.proofs.EachPlaces.{left_given}
+use Rattle.block_cache.proofs.LaneSteps.{begun_after, each_joined, each_value, evaluated_after, lane_after, lane_begun}
 use Rattle.block_cache.proofs.lane.Lane.evaluate_each.Goals as goal
 
 pub mark-requires : goal.mark-requires
@@ -13,22 +13,11 @@ mark-requires g c = λ p h.
     subst (λ (n : ℕ). p < n) same (c.requires.selected.inside p h)
 
 pub invariant_of-self : goal.invariant_of-self
-invariant_of-self g c =
-    let same : c.self.inside.held.count ≡ c.args.self.now.count = ap (λ (v : LaneView). v.count) c.self.view_is in
-    let inside : EachPlace c.args.selection.now (λ p. p < c.self.inside.held.count) = λ p h. subst (λ (n : ℕ). p < n) (sym same) (c.requires.selected.inside p h) in
-    let unknown : EachPlace c.args.selection.now (λ p. is_marked c.self.inside.held.marks p ≡ false) = λ p h. ap (λ (v : LaneView). is_marked v.held p) c.self.view_is ∙ c.requires.unknown p h in
-    let w : AreWritten c.args.selection.now c.self.inside.values.numbers.items c.each_place.new.values.numbers.items c.self.inside.values.vectors c.each_place.new.values.vectors =
-    subst (λ (l : List ℕ). AreWritten l c.self.inside.values.numbers.items c.each_place.new.values.numbers.items c.self.inside.values.vectors c.each_place.new.values.vectors) c.as_slice.ensures.value c.each_place.ensures.written in
-    (c.mark.ensures.count ∙ c.self.invariant.0, lane_begun c.self.inside.kind c.self.inside.held.count c.args.selection.now c.self.inside.values.numbers.items _ c.self.inside.values.vectors _ c.self.inside.tried.marks _ c.self.inside.held.marks c.self.inside.held.marks c.mark.ensures.marked w c.self.invariant.1 inside unknown c.mark.ensures.long refl refl)
+invariant_of-self g c = (c.mark.ensures.count ∙ c.self.invariant.0, lane_begun c.self.view_is c.self.invariant.1 c.requires.selected.inside c.requires.unknown _ c.mark.ensures.marked c.mark.ensures.long (rw c.as_slice.ensures.value at c.each_place.ensures.written))
 
 pub returns-in_err-each_place-clause-begun : goal.returns-in_err-each_place-clause-begun
 returns-in_err-each_place-clause-begun g c =
-    let same : c.self.inside.held.count ≡ c.args.self.now.count = ap (λ (v : LaneView). v.count) c.self.view_is in
-    let inside : EachPlace c.args.selection.now (λ p. p < c.self.inside.held.count) = λ p h. subst (λ (n : ℕ). p < n) (sym same) (c.requires.selected.inside p h) in
-    let unknown : EachPlace c.args.selection.now (λ p. is_marked c.self.inside.held.marks p ≡ false) = λ p h. ap (λ (v : LaneView). is_marked v.held p) c.self.view_is ∙ c.requires.unknown p h in
-    let w : AreWritten c.args.selection.now c.self.inside.values.numbers.items c.each_place.new.values.numbers.items c.self.inside.values.vectors c.each_place.new.values.vectors =
-    subst (λ (l : List ℕ). AreWritten l c.self.inside.values.numbers.items c.each_place.new.values.numbers.items c.self.inside.values.vectors c.each_place.new.values.vectors) c.as_slice.ensures.value c.each_place.ensures.written in
-    on_err c.from_residual.result (rw (sym c.self.view_is) (begun_after c.self.inside.kind c.self.inside.held.count c.args.selection.now c.self.inside.values.numbers.items _ c.self.inside.values.vectors _ c.self.inside.tried.marks _ c.self.inside.held.marks c.self.inside.held.marks c.mark.ensures.marked w c.self.invariant.1 inside unknown c.mark.ensures.long refl refl c.mark.ensures.newly))
+    on_err c.from_residual.result (begun_after c.self.view_is c.self.invariant.1 c.requires.selected.inside c.requires.unknown _ c.mark.ensures.marked c.mark.ensures.long (rw c.as_slice.ensures.value at c.each_place.ensures.written) c.mark.ensures.newly)
 
 pub mark-requires-2 : goal.mark-requires-2
 mark-requires-2 g c = λ p h.
@@ -37,23 +26,18 @@ mark-requires-2 g c = λ p h.
 
 pub invariant_of-self-2 : goal.invariant_of-self-2
 invariant_of-self-2 g c =
-    let same : c.self.inside.held.count ≡ c.args.self.now.count = ap (λ (v : LaneView). v.count) c.self.view_is in
-    let inside : EachPlace c.args.selection.now (λ p. p < c.self.inside.held.count) = λ p h. subst (λ (n : ℕ). p < n) (sym same) (c.requires.selected.inside p h) in
-    let unknown : EachPlace c.args.selection.now (λ p. is_marked c.self.inside.held.marks p ≡ false) = λ p h. ap (λ (v : LaneView). is_marked v.held p) c.self.view_is ∙ c.requires.unknown p h in
-    let w : AreWritten c.args.selection.now c.self.inside.values.numbers.items c.each_place.new.values.numbers.items c.self.inside.values.vectors c.each_place.new.values.vectors =
-    subst (λ (l : List ℕ). AreWritten l c.self.inside.values.numbers.items c.each_place.new.values.numbers.items c.self.inside.values.vectors c.each_place.new.values.vectors) c.as_slice.ensures.value c.each_place.ensures.written in
-    let come =
-    come_to (g.E.PlaceValues.kind c.args.evaluation.now) c.self.inside.kind (g.E.PlaceValues.gives c.args.evaluation.now) _ c.args.selection.now _ _ _ _ _ (c.requires.kind ∙ sym (ap (λ (v : LaneView). v.kind) c.self.view_is)) c.as_slice.ensures.value c.in_ok-each_place.ensures.come in
-    rw c.mark-2.ensures.count (c.mark.ensures.count ∙ c.self.invariant.0, lane_each c.self.inside.kind c.self.inside.held.count c.args.selection.now c.self.inside.values.numbers.items _ c.self.inside.values.vectors _ c.self.inside.tried.marks _ c.self.inside.held.marks _ c.mark.ensures.marked w c.self.invariant.1 inside unknown c.mark.ensures.long c.mark-2.ensures.long _ c.keep_unmarked.new.self _ _ _ (c.keep_unmarked.ensures ∙ left_given (g.E.PlaceValues.gives c.args.evaluation.now) _ c.args.selection.now come.marked) c.mark-2.ensures.marked come)
+    let come = rw c.as_slice.ensures.value at c.in_ok-each_place.ensures.come in
+    let left = c.keep_unmarked.ensures ∙ left_given (g.E.PlaceValues.gives c.args.evaluation.now) _ c.args.selection.now come.marked in
+    rw c.mark-2.ensures.count (
+      c.mark.ensures.count ∙ c.self.invariant.0,
+      lane_after c.self.view_is c.self.invariant.1 c.requires.selected.inside c.requires.unknown _ c.mark.ensures.marked c.mark.ensures.long (rw c.as_slice.ensures.value at c.each_place.ensures.written)
+          left _ c.mark-2.ensures.marked c.mark-2.ensures.long (each_value come c.requires.kind left),
+    )
 
 pub returns-clause-evaluated : goal.returns-clause-evaluated
 returns-clause-evaluated g c =
-    let same : c.self.inside.held.count ≡ c.args.self.now.count = ap (λ (v : LaneView). v.count) c.self.view_is in
-    let inside : EachPlace c.args.selection.now (λ p. p < c.self.inside.held.count) = λ p h. subst (λ (n : ℕ). p < n) (sym same) (c.requires.selected.inside p h) in
-    let unknown : EachPlace c.args.selection.now (λ p. is_marked c.self.inside.held.marks p ≡ false) = λ p h. ap (λ (v : LaneView). is_marked v.held p) c.self.view_is ∙ c.requires.unknown p h in
-    let w : AreWritten c.args.selection.now c.self.inside.values.numbers.items c.each_place.new.values.numbers.items c.self.inside.values.vectors c.each_place.new.values.vectors =
-    subst (λ (l : List ℕ). AreWritten l c.self.inside.values.numbers.items c.each_place.new.values.numbers.items c.self.inside.values.vectors c.each_place.new.values.vectors) c.as_slice.ensures.value c.each_place.ensures.written in
-    let come =
-    come_to (g.E.PlaceValues.kind c.args.evaluation.now) c.self.inside.kind (g.E.PlaceValues.gives c.args.evaluation.now) _ c.args.selection.now _ _ _ _ _ (c.requires.kind ∙ sym (ap (λ (v : LaneView). v.kind) c.self.view_is)) c.as_slice.ensures.value c.in_ok-each_place.ensures.come in
-    rw (c.mark-2.ensures.count, sym c.self.view_is)
-    (evaluated_each c.self.inside.kind c.self.inside.held.count c.args.selection.now c.self.inside.values.numbers.items _ c.self.inside.values.vectors _ c.self.inside.tried.marks _ c.self.inside.held.marks _ c.mark.ensures.marked w c.self.invariant.1 inside unknown c.mark.ensures.long c.mark-2.ensures.long _ c.keep_unmarked.new.self _ _ _ (c.keep_unmarked.ensures ∙ left_given (g.E.PlaceValues.gives c.args.evaluation.now) _ c.args.selection.now come.marked) c.mark-2.ensures.marked come c.mark.ensures.newly)
+    let come = rw c.as_slice.ensures.value at c.in_ok-each_place.ensures.come in
+    let left = c.keep_unmarked.ensures ∙ left_given (g.E.PlaceValues.gives c.args.evaluation.now) _ c.args.selection.now come.marked in
+    rw c.mark-2.ensures.count
+    (evaluated_after c.self.view_is c.self.invariant.1 c.requires.selected.inside c.requires.unknown _ c.mark.ensures.marked c.mark.ensures.long (rw c.as_slice.ensures.value at c.each_place.ensures.written)
+    left _ c.mark-2.ensures.marked c.mark-2.ensures.long (each_value come c.requires.kind left) (each_joined come) c.mark.ensures.newly)

@@ -1,8 +1,8 @@
-use Rattle.std.proofs.Common.{◌<◌, ◌≡◌, ◌∙◌, ap, get_or, List, ℕ, not, true, subst, sym}
+use Rattle.std.proofs.Common.{◌<◌, ◌∙◌, ap, get_or, List, ℕ, not, subst, sym}
 use Rattle.std.specs.List.{filter}
-use Rattle.expr_lanes.specs.Places.{is_in}
 use Rattle.expr_lanes.proofs.Selected.{is_in_at}
-use Rattle.block_cache.proofs.Members.{filter_same, twice_not}
+use Rattle.expr_lanes.proofs.PartSteps.{filter_alike}
+use Rattle.block_cache.proofs.Members.{twice_not}
 use Rattle.block_cache.proofs.level.Level.next_group.Goals as goal
 
 pub bounds-self-places : goal.bounds-self-places
@@ -12,4 +12,4 @@ bounds-self-places c =
 
 pub returns-clause-group : goal.returns-clause-group
 returns-clause-group c =
-    c.keep_unmarked.ensures ∙ filter_same _ _ _ (λ p h. ap not (c.mark_others.ensures p (subst (λ (l : List ℕ). is_in p l ≡ true) (c.copy_from.ensures ∙ sym c.as_slice-places.ensures.value) h)) ∙ twice_not _) ∙ ap (filter _) c.copy_from.ensures
+    c.keep_unmarked.ensures ∙ filter_alike _ _ _ (λ p h. ap not (c.mark_others.ensures p (rw (c.copy_from.ensures ∙ sym c.as_slice-places.ensures.value) at h)) ∙ twice_not _) ∙ ap (filter _) c.copy_from.ensures
