@@ -1,10 +1,10 @@
 -- How often numbers stand in lists, and lists with the same counts.
-use Rattle.std.proofs.Common.{◌≡◌, ℕ, zero, suc, ◌+◌, ◌<◌, ◌≤◌, List, [], ◌∷◌, ◌++◌, map, cond, true, false, refl, sym, ap, ◌∙◌, ⊎_elim, arith, get_or}
+use Rattle.std.proofs.Common.{◌≡◌, ℕ, zero, suc, ◌+◌, ◌<◌, List, [], ◌∷◌, ◌++◌, map, cond, true, false, refl, sym, ap, ◌∙◌, ⊎_elim, arith, get_or}
 use Rattle.std.specs.Prelude.{◌==◌, IsPermutation}
 use lib.Dec.{ltb}
 use Rattle.std.specs.List.{All, Contains, concat, sum_by, remove}
 use Rattle.std.specs.List.Sorted.{IsStrictlyIncreasing}
-use Rattle.std.proofs.lemmas.Bool.{cases_lt, cases_Bool, eqb-true, eq-eqb, lt-ltb, le-ltb, cond-true, cond-false}
+use Rattle.std.proofs.lemmas.Bool.{cases_Bool, eqb-true, lt-ltb, le-ltb, cond-true, cond-false}
 use Rattle.std.proofs.lemmas.Grind.{common_steps}
 use Rattle.std.proofs.lemmas.List.Elements.{Contains-append_right}
 use Rattle.std.proofs.lemmas.List.Sorted.{IsPermutation-refl, IsPermutation-cons, IsPermutation-remove, IsPermutation-trans, sum_by-IsPermutation}
@@ -27,15 +27,10 @@ pub times_push : (x : ℕ) (xs : List ℕ) (n : ℕ) → times x (xs ++ n ∷ []
 times_push x xs n = sum_by_push (λ y. cond (y == x) 1 0) xs n
 
 pub times_self : (x : ℕ) (xs : List ℕ) → times x (x ∷ xs) ≡ suc (times x xs)
-times_self x xs =
-    let here : one_if x x ≡ 1 = cond-true {A = ℕ} (x == x) 1 0 (eq-eqb x x refl) in
-    omega (arith, here, times_cons x x xs)
+times_self x xs = grind (arith, common_steps, times_cons x x xs)
 
 pub times_other : (x y : ℕ) (ys : List ℕ) → (y ≡ x → ⊥) → times x (y ∷ ys) ≡ times x ys
-times_other x y ys ne = ⊎_elim
-    (λ (t : (y == x) ≡ true). absurd (ne (eqb-true y x t)))
-    (λ (f : (y == x) ≡ false). let none : cond (y == x) 1 0 ≡ 0 = cond-false {A = ℕ} (y == x) 1 0 f in omega (arith, times_cons x y ys))
-    (cases_Bool (y == x))
+times_other x y ys ne = grind (arith, common_steps, times_cons x y ys)
 
 pub once_next : (x n : ℕ) → once_below x (n + 1) ≡ once_below x n + cond (n == x) 1 0
 once_next x n = grind (arith, common_steps)
@@ -44,7 +39,7 @@ pub once_inside : (x m : ℕ) → x < m → once_below x m ≡ 1
 once_inside x m lt = cond-true {A = ℕ} (ltb x m) 1 0 (lt-ltb x m lt)
 
 pub inside_once : (x m : ℕ) → 0 < once_below x m → x < m
-inside_once x m more = ⊎_elim (λ lt. lt) (λ (le : m ≤ x). let none : once_below x m ≡ 0 = cond-false {A = ℕ} (ltb x m) 1 0 (le-ltb x m le) in absurd (omega arith)) (cases_lt x m)
+inside_once x m more = grind (arith, common_steps)
 
 pub times_below : (x m : ℕ) → times x (below m) ≡ once_below x m
 times_below x zero = sym (cond-false {A = ℕ} (ltb x 0) 1 0 (le-ltb x 0 (omega arith)))

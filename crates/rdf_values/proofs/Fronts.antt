@@ -1,13 +1,12 @@
 -- The first items of a list.
 use Rattle.std.proofs.Common.{◌≡◌, ◌+◌, ◌∙◌, ◌++◌, ◌∷◌, [], ℕ, List, Some, ap, append_assoc, length, sym, take}
 use Rattle.std.specs.Prelude.{slice_get}
-use Rattle.std.proofs.lemmas.List.{take_more}
-use Rattle.std.proofs.lemmas.Option.{get_or_from_slice_get, slice_get_within}
+use Rattle.lemmas.proofs.Parts.{take_next}
 use Rattle.std.proofs.Math.Seq.{take-append_seam}
 
 -- with the one behind them
 pub take_next_of : {A : Type 0} (xs : List A) (i : ℕ) (x : A) → slice_get xs i ≡ Some x → take (i + 1) xs ≡ take i xs ++ x ∷ []
-take_next_of xs i x e = take_more xs i x (slice_get_within xs i x e) ∙ ap (λ y. take i xs ++ y ∷ []) (get_or_from_slice_get xs i x x e)
+take_next_of xs i x e = take_next xs i x e
 
 -- without what was appended
 pub front_of : {A : Type 0} (xs ys more now : List A) (n : ℕ) → n ≡ length xs → ys ≡ xs ++ more → now ≡ take n ys → now ≡ xs

@@ -110,24 +110,15 @@ names_are ts xs no_names = refl
 names_are ts xs (more_names {ts = us} {xs = ys} h k) = ap suc (names_are us ys k)
 
 action_short : (n p : List ℕ) (m : Method) (k : ActionKind) → length (arguments m) ≤ 65536 → IsAction m k → IsShort (Action n p k)
-action_short n p m k le says.count = tt
-action_short n p m k le (says.sum h) = tt
-action_short n p m k le (says.min h) = tt
-action_short n p m k le (says.max h) = tt
-action_short n p m k le (says.take h) = tt
-action_short n p m k le (says.reduce h l) = tt
 action_short n p m k le (says.histo1d {es = es} {c = c} {w = w} h l) =
     let e = length-append (edges_tokens es) (Comma ∷ Quoted c ∷ maybe_string w) in let q = edges_few es.rest in omega (arith, e, q, le)
 action_short n p m k le (says.histo2d {es = es} {fs = fs} {c = c} {d = d} {w = w} h l v) =
     let e = length-append (edges_tokens es) (Comma ∷ (edges_tokens fs ++ Comma ∷ Quoted c ∷ Comma ∷ Quoted d ∷ maybe_string w)) in
     let f = length-append (edges_tokens fs) (Comma ∷ Quoted c ∷ Comma ∷ Quoted d ∷ maybe_string w) in
     let q = edges_few es.rest in let r = edges_few fs.rest in (omega (arith, e, f, q, r, le), omega (arith, e, f, q, r, le))
+action_short n p m k le h = tt
 
 says_short : (f : Form) (s : Statement) → length (form_tokens f) ≤ 65536 → Says f s → IsShort s
-says_short f s le (says.define h k) = tt
-says_short f s le (says.redefine h k) = tt
-says_short f s le (says.alias h k) = tt
-says_short f s le (says.filter h k) = tt
 says_short f s le (says.vary {n = n} {p = p} {c = c} {v = v} {ts = ts} {tags = tags} h k l) =
     let i = inside_few n p (form.VaryOne c v ts None) in let e = length-append (strings_tokens ts) [] in let q = strings_few ts.rest in let m = names_are (all_strings ts) tags l in
     (omega arith, omega arith, omega (arith, m), omega (arith, i, e, q, m, le), values_short v.content _ k)
@@ -140,10 +131,7 @@ says_short f s le (says.vary_all {n = n} {p = p} {v = v} {m = name} {cs = cs} {t
     let q = strings_few ts.rest in let r = strings_few cs.rest in let m = names_are (all_strings ts) tags l in let w = names_are (all_strings cs) xs h in
     (omega (arith, w), omega (arith, i, e, g, q, r, w, le), omega (arith, m), omega (arith, i, e, g, q, r, m, le), values_short v.content _ k)
 says_short f s le (says.action {n = n} {p = p} {m = m} {k = k} h) = let i = inside_few n p m in let z : length (arguments m) ≤ 65536 = omega (arith, i, le) in action_short n p m k z h
-says_short f s le says.report = tt
-says_short f s le says.print = tt
-says_short f s le says.variations_for = tt
-says_short f s le says.watch = tt
+says_short f s le h = tt
 
 line_short : (line : List ℕ) (s : Statement) → length line ≤ 65536 → IsLine line s → IsShort s
 line_short line s le h =

@@ -1,10 +1,10 @@
 -- Rising lists, and unions of sets.
-use Rattle.std.proofs.Common.{◌≡◌, ℕ, zero, suc, ◌+◌, ◌<◌, ◌≤◌, List, [], ◌∷◌, cond, true, false, Bool, refl, sym, ap, ◌∙◌, ⊎_elim, arith, add-one, eqb-true}
-use Rattle.std.specs.Prelude.{⊤, ◌==◌}
+use Rattle.std.proofs.Common.{◌≡◌, ℕ, zero, suc, ◌+◌, ◌<◌, ◌≤◌, List, [], ◌∷◌, cond, true, false, Bool, refl, sym, ap, ◌∙◌, arith, add-one}
+use Rattle.std.specs.Prelude.{⊤}
 use lib.Dec.{ltb}
 use Rattle.std.specs.List.{All, concat, sum_by, filter}
 use Rattle.std.specs.List.Sorted.{IsStrictlyIncreasing}
-use Rattle.std.proofs.lemmas.Bool.{cases_lt, cases_Bool, lt-ltb, le-ltb, cond-true, cond-false}
+use Rattle.std.proofs.lemmas.Grind.{common_steps}
 use Rattle.std.proofs.lemmas.List.Kept.{IsStrictlyIncreasing-filter}
 use native.Mathlib.Numerals.{unary_clauses}
 use Rattle.std.proofs.lemmas.List.Elements.{All-nil, All-cons, All-head, All-tail, All-push, All-weaker}
@@ -50,33 +50,17 @@ none_above x y (z ∷ zs) le h = let first = h.0 in times_other x z zs (λ e. ab
 -- a rising list has each number at most once
 pub once_rising : (x : ℕ) (xs : List ℕ) → Rises xs → times x xs ≤ 1
 once_rising x [] up = omega arith
-once_rising x (y ∷ ys) up = ⊎_elim
-    (λ (t : (y == x) ≡ true). let none = none_above y y ys (omega arith) up.0 in let e = eq-of y x t in (omega (arith, same_times x y ys (sym e), times_self y ys)))
-    (λ (f : (y == x) ≡ false). let none : cond (y == x) 1 0 ≡ 0 = cond-false {A = ℕ} (y == x) 1 0 f in let rest = once_rising x ys up.1 in omega (arith, times_cons x y ys))
-    (cases_Bool (y == x))
-  where
-    same_times : (a b : ℕ) (zs : List ℕ) → a ≡ b → times a (b ∷ zs) ≡ times b (b ∷ zs)
-    same_times a b zs e = ap (λ n. times n (b ∷ zs)) e
-
-    eq-of : (a b : ℕ) → (a == b) ≡ true → a ≡ b
-    eq-of a b t = eqb-true a b t
+once_rising x (y ∷ ys) up =
+    let none = none_above x y ys in let rest = once_rising x ys up.1 in
+    grind (arith, common_steps, times_cons x y ys, none, rest, up.0)
 
 pub same_rising : (xs ys : List ℕ) → Rises xs → Rises ys → ((x : ℕ) → times x xs ≡ times x ys) → xs ≡ ys
 same_rising [] [] up down same = refl
 same_rising [] (y ∷ ys) up down same = absurd (omega (arith, same y, times_self y ys))
 same_rising (x ∷ xs) [] up down same = absurd (omega (arith, same x, times_self x xs))
 same_rising (x ∷ xs) (y ∷ ys) up down same =
-    let heads = ⊎_elim
-    (λ (lt : x < y). absurd (omega (arith, same x, times_self x xs, times_other x y ys (λ (e : y ≡ x). omega arith), none_above x y ys (omega arith) down.0)))
-    (λ (le : y ≤ x). ⊎_elim
-    (λ (lt : y < x). absurd (omega (arith, same y, times_self y ys, times_other y x xs (λ (e : x ≡ y). omega arith), none_above y x xs (omega arith) up.0)))
-    (λ (ge : x ≤ y). the_same x y le ge)
-    (cases_lt y x))
-    (cases_lt x y) in
+    let heads : x ≡ y = grind (arith, same x, same y, times_self x xs, times_self y ys, times_other x y ys, times_other y x xs, none_above x y ys, none_above y x xs, up.0, down.0) in
     ap (λ h. h ∷ xs) heads ∙ ap (λ t. y ∷ t) (same_rising xs ys up.1 down.1 (λ z. omega (arith, same z, times_cons z x xs, times_cons z y ys, ap (one_if z) heads)))
-  where
-    the_same : (a b : ℕ) → b ≤ a → a ≤ b → a ≡ b
-    the_same a b p q = omega arith
 
 -- ---- unions by counts
 
@@ -135,37 +119,7 @@ nothing x false = refl
 
 pub times_filter : (p : ℕ → Bool) (x : ℕ) (xs : List ℕ) → times x (filter p xs) ≡ cond (p x) (times x xs) 0
 times_filter p x [] = nothing x (p x)
-times_filter p x (y ∷ ys) = ⊎_elim
-    (λ (t : p y ≡ true).
-    let kept : filter p (y ∷ ys) ≡ y ∷ filter p ys = cond-true (p y) (y ∷ filter p ys) (filter p ys) t in
-    ap (times x) kept ∙ times_cons x y (filter p ys) ∙ ap (λ n. cond (y == x) 1 0 + n) (times_filter p x ys) ∙ kept_count t)
-    (λ (f : p y ≡ false).
-    let left : filter p (y ∷ ys) ≡ filter p ys = cond-false (p y) (y ∷ filter p ys) (filter p ys) f in
-    ap (times x) left ∙ times_filter p x ys ∙ left_count f)
-    (cases_Bool (p y))
-  where
-    kept_count : p y ≡ true → cond (y == x) 1 0 + cond (p x) (times x ys) 0 ≡ cond (p x) (times x (y ∷ ys)) 0
-    kept_count t = ⊎_elim
-        (λ (e : (y == x) ≡ true).
-        let yes : p x ≡ true = ap p (sym (eqb-true y x e)) ∙ t in
-        ap (λ n. cond (y == x) 1 0 + n) (cond-true (p x) (times x ys) 0 yes) ∙ sym (times_cons x y ys) ∙ sym (cond-true (p x) (times x (y ∷ ys)) 0 yes))
-        (λ (e : (y == x) ≡ false).
-        let none : one_if x y ≡ 0 = cond-false {A = ℕ} (y == x) 1 0 e in
-        let same : times x ys ≡ times x (y ∷ ys) = omega (arith, none, times_cons x y ys) in
-        let now : cond {A = ℕ} (p x) (times x ys) 0 ≡ cond (p x) (times x (y ∷ ys)) 0 = ap (λ (n : ℕ). cond {A = ℕ} (p x) n 0) same in
-        omega (arith, none, now))
-        (cases_Bool (y == x))
-
-    left_count : p y ≡ false → cond (p x) (times x ys) 0 ≡ cond (p x) (times x (y ∷ ys)) 0
-    left_count f = ⊎_elim
-        (λ (e : (y == x) ≡ true).
-        let no : p x ≡ false = ap p (sym (eqb-true y x e)) ∙ f in
-        cond-false (p x) (times x ys) 0 no ∙ sym (cond-false (p x) (times x (y ∷ ys)) 0 no))
-        (λ (e : (y == x) ≡ false).
-        let none : one_if x y ≡ 0 = cond-false {A = ℕ} (y == x) 1 0 e in
-        let same : times x ys ≡ times x (y ∷ ys) = omega (arith, none, times_cons x y ys) in
-        ap (λ (n : ℕ). cond {A = ℕ} (p x) n 0) same)
-        (cases_Bool (y == x))
+times_filter p x (y ∷ ys) = let rest = times_filter p x ys in grind (arith, common_steps, times_cons, rest)
 
 pub united : (a b : List ℕ) (rest : List (List ℕ)) (all : List ℕ) → All IsStrictlyIncreasing (a ∷ b ∷ []) → All IsStrictlyIncreasing rest → IsStrictlyIncreasing all → ((x : ℕ) → times x all ≡ (times x a + times x b) + sum_by (times x) rest)
     → (u : List ℕ) × IsUnion (a ∷ b ∷ []) u × IsUnion (u ∷ rest) all
@@ -180,12 +134,7 @@ united a b rest all ups others up h =
     )
   where
     both : (x : ℕ) → cond (in_either a b x) (times x all) 0 ≡ times x a + times x b
-    both x = ⊎_elim
-        (λ (lt : 0 < times x a + times x b).
-        let once = once_rising x all (rises_from all up) in
-        cond-true (ltb 0 (times x a + times x b)) (times x all) 0 (lt-ltb 0 (times x a + times x b) lt) ∙ omega (arith, h x))
-        (λ (le : times x a + times x b ≤ 0). cond-false (ltb 0 (times x a + times x b)) (times x all) 0 (le-ltb 0 (times x a + times x b) le) ∙ omega arith)
-        (cases_lt 0 (times x a + times x b))
+    both x = grind (arith, common_steps, h x, once_rising x all (rises_from all up))
 
 pub unite_from_either_side : UniteFromEitherSide
 unite_from_either_side a b c ab all u v =

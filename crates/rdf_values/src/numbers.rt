@@ -56,10 +56,8 @@ fn push_as_wide<T: Drop>(items: &mut Vec<T>, number: T) -> Result<(), Memory>
     ensures ok { OnOk result (items.new.items ≡ items.old.items ++ number ∷ []) }
     ensures err { OnErr result (items.new.items ≡ items.old.items) }
 {
-    match items.push(number) {
-        Ok(()) => Ok(()),
-        Err(_) => Err(Memory),
-    }
+    items.push(number)?;
+    Ok(())
 }
 
 impl Numbers {
