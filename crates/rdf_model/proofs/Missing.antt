@@ -5,6 +5,7 @@ use Rattle.std.specs.Int.{int_min, int_max}
 use Rattle.rdf_values.specs.Names.{same, place}
 use Rattle.rdf_values.specs.Path.{Path, Under, target_of}
 use Rattle.rdf_values.specs.EachColumn.{EachColumn, EachArgument}
+use Rattle.rdf_values.proofs.Columns.{all_columns}
 use Rattle.rdf_values.specs.Functions.{Function, fn_names}
 use Rattle.rdf_values.specs.Numbered.{callee}
 use Rattle.rdf_values.specs.Tree.{Tree, Trees, NamedTree, Lit, Truth, Col, Neg, Not, Bin, Cond, Pick, Call, End, More}
@@ -91,8 +92,7 @@ module _ (M N : Type 0) where
   chosen_alike : (v : Value) {a b : Outcome M Value} {a' b' : Outcome N Value} → Alike a a' → Alike b b' → Alike (chosen_side v a b) (chosen_side v a' b')
   chosen_alike (val.Bool true) h k = h
   chosen_alike (val.Bool false) h k = k
-  chosen_alike (val.Int z) h k = gives
-  chosen_alike (val.Vect zs) h k = gives
+  chosen_alike v h k = gives
 
   element_of_alike : (o : Option ℤ) → Alike (element_outcome {M = M} o) (element_outcome {M = N} o)
   element_of_alike (Some z) = gives
@@ -156,22 +156,8 @@ module _ (M N : Type 0) where
       evaluate_all_alike (More a rest) h = bind_alike _ _ (evaluate_alike a h.0) (λ v. bind_alike _ _ (evaluate_all_alike rest h.1) (λ vs. gives))
 
   -- what holds of each column at all holds of each in an expression
-  module _ {C F : Type 0} (P : C → Type 0) (h : (c : C) → P c) where
-    mutual
-      pub everywhere : (e : Tree C F) → EachColumn P e
-      everywhere (Lit z) = tt
-      everywhere (Truth b) = tt
-      everywhere (Col c) = h c
-      everywhere (Neg a) = everywhere a
-      everywhere (Not a) = everywhere a
-      everywhere (Bin o a b) = (everywhere a, everywhere b)
-      everywhere (Cond c a b) = (everywhere c, everywhere a, everywhere b)
-      everywhere (Pick v i) = (everywhere v, everywhere i)
-      everywhere (Call f args) = everywhere_in args
-
-      pub everywhere_in : (es : Trees C F) → EachArgument P es
-      everywhere_in End = tt
-      everywhere_in (More a rest) = (everywhere a, everywhere_in rest)
+  pub everywhere : {C F : Type 0} (P : C → Type 0) → ((c : C) → P c) → (e : Tree C F) → EachColumn P e
+  everywhere P h e = all_columns h e
 
   -- ---- columns
 
@@ -187,8 +173,7 @@ module _ (M N : Type 0) where
 
     pub tag_alike : (tags k : ℕ) (v : Value) → Alike (tag_element {M = M} tags k v) (tag_element {M = N} tags k v)
     tag_alike tags k (val.Vect xs) = if_alike (nat_eq (length xs) tags) (element_alike xs (pos k)) faults
-    tag_alike tags k (val.Int z) = gives
-    tag_alike tags k (val.Bool b) = gives
+    tag_alike tags k v = gives
 
     value_if_alike : (o : Option NamedTree) (f : NamedTree → Outcome M Value) (g : NamedTree → Outcome N Value) → ((e : NamedTree) → Alike (f e) (g e)) → Alike (value_if f o) (value_if g o)
     value_if_alike None f g h = gives
