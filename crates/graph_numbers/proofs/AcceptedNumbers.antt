@@ -11,10 +11,9 @@ use Rattle.graph_numbers.specs.Graphs.{IsGraph}
 use Rattle.graph_numbers.specs.Laws.{graph_of, SitesAreEvaluations, ColumnsAreVersions, SitesReadBelow, SitesAreApart, VariationsAreApart, ResultsAreBookings, ResultsByNumbers, LoopsAreTheScripts, PrintsRunTheirLoops, VersionsHaveSources, FiltersAreTheScripts, FiltersHaveSites, ActionsHaveSites, ReportsCoverFilters}
 use Rattle.graph_numbers.proofs.Apart.{site_number, variation_number}
 use Rattle.graph_numbers.proofs.ColumnSources.{column_source}
-use Rattle.graph_numbers.proofs.Covering.{filters_are}
+use Rattle.graph_numbers.proofs.Covering.{filters_are, filter_conditions, action_conditions, report_covers}
 use Rattle.graph_numbers.proofs.Equations.{site_is, source_is, columns_below}
 use Rattle.graph_numbers.proofs.Extending.{itself, versions_count}
-use Rattle.graph_numbers.proofs.FilterSites.{filter_conditions, action_conditions, report_covers}
 use Rattle.rdf_model.proofs.KnownColumns.{each_weaker}
 use Rattle.graph_numbers.proofs.Looping.{loops_are, runs_are}
 use Rattle.graph_numbers.proofs.Resulting.{booked_are, result_is}

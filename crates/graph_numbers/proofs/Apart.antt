@@ -1,203 +1,162 @@
 -- No two sites of an accepted script have one node and places, and no two variations one name and tag.
-use Rattle.std.proofs.Common.{◌≡◌, ◌≢◌, ◌⊎◌, inl, inr, ℕ, zero, suc, ◌+◌, ◌<◌, ◌≤◌, Bool, true, false, ◌||◌, ◌&&◌, List, [], ◌∷◌, length, map, Option, Some, None, option_map, refl, sym, ◌∙◌, ap, arith, nat_eq, nat_lt, slice_get, if◌then◌else◌, codes}
+use Rattle.std.proofs.Common.{◌≡◌, ◌≢◌, ℕ, zero, suc, ◌+◌, ◌<◌, ◌≤◌, Bool, true, false, ◌||◌, ◌&&◌, List, [], ◌∷◌, ◌++◌, length, map, Option, Some, None, option_map, refl, sym, ◌∙◌, ap, arith, nat_eq, nat_lt, slice_get, codes}
 use Rattle.std.specs.List.{list_any}
 use Rattle.std.proofs.lemmas.Bool.Decides.{Decides-eqb}
 use Rattle.std.proofs.lemmas.Option.{slice_get_within}
-use Rattle.lemmas.proofs.Booleans.{and_left_false, and_right_false, neither}
+use Rattle.lemmas.proofs.Booleans.{and_left_false, and_right_false, and_holds, neither, never_true, or_left, or_right}
+use Rattle.lemmas.proofs.Orders.{eq_itself}
+use Rattle.rdf_values.specs.Kinds.{FunctionNames, scope_of}
 use Rattle.rdf_values.specs.Names.{same, among, place}
 use Rattle.rdf_values.specs.Path.{Variation, makes, path, same_variation, own_variations, variations}
-use Rattle.rdf_values.specs.Kinds.{FunctionNames, scope_of}
 use Rattle.rdf_values.specs.Tree.{NamedTree}
 use Rattle.rdf_values.specs.Verdict.{AreAccepted, check, check_node, check_tags, check_target, check_values, first_refusal, refuse_if, refuse_unless, repeats, is_node, is_result, is_in_use, is_variation_name, scope_at}
 use Rattle.rdf_values.specs.declared.column.Column.{Column}
 use Rattle.rdf_values.specs.declared.graph_cause.GraphCause.{GraphCause}
-use Rattle.rdf_values.specs.declared.graph_cause.GraphCause.TheVariants as cause
-use Rattle.rdf_values.specs.declared.vary_values.VaryValues.{VaryValues}
-use Rattle.rdf_values.specs.declared.vary_values.VaryValues.TheVariants.{Lists, Vector}
 use Rattle.rdf_values.specs.declared.statement.Statement.{Statement}
 use Rattle.rdf_values.specs.declared.statement.Statement.TheVariants.{Define, Redefine, Filter, Vary}
+use Rattle.rdf_values.specs.declared.vary_values.VaryValues.{VaryValues}
+use Rattle.rdf_values.specs.declared.vary_values.VaryValues.TheVariants.{Lists, Vector}
 use Rattle.rdf_model.specs.Demanded.{Site, site_at, same_site}
+use Rattle.rdf_values.specs.declared.graph_cause.GraphCause.TheVariants as cause
 use Rattle.rdf_model.proofs.Accepted.{both_none, if_fails, names_equal, itself}
 use Rattle.graph_numbers.specs.Sites.{SiteAt, site_in, list_sites, lists_sites, sites, own_sites}
-use Rattle.graph_numbers.proofs.Listed.{of_joined}
+use Rattle.graph_numbers.proofs.Listed.{by_test, joined, only_at}
 
--- ---- the first place of an element
+-- ---- lists without two elements that are alike
 
 place_is : {A : Type 0} (test : A → Bool) (xs : List A) (s : ℕ) (x : A) → slice_get xs s ≡ Some x → test x ≡ true → ((t : ℕ) (y : A) → t < s → slice_get xs t ≡ Some y → test y ≡ false) → place test xs ≡ Some s
 place_is test [] s x h k before = cc h
-place_is test (y ∷ xs) zero x h k before = go (test y) (ap test (let e : y ≡ x = cc h in e) ∙ k)
-  where
-    go : (b : Bool) → b ≡ true → (if b then Some 0 else option_map suc (place test xs)) ≡ Some 0
-    go true e = refl
-    go false e = cc e
+place_is test (y ∷ xs) zero x h k before = let e : test y ≡ true = ap test (let is : y ≡ x = cc h in is) ∙ k in rw e refl
 place_is test (y ∷ xs) (suc s) x h k before =
-    go (test y) (before 0 y (omega arith) refl) (place_is test xs s x h k (λ t z l q. before (suc t) z (omega (arith, l)) q))
-  where
-    go : (b : Bool) → b ≡ false → place test xs ≡ Some s → (if b then Some 0 else option_map suc (place test xs)) ≡ Some (suc s)
-    go true e q = cc e
-    go false e q = ap (option_map suc) q
+    let e : test y ≡ false = before 0 y (omega arith) refl in rw e (ap (option_map suc) (place_is test xs s x h k (λ t z l q. before (suc t) z (omega (arith, l)) q)))
+
+abbrev pub AreApart : {A : Type 0} → (A → A → Bool) → List A → Type 0
+AreApart {A} alike xs = (s t : ℕ) (x y : A) → t < s → slice_get xs s ≡ Some x → slice_get xs t ≡ Some y → alike x y ≡ false
+
+pub both_apart : {A : Type 0} (alike : A → A → Bool) (xs ys : List A) → AreApart alike xs → AreApart alike ys
+    → ((k t : ℕ) (x y : A) → slice_get ys k ≡ Some x → slice_get xs t ≡ Some y → alike x y ≡ false) → AreApart alike (xs ++ ys)
+both_apart alike xs ys f g between s t x y lt h k =
+    joined xs ys s x h
+    (λ p. joined xs ys t y k (λ q. f s t x y lt p q) (λ n e q. let l = slice_get_within xs s x p in absurd (omega (arith, l, e, lt))))
+    (λ m d p. joined xs ys t y k (λ q. between m t x y p q) (λ n e q. g m n x y (omega (arith, d, e, lt)) p q))
+
+pub one_apart : {A : Type 0} (alike : A → A → Bool) (a : A) → AreApart alike (a ∷ [])
+one_apart alike a s t x y lt h k = let l = slice_get_within (a ∷ []) s x h in absurd (omega (arith, l, lt))
 
 -- ---- sites that differ
 
--- another node, or another column or tag
-pub data Differ (a b : Site) : Type 0 where
-  by_node : same a.node b.node ≡ false → Differ a b
-  by_column : a.column ≢ b.column → Differ a b
-  by_tag : a.tag ≢ b.tag → Differ a b
+pub eq_false : (m n : ℕ) → m ≢ n → nat_eq m n ≡ false
+eq_false m n h = never_true (nat_eq m n) (λ e. h ((Decides-eqb m n).0 e))
 
-eq_false : (m n : ℕ) → m ≢ n → nat_eq m n ≡ false
-eq_false m n h = go (nat_eq m n) refl
-  where
-    go : (b : Bool) → nat_eq m n ≡ b → nat_eq m n ≡ false
-    go true e = absurd (h ((Decides-eqb m n).0 e))
-    go false e = e
+other_node : (a b : Site) → same a.node b.node ≡ false → same_site a b ≡ false
+other_node a b h = rw h refl
 
-and_first : (a b c : Bool) → a ≡ false → (a && b && c) ≡ false
-and_first true b c h = cc h
-and_first false b c h = refl
+other_column : (a b : Site) → a.column ≢ b.column → same_site a b ≡ false
+other_column a b h = and_left_false (same a.node b.node && nat_eq a.column b.column) _ (and_right_false (same a.node b.node) _ (eq_false a.column b.column h))
 
-and_second : (a b c : Bool) → b ≡ false → (a && b && c) ≡ false
-and_second true true c h = cc h
-and_second true false c h = refl
-and_second false b c h = refl
-
-and_third : (a b c : Bool) → c ≡ false → (a && b && c) ≡ false
-and_third true true c h = h
-and_third true false c h = refl
-and_third false b c h = refl
-
-differ_is : (a b : Site) → Differ a b → same_site a b ≡ false
-differ_is a b (by_node h) = and_first (same a.node b.node) _ _ h
-differ_is a b (by_column h) = and_second (same a.node b.node) _ _ (eq_false a.column b.column h)
-differ_is a b (by_tag h) = and_third (same a.node b.node) (nat_eq a.column b.column) _ (eq_false a.tag b.tag h)
+other_tag : (a b : Site) → a.tag ≢ b.tag → same_site a b ≡ false
+other_tag a b h = and_right_false (same a.node b.node && nat_eq a.column b.column) _ (eq_false a.tag b.tag h)
 
 same_itself : (a : Site) → same_site a a ≡ true
-same_itself a = go (same a.node a.node) (nat_eq a.column a.column) (nat_eq a.tag a.tag) (itself a.node) ((Decides-eqb a.column a.column).1 refl) ((Decides-eqb a.tag a.tag).1 refl)
-  where
-    go : (x y z : Bool) → x ≡ true → y ≡ true → z ≡ true → (x && y && z) ≡ true
-    go true true z p q r = r
-    go true false z p q r = cc q
-    go false y z p q r = cc p
+same_itself a = and_holds (same a.node a.node && nat_eq a.column a.column) _ (and_holds (same a.node a.node) _ (itself a.node) (eq_itself a.column)) (eq_itself a.tag)
+
+abbrev alike : SiteAt → SiteAt → Bool
+alike x y = same_site x.site y.site
 
 -- ---- sites
 
 module _ (header : List Column) (names : FunctionNames) where
-  abbrev MadeBy : List Statement → List ℕ → Bool
+  abbrev pub MadeBy : List Statement → List ℕ → Bool
   MadeBy before n = list_any (λ s. makes s n) before
 
   module _ (before : List Statement) (parent node : List ℕ) where
-    list_places : (i k l : ℕ) (es : List NamedTree) (x : SiteAt) → slice_get (list_sites header names before parent node i k es) l ≡ Some x → (x.site.node ≡ node) × (x.site.column ≡ i) × (x.site.tag ≡ k + l)
+    abbrev of_list : ℕ → ℕ → List NamedTree → List SiteAt
+    of_list i k es = list_sites header names before parent node i k es
+
+    abbrev of_lists : ℕ → List (List NamedTree) → List SiteAt
+    of_lists i lists = lists_sites header names before parent node i lists
+
+    list_places : (i k l : ℕ) (es : List NamedTree) (x : SiteAt) → slice_get (of_list i k es) l ≡ Some x → (x.site.node ≡ node) × (x.site.column ≡ i) × (x.site.tag ≡ k + l)
     list_places i k l [] x h = cc h
     list_places i k zero (e ∷ es) x h =
         let q : site_in header names before parent (record { node = node; column = i; tag = k }) e ≡ x = cc h in
         let z : k ≡ k + 0 = omega arith in (sym (ap (λ (y : SiteAt). y.site.node) q), sym (ap (λ (y : SiteAt). y.site.column) q), sym (ap (λ (y : SiteAt). y.site.tag) q) ∙ z)
     list_places i k (suc l) (e ∷ es) x h = let p = list_places i (suc k) l es x h in let z : suc k + l ≡ k + suc l = omega arith in (p.0, p.1, p.2 ∙ z)
 
-    lists_places : (i l : ℕ) (lists : List (List NamedTree)) (x : SiteAt) → slice_get (lists_sites header names before parent node i lists) l ≡ Some x → (x.site.node ≡ node) × (i ≤ x.site.column)
+    lists_places : (i l : ℕ) (lists : List (List NamedTree)) (x : SiteAt) → slice_get (of_lists i lists) l ≡ Some x → (x.site.node ≡ node) × (i ≤ x.site.column)
     lists_places i l [] x h = cc h
-    lists_places i l (es ∷ lists) x h = go (λ k q. lists_places (suc i) k lists x q) (of_joined (list_sites header names before parent node i 0 es) (lists_sites header names before parent node (suc i) lists) l x h)
-      where
-        go : ((k : ℕ) → slice_get (lists_sites header names before parent node (suc i) lists) k ≡ Some x → (x.site.node ≡ node) × (suc i ≤ x.site.column))
-            → (slice_get (list_sites header names before parent node i 0 es) l ≡ Some x) ⊎ ((k : ℕ) × (l ≡ length (list_sites header names before parent node i 0 es) + k) × (slice_get (lists_sites header names before parent node (suc i) lists) k ≡ Some x))
-            → (x.site.node ≡ node) × (i ≤ x.site.column)
-        go next (inl q) = let p = list_places i 0 l es x q in (p.0, (let e = p.1 in omega (arith, e)))
-        go next (inr q) = let p = next q.0 q.2 in (p.0, (let e = p.1 in omega (arith, e)))
+    lists_places i l (es ∷ lists) x h =
+        joined (of_list i 0 es) (of_lists (suc i) lists) l x h
+        (λ q. let p = list_places i 0 l es x q in (p.0, (let e = p.1 in omega (arith, e))))
+        (λ k e q. let p = lists_places (suc i) k lists x q in (p.0, (let d = p.1 in omega (arith, d))))
 
-    lists_apart : (i s t : ℕ) (lists : List (List NamedTree)) (x y : SiteAt) → t < s → slice_get (lists_sites header names before parent node i lists) s ≡ Some x → slice_get (lists_sites header names before parent node i lists) t ≡ Some y → Differ x.site y.site
-    lists_apart i s t [] x y lt h k = cc h
-    lists_apart i s t (es ∷ lists) x y lt h k =
-        go (λ m n l p q. lists_apart (suc i) m n lists x y l p q)
-        (of_joined (list_sites header names before parent node i 0 es) (lists_sites header names before parent node (suc i) lists) s x h)
-        (of_joined (list_sites header names before parent node i 0 es) (lists_sites header names before parent node (suc i) lists) t y k)
-      where
-        go : ((m n : ℕ) → n < m → slice_get (lists_sites header names before parent node (suc i) lists) m ≡ Some x → slice_get (lists_sites header names before parent node (suc i) lists) n ≡ Some y → Differ x.site y.site)
-            → (slice_get (list_sites header names before parent node i 0 es) s ≡ Some x) ⊎ ((m : ℕ) × (s ≡ length (list_sites header names before parent node i 0 es) + m) × (slice_get (lists_sites header names before parent node (suc i) lists) m ≡ Some x))
-            → (slice_get (list_sites header names before parent node i 0 es) t ≡ Some y) ⊎ ((n : ℕ) × (t ≡ length (list_sites header names before parent node i 0 es) + n) × (slice_get (lists_sites header names before parent node (suc i) lists) n ≡ Some y))
-            → Differ x.site y.site
-        go next (inl p) (inl q) = let a = list_places i 0 s es x p in let b = list_places i 0 t es y q in by_tag (λ e. let f = a.2 in let g = b.2 in absurd (omega (arith, f, g, e, lt)))
-        go next (inl p) (inr q) =
-            let l = slice_get_within (list_sites header names before parent node i 0 es) s x p in let e = q.1 in absurd (omega (arith, l, e, lt))
-        go next (inr p) (inl q) =
-            let a = lists_places (suc i) p.0 lists x p.2 in let b = list_places i 0 t es y q in by_column (λ e. let f = a.1 in let g = b.1 in absurd (omega (arith, f, g, e)))
-        go next (inr p) (inr q) = let e = p.1 in let f = q.1 in next p.0 q.0 (omega (arith, e, f, lt)) p.2 q.2
+    list_apart : (i k : ℕ) (es : List NamedTree) → AreApart alike (of_list i k es)
+    list_apart i k es s t x y lt h j =
+        other_tag x.site y.site (λ e. let a = (list_places i k s es x h).2 in let b = (list_places i k t es y j).2 in absurd (omega (arith, a, b, e, lt)))
+
+    lists_apart : (i : ℕ) (lists : List (List NamedTree)) → AreApart alike (of_lists i lists)
+    lists_apart i [] s t x y lt h k = cc h
+    lists_apart i (es ∷ lists) s t x y lt h k =
+        both_apart alike (of_list i 0 es) (of_lists (suc i) lists) (list_apart i 0 es) (lists_apart (suc i) lists)
+        (λ m t x y p q. other_column x.site y.site (λ e. let a = (lists_places (suc i) m lists x p).1 in let b = (list_places i 0 t es y q).1 in absurd (omega (arith, a, b, e)))) s t x y lt h k
 
   -- a node that was checked is new
-  is_new : (before : List Statement) (node parent : List ℕ) (rest : List (Option GraphCause)) → first_refusal (check_node before node parent ∷ rest) ≡ None → MadeBy before node ≡ false
+  pub is_new : (before : List Statement) (node parent : List ℕ) (rest : List (Option GraphCause)) → first_refusal (check_node before node parent ∷ rest) ≡ None → MadeBy before node ≡ false
   is_new before node parent rest ok =
       let p = both_none (check_node before node parent) rest ok in
       let q = both_none (refuse_if (is_in_use before node) cause.NameTaken) (refuse_unless (is_node before parent) cause.UnknownName ∷ []) p.0 in
       let free : is_in_use before node ≡ false = if_fails (is_in_use before node) cause.NameTaken q.0 in
       (neither (same node (codes "df")) (MadeBy before node) (neither (is_node before node) (is_result before node) free).0).1
 
-  new : (before : List Statement) (s : Statement) (node parent : List ℕ) (rest : List (Option GraphCause)) (x : SiteAt) → first_refusal (check_node before node parent ∷ rest) ≡ None → x.site.node ≡ node → makes s node ≡ true
-      → (makes s x.site.node ≡ true) × (MadeBy before x.site.node ≡ false)
+  -- the node is the statement's own, and new
+  abbrev IsOwn : List Statement → Statement → List ℕ → Type 0
+  IsOwn before s node = (makes s node ≡ true) × (MadeBy before node ≡ false)
+
+  new : (before : List Statement) (s : Statement) (node parent : List ℕ) (rest : List (Option GraphCause)) (x : SiteAt) → first_refusal (check_node before node parent ∷ rest) ≡ None → x.site.node ≡ node → makes s node ≡ true → IsOwn before s x.site.node
   new before s node parent rest x ok e m = (ap (makes s) e ∙ m, ap (MadeBy before) e ∙ is_new before node parent rest ok)
 
-  one_site : (before : List Statement) (parent node : List ℕ) (expr : NamedTree) (k : ℕ) (x : SiteAt) → slice_get (site_in header names before parent (site_at node) expr ∷ []) k ≡ Some x → x.site.node ≡ node
-  one_site before parent node expr zero x q = let e : site_in header names before parent (site_at node) expr ≡ x = cc q in sym (ap (λ (y : SiteAt). y.site.node) e)
-  one_site before parent node expr (suc k) x q = cc q
+  new_one : (before : List Statement) (s : Statement) (node parent : List ℕ) (expr : NamedTree) (rest : List (Option GraphCause)) (k : ℕ) (x : SiteAt)
+      → slice_get (site_in header names before parent (site_at node) expr ∷ []) k ≡ Some x → first_refusal (check_node before node parent ∷ rest) ≡ None → makes s node ≡ true → IsOwn before s x.site.node
+  new_one before s node parent expr rest k x h ok m = new before s node parent rest x ok (sym (ap (λ (y : SiteAt). y.site.node) (only_at (site_in header names before parent (site_at node) expr) x k h))) m
 
   -- the node of a statement's sites is its own, and is new where the statement was checked
-  own_node : (before : List Statement) (s : Statement) (k : ℕ) (x : SiteAt) → check names (scope_of header) before s ≡ None → slice_get (own_sites header names before s) k ≡ Some x
-      → (makes s x.site.node ≡ true) × (MadeBy before x.site.node ≡ false)
-  own_node before (Define node parent column expr) k x ok h = new before (Define node parent column expr) node parent _ x ok (one_site before parent node expr k x h) (itself node)
-  own_node before (Redefine node parent column expr) k x ok h = new before (Redefine node parent column expr) node parent _ x ok (one_site before parent node expr k x h) (itself node)
-  own_node before (Filter node parent expr label) k x ok h = new before (Filter node parent expr label) node parent _ x ok (one_site before parent node expr k x h) (itself node)
+  own_node : (before : List Statement) (s : Statement) (k : ℕ) (x : SiteAt) → check names (scope_of header) before s ≡ None → slice_get (own_sites header names before s) k ≡ Some x → IsOwn before s x.site.node
+  own_node before (Define node parent column expr) k x ok h = new_one before (Define node parent column expr) node parent expr _ k x h ok (itself node)
+  own_node before (Redefine node parent column expr) k x ok h = new_one before (Redefine node parent column expr) node parent expr _ k x h ok (itself node)
+  own_node before (Filter node parent expr label) k x ok h = new_one before (Filter node parent expr label) node parent expr _ k x h ok (itself node)
   own_node before (Vary node parent columns (Lists lists) tags vary) k x ok h =
       new before (Vary node parent columns (Lists lists) tags vary) node parent _ x ok (lists_places before parent node 0 k lists x h).0 (itself node)
-  own_node before (Vary node parent columns (Vector e) tags vary) k x ok h = new before (Vary node parent columns (Vector e) tags vary) node parent _ x ok (one_site before parent node e k x h) (itself node)
+  own_node before (Vary node parent columns (Vector e) tags vary) k x ok h = new_one before (Vary node parent columns (Vector e) tags vary) node parent e _ k x h ok (itself node)
   own_node before s k x ok h = cc h
-
-  or_right : (a b : Bool) → b ≡ true → (a || b) ≡ true
-  or_right true b h = refl
-  or_right false b h = h
-
-  or_left : (a b : Bool) → a ≡ true → (a || b) ≡ true
-  or_left true b h = refl
-  or_left false b h = cc h
 
   -- each site's node was made
   site_made : (before : List Statement) → AreAccepted names (scope_of header) before → (s : ℕ) (x : SiteAt) → slice_get (sites header names before) s ≡ Some x → MadeBy before x.site.node ≡ true
   site_made [] good s x h = cc h
-  site_made (t ∷ before) good s x h = go (site_made before good.1 s x) (of_joined (sites header names before) (own_sites header names before t) s x h)
-    where
-      go : (slice_get (sites header names before) s ≡ Some x → MadeBy before x.site.node ≡ true)
-          → (slice_get (sites header names before) s ≡ Some x) ⊎ ((k : ℕ) × (s ≡ length (sites header names before) + k) × (slice_get (own_sites header names before t) k ≡ Some x)) → MadeBy (t ∷ before) x.site.node ≡ true
-      go next (inl q) = or_right (makes t x.site.node) (MadeBy before x.site.node) (next q)
-      go next (inr q) = or_left (makes t x.site.node) (MadeBy before x.site.node) (own_node before t q.0 x good.0 q.2).0
+  site_made (t ∷ before) good s x h =
+      joined (sites header names before) (own_sites header names before t) s x h (λ q. or_right (makes t x.site.node) (MadeBy before x.site.node) (site_made before good.1 s x q))
+      (λ k e q. or_left (makes t x.site.node) (MadeBy before x.site.node) (own_node before t k x good.0 q).0)
 
-  own_apart : (before : List Statement) (st : Statement) (s t : ℕ) (x y : SiteAt) → t < s → slice_get (own_sites header names before st) s ≡ Some x → slice_get (own_sites header names before st) t ≡ Some y → Differ x.site y.site
-  own_apart before (Define node parent column expr) s t x y lt h k = absurd (let l = slice_get_within (site_in header names before parent (site_at node) expr ∷ []) s x h in omega (arith, l, lt))
-  own_apart before (Redefine node parent column expr) s t x y lt h k = absurd (let l = slice_get_within (site_in header names before parent (site_at node) expr ∷ []) s x h in omega (arith, l, lt))
-  own_apart before (Filter node parent expr label) s t x y lt h k = absurd (let l = slice_get_within (site_in header names before parent (site_at node) expr ∷ []) s x h in omega (arith, l, lt))
-  own_apart before (Vary node parent columns (Lists lists) tags vary) s t x y lt h k = lists_apart before parent node 0 s t lists x y lt h k
-  own_apart before (Vary node parent columns (Vector e) tags vary) s t x y lt h k = absurd (let l = slice_get_within (site_in header names before parent (site_at node) e ∷ []) s x h in omega (arith, l, lt))
-  own_apart before st s t x y lt h k = cc h
+  own_apart : (before : List Statement) (s : Statement) → AreApart alike (own_sites header names before s)
+  own_apart before (Define node parent column expr) m n x y lt h k = one_apart alike _ m n x y lt h k
+  own_apart before (Redefine node parent column expr) m n x y lt h k = one_apart alike _ m n x y lt h k
+  own_apart before (Filter node parent expr label) m n x y lt h k = one_apart alike _ m n x y lt h k
+  own_apart before (Vary node parent columns (Lists lists) tags vary) m n x y lt h k = lists_apart before parent node 0 lists m n x y lt h k
+  own_apart before (Vary node parent columns (Vector e) tags vary) m n x y lt h k = one_apart alike _ m n x y lt h k
+  own_apart before s m n x y lt h k = cc h
 
   -- two sites differ
-  apart : (before : List Statement) → AreAccepted names (scope_of header) before → (s t : ℕ) (x y : SiteAt) → t < s → slice_get (sites header names before) s ≡ Some x → slice_get (sites header names before) t ≡ Some y → Differ x.site y.site
+  apart : (before : List Statement) → AreAccepted names (scope_of header) before → AreApart alike (sites header names before)
   apart [] good s t x y lt h k = cc h
   apart (st ∷ before) good s t x y lt h k =
-      go (apart before good.1 s t x y lt) (of_joined (sites header names before) (own_sites header names before st) s x h) (of_joined (sites header names before) (own_sites header names before st) t y k)
-    where
-      other_node : (b : Bool) → same x.site.node y.site.node ≡ b → MadeBy before x.site.node ≡ false → MadeBy before y.site.node ≡ true → Differ x.site y.site
-      other_node true e f g = cc (sym g ∙ ap (MadeBy before) (sym (names_equal x.site.node y.site.node e)) ∙ f)
-      other_node false e f g = by_node e
-
-      go : (slice_get (sites header names before) s ≡ Some x → slice_get (sites header names before) t ≡ Some y → Differ x.site y.site)
-          → (slice_get (sites header names before) s ≡ Some x) ⊎ ((m : ℕ) × (s ≡ length (sites header names before) + m) × (slice_get (own_sites header names before st) m ≡ Some x))
-          → (slice_get (sites header names before) t ≡ Some y) ⊎ ((n : ℕ) × (t ≡ length (sites header names before) + n) × (slice_get (own_sites header names before st) n ≡ Some y))
-          → Differ x.site y.site
-      go next (inl p) (inl q) = next p q
-      go next (inl p) (inr q) = let l = slice_get_within (sites header names before) s x p in let e = q.1 in absurd (omega (arith, l, e, lt))
-      go next (inr p) (inl q) = other_node (same x.site.node y.site.node) refl (own_node before st p.0 x good.0 p.2).1 (site_made before good.1 t y q)
-      go next (inr p) (inr q) = let e = p.1 in let f = q.1 in own_apart before st p.0 q.0 x y (omega (arith, e, f, lt)) p.2 q.2
+      both_apart alike (sites header names before) (own_sites header names before st) (apart before good.1) (own_apart before st)
+      (λ m n a b p q. by_test (same a.site.node b.site.node)
+      (λ e. cc (sym (site_made before good.1 n b q) ∙ ap (MadeBy before) (sym (names_equal a.site.node b.site.node e)) ∙ (own_node before st m a good.0 p).1)) (other_node a.site b.site))
+      s t x y lt h k
 
   -- a site's number is its place by its node, column and tag
   pub site_number : (before : List Statement) → AreAccepted names (scope_of header) before → (s : ℕ) (x : SiteAt) → slice_get (sites header names before) s ≡ Some x
       → place (λ (y : SiteAt). same_site x.site y.site) (sites header names before) ≡ Some s
-  site_number before good s x h =
-      place_is (λ (y : SiteAt). same_site x.site y.site) (sites header names before) s x h (same_itself x.site) (λ t y lt k. differ_is x.site y.site (apart before good s t x y lt h k))
+  site_number before good s x h = place_is (alike x) (sites header names before) s x h (same_itself x.site) (λ t y lt k. apart before good s t x y lt h k)
 
 -- ---- variations
 
@@ -207,18 +166,14 @@ any_false p (x ∷ xs) zero a h q = let e : x ≡ a = cc q in ap p (sym e) ∙ (
 any_false p (x ∷ xs) (suc k) a h q = any_false p xs k a (neither (p x) (list_any p xs) h).1 q
 
 pub other_way : (a b : List ℕ) → same a b ≡ false → same b a ≡ false
-other_way a b h = go (same b a) refl
-  where
-    go : (t : Bool) → same b a ≡ t → same b a ≡ false
-    go true e = cc (sym h ∙ ap (same a) (names_equal b a e) ∙ itself a)
-    go false e = e
+other_way a b h = never_true (same b a) (λ e. cc (sym h ∙ ap (same a) (names_equal b a e) ∙ itself a))
 
-tags_apart : (tags : List (List ℕ)) (m n : ℕ) (a b : List ℕ) → repeats tags ≡ false → n < m → slice_get tags m ≡ Some a → slice_get tags n ≡ Some b → same a b ≡ false
-tags_apart [] m n a b h lt p q = cc p
-tags_apart (x ∷ xs) zero n a b h lt p q = absurd (omega (arith, lt))
-tags_apart (x ∷ xs) (suc m) zero a b h lt p q =
+tags_apart : (tags : List (List ℕ)) → repeats tags ≡ false → AreApart same tags
+tags_apart [] h m n a b lt p q = cc p
+tags_apart (x ∷ xs) h zero n a b lt p q = absurd (omega (arith, lt))
+tags_apart (x ∷ xs) h (suc m) zero a b lt p q =
     let e : x ≡ b = cc q in other_way b a (ap (λ v. same v a) (sym e) ∙ any_false (same x) xs m a (neither (among x xs) (repeats xs) h).0 p)
-tags_apart (x ∷ xs) (suc m) (suc n) a b h lt p q = tags_apart xs m n a b (neither (among x xs) (repeats xs) h).1 (omega (arith, lt)) p q
+tags_apart (x ∷ xs) h (suc m) (suc n) a b lt p q = tags_apart xs (neither (among x xs) (repeats xs) h).1 m n a b (omega (arith, lt)) p q
 
 pub of_tags : (tags : List (List ℕ)) (name : List ℕ) (k : ℕ) (x : Variation) → slice_get (map (λ t. record { name = name; tag = t }) tags) k ≡ Some x → (x.name ≡ name) × (slice_get tags k ≡ Some x.tag)
 of_tags [] name k x h = cc h
@@ -242,10 +197,10 @@ module _ (header : List Column) (names : FunctionNames) where
       let f = both_none (refuse_if (is_variation_name before vary) cause.NameTaken) (many ∷ []) e.1 in
       (if_fails (repeats tags) cause.NameTaken e.0, if_fails (is_variation_name before vary) cause.NameTaken f.0)
 
-  own_variations_apart : (before : List Statement) (s : Statement) (m n : ℕ) (x y : Variation) → check names (scope_of header) before s ≡ None → n < m → slice_get (own_variations s) m ≡ Some x → slice_get (own_variations s) n ≡ Some y → same_variation x y ≡ false
-  own_variations_apart before (Vary node parent columns values tags vary) m n x y ok lt p q =
-      and_right_false (same x.name y.name) (same x.tag y.tag) (tags_apart tags m n x.tag y.tag (tags_checked before node parent vary columns tags values ok).0 lt (of_tags tags vary m x p).1 (of_tags tags vary n y q).1)
-  own_variations_apart before s m n x y ok lt p q = cc p
+  own_variations_apart : (before : List Statement) (s : Statement) → check names (scope_of header) before s ≡ None → AreApart same_variation (own_variations s)
+  own_variations_apart before (Vary node parent columns values tags vary) ok m n x y lt p q =
+      and_right_false (same x.name y.name) (same x.tag y.tag) (tags_apart tags (tags_checked before node parent vary columns tags values ok).0 m n x.tag y.tag lt (of_tags tags vary m x p).1 (of_tags tags vary n y q).1)
+  own_variations_apart before s ok m n x y lt p q = cc p
 
   own_variation_new : (before : List Statement) (s : Statement) (m n : ℕ) (x y : Variation) → check names (scope_of header) before s ≡ None → slice_get (own_variations s) m ≡ Some x → slice_get (variations before) n ≡ Some y → same_variation x y ≡ false
   own_variation_new before (Vary node parent columns values tags vary) m n x y ok p q =
@@ -253,27 +208,13 @@ module _ (header : List Column) (names : FunctionNames) where
       and_left_false (same x.name y.name) (same x.tag y.tag) (ap (λ v. same v y.name) (of_tags tags vary m x p).0 ∙ other_way y.name vary f)
   own_variation_new before s m n x y ok p q = cc p
 
-  variations_apart : (before : List Statement) → AreAccepted names (scope_of header) before → (s t : ℕ) (x y : Variation) → t < s → slice_get (variations before) s ≡ Some x → slice_get (variations before) t ≡ Some y → same_variation x y ≡ false
+  variations_apart : (before : List Statement) → AreAccepted names (scope_of header) before → AreApart same_variation (variations before)
   variations_apart [] good s t x y lt h k = cc h
   variations_apart (st ∷ before) good s t x y lt h k =
-      go (variations_apart before good.1 s t x y lt) (of_joined (variations before) (own_variations st) s x h) (of_joined (variations before) (own_variations st) t y k)
-    where
-      go : (slice_get (variations before) s ≡ Some x → slice_get (variations before) t ≡ Some y → same_variation x y ≡ false)
-          → (slice_get (variations before) s ≡ Some x) ⊎ ((m : ℕ) × (s ≡ length (variations before) + m) × (slice_get (own_variations st) m ≡ Some x))
-          → (slice_get (variations before) t ≡ Some y) ⊎ ((n : ℕ) × (t ≡ length (variations before) + n) × (slice_get (own_variations st) n ≡ Some y))
-          → same_variation x y ≡ false
-      go next (inl p) (inl q) = next p q
-      go next (inl p) (inr q) = let l = slice_get_within (variations before) s x p in let e = q.1 in absurd (omega (arith, l, e, lt))
-      go next (inr p) (inl q) = own_variation_new before st p.0 t x y good.0 p.2 q
-      go next (inr p) (inr q) = let e = p.1 in let f = q.1 in own_variations_apart before st p.0 q.0 x y good.0 (omega (arith, e, f, lt)) p.2 q.2
-
-  variation_itself : (v : Variation) → same_variation v v ≡ true
-  variation_itself v = go (same v.name v.name) (same v.tag v.tag) (itself v.name) (itself v.tag)
-    where
-      go : (a b : Bool) → a ≡ true → b ≡ true → (a && b) ≡ true
-      go true b h k = k
-      go false b h k = cc h
+      both_apart same_variation (variations before) (own_variations st) (variations_apart before good.1) (own_variations_apart before st good.0)
+      (λ m n a b p q. own_variation_new before st m n a b good.0 p q) s t x y lt h k
 
   -- a variation's number is its place by its name and tag
   pub variation_number : (before : List Statement) → AreAccepted names (scope_of header) before → (v : ℕ) (x : Variation) → slice_get (variations before) v ≡ Some x → place (same_variation x) (variations before) ≡ Some v
-  variation_number before good v x h = place_is (same_variation x) (variations before) v x h (variation_itself x) (λ t y lt k. variations_apart before good v t x y lt h k)
+  variation_number before good v x h =
+      place_is (same_variation x) (variations before) v x h (and_holds (same x.name x.name) _ (itself x.name) (itself x.tag)) (λ t y lt k. variations_apart before good v t x y lt h k)

@@ -2,19 +2,17 @@
 use Rattle.std.proofs.Common.{◌≡◌, ℕ, suc, ◌+◌, ◌*◌, ◌≤◌, List, [], ◌∷◌, length, refl, ◌∙◌, ap, arith, length-append}
 use Rattle.std.specs.List.{AllByRecursion}
 use Rattle.rdf_values.specs.Tokens.{before}
-use Rattle.rdf_values.specs.declared.statement.Statement.{Statement}
-use Rattle.rdf_values.specs.declared.statement.Statement.TheVariants.{Define, Redefine, Filter, Vary}
-use Rattle.rdf_values.specs.Tree.{NamedTree}
-use Rattle.rdf_values.specs.declared.vary_values.VaryValues.TheVariants.{Lists, Vector}
 use Rattle.rdf_values.specs.Kinds.{FunctionNames}
+use Rattle.rdf_values.specs.Tree.{NamedTree}
 use Rattle.rdf_values.specs.declared.column.Column.{Column}
+use Rattle.rdf_values.specs.declared.statement.Statement.{Statement}
+use Rattle.rdf_values.specs.declared.statement.Statement.TheVariants.{Vary}
+use Rattle.rdf_values.specs.declared.vary_values.VaryValues.TheVariants.{Lists}
 use Rattle.graph_numbers.specs.Sites.{list_sites, lists_sites, own_sites, sites}
 use Rattle.rdf_values.specs.Bookable.{expression_count, IsShort}
 
--- ---- a script that can be booked has few sites
-
 module _ (header : List Column) (names : FunctionNames) where
-  list_count : (before : List Statement) (parent node : List ℕ) (i k : ℕ) (es : List NamedTree) → length (list_sites header names before parent node i k es) ≡ length es
+  pub list_count : (before : List Statement) (parent node : List ℕ) (i k : ℕ) (es : List NamedTree) → length (list_sites header names before parent node i k es) ≡ length es
   list_count before parent node i k [] = refl
   list_count before parent node i k (e ∷ es) = ap suc (list_count before parent node i (suc k) es)
 
@@ -25,11 +23,7 @@ module _ (header : List Column) (names : FunctionNames) where
       ∙ (λ l. list_count before parent node i 0 es l + lists_count before parent node (suc i) ls l)
 
   own_few : (before : List Statement) (s : Statement) → IsShort s → length (own_sites header names before s) ≤ 65536
-  own_few before (Define node parent column expr) h = omega arith
-  own_few before (Redefine node parent column expr) h = omega arith
-  own_few before (Filter node parent expr label) h = omega arith
   own_few before (Vary node parent columns (Lists ls) tags vary) h = let n = lists_count before parent node 0 ls in let few = h.4.1 in omega (arith, n, few)
-  own_few before (Vary node parent columns (Vector e) tags vary) h = omega arith
   own_few before s h = omega arith
 
   pub sites_few : (before : List Statement) → AllByRecursion IsShort before → length (sites header names before) ≤ 65536 * length before

@@ -1,77 +1,50 @@
 -- What a pass demands, as a set of sites: it has what is tried and read, and with each site those that its evaluation meets.
-use Rattle.std.proofs.Common.{◌≡◌, ◌⊎◌, inl, inr, ℕ, Bool, true, false, List, [], ◌∷◌, ◌++◌, map, Option, Some, Ok, refl, sym, ◌∙◌, ap, subst, nat_eq, slice_get, if◌then◌else◌}
+use Rattle.std.proofs.Common.{◌≡◌, ℕ, Bool, true, false, List, [], ◌∷◌, ◌++◌, map, Option, Some, Ok, refl, sym, ◌∙◌, ap, subst, nat_eq, slice_get, if◌then◌else◌}
 use Rattle.std.specs.Prelude.{⊤}
-use Rattle.rdf_values.specs.Names.{place}
-use Rattle.rdf_values.specs.Path.{Under, makes, parent_of, path, target_of}
 use Rattle.rdf_values.specs.Bookings.{ActionAt, columns_of}
-use Rattle.rdf_values.specs.Depends.{columns_in, columns_in_all}
-use Rattle.rdf_values.specs.EachColumn.{EachColumn, EachArgument}
 use Rattle.rdf_values.specs.Functions.{Function, fn_names}
 use Rattle.rdf_values.specs.Kinds.{scope_of, column_kind, shape_of}
-use Rattle.rdf_values.specs.Numbered.{callee}
-use Rattle.rdf_values.specs.Tree.{Tree, Trees, Lit, Truth, Col, Neg, Not, Bin, Cond, Pick, Call, End, More}
+use Rattle.rdf_values.specs.Names.{place}
+use Rattle.rdf_values.specs.Path.{Under, makes, parent_of, path, target_of}
 use Rattle.rdf_values.specs.Verdict.{AreAccepted, scope_at}
 use Rattle.rdf_values.specs.declared.action.ActionKind.{ActionKind}
 use Rattle.rdf_values.specs.declared.column.Column.{Column}
-use Rattle.rdf_values.specs.declared.value.ColType.{ColType}
-use Rattle.rdf_values.specs.declared.value.Value.{Value}
 use Rattle.rdf_values.specs.declared.statement.Statement.{Statement}
 use Rattle.rdf_values.specs.declared.statement.Statement.TheVariants.{Filter, Action}
-use Rattle.rdf_model.specs.Evaluation.{Outcome, Gives, Faults, Needs, ◌>>=◌, call_outcome, named_call, is_need, without}
+use Rattle.rdf_values.specs.declared.value.ColType.{ColType}
+use Rattle.rdf_values.specs.declared.value.Value.{Value}
 use Rattle.rdf_model.specs.ColumnValues.{column_value}
 use Rattle.rdf_model.specs.Demanded.{site_at, Demand, with_needs, demands_after, met_columns, site_demands, column_demands, filter_demands, input_demands, booking_demands, same_site}
 use Rattle.rdf_model.specs.EntryOutcomes.{through, truth_of}
+use Rattle.rdf_model.specs.Evaluation.{Outcome, Gives, Faults, Needs, ◌>>=◌, call_outcome, named_call, is_need, without}
+use Rattle.rdf_values.specs.Depends.{columns_in}
+use Rattle.rdf_values.specs.Numbered.{callee}
 use Rattle.rdf_model.specs.Laws.{IsKnown, gives, faults}
 use Rattle.rdf_model.proofs.Evaluations.{evaluate_renamed, call_known}
-use Rattle.graph_numbers.specs.Versions.{version_at}
+use Rattle.graph_numbers.specs.Meets.{meets, IfGiven, IfPassed, HasSourceIn, HasFilters, HasInputs}
+use Rattle.graph_numbers.specs.Outcomes.{through_sites}
 use Rattle.graph_numbers.specs.Sites.{SiteAt, site_in, sites, site_count, own_filter_site, filter_sites}
 use Rattle.graph_numbers.specs.Sources.{source_in, sources}
-use Rattle.graph_numbers.specs.Outcomes.{through_sites}
-use Rattle.graph_numbers.specs.Meets.{meets, IfGiven, IfPassed, HasSourceIn, HasFilters, HasInputs}
+use Rattle.graph_numbers.specs.Versions.{version_at}
 use Rattle.graph_numbers.specs.declared.source.Source.{Source}
 use Rattle.graph_numbers.specs.declared.source.Source.TheVariants as from
 use Rattle.std.proofs.lemmas.List.{append-nil}
 use Rattle.std.proofs.lemmas.Option.{get_or_from_slice_get}
 use Rattle.graph_numbers.proofs.Apart.{site_number}
-use Rattle.graph_numbers.proofs.Extending.{Extends}
-use Rattle.graph_numbers.proofs.ColumnDemands.{HasDemandsOf, column_demanded, of_site, of_cell, of_element, read}
-use Rattle.graph_numbers.proofs.ColumnSources.{column_source}
-use Rattle.graph_numbers.proofs.Demands.{of_append, demand_of, AreExplained, own_site}
+use Rattle.graph_numbers.proofs.Extending.{Extends, shorter}
+use Rattle.graph_numbers.proofs.ColumnSources.{HasDemandsOf, column_demanded, column_source, demands}
+use Rattle.graph_numbers.proofs.Demands.{demand_of, AreExplained, own_site}
 use Rattle.graph_numbers.proofs.Equations.{number_value, version_value, source_is, source_later}
 use Rattle.rdf_model.proofs.KnownColumns.{IsKnownColumn, known_columns, each_weaker}
-use Rattle.graph_numbers.proofs.Meeting.{In, here, there, in_left, in_right, met_name}
+use Rattle.graph_numbers.proofs.Listed.{by_test}
+use Rattle.graph_numbers.proofs.Meeting.{each_at}
+use Rattle.graph_numbers.proofs.Meeting.{In, here, in_left, in_right, met_name}
 use Rattle.rdf_model.specs.Alike as alike
 use Rattle.rdf_model.specs.Alike.{Alike}
 use Rattle.rdf_model.proofs.Missing.{named_alike, alike_is, call_alike}
-use Rattle.graph_numbers.proofs.Passing.{shorter, through_is, AreVisible, action_visible}
+use Rattle.graph_numbers.proofs.Passing.{through_is, AreVisible, action_visible}
 use Rattle.graph_numbers.proofs.Placing.{IsPlaced, placed}
 use Rattle.graph_numbers.proofs.Origins as origin
-
-either_in : {A : Type 0} (x : A) (P : Type 0) (xs ys : List A) → (In x xs → P) → (In x ys → P) → In x xs ⊎ In x ys → P
-either_in x P xs ys f g (inl k) = f k
-either_in x P xs ys f g (inr k) = g k
-
-both_in : {A : Type 0} (P : A → Type 0) (c : A) (xs ys : List A) → (In c xs → P c) → (In c ys → P c) → In c (xs ++ ys) → P c
-both_in P c xs ys f g h = either_in c (P c) xs ys f g (of_append xs ys h)
-
--- what holds of each column of an expression holds of each in its list
-module _ {C F : Type 0} (P : C → Type 0) where
-  mutual
-    pub each_at : (e : Tree C F) → EachColumn P e → (c : C) → In c (columns_in e) → P c
-    each_at (Lit z) h c k = elim k [ ]
-    each_at (Truth b) h c k = elim k [ ]
-    each_at (Col d) h c here = h
-    each_at (Col d) h c (there k) = elim k [ ]
-    each_at (Neg a) h c k = each_at a h c k
-    each_at (Not a) h c k = each_at a h c k
-    each_at (Bin o a b) h c k = both_in P c (columns_in a) (columns_in b) (each_at a h.0 c) (each_at b h.1 c) k
-    each_at (Cond d a b) h c k = both_in P c (columns_in d ++ columns_in a) (columns_in b) (λ l. both_in P c (columns_in d) (columns_in a) (each_at d h.0 c) (each_at a h.1 c) l) (each_at b h.2 c) k
-    each_at (Pick v i) h c k = both_in P c (columns_in v) (columns_in i) (each_at v h.0 c) (each_at i h.1 c) k
-    each_at (Call f args) h c k = each_argument_at args h c k
-
-    each_argument_at : (es : Trees C F) → EachArgument P es → (c : C) → In c (columns_in_all es) → P c
-    each_argument_at End h c k = elim k [ ]
-    each_argument_at (More a rest) h c k = both_in P c (columns_in a) (columns_in_all rest) (each_at a h.0 c) (each_argument_at rest h.1 c) k
 
 with_needs_known : {M A : Type 0} (o : Outcome ⊥ A) → IsKnown (with_needs {M = M} o)
 with_needs_known (Gives a) = gives
@@ -83,7 +56,7 @@ with_needs_alike (Gives a) = alike.gives
 with_needs_alike (Faults k) = alike.faults
 with_needs_alike (Needs m) = elim m [ ]
 
-some_is : {A : Type 0} (a b : A) (o : Option A) → o ≡ Some a → o ≡ Some b → a ≡ b
+pub some_is : {A : Type 0} (a b : A) (o : Option A) → o ≡ Some a → o ≡ Some b → a ≡ b
 some_is a b o h k = let e : ◌≡◌ {A = Option _} (Some a) (Some b) = sym h ∙ k in cc e
 
 module _ (fns : List Function) (columns : List Column) (row : List Value) (u : Under) (before : List Statement) (good : AreAccepted (fn_names fns) (scope_of columns) before) where
@@ -129,7 +102,7 @@ module _ (fns : List Function) (columns : List Column) (row : List Value) (u : U
   source_demanded ds small c h f =
       subst (HasSourceIn (IsDemanded ds)) (sym (get_or_from_slice_get (sources columns (fn_names fns) u before) c h.0 (from.Cell 0) h.1)) (go h.0 h.2)
     where
-      go : (src : Source) → origin.IsGiven columns (fn_names fns) u (read fns columns row u) (of_cell fns columns row u) (of_site fns columns row u) (of_element fns columns row u) [] before src small → HasSourceIn (IsDemanded ds) src
+      go : (src : Source) → origin.IsGiven columns (fn_names fns) u (demands fns columns row u) before src small → HasSourceIn (IsDemanded ds) src
       go (from.Cell col) k = tt
       go (from.Site t) k = (k.0, k.1, f (demand_of fns columns row u before k.0) (subst (In (demand_of fns columns row u before k.0)) (sym k.2) here))
       go (from.Element t i tags) k = (k.0, k.1, f (demand_of fns columns row u before k.0) (subst (In (demand_of fns columns row u before k.0)) (sym k.2) here))
@@ -146,7 +119,7 @@ module _ (fns : List Function) (columns : List Column) (row : List Value) (u : U
       let n = met_of s x p c (ap (λ (v : SiteAt). meets fns version v c) (sym p.is) ∙ met) in
       let known = known_columns (column_kind (scope_at (fn_names fns) (scope_of columns) p.earlier p.parent)) (shape_of (fn_names fns)) p.expr p.kind p.typed in
       let k = each_at (IsKnownColumn (column_kind (scope_at (fn_names fns) (scope_of columns) p.earlier p.parent)) (shape_of (fn_names fns))) p.expr known n.0 n.2 in
-      let d = origin.source_later columns (fn_names fns) u (read fns columns row u) (of_cell fns columns row u) (of_site fns columns row u) (of_element fns columns row u) [] p.earlier before p.extends _ _
+      let d = origin.source_later columns (fn_names fns) u (demands fns columns row u) p.earlier before p.extends _ _
       (column_demanded fns columns row u p.earlier p.accepted p.parent n.0 k.0 k.1) in
       source_demanded ds (column_demands fns columns row (path p.earlier p.parent) u n.0) c
       (subst (λ (v : ℕ). HasDemandsOf fns columns row u before v (column_demands fns columns row (path p.earlier p.parent) u n.0)) n.1 d)
@@ -154,33 +127,31 @@ module _ (fns : List Function) (columns : List Column) (row : List Value) (u : U
 
   -- ---- what a pass tries and reads
 
+  pub then_wider : (o : Outcome ⊥ Bool) {P Q : Type 0} → (P → Q) → IfPassed o P → IfPassed o Q
+  then_wider (Gives true) f h = f h
+  then_wider o f h = tt
+
+  given_wider : (o : Outcome ⊥ Value) {P Q : Type 0} → (P → Q) → IfGiven o P → IfGiven o Q
+  given_wider (Gives v) f h = f h
+  given_wider o f h = tt
+
   pub wider_filters : (D E : ℕ → Type 0) → ((s : ℕ) → D s → E s) → (site : ℕ → Outcome ⊥ Value) (ss : List ℕ) → HasFilters D site ss → HasFilters E site ss
   wider_filters D E f site [] h = tt
-  wider_filters D E f site (s ∷ ss) h = (f s h.0, go (site s >>= truth_of) h.1 (wider_filters D E f site ss))
-    where
-      go : (o : Outcome ⊥ Bool) → IfPassed o (HasFilters D site ss) → (HasFilters D site ss → HasFilters E site ss) → IfPassed o (HasFilters E site ss)
-      go (Gives true) k next = next k
-      go (Gives false) k next = tt
-      go (Faults e) k next = tt
-      go (Needs m) k next = elim m [ ]
+  wider_filters D E f site (s ∷ ss) h = (f s h.0, then_wider (site s >>= truth_of) (wider_filters D E f site ss) h.1)
 
   -- one more filter, tried where those before it are passed
   more_filters : (D : ℕ → Type 0) (site : ℕ → Outcome ⊥ Value) (ss : List ℕ) (s : ℕ) → HasFilters D site ss → IfPassed (through_sites site ss) (D s) → HasFilters D site (ss ++ s ∷ [])
-  more_filters D site [] s h k = (k, last (site s >>= truth_of))
+  more_filters D site [] s h k = (k, nothing (site s >>= truth_of))
     where
-      last : (o : Outcome ⊥ Bool) → IfPassed o ⊤
-      last (Gives true) = tt
-      last (Gives false) = tt
-      last (Faults e) = tt
-      last (Needs m) = elim m [ ]
+      nothing : (o : Outcome ⊥ Bool) → IfPassed o ⊤
+      nothing (Gives true) = tt
+      nothing o = tt
   more_filters D site (t ∷ ss) s h k = (h.0, go (site t >>= truth_of) h.1 k (λ a b. more_filters D site ss s a b))
     where
       go : (o : Outcome ⊥ Bool) → IfPassed o (HasFilters D site ss) → IfPassed (o >>= λ passed. if passed then through_sites site ss else Gives false) (D s)
           → (HasFilters D site ss → IfPassed (through_sites site ss) (D s) → HasFilters D site (ss ++ s ∷ [])) → IfPassed o (HasFilters D site (ss ++ s ∷ []))
       go (Gives true) a b next = next a b
-      go (Gives false) a b next = tt
-      go (Faults e) a b next = tt
-      go (Needs m) a b next = elim m [ ]
+      go o a b next = tt
 
   abbrev site : ℕ → Outcome ⊥ Value
   site = number_value ⊥ fns columns row u before
@@ -191,15 +162,7 @@ module _ (fns : List Function) (columns : List Column) (row : List Value) (u : U
   -- what follows an outcome, where it is an answer that the test passes
   after_passed : (o : Outcome ⊥ Bool) (next : List Demand) (D : List Demand → Type 0) → D next → IfPassed o (D (demands_after o (λ passed. if passed then next else [])))
   after_passed (Gives true) next D h = h
-  after_passed (Gives false) next D h = tt
-  after_passed (Faults e) next D h = tt
-  after_passed (Needs m) next D h = elim m [ ]
-
-  pub then_wider : (o : Outcome ⊥ Bool) {P Q : Type 0} → (P → Q) → IfPassed o P → IfPassed o Q
-  then_wider (Gives true) f h = f h
-  then_wider (Gives false) f h = tt
-  then_wider (Faults e) f h = tt
-  then_wider (Needs m) f h = elim m [ ]
+  after_passed o next D h = tt
 
   pub filter_statement : (earlier : List Statement) (s : Statement) → Extends (s ∷ earlier) before
       → HasFilters (IsDemanded (filter_demands fns columns row (path earlier (parent_of s)) u)) site (filter_sites columns (fn_names fns) earlier (parent_of s))
@@ -221,14 +184,9 @@ module _ (fns : List Function) (columns : List Column) (row : List Value) (u : U
   -- the filters that are tried
   pub filters_demanded : (earlier : List Statement) → Extends earlier before → (node : List ℕ) → HasFilters (IsDemanded (filter_demands fns columns row (path earlier node) u)) site (filter_sites columns (fn_names fns) earlier node)
   filters_demanded [] e node = tt
-  filters_demanded (s ∷ earlier) e node = go (makes s node) (filters_demanded earlier (shorter s earlier before e) (parent_of s)) (filters_demanded earlier (shorter s earlier before e) node)
-    where
-      go : (b : Bool) → HasFilters (IsDemanded (filter_demands fns columns row (path earlier (parent_of s)) u)) site (filter_sites columns (fn_names fns) earlier (parent_of s))
-          → HasFilters (IsDemanded (filter_demands fns columns row (path earlier node) u)) site (filter_sites columns (fn_names fns) earlier node)
-          → HasFilters (IsDemanded (filter_demands fns columns row (if b then s ∷ path earlier (parent_of s) else path earlier node) u)) site
-          (if b then filter_sites columns (fn_names fns) earlier (parent_of s) ++ own_filter_site s (site_count columns (fn_names fns) earlier) else filter_sites columns (fn_names fns) earlier node)
-      go true h k = filter_statement earlier s e h
-      go false h k = k
+  filters_demanded (s ∷ earlier) e node =
+      by_test (makes s node) (λ t. rw t (filter_statement earlier s e (filters_demanded earlier (shorter s earlier before e) (parent_of s))))
+      (λ t. rw t (filters_demanded earlier (shorter s earlier before e) node))
 
   abbrev value : ℕ → Outcome ⊥ Value
   value = version_value ⊥ fns columns row u before
@@ -243,23 +201,12 @@ module _ (fns : List Function) (columns : List Column) (row : List Value) (u : U
 
   pub wider_inputs : (D E : ℕ → Type 0) → ((s : ℕ) → D s → E s) → (cs : List ℕ) → HasInputs D source value cs → HasInputs E source value cs
   wider_inputs D E f [] h = tt
-  wider_inputs D E f (c ∷ cs) h = (source_wider D E f (source c) h.0, go (value c) h.1 (wider_inputs D E f cs))
-    where
-      go : (o : Outcome ⊥ Value) → IfGiven o (HasInputs D source value cs) → (HasInputs D source value cs → HasInputs E source value cs) → IfGiven o (HasInputs E source value cs)
-      go (Gives v) k next = next k
-      go (Faults e) k next = tt
-      go (Needs m) k next = elim m [ ]
+  wider_inputs D E f (c ∷ cs) h = (source_wider D E f (source c) h.0, given_wider (value c) (wider_inputs D E f cs) h.1)
 
   -- what follows an answer
   after_given : (o : Outcome ⊥ Value) (next : List Demand) (D : List Demand → Type 0) → D next → IfGiven o (D (demands_after o (λ v. next)))
   after_given (Gives v) next D h = h
-  after_given (Faults e) next D h = tt
-  after_given (Needs m) next D h = elim m [ ]
-
-  given_wider : (o : Outcome ⊥ Value) {P Q : Type 0} → (P → Q) → IfGiven o P → IfGiven o Q
-  given_wider (Gives v) f h = f h
-  given_wider (Faults e) f h = tt
-  given_wider (Needs m) f h = elim m [ ]
+  after_given o next D h = tt
 
   -- the versions that an action reads
   inputs_demanded : (earlier : List Statement) → AreAccepted (fn_names fns) (scope_of columns) earlier → Extends earlier before → (node : List ℕ) (cs : List (List ℕ)) → AreVisible ⊥ fns columns row u before earlier node cs
@@ -269,7 +216,7 @@ module _ (fns : List Function) (columns : List Column) (row : List Value) (u : U
       let own : List Demand = column_demands fns columns row (path earlier node) u c in
       let rest : List Demand = input_demands fns columns row (path earlier node) u cs in
       let whole : List Demand = input_demands fns columns row (path earlier node) u (c ∷ cs) in
-      let d = origin.source_later columns (fn_names fns) u (read fns columns row u) (of_cell fns columns row u) (of_site fns columns row u) (of_element fns columns row u) [] earlier before e _ _ (column_demanded fns columns row u earlier ok node c v.0.0 v.0.1) in
+      let d = origin.source_later columns (fn_names fns) u (demands fns columns row u) earlier before e _ _ (column_demanded fns columns row u earlier ok node c v.0.0 v.0.1) in
       let is : value (version_at columns earlier node c) ≡ column_value fns columns row (path earlier node) u c =
       source_is ⊥ fns columns row u before _ _ (source_later ⊥ fns columns row u earlier before e _ _ (column_source ⊥ fns columns row u earlier ok node c v.0.0 v.0.1)) in
       let next : IfGiven (column_value fns columns row (path earlier node) u c) (HasInputs (IsDemanded whole) source value (map (version_at columns earlier node) cs)) =

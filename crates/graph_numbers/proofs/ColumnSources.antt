@@ -1,72 +1,74 @@
--- The version of a visible column is given by what gives the column its value at that node.
-use Rattle.std.proofs.Common.{◌≡◌, ℕ, List, ◌∷◌, length, Option, Some, None, Ok, refl, slice_get}
-use Rattle.rdf_values.specs.Names.{same, place}
-use Rattle.rdf_values.specs.Path.{Path, Under, parent_of, path, target_of}
+-- The version of a visible column is given by what gives the column its value at that node, and demands what reading the column demands.
+use Rattle.std.proofs.Common.{◌≡◌, ℕ, List, [], ◌∷◌, Ok, refl, ap, slice_get}
 use Rattle.rdf_values.specs.Functions.{Function, fn_names}
 use Rattle.rdf_values.specs.Kinds.{scope_of, column_kind}
-use Rattle.rdf_values.specs.Tree.{NamedTree}
+use Rattle.rdf_values.specs.Path.{Under, parent_of, path}
 use Rattle.rdf_values.specs.Verdict.{AreAccepted, scope_at}
 use Rattle.rdf_values.specs.declared.column.Column.{Column}
+use Rattle.rdf_values.specs.declared.statement.Statement.{Statement}
+use Rattle.rdf_values.specs.declared.statement.Statement.TheVariants.{Define}
 use Rattle.rdf_values.specs.declared.value.ColType.{ColType}
 use Rattle.rdf_values.specs.declared.value.Value.{Value}
-use Rattle.rdf_values.specs.declared.vary_values.VaryValues.{VaryValues}
-use Rattle.rdf_values.specs.declared.vary_values.VaryValues.TheVariants.{Lists, Vector}
-use Rattle.rdf_values.specs.declared.statement.Statement.{Statement}
-use Rattle.rdf_values.specs.declared.statement.Statement.TheVariants.{Define, Redefine, Alias, Filter, Vary, Action, Report, VariationsFor, Watch, Print}
-use Rattle.rdf_model.specs.Evaluation.{Outcome, ◌>>=◌, untyped}
-use Rattle.rdf_model.specs.ColumnValues.{expression_value, expression_at, own_place, tag_element, tag_value, value_if, varied, named_value, column_value}
-use Rattle.graph_numbers.specs.Versions.{version_at}
-use Rattle.graph_numbers.specs.Sites.{SiteAt, site_in, site_outcome}
+use Rattle.rdf_model.specs.ColumnValues.{expression_value, tag_element, tag_value, value_if, named_value, column_value}
+use Rattle.rdf_model.specs.Demanded.{Demand, site_demands, tag_demands, named_demands, column_demands}
+use Rattle.rdf_model.specs.Evaluation.{Outcome, ◌>>=◌}
+use Rattle.graph_numbers.specs.Sites.{site_outcome}
 use Rattle.graph_numbers.specs.Sources.{cell_value}
+use Rattle.graph_numbers.specs.Versions.{version_at}
 use Rattle.graph_numbers.specs.declared.source.Source.{Source}
 use Rattle.graph_numbers.proofs.Origins as origin
 
 module _ (M : Type 0) (fns : List Function) (columns : List Column) (row : List Value) (u : Under) where
-  abbrev pub read : Path → List ℕ → Outcome M Value
-  read at name = named_value fns columns row at u name
-
-  abbrev pub of_cell : ℕ → Outcome M Value
-  of_cell col = cell_value (slice_get row col)
-
-  abbrev pub of_site : SiteAt → Outcome M Value
-  of_site x = site_outcome fns columns row x u
-
-  abbrev pub of_element : SiteAt → ℕ → ℕ → Outcome M Value
-  of_element x k tags = site_outcome fns columns row x u >>= tag_element tags k
+  abbrev pub values : origin.Reading (Outcome M Value)
+  values =
+      record {
+        read = λ up name. named_value fns columns row up u name;
+        of_cell = λ col. cell_value (slice_get row col);
+        of_site = λ x. site_outcome fns columns row x u;
+        of_element = λ x k tags. site_outcome fns columns row x u >>= tag_element tags k;
+        of_tag = λ up node its tags i k. tag_value its tags i k (λ e. expression_value fns (column_value fns columns row up u) e);
+      }
 
   -- version c has a source, which gives this outcome
   abbrev pub HasSource : List Statement → ℕ → Outcome M Value → Type 0
-  HasSource = origin.HasSource columns (fn_names fns) u read of_cell of_site of_element untyped
+  HasSource = origin.HasSource columns (fn_names fns) u values
 
   abbrev pub IsGiven : List Statement → Source → Outcome M Value → Type 0
-  IsGiven = origin.IsGiven columns (fn_names fns) u read of_cell of_site of_element untyped
+  IsGiven = origin.IsGiven columns (fn_names fns) u values
 
-  tag_steps : (before : List Statement) (parent node : List ℕ) (values : VaryValues) (tags i k : ℕ)
-      → tag_value values tags i k (λ e. expression_value fns (λ c. named_value fns columns row {M = M} (path before parent) u (target_of (path before parent) c)) e)
-      ≡ origin.of_tag columns (fn_names fns) u read of_cell of_site of_element untyped before parent node values tags i k
-  tag_steps before parent node (Lists lists) tags i k = go (expression_at lists i k)
-    where
-      go : (o : Option NamedTree) → value_if (λ e. expression_value fns (λ c. named_value fns columns row {M = M} (path before parent) u (target_of (path before parent) c)) e) o
-          ≡ origin.if_expression columns (fn_names fns) u read of_cell of_site of_element untyped (λ e. of_site (site_in columns (fn_names fns) before parent (record { node = node; column = i; tag = k }) e)) o
-      go None = refl
-      go (Some e) = refl
-  tag_steps before parent node (Vector e) tags i k = refl
-
-  steps : (before : List Statement) (s : Statement) (name : List ℕ) → read (s ∷ path before (parent_of s)) name ≡ origin.at_step columns (fn_names fns) u read of_cell of_site of_element untyped before s name
-  steps before (Define node parent column expr) name = refl
-  steps before (Redefine node parent column expr) name = refl
-  steps before (Vary node parent cs values tags vary) name =
-      λ l. varied (own_place u vary tags) (place (same name) cs) (λ i k. tag_steps before parent node values (length tags) i k l) (read (path before parent) name)
-  steps before (Alias node parent column target) name = refl
-  steps before (Filter node parent expr label) name = refl
-  steps before (Action result parent k) name = refl
-  steps before (Report result parent) name = refl
-  steps before (VariationsFor result) name = refl
-  steps before (Watch result) name = refl
-  steps before (Print result) name = refl
+  value_steps : (before : List Statement) (s : Statement) (name : List ℕ) → values.read (s ∷ path before (parent_of s)) name ≡ origin.at_step columns (fn_names fns) u values before s name
+  value_steps before (Define node parent column expr) name = refl
+  value_steps before s name = refl
 
   pub column_source : (before : List Statement) → AreAccepted (fn_names fns) (scope_of columns) before → (node name : List ℕ) (t : ColType)
       → column_kind (scope_at (fn_names fns) (scope_of columns) before node) name ≡ Ok t
       → HasSource before (version_at columns before node name) (column_value fns columns row (path before node) u name)
-  column_source before good node name t h =
-      origin.visible_source columns (fn_names fns) u read of_cell of_site of_element untyped (λ name t h. origin.cell_is columns row name t h) steps before good node name t h
+  column_source =
+      origin.visible_source columns (fn_names fns) u values (λ name t h. origin.cell_is columns row name t h) value_steps
+      (λ before parent node lists tags i k e q. ap (value_if (λ x. expression_value fns (column_value fns columns row (path before parent) u) x)) q) (λ before parent node e tags i k. refl)
+
+module _ (fns : List Function) (columns : List Column) (row : List Value) (u : Under) where
+  -- a site with what the columns that it meets demand
+  abbrev pub demands : origin.Reading (List Demand)
+  demands =
+      record {
+        read = λ up name. named_demands fns columns row up u name;
+        of_cell = λ col. [];
+        of_site = λ x. site_demands fns columns row x.at u x.site x.expr (column_demands fns columns row x.at u);
+        of_element = λ x k tags. site_demands fns columns row x.at u x.site x.expr (column_demands fns columns row x.at u);
+        of_tag = λ up node its tags i k. tag_demands fns columns row up u node its (column_demands fns columns row up u) i k;
+      }
+
+  -- version c has a source, which demands this
+  abbrev pub HasDemandsOf : List Statement → ℕ → List Demand → Type 0
+  HasDemandsOf = origin.HasSource columns (fn_names fns) u demands
+
+  demand_steps : (before : List Statement) (s : Statement) (name : List ℕ) → demands.read (s ∷ path before (parent_of s)) name ≡ origin.at_step columns (fn_names fns) u demands before s name
+  demand_steps before (Define node parent column expr) name = refl
+  demand_steps before s name = refl
+
+  pub column_demanded : (before : List Statement) → AreAccepted (fn_names fns) (scope_of columns) before → (node name : List ℕ) (t : ColType)
+      → column_kind (scope_at (fn_names fns) (scope_of columns) before node) name ≡ Ok t
+      → HasDemandsOf before (version_at columns before node name) (column_demands fns columns row (path before node) u name)
+  column_demanded =
+      origin.visible_source columns (fn_names fns) u demands (λ name t h. refl) demand_steps (λ before parent node lists tags i k e q. rw (q, tag_demands) refl) (λ before parent node e tags i k. refl)

@@ -1,65 +1,79 @@
--- Reports by the numbers of their filters; and each result of an accepted script by numbers.
-use Rattle.std.proofs.Common.{◌≡◌, ◌⊎◌, inl, inr, ℕ, zero, suc, ◌+◌, Bool, true, false, List, [], ◌∷◌, ◌++◌, length, map, Some, None, refl, sym, ◌∙◌, ap, subst, arith, slice_get, if◌then◌else◌}
+-- Named filters, and what Reports cover, by the numbers of their sites and of the filters.
+use Rattle.std.proofs.Common.{option_map, ◌≡◌, ℕ, suc, ◌+◌, List, [], ◌∷◌, ◌++◌, length, map, Some, None, refl, sym, ◌∙◌, ap, subst, arith, slice_get, append_assoc, length-append}
 use Rattle.std.specs.Prelude.{⊤}
-use Rattle.std.proofs.lemmas.List.{append-nil, length-map}
-use Rattle.lemmas.proofs.Places.{kept_at}
-use Rattle.rdf_values.specs.Path.{Path, Under, makes, parent_of, path}
-use Rattle.rdf_values.specs.Bookings.{named_before, named_on, covered}
+use Rattle.std.proofs.lemmas.List.{append-nil, length-map, map-append}
+use Rattle.rdf_values.specs.Bookings.{ActionAt, ReportOn, named_before, named_on, covered}
 use Rattle.rdf_values.specs.Functions.{Function, fn_names}
 use Rattle.rdf_values.specs.Kinds.{FunctionNames}
+use Rattle.rdf_values.specs.Path.{Path, Under, makes, parent_of, path}
+use Rattle.rdf_values.specs.declared.action.ActionKind.{ActionKind}
 use Rattle.rdf_values.specs.declared.column.Column.{Column}
-use Rattle.rdf_values.specs.declared.value.Value.{Value}
 use Rattle.rdf_values.specs.declared.statement.Statement.{Statement}
-use Rattle.rdf_values.specs.declared.statement.Statement.TheVariants.{Define, Redefine, Alias, Filter, Vary, Action, Report, VariationsFor, Watch, Print}
-use Rattle.rdf_model.specs.Evaluation.{Outcome, ◌>>=◌}
+use Rattle.rdf_values.specs.declared.statement.Statement.TheVariants.{Filter, Action, Report}
+use Rattle.rdf_values.specs.declared.value.Value.{Value}
+use Rattle.rdf_model.specs.Demanded.{site_at}
 use Rattle.rdf_model.specs.EntryOutcomes.{through, report_outcome}
-use Rattle.graph_numbers.specs.Sites.{site_count, filter_sites}
-use Rattle.graph_numbers.specs.Sources.{numbers_from}
-use Rattle.graph_numbers.specs.Results.{FilterAt, own_filter, filters_on, all_or, covered_at, own_filters, filters}
+use Rattle.rdf_model.specs.Evaluation.{Outcome, ◌>>=◌}
 use Rattle.graph_numbers.specs.Outcomes.{through_sites, through_filter, report_numbers}
-use Rattle.graph_numbers.proofs.Listed.{next_at, of_joined}
-use Rattle.graph_numbers.proofs.Extending.{Extends, itself, further}
+use Rattle.graph_numbers.specs.Results.{FilterAt, ResultAt, own_filter, filters_on, all_or, covered_at, own_filters, filters, results}
+use Rattle.graph_numbers.specs.Sites.{condition_in, condition_of, conditions_on, filter_sites, own_filter_site, own_sites, site_count, site_in, sites}
+use Rattle.graph_numbers.specs.Sources.{numbers_from}
+use Rattle.graph_numbers.proofs.Listed.{by_test, next_at}
+use Rattle.graph_numbers.proofs.Walks.{each_filter, each_result}
+use Rattle.graph_numbers.proofs.Extending.{Extends, itself, further, kept, site_kept, shorter}
 use Rattle.graph_numbers.proofs.Equations.{number_value}
-use Rattle.graph_numbers.proofs.Passing.{shorter, through_statement, through_is}
+use Rattle.graph_numbers.proofs.Passing.{through_statement, through_is}
+
+-- ---- elements at numbers
+
+module _ {X Y : Type 0} (of : X → Y) where
+  -- the elements of a list at these numbers come to these
+  abbrev pub AreAt : List X → List ℕ → List Y → Type 0
+  AreAt xs [] [] = ⊤
+  AreAt xs (n ∷ ns) (y ∷ ys) = ((x : X) × (slice_get xs n ≡ Some x) × (of x ≡ y)) × AreAt xs ns ys
+  AreAt xs ns ys = ⊥
+
+  at_append : (xs : List X) (ns ms : List ℕ) (ys zs : List Y) → AreAt xs ns ys → AreAt xs ms zs → AreAt xs (ns ++ ms) (ys ++ zs)
+  at_append xs [] ms [] zs h k = k
+  at_append xs (n ∷ ns) ms (y ∷ ys) zs h k = (h.0, at_append xs ns ms ys zs h.1 k)
+  at_append xs [] ms (y ∷ ys) zs h k = elim h [ ]
+  at_append xs (n ∷ ns) ms [] zs h k = elim h [ ]
+
+  at_kept : (xs more : List X) → ((k : ℕ) (x : X) → slice_get xs k ≡ Some x → slice_get more k ≡ Some x) → (ns : List ℕ) (ys : List Y) → AreAt xs ns ys → AreAt more ns ys
+  at_kept xs more f [] [] h = tt
+  at_kept xs more f (n ∷ ns) (y ∷ ys) h = ((h.0.0, f n h.0.0 h.0.1, h.0.2), at_kept xs more f ns ys h.1)
+  at_kept xs more f [] (y ∷ ys) h = elim h [ ]
+  at_kept xs more f (n ∷ ns) [] h = elim h [ ]
+
+  at_map : (xs : List X) (ns : List ℕ) (ys : List Y) → AreAt xs ns ys → map (λ n. option_map of (slice_get xs n)) ns ≡ map (λ y. Some y) ys
+  at_map xs [] [] h = refl
+  at_map xs (n ∷ ns) (y ∷ ys) h = let one : option_map of (slice_get xs n) ≡ Some y = ap (option_map of) h.0.1 ∙ ap Some h.0.2 in λ i. one i ∷ at_map xs ns ys h.1 i
+  at_map xs [] (y ∷ ys) h = elim h [ ]
+  at_map xs (n ∷ ns) [] h = elim h [ ]
+
+-- ---- named filters
 
 module _ (header : List Column) (names : FunctionNames) where
   filter_kept : (before after : List Statement) → Extends before after → (k : ℕ) (x : FilterAt) → slice_get (filters header names before) k ≡ Some x → slice_get (filters header names after) k ≡ Some x
-  filter_kept before after itself k x h = h
-  filter_kept before after (further {after = c} s e) k x h = kept_at (filters header names c) (own_filters header names c s) k x (filter_kept before c e k x h)
+  filter_kept = kept (filters header names) (own_filters header names) (λ before s. refl)
 
   -- there is one named filter for each that is booked
   pub filters_are : (before : List Statement) → map (λ (f : FilterAt). f.at) (filters header names before) ≡ named_before before
   filters_are [] = refl
-  filters_are (Filter node parent expr (Some label) ∷ before) = map_push (filters header names before) _ ∙ ap (λ ps. ps ++ (Filter node parent expr (Some label) ∷ path before parent) ∷ []) (filters_are before)
+  filters_are (s ∷ before) = map-append (λ (f : FilterAt). f.at) (filters header names before) (own_filters header names before s) ∙ own s (filters_are before)
     where
-      map_push : (xs : List FilterAt) (x : FilterAt) → map (λ (f : FilterAt). f.at) (xs ++ x ∷ []) ≡ map (λ (f : FilterAt). f.at) xs ++ x.at ∷ []
-      map_push [] x = refl
-      map_push (y ∷ xs) x = ap (λ ps. y.at ∷ ps) (map_push xs x)
-  filters_are (Filter node parent expr None ∷ before) = ap (map (λ (f : FilterAt). f.at)) (append-nil (filters header names before)) ∙ filters_are before
-  filters_are (s ∷ before) = ap (map (λ (f : FilterAt). f.at)) (append-nil (filters header names before)) ∙ filters_are before
+      own : (s : Statement) → map (λ (f : FilterAt). f.at) (filters header names before) ≡ named_before before
+          → map (λ (f : FilterAt). f.at) (filters header names before) ++ map (λ (f : FilterAt). f.at) (own_filters header names before s) ≡ named_before (s ∷ before)
+      own (Filter node parent expr (Some label)) h = ap (λ ps. ps ++ (Filter node parent expr (Some label) ∷ path before parent) ∷ []) h
+      own s h = append-nil _ ∙ h
 
 -- the filters of the paths have these numbers, and the sites of each are those above a node and its own
 module _ (fns : List Function) (columns : List Column) where
-  -- the filter of that number is that of the path
-  abbrev pub IsNumberOf : List Statement → ℕ → Path → Type 0
-  IsNumberOf before n p = (f : FilterAt) × (slice_get (filters columns (fn_names fns) before) n ≡ Some f) × (f.at ≡ p)
-
   abbrev pub AreNumbersOf : List Statement → List ℕ → List Path → Type 0
-  AreNumbersOf before [] [] = ⊤
-  AreNumbersOf before (n ∷ ns) (p ∷ ps) = IsNumberOf before n p × AreNumbersOf before ns ps
-  AreNumbersOf before ns ps = ⊥
-
-  numbers_append : (before : List Statement) (ns ms : List ℕ) (ps qs : List Path) → AreNumbersOf before ns ps → AreNumbersOf before ms qs → AreNumbersOf before (ns ++ ms) (ps ++ qs)
-  numbers_append before [] ms [] qs h k = k
-  numbers_append before (n ∷ ns) ms (p ∷ ps) qs h k = (h.0, numbers_append before ns ms ps qs h.1 k)
-  numbers_append before [] ms (p ∷ ps) qs h k = elim h [ ]
-  numbers_append before (n ∷ ns) ms [] qs h k = elim h [ ]
+  AreNumbersOf before = AreAt (λ (f : FilterAt). f.at) (filters columns (fn_names fns) before)
 
   pub numbers_later : (before after : List Statement) → Extends before after → (ns : List ℕ) (ps : List Path) → AreNumbersOf before ns ps → AreNumbersOf after ns ps
-  numbers_later before after e [] [] h = tt
-  numbers_later before after e (n ∷ ns) (p ∷ ps) h = ((h.0.0, filter_kept columns (fn_names fns) before after e n h.0.0 h.0.1, h.0.2), numbers_later before after e ns ps h.1)
-  numbers_later before after e [] (p ∷ ps) h = elim h [ ]
-  numbers_later before after e (n ∷ ns) [] h = elim h [ ]
+  numbers_later before after e = at_kept _ (filters columns (fn_names fns) before) (filters columns (fn_names fns) after) (filter_kept columns (fn_names fns) before after e)
 
   unnamed : (before : List Statement) (s : Statement) (node : List ℕ) → AreNumbersOf before (filters_on before node) (named_on (path before node)) → AreNumbersOf (s ∷ before) (filters_on before node ++ []) (named_on (path before node))
   unnamed before s node h =
@@ -72,16 +86,8 @@ module _ (fns : List Function) (columns : List Column) where
   all_numbers before n done (f ∷ fs) h l =
       let z : n ≡ length done + 0 = omega (arith, l) in (
         (f, ap (λ xs. slice_get xs n) h ∙ next_at done (f ∷ fs) 0 n z, refl),
-        all_numbers before (suc n) (done ++ f ∷ []) fs (h ∙ push done f fs) (count done f ∙ ap suc l),
+        all_numbers before (suc n) (done ++ f ∷ []) fs (h ∙ sym (append_assoc done (f ∷ []) fs)) (let c = length-append done (f ∷ []) in omega (arith, c, l)),
       )
-    where
-      push : (xs : List FilterAt) (x : FilterAt) (ys : List FilterAt) → xs ++ x ∷ ys ≡ (xs ++ x ∷ []) ++ ys
-      push [] x ys = refl
-      push (y ∷ xs) x ys = ap (λ zs. y ∷ zs) (push xs x ys)
-
-      count : (xs : List FilterAt) (x : FilterAt) → length (xs ++ x ∷ []) ≡ suc (length xs)
-      count [] x = refl
-      count (y ∷ xs) x = ap suc (count xs x)
 
   -- the filters of a statement's own and of those above it
   named_numbers : (before : List Statement) (s : Statement) → AreNumbersOf before (filters_on before (parent_of s)) (named_on (path before (parent_of s)))
@@ -89,28 +95,16 @@ module _ (fns : List Function) (columns : List Column) where
   named_numbers before (Filter node parent expr (Some label)) h =
       let n : length (named_before before) ≡ length (filters columns (fn_names fns) before) + 0 =
       (let e : length (named_before before) ≡ length (filters columns (fn_names fns) before) = ap length (sym (filters_are columns (fn_names fns) before)) ∙ length-map (filters columns (fn_names fns) before) (λ (f : FilterAt). f.at) in omega (arith, e)) in
-      numbers_append (Filter node parent expr (Some label) ∷ before) (filters_on before parent) (length (named_before before) ∷ []) (named_on (path before parent)) ((Filter node parent expr (Some label) ∷ path before parent) ∷ [])
+      at_append _ (filters columns (fn_names fns) (Filter node parent expr (Some label) ∷ before)) (filters_on before parent) (length (named_before before) ∷ []) (named_on (path before parent)) ((Filter node parent expr (Some label) ∷ path before parent) ∷ [])
       (numbers_later before (Filter node parent expr (Some label) ∷ before) (further (Filter node parent expr (Some label)) itself) (filters_on before parent) (named_on (path before parent)) h)
       ((_, next_at (filters columns (fn_names fns) before) (own_filters columns (fn_names fns) before (Filter node parent expr (Some label))) 0 _ n, refl), tt)
-  named_numbers before (Filter node parent expr None) h = unnamed before (Filter node parent expr None) parent h
-  named_numbers before (Define node parent column expr) h = unnamed before (Define node parent column expr) parent h
-  named_numbers before (Redefine node parent column expr) h = unnamed before (Redefine node parent column expr) parent h
-  named_numbers before (Alias node parent column target) h = unnamed before (Alias node parent column target) parent h
-  named_numbers before (Vary node parent cs values tags vary) h = unnamed before (Vary node parent cs values tags vary) parent h
-  named_numbers before (Action result parent k) h = unnamed before (Action result parent k) parent h
-  named_numbers before (Report result parent) h = unnamed before (Report result parent) parent h
-  named_numbers before (VariationsFor result) h = unnamed before (VariationsFor result) [] h
-  named_numbers before (Watch result) h = unnamed before (Watch result) [] h
-  named_numbers before (Print result) h = unnamed before (Print result) [] h
+  named_numbers before s h = unnamed before s (parent_of s) h
 
   on_path : (before : List Statement) (node : List ℕ) → AreNumbersOf before (filters_on before node) (named_on (path before node))
   on_path [] node = tt
-  on_path (s ∷ before) node = go (makes s node) (on_path before (parent_of s)) (on_path before node)
-    where
-      go : (b : Bool) → AreNumbersOf before (filters_on before (parent_of s)) (named_on (path before (parent_of s))) → AreNumbersOf before (filters_on before node) (named_on (path before node))
-          → AreNumbersOf (s ∷ before) (if b then filters_on before (parent_of s) ++ own_filter s (length (named_before before)) else filters_on before node) (named_on (if b then s ∷ path before (parent_of s) else path before node))
-      go true h k = named_numbers before s h
-      go false h k = numbers_later before (s ∷ before) (further s itself) (filters_on before node) (named_on (path before node)) k
+  on_path (s ∷ before) node =
+      by_test (makes s node) (λ e. rw e (named_numbers before s (on_path before (parent_of s))))
+      (λ e. rw e (numbers_later before (s ∷ before) (further s itself) (filters_on before node) (named_on (path before node)) (on_path before node)))
 
   -- the filters that a Report covers, by their numbers
   pub covered_numbers : (before : List Statement) (node : List ℕ) → AreNumbersOf before (covered_at before node) (covered before (path before node))
@@ -135,25 +129,10 @@ module _ (M : Type 0) (fns : List Function) (columns : List Column) (row : List 
   -- a named filter, with those above it, by the numbers of their sites
   pub filter_is : (earlier : List Statement) → Extends earlier before → (n : ℕ) (f : FilterAt) → slice_get (filters columns (fn_names fns) earlier) n ≡ Some f
       → through fns columns row {M = M} f.at u ≡ through_sites site_number f.sites
-  filter_is [] e n f h = cc h
-  filter_is (s ∷ earlier) e n f h = go (filter_is earlier (shorter s earlier before e) n f) (of_joined (filters columns (fn_names fns) earlier) (own_filters columns (fn_names fns) earlier s) n f h)
-    where
-      own : (s : Statement) → Extends (s ∷ earlier) before → (k : ℕ) → slice_get (own_filters columns (fn_names fns) earlier s) k ≡ Some f → through fns columns row {M = M} f.at u ≡ through_sites site_number f.sites
-      own (Filter node parent expr (Some label)) e zero q =
-          let x : FilterAt = record { label = label; at = Filter node parent expr (Some label) ∷ path earlier parent; sites = filter_sites columns (fn_names fns) earlier parent ++ site_count columns (fn_names fns) earlier ∷ [] } in
-          let is : x ≡ f = cc q in
-          ap (λ (y : FilterAt). through fns columns row {M = M} y.at u) (sym is)
-          ∙ through_statement M fns columns row u before earlier (Filter node parent expr (Some label)) e (through_is M fns columns row u before earlier (shorter (Filter node parent expr (Some label)) earlier before e) parent)
-          ∙ ap (λ (y : FilterAt). through_sites site_number y.sites) is
-      own (Filter node parent expr (Some label)) e (suc k) q = cc q
-      own (Filter node parent expr None) e k q = cc q
-      own s e k q = cc q
-
-      go : (slice_get (filters columns (fn_names fns) earlier) n ≡ Some f → through fns columns row {M = M} f.at u ≡ through_sites site_number f.sites)
-          → (slice_get (filters columns (fn_names fns) earlier) n ≡ Some f) ⊎ ((k : ℕ) × (n ≡ length (filters columns (fn_names fns) earlier) + k) × (slice_get (own_filters columns (fn_names fns) earlier s) k ≡ Some f))
-          → through fns columns row {M = M} f.at u ≡ through_sites site_number f.sites
-      go next (inl q) = next q
-      go next (inr q) = own s e q.0 q.2
+  filter_is earlier e n f h =
+      each_filter columns (fn_names fns) (λ upto f. Extends upto before → through fns columns row {M = M} f.at u ≡ through_sites site_number f.sites) (λ upto s f next e. next (shorter s upto before e))
+      (λ upto node parent expr label e. through_statement M fns columns row u before upto (Filter node parent expr (Some label)) e
+      (through_is M fns columns row u before upto (shorter (Filter node parent expr (Some label)) upto before e) parent)) earlier n f h e
 
 module _ (M : Type 0) (fns : List Function) (columns : List Column) (row : List Value) (before : List Statement) where
   -- a report by the numbers of its filters
@@ -167,3 +146,71 @@ module _ (M : Type 0) (fns : List Function) (columns : List Column) (row : List 
       λ i. one i >>= λ passed. report_is ns ps h.1 i
   report_is [] (p ∷ ps) h = elim h [ ]
   report_is (n ∷ ns) [] h = elim h [ ]
+
+-- ---- the sites of filters, and the filters that a Report covers, are those of the paths
+
+module _ (header : List Column) (names : FunctionNames) where
+  -- each site evaluates the condition at its place
+  abbrev Numbered : List Statement → List ℕ → Path → Type 0
+  Numbered before ss at = AreAt condition_of (sites header names before) ss (conditions_on at)
+
+  further_list : (before : List Statement) (s : Statement) (ss : List ℕ) (at : Path) → Numbered before ss at → Numbered (s ∷ before) ss at
+  further_list before s ss at h = at_kept _ (sites header names before) (sites header names (s ∷ before)) (site_kept header names before (s ∷ before) (further s itself)) ss (conditions_on at) h
+
+  no_filter : (before : List Statement) (s : Statement) (ss : List ℕ) (at : Path) → Numbered before ss at → Numbered (s ∷ before) (ss ++ []) at
+  no_filter before s ss at h = subst (λ (ts : List ℕ). Numbered (s ∷ before) ts at) (sym (append-nil ss)) (further_list before s ss at h)
+
+  -- a Filter, and those above it
+  with_own : (before : List Statement) (node parent : List ℕ) (expr : _) (label : _) → Numbered before (filter_sites header names before parent) (path before parent)
+      → Numbered (Filter node parent expr label ∷ before) (filter_sites header names before parent ++ site_count header names before ∷ []) (Filter node parent expr label ∷ path before parent)
+  with_own before node parent expr label h =
+      let s : Statement = Filter node parent expr label in
+      let n : site_count header names before ≡ length (sites header names before) + 0 = omega arith in
+      at_append _ (sites header names (s ∷ before)) (filter_sites header names before parent) (site_count header names before ∷ []) (conditions_on (path before parent)) (record { site = site_at node; at = path before parent; expr = expr } ∷ [])
+      (further_list before s (filter_sites header names before parent) (path before parent) h)
+      ((site_in header names before parent (site_at node) expr, next_at (sites header names before) (own_sites header names before s) 0 _ n, refl), tt)
+
+  at_statement : (before : List Statement) (s : Statement) → Numbered before (filter_sites header names before (parent_of s)) (path before (parent_of s))
+      → Numbered (s ∷ before) (filter_sites header names before (parent_of s) ++ own_filter_site s (site_count header names before)) (s ∷ path before (parent_of s))
+  at_statement before (Filter node parent expr label) h = with_own before node parent expr label h
+  at_statement before s h = no_filter before s _ (path before (parent_of s)) h
+
+  -- the sites of the filters above a node
+  sites_on_path : (before : List Statement) (node : List ℕ) → Numbered before (filter_sites header names before node) (path before node)
+  sites_on_path [] node = tt
+  sites_on_path (s ∷ before) node =
+      by_test (makes s node) (λ e. rw e (at_statement before s (sites_on_path before (parent_of s))))
+      (λ e. rw e (further_list before s (filter_sites header names before node) (path before node) (sites_on_path before node)))
+
+  -- the sites of a named filter evaluate the filters above it and its own
+  pub filter_conditions : (before : List Statement) (n : ℕ) (f : FilterAt) → slice_get (filters header names before) n ≡ Some f
+      → map (condition_in (sites header names before)) f.sites ≡ map (λ x. Some x) (conditions_on f.at)
+  filter_conditions before n f h =
+      at_map _ (sites header names before) f.sites (conditions_on f.at)
+      (each_filter header names (λ upto f. Numbered upto f.sites f.at) (λ upto s f k. further_list upto s f.sites f.at k)
+      (λ upto node parent expr label. with_own upto node parent expr (Some label) (sites_on_path upto parent)) before n f h)
+
+  -- the sites of an action evaluate the filters above it
+  pub action_conditions : (before : List Statement) (n : ℕ) (r : ResultAt) → slice_get (results header names before) n ≡ Some r → (k : ActionKind) (at : Path) → r.booked.booking ≡ ActionAt k at
+      → map (condition_in (sites header names before)) r.filters ≡ map (λ x. Some x) (conditions_on at)
+  action_conditions before n r h k at is =
+      at_map _ (sites header names before) r.filters (conditions_on at)
+      (each_result header names (λ upto r. r.booked.booking ≡ ActionAt k at → Numbered upto r.filters at) (λ upto s r next q. further_list upto s r.filters at (next q))
+      (λ upto result parent kind q. let same : path upto parent ≡ at = cc q in
+      subst (Numbered (Action result parent kind ∷ upto) (filter_sites header names upto parent)) same (further_list upto (Action result parent kind) (filter_sites header names upto parent) (path upto parent) (sites_on_path upto parent)))
+      (λ upto result parent q. cc q) before n r h is)
+
+-- ---- what a Report covers
+
+module _ (fns : List Function) (columns : List Column) where
+  -- the filters that a Report covers are those of its booking
+  pub report_covers : (before : List Statement) (n : ℕ) (r : ResultAt) (paths : List Path) → slice_get (results columns (fn_names fns) before) n ≡ Some r → r.booked.booking ≡ ReportOn paths
+      → map (λ f. option_map (λ (x : FilterAt). x.at) (slice_get (filters columns (fn_names fns) before) f)) r.covers ≡ map (λ p. Some p) paths
+  report_covers before n r paths h is =
+      at_map _ (filters columns (fn_names fns) before) r.covers paths
+      (each_result columns (fn_names fns) (λ upto r. r.booked.booking ≡ ReportOn paths → AreNumbersOf fns columns upto r.covers paths) (λ upto s r next q. numbers_later fns columns upto (s ∷ upto) (further s itself) r.covers paths (next q))
+      (λ upto result parent k q. cc q)
+      (λ upto result parent q. let same : covered upto (path upto parent) ≡ paths = cc q in
+      subst (AreNumbersOf fns columns (Report result parent ∷ upto) (covered_at upto parent)) same
+      (numbers_later fns columns upto (Report result parent ∷ upto) (further (Report result parent) itself) (covered_at upto parent) (covered upto (path upto parent)) (covered_numbers fns columns upto parent)))
+      before n r h is)

@@ -1,37 +1,27 @@
 -- What a reading demands has with each site the sites of the columns that its evaluation meets.
-use Rattle.std.proofs.Common.{◌≡◌, ◌⊎◌, inl, inr, ℕ, ◌+◌, Bool, true, false, List, [], ◌∷◌, ◌++◌, length, Option, Some, None, refl, ◌∙◌, ap, arith, slice_get, if◌then◌else◌}
+use Rattle.std.proofs.Common.{◌≡◌, ℕ, ◌+◌, Bool, true, false, List, [], ◌∷◌, ◌++◌, length, Option, Some, None, refl, ◌∙◌, ap, arith, slice_get, if◌then◌else◌}
 use Rattle.std.specs.Prelude.{flat_map}
-use Rattle.rdf_values.specs.Names.{same, place}
-use Rattle.rdf_values.specs.Path.{Under, makes, parent_of, path, target_of}
 use Rattle.rdf_values.specs.Bookings.{ActionAt, columns_of}
 use Rattle.rdf_values.specs.Functions.{Function, fn_names}
+use Rattle.rdf_values.specs.Names.{same, place}
+use Rattle.rdf_values.specs.Path.{Under, makes, parent_of, path, target_of}
 use Rattle.rdf_values.specs.Tree.{NamedTree}
 use Rattle.rdf_values.specs.declared.action.ActionKind.{ActionKind}
 use Rattle.rdf_values.specs.declared.column.Column.{Column}
+use Rattle.rdf_values.specs.declared.statement.Statement.{Statement}
+use Rattle.rdf_values.specs.declared.statement.Statement.TheVariants.{Define, Redefine, Filter, Vary}
 use Rattle.rdf_values.specs.declared.value.Value.{Value}
 use Rattle.rdf_values.specs.declared.vary_values.VaryValues.{VaryValues}
 use Rattle.rdf_values.specs.declared.vary_values.VaryValues.TheVariants.{Lists, Vector}
-use Rattle.rdf_values.specs.declared.statement.Statement.{Statement}
-use Rattle.rdf_values.specs.declared.statement.Statement.TheVariants.{Define, Redefine, Filter, Vary}
-use Rattle.rdf_model.specs.Evaluation.{Outcome, Gives, Faults, Needs}
 use Rattle.rdf_model.specs.ColumnValues.{column_value, expression_at, own_place, varied}
 use Rattle.rdf_model.specs.Demanded.{site_at, Demand, projected, demands_after, met_columns, site_demands, tag_demands, named_demands, column_demands, filter_demands, input_demands, booking_demands}
 use Rattle.rdf_model.specs.EntryOutcomes.{through}
+use Rattle.rdf_model.specs.Evaluation.{Outcome, Gives, Faults, Needs}
 use Rattle.graph_numbers.specs.Sites.{SiteAt, site_in, lists_sites, sites, own_sites, site_count}
-use Rattle.graph_numbers.proofs.Listed.{next_at}
-use Rattle.graph_numbers.proofs.Extending.{Extends, site_kept}
-use Rattle.graph_numbers.proofs.Meeting.{In, here, there, in_left, in_right}
+use Rattle.graph_numbers.proofs.Listed.{by_test, next_at}
+use Rattle.graph_numbers.proofs.Extending.{Extends, site_kept, shorter}
+use Rattle.graph_numbers.proofs.Meeting.{In, here, there, in_joined, in_left, in_right}
 use Rattle.graph_numbers.proofs.Origins.{lists_site_at}
-use Rattle.graph_numbers.proofs.Passing.{shorter}
-
-one_more : {A : Type 0} {x : A} (y : A) (xs ys : List A) → In x xs ⊎ In x ys → In x (y ∷ xs) ⊎ In x ys
-one_more y xs ys (inl l) = inl (there l)
-one_more y xs ys (inr l) = inr l
-
-pub of_append : {A : Type 0} {x : A} (xs ys : List A) → In x (xs ++ ys) → In x xs ⊎ In x ys
-of_append [] ys h = inr h
-of_append (y ∷ xs) ys here = inl here
-of_append (y ∷ xs) ys (there h) = one_more y xs ys (of_append xs ys h)
 
 module _ (fns : List Function) (columns : List Column) (row : List Value) (u : Under) (before : List Statement) where
   -- what a site demands by itself
@@ -56,11 +46,7 @@ module _ (fns : List Function) (columns : List Column) (row : List Value) (u : U
   none_explained d h = elim h [ ]
 
   pub append_explained : (xs ys : List Demand) → AreExplained xs → AreExplained ys → AreExplained (xs ++ ys)
-  append_explained xs ys h k d l = go (of_append xs ys l)
-    where
-      go : In d xs ⊎ In d ys → IsExplained (xs ++ ys) d
-      go (inl m) = wider xs (xs ++ ys) (λ e n. in_left xs ys n) d (h d m)
-      go (inr m) = wider ys (xs ++ ys) (λ e n. in_right xs ys n) d (k d m)
+  append_explained xs ys h k d l = in_joined xs ys l (λ m. wider xs (xs ++ ys) (λ e n. in_left xs ys n) d (h d m)) (λ m. wider ys (xs ++ ys) (λ e n. in_right xs ys n) d (k d m))
 
   flat_explained : {A : Type 0} (f : A → List Demand) (xs : List A) → ((a : A) → AreExplained (f a)) → AreExplained (flat_map f xs)
   flat_explained f [] h = none_explained
@@ -90,9 +76,8 @@ module _ (fns : List Function) (columns : List Column) (row : List Value) (u : U
   if_explained false xs ys h k = k
 
   varied_explained : (k i : Option ℕ) (own : ℕ → ℕ → List Demand) (above : List Demand) → ((i k : ℕ) → AreExplained (own i k)) → AreExplained above → AreExplained (varied k i own above)
-  varied_explained None i own above h a = a
-  varied_explained (Some k) None own above h a = a
   varied_explained (Some k) (Some i) own above h a = h i k
+  varied_explained k i own above h a = a
 
   abbrev Reads : List Statement → List ℕ → Type 0
   Reads earlier node = (name : List ℕ) → AreExplained (named_demands fns columns row (path earlier node) u name)
@@ -140,11 +125,9 @@ module _ (fns : List Function) (columns : List Column) (row : List Value) (u : U
   -- reading a column that is no alias
   named_explained : (earlier : List Statement) → Extends earlier before → (node : List ℕ) → Reads earlier node
   named_explained [] e node name = none_explained
-  named_explained (s ∷ earlier) e node name = go (makes s node) (named_explained earlier (shorter s earlier before e) (parent_of s)) (named_explained earlier (shorter s earlier before e) node)
-    where
-      go : (b : Bool) → Reads earlier (parent_of s) → Reads earlier node → AreExplained (named_demands fns columns row (if b then s ∷ path earlier (parent_of s) else path earlier node) u name)
-      go true h k = statement_explained earlier s e h name
-      go false h k = k name
+  named_explained (s ∷ earlier) e node name =
+      by_test (makes s node) (λ t. rw t (statement_explained earlier s e (named_explained earlier (shorter s earlier before e) (parent_of s)) name))
+      (λ t. rw t (named_explained earlier (shorter s earlier before e) node name))
 
   -- reading a column
   pub column_explained : (earlier : List Statement) → Extends earlier before → (node name : List ℕ) → AreExplained (column_demands fns columns row (path earlier node) u name)
@@ -168,12 +151,9 @@ module _ (fns : List Function) (columns : List Column) (row : List Value) (u : U
 
   pub filters_explained : (earlier : List Statement) → Extends earlier before → (node : List ℕ) → AreExplained (filter_demands fns columns row (path earlier node) u)
   filters_explained [] e node = none_explained
-  filters_explained (s ∷ earlier) e node = go (makes s node) (filters_explained earlier (shorter s earlier before e) (parent_of s)) (filters_explained earlier (shorter s earlier before e) node)
-    where
-      go : (b : Bool) → AreExplained (filter_demands fns columns row (path earlier (parent_of s)) u) → AreExplained (filter_demands fns columns row (path earlier node) u)
-          → AreExplained (filter_demands fns columns row (if b then s ∷ path earlier (parent_of s) else path earlier node) u)
-      go true h k = filter_statement earlier s e h
-      go false h k = k
+  filters_explained (s ∷ earlier) e node =
+      by_test (makes s node) (λ t. rw t (filter_statement earlier s e (filters_explained earlier (shorter s earlier before e) (parent_of s))))
+      (λ t. rw t (filters_explained earlier (shorter s earlier before e) node))
 
   inputs_explained : (earlier : List Statement) → Extends earlier before → (node : List ℕ) (cs : List (List ℕ)) → AreExplained (input_demands fns columns row (path earlier node) u cs)
   inputs_explained earlier e node [] = none_explained

@@ -1,30 +1,30 @@
 -- What a site comes to, by what its columns' versions come to; and that the sites of these have lower numbers.
 use Rattle.std.proofs.Common.{◌≡◌, ℕ, ◌<◌, ◌≤◌, List, [], length, Some, refl, sym, ◌∙◌, ap, subst, arith, slice_get}
 use Rattle.std.proofs.lemmas.Option.{get_or_from_slice_get, slice_get_within}
-use Rattle.rdf_values.specs.Path.{Under, path}
-use Rattle.rdf_values.specs.EachColumn.{EachColumn}
 use Rattle.rdf_values.specs.Functions.{Function, fn_names}
 use Rattle.rdf_values.specs.Kinds.{scope_of, column_kind, shape_of}
-use Rattle.rdf_values.specs.Numbered.{renamed, callee}
-use Rattle.rdf_values.specs.Tree.{Tree}
+use Rattle.rdf_values.specs.Path.{Under, path}
 use Rattle.rdf_values.specs.Verdict.{AreAccepted, scope_at}
 use Rattle.rdf_values.specs.declared.column.Column.{Column}
-use Rattle.rdf_values.specs.declared.value.Value.{Value}
 use Rattle.rdf_values.specs.declared.statement.Statement.{Statement}
-use Rattle.rdf_model.specs.Evaluation.{Outcome, untyped, ◌>>=◌, evaluate, call_outcome, named_call}
+use Rattle.rdf_values.specs.declared.value.Value.{Value}
 use Rattle.rdf_model.specs.ColumnValues.{column_value, tag_element}
+use Rattle.rdf_model.specs.Evaluation.{Outcome, ◌>>=◌, evaluate, call_outcome, named_call}
+use Rattle.rdf_values.specs.EachColumn.{EachColumn}
+use Rattle.rdf_values.specs.Numbered.{renamed, callee}
+use Rattle.rdf_values.specs.Tree.{Tree}
 use Rattle.rdf_model.proofs.Close.{Close, same, missing, evaluate_close}
 use Rattle.rdf_model.proofs.Evaluations.{evaluate_renamed}
-use Rattle.graph_numbers.specs.Versions.{version_at, version_count}
 use Rattle.graph_numbers.specs.Sites.{SiteAt, site_in, sites, site_count, site_outcome}
 use Rattle.graph_numbers.specs.Sources.{IsBelow, source_in, sources, site_value, source_value}
+use Rattle.graph_numbers.specs.Versions.{version_at, version_count}
 use Rattle.graph_numbers.specs.declared.source.Source.{Source}
 use Rattle.graph_numbers.specs.declared.source.Source.TheVariants as from
 use Rattle.graph_numbers.proofs.Extending.{Extends, source_kept, source_count}
-use Rattle.rdf_model.proofs.KnownColumns.{known_columns, each_weaker, each_renamed, IsKnownColumn}
+use Rattle.rdf_model.proofs.KnownColumns.{known_columns, each_weaker, IsKnownColumn}
 use Rattle.graph_numbers.proofs.Origins as origin
-use Rattle.graph_numbers.proofs.ColumnSources.{IsGiven, HasSource, column_source, read, of_cell, of_site, of_element}
-use Rattle.graph_numbers.proofs.Placing.{placed}
+use Rattle.graph_numbers.proofs.ColumnSources.{IsGiven, HasSource, column_source, values}
+use Rattle.graph_numbers.proofs.Placing.{each_version, placed}
 
 -- ---- looks that agree
 
@@ -59,7 +59,7 @@ module _ (M : Type 0) (fns : List Function) (columns : List Column) (row : List 
       ap (source_value row (number_value before)) (get_or_from_slice_get (sources columns (fn_names fns) u before) c h.0 (from.Cell 0) h.1) ∙ given_value before h.0 o h.2
 
   pub source_later : (before after : List Statement) → Extends before after → (c : ℕ) (o : Outcome M Value) → HasSource M fns columns row u before c o → HasSource M fns columns row u after c o
-  source_later = origin.source_later columns (fn_names fns) u (read M fns columns row u) (of_cell M fns columns row u) (of_site M fns columns row u) (of_element M fns columns row u) untyped
+  source_later = origin.source_later columns (fn_names fns) u (values M fns columns row u)
 
   -- a site comes to what its expression over versions comes to
   pub site_is : (before : List Statement) → AreAccepted (fn_names fns) (scope_of columns) before → (s : ℕ) (x : SiteAt) → slice_get (sites columns (fn_names fns) before) s ≡ Some x
@@ -78,7 +78,7 @@ module _ (M : Type 0) (fns : List Function) (columns : List Column) (row : List 
 -- ---- the order of numbers
 
 module _ (fns : List Function) (columns : List Column) (u : Under) where
-  below_of : (before earlier : List Statement) → Extends earlier before → (s c : ℕ) → site_count columns (fn_names fns) earlier ≤ s → (o : Outcome ⊥ Value) → HasSource ⊥ fns columns [] u earlier c o
+  pub below_of : (before earlier : List Statement) → Extends earlier before → (s c : ℕ) → site_count columns (fn_names fns) earlier ≤ s → (o : Outcome ⊥ Value) → HasSource ⊥ fns columns [] u earlier c o
       → (c < version_count columns before) × IsBelow (length columns) s (source_in (sources columns (fn_names fns) u before) c)
   below_of before earlier e s c le o h =
       let at : slice_get (sources columns (fn_names fns) u before) c ≡ Some h.0 = source_kept columns (fn_names fns) u earlier before e c h.0 h.1 in
@@ -97,9 +97,5 @@ module _ (fns : List Function) (columns : List Column) (u : Under) where
       → EachColumn (λ c. (c < version_count columns before) × IsBelow (length columns) s (source_in (sources columns (fn_names fns) u before) c)) x.tree
   columns_below before good s x h =
       let p = placed columns (fn_names fns) before good s x h in
-      let e : EachColumn (λ c. (version_at columns p.earlier p.parent c < version_count columns before) × IsBelow (length columns) s (source_in (sources columns (fn_names fns) u before) (version_at columns p.earlier p.parent c))) p.expr =
-      each_weaker (IsKnownColumn (column_kind (scope_at (fn_names fns) (scope_of columns) p.earlier p.parent)) (shape_of (fn_names fns))) _
-      (λ c k. below_of before p.earlier p.extends s (version_at columns p.earlier p.parent c) p.start _ (column_source ⊥ fns columns [] u p.earlier p.accepted p.parent c k.0 k.1)) p.expr
-      (known_columns (column_kind (scope_at (fn_names fns) (scope_of columns) p.earlier p.parent)) (shape_of (fn_names fns)) p.expr p.kind p.typed) in
-      subst (λ (y : SiteAt). EachColumn (λ c. (c < version_count columns before) × IsBelow (length columns) s (source_in (sources columns (fn_names fns) u before) c)) y.tree) (sym p.is)
-      (each_renamed (version_at columns p.earlier p.parent) (callee (fn_names fns)) _ p.expr e)
+      each_version columns (fn_names fns) (λ c. (c < version_count columns before) × IsBelow (length columns) s (source_in (sources columns (fn_names fns) u before) c)) before s x p
+      (λ c t k. below_of before p.earlier p.extends s (version_at columns p.earlier p.parent c) p.start _ (column_source ⊥ fns columns [] u p.earlier p.accepted p.parent c t k))

@@ -4,9 +4,9 @@ use Rattle.rdf_values.specs.Depends.{columns_in}
 use Rattle.rdf_values.specs.Path.{Under}
 use Rattle.rdf_values.specs.declared.statement.Statement.{Statement}
 use Rattle.rdf_model.proofs.Analyses.{num, col, add, gt, define, alias, named_filter, vary_pt, vary_vector, sum, report, variations_for, print, three_columns, IsAccepted}
+use Rattle.graph_numbers.specs.Results.{ResultAt, results, loops, runs, numbered_pass}
 use Rattle.graph_numbers.specs.Sites.{SiteAt, sites}
 use Rattle.graph_numbers.specs.Sources.{sources}
-use Rattle.graph_numbers.specs.Results.{ResultAt, results, loops, runs, numbered_pass}
 use Rattle.graph_numbers.specs.declared.source.Source.TheVariants as from
 
 -- the latest first: two variations of pt, two of w by a vector, a column over an alias of the one and the other, a filter, a sum and a report

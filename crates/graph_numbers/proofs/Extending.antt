@@ -1,15 +1,15 @@
 -- A script that goes on keeps the numbers of what it booked before.
-use Rattle.std.proofs.Common.{◌≡◌, ℕ, suc, ◌+◌, List, [], ◌∷◌, length, Some, refl, ◌∙◌, ap, slice_get, length-append}
+use Rattle.std.proofs.Common.{◌≡◌, ℕ, suc, ◌+◌, List, [], ◌∷◌, ◌++◌, length, Some, refl, ◌∙◌, ap, slice_get, length-append}
 use Rattle.lemmas.proofs.Places.{kept_at}
-use Rattle.rdf_values.specs.Path.{Under}
 use Rattle.rdf_values.specs.Kinds.{FunctionNames}
+use Rattle.rdf_values.specs.Path.{Under}
 use Rattle.rdf_values.specs.declared.column.Column.{Column}
-use Rattle.rdf_values.specs.declared.vary_values.VaryValues.{VaryValues}
 use Rattle.rdf_values.specs.declared.statement.Statement.{Statement}
-use Rattle.rdf_values.specs.declared.statement.Statement.TheVariants.{Define, Redefine, Vary}
-use Rattle.graph_numbers.specs.Versions.{own_columns, version_count}
+use Rattle.rdf_values.specs.declared.statement.Statement.TheVariants.{Vary}
+use Rattle.rdf_values.specs.declared.vary_values.VaryValues.{VaryValues}
 use Rattle.graph_numbers.specs.Sites.{SiteAt, sites, own_sites}
 use Rattle.graph_numbers.specs.Sources.{sources, own_sources, varied_sources, cell_sources, versions, own_versions, varied_versions, cell_versions}
+use Rattle.graph_numbers.specs.Versions.{own_columns, version_count}
 use Rattle.graph_numbers.specs.declared.source.Source.{Source}
 
 -- the latter statements are the former with others after them
@@ -17,16 +17,23 @@ pub data Extends : List Statement → List Statement → Type 0 where
   itself : {before : List Statement} → Extends before before
   further : {before after : List Statement} (s : Statement) → Extends before after → Extends before (s ∷ after)
 
+pub shorter : (s : Statement) (before after : List Statement) → Extends (s ∷ before) after → Extends before after
+shorter s before after itself = further s itself
+shorter s before after (further {after = c} t e) = further t (shorter s before c e)
+
+-- what statements add to keeps what it had
+pub kept : {X : Type 0} (list : List Statement → List X) (own : List Statement → Statement → List X) → ((before : List Statement) (s : Statement) → list (s ∷ before) ≡ list before ++ own before s)
+    → (before after : List Statement) → Extends before after → (k : ℕ) (x : X) → slice_get (list before) k ≡ Some x → slice_get (list after) k ≡ Some x
+kept list own grows before after itself k x h = h
+kept list own grows before after (further {after = c} s e) k x h = rw (grows c s) (kept_at (list c) (own c s) k x (kept list own grows before c e k x h))
+
 module _ (header : List Column) (names : FunctionNames) where
   pub site_kept : (before after : List Statement) → Extends before after → (k : ℕ) (x : SiteAt) → slice_get (sites header names before) k ≡ Some x → slice_get (sites header names after) k ≡ Some x
-  site_kept before after itself k x h = h
-  site_kept before after (further {after = c} s e) k x h = kept_at (sites header names c) (own_sites header names c s) k x (site_kept before c e k x h)
+  site_kept = kept (sites header names) (own_sites header names) (λ before s. refl)
 
   module _ (u : Under) where
     pub source_kept : (before after : List Statement) → Extends before after → (k : ℕ) (x : Source) → slice_get (sources header names u before) k ≡ Some x → slice_get (sources header names u after) k ≡ Some x
-    source_kept before after itself k x h = h
-    source_kept before after (further {after = c} s e) k x h =
-        kept_at (sources header names u c) (own_sources header names u c (sources header names u c) s) k x (source_kept before c e k x h)
+    source_kept = kept (sources header names u) (λ before s. own_sources header names u before (sources header names u before) s) (λ before s. refl)
 
     cell_sources_count : (n : ℕ) (cs : List Column) → length (cell_sources n cs) ≡ length cs
     cell_sources_count n [] = refl
@@ -38,8 +45,6 @@ module _ (header : List Column) (names : FunctionNames) where
     varied_count before below parent values tags vary i (c ∷ cs) = ap suc (varied_count before below parent values tags vary (suc i) cs)
 
     own_count : (before : List Statement) (below : List Source) (s : Statement) → length (own_sources header names u before below s) ≡ length (own_columns s)
-    own_count before below (Define node parent column expr) = refl
-    own_count before below (Redefine node parent column expr) = refl
     own_count before below (Vary node parent columns values tags vary) = varied_count before below parent values tags vary 0 columns
     own_count before below s = refl
 
@@ -60,8 +65,6 @@ module _ (header : List Column) (names : FunctionNames) where
   varied_versions_count before parent values tags i (c ∷ cs) = ap suc (varied_versions_count before parent values tags (suc i) cs)
 
   own_versions_count : (before : List Statement) (s : Statement) → length (own_versions header names before s) ≡ length (own_columns s)
-  own_versions_count before (Define node parent column expr) = refl
-  own_versions_count before (Redefine node parent column expr) = refl
   own_versions_count before (Vary node parent columns values tags vary) = varied_versions_count before parent values tags 0 columns
   own_versions_count before s = refl
 

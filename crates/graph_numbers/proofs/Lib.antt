@@ -2,14 +2,12 @@ pub mod Listed
 pub mod Apart
 pub mod Bookable
 pub mod Closing
-pub mod ColumnDemands
 pub mod ColumnSources
 pub mod Covering
 pub mod Demands
 pub mod Equations
 pub mod Examples
 pub mod Extending
-pub mod FilterSites
 pub mod AcceptedNumbers
 pub mod Looping
 pub mod Meeting
@@ -21,3 +19,4 @@ pub mod Reporting
 pub mod Resulting
 pub mod VersionKinds
 pub mod VersionSources
+pub mod Walks

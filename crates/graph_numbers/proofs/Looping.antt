@@ -2,23 +2,21 @@
 use Rattle.std.proofs.Common.{◌≡◌, ℕ, suc, ◌+◌, Bool, true, false, not, List, [], ◌∷◌, ◌++◌, map, length, Option, Some, None, option_map, refl, sym, ◌∙◌, ap, arith, slice_get, if◌then◌else◌, zero-add}
 use Rattle.std.specs.Prelude.{filter, filter_map, flat_map, option_and_then}
 use Rattle.std.proofs.lemmas.List.{append-nil, map-append}
+use Rattle.rdf_values.specs.Bookings.{Booked, booked_by, bookings, result_depends, has_variations, passes_of, Pass, filled, waiting}
 use Rattle.rdf_values.specs.Names.{among}
 use Rattle.rdf_values.specs.Path.{Variation, variations}
-use Rattle.rdf_values.specs.Bookings.{Booked, booked_by, bookings, result_depends, has_variations, varied_passes, passes_of, Pass, filled, waiting}
 use Rattle.rdf_values.specs.declared.statement.Statement.{Statement}
 use Rattle.rdf_values.specs.declared.statement.Statement.TheVariants.{Print}
 use Rattle.rdf_model.specs.Loops.{Access, filled_by, accesses, loop_passes, loop_results}
 use Rattle.graph_numbers.specs.Results.{places_from, numbered_pass, pass_at, result_passes, passes_from, own_loop, loops, own_run, runs}
 use Rattle.graph_numbers.specs.declared.pass.Pass.{Pass as NumberedPass}
-use Rattle.graph_numbers.proofs.Extending.{Extends, itself, further}
-use Rattle.graph_numbers.proofs.Listed.{next_at}
-use Rattle.graph_numbers.proofs.Passing.{shorter}
-use Rattle.std.specs.List.{cons_option}
+use Rattle.graph_numbers.proofs.Extending.{Extends, itself, further, kept, shorter}
+use Rattle.graph_numbers.proofs.Listed.{by_test, next_at}
+use Rattle.std.proofs.lemmas.List.Elements.{filter_map-append}
 use Rattle.lemmas.proofs.Places.{kept_at}
 
 booked_kept : (before after : List Statement) → Extends before after → (k : ℕ) (b : Booked) → slice_get (bookings before) k ≡ Some b → slice_get (bookings after) k ≡ Some b
-booked_kept before after itself k b h = h
-booked_kept before after (further {after = c} s e) k b h = kept_at (bookings c) (booked_by c s) k b (booked_kept before c e k b h)
+booked_kept = kept bookings booked_by (λ before s. refl)
 
 -- the elements of a list stand in another one from a place on
 abbrev AreFrom : {A : Type 0} → List A → ℕ → List A → Type 0
@@ -36,57 +34,39 @@ module _ (script : List Statement) where
       → map (pass_at script) (map (λ v. numbered_pass n (Some v)) (places_from (λ v. result_depends v b.booking) k vs))
       ≡ map (λ p. Some p) (map (λ v. record { result = b; under = Some v }) (filter (λ v. result_depends v b.booking) vs))
   varied_are n b h k [] from = refl
-  varied_are n b h k (v ∷ vs) from = go (result_depends v b.booking) (varied_are n b h (suc k) vs (rest_of (variations script) k v vs from))
+  varied_are n b h k (v ∷ vs) from =
+      by_test (result_depends v b.booking) (λ e. rw e (λ i. one i ∷ varied_are n b h (suc k) vs (rest_of (variations script) k v vs from) i))
+      (λ e. rw e (varied_are n b h (suc k) vs (rest_of (variations script) k v vs from)))
     where
       one : pass_at script (numbered_pass n (Some k)) ≡ Some (record { result = b; under = Some v })
       one = λ i. option_map (λ (c : Booked). record { result = c; under = first_of (variations script) k v vs from i }) (h i)
-
-      go : (t : Bool)
-          → map (pass_at script) (map (λ v. numbered_pass n (Some v)) (places_from (λ v. result_depends v b.booking) (suc k) vs)) ≡ map (λ (p : Pass). Some p) (map (λ v. record { result = b; under = Some v }) (filter (λ v. result_depends v b.booking) vs))
-          → map (pass_at script) (map (λ v. numbered_pass n (Some v)) (if t then k ∷ places_from (λ v. result_depends v b.booking) (suc k) vs else places_from (λ v. result_depends v b.booking) (suc k) vs))
-          ≡ map (λ (p : Pass). Some p) (map (λ v. record { result = b; under = Some v }) (if t then v ∷ filter (λ v. result_depends v b.booking) vs else filter (λ v. result_depends v b.booking) vs))
-      go true next = λ i. one i ∷ next i
-      go false next = next
 
   all_variations : AreFrom (variations script) 0 (variations script)
   all_variations k v q = ap (slice_get (variations script)) (zero-add k) ∙ q
 
   -- the passes of a result
   result_are : (n : ℕ) (b : Booked) → slice_get (bookings script) n ≡ Some b → map (pass_at script) (result_passes script n b) ≡ map (λ p. Some p) (passes_of script b)
-  result_are n b h = λ i. nominal i ∷ go (has_variations script b.name) i
+  result_are n b h =
+      by_test (has_variations script b.name) (λ e. rw e (λ i. nominal i ∷ varied_are n b h 0 (variations script) all_variations i)) (λ e. rw e (λ i. nominal i ∷ []))
     where
       nominal : pass_at script (numbered_pass n None) ≡ Some (record { result = b; under = None })
       nominal = ap (option_map (λ (c : Booked). record { result = c; under = None })) h
 
-      go : (t : Bool) → map (pass_at script) (if t then map (λ v. numbered_pass n (Some v)) (places_from (λ v. result_depends v b.booking) 0 (variations script)) else [])
-          ≡ map (λ (p : Pass). Some p) (if t then varied_passes script b else [])
-      go true = varied_are n b h 0 (variations script) all_variations
-      go false = refl
-
   -- the passes of the results that pass a test
   passes_are : (test : Booked → Bool) (n : ℕ) (bs : List Booked) → AreFrom (bookings script) n bs → map (pass_at script) (passes_from script test n bs) ≡ map (λ p. Some p) (loop_passes script (filter test bs))
   passes_are test n [] from = refl
-  passes_are test n (b ∷ bs) from = go (test b) (passes_are test (suc n) bs (rest_of (bookings script) n b bs from))
-    where
-      go : (t : Bool) → map (pass_at script) (passes_from script test (suc n) bs) ≡ map (λ (p : Pass). Some p) (loop_passes script (filter test bs))
-          → map (pass_at script) ((if t then result_passes script n b else []) ++ passes_from script test (suc n) bs) ≡ map (λ (p : Pass). Some p) (loop_passes script (if t then b ∷ filter test bs else filter test bs))
-      go true next =
-          map-append (pass_at script) (result_passes script n b) (passes_from script test (suc n) bs)
-          ∙ (λ i. result_are n b (first_of (bookings script) n b bs from) i ++ next i)
-          ∙ sym (map-append (λ (p : Pass). Some p) (passes_of script b) (flat_map (passes_of script) (filter test bs)))
-      go false next = next
+  passes_are test n (b ∷ bs) from =
+      let next = passes_are test (suc n) bs (rest_of (bookings script) n b bs from) in
+      by_test (test b)
+      (λ e. rw e (map-append (pass_at script) (result_passes script n b) (passes_from script test (suc n) bs) ∙ (λ i. result_are n b (first_of (bookings script) n b bs from) i ++ next i)
+      ∙ sym (map-append (λ (p : Pass). Some p) (passes_of script b) (flat_map (passes_of script) (filter test bs)))))
+      (λ e. rw e next)
 
   from_before : (before : List Statement) → Extends before script → AreFrom (bookings script) 0 (bookings before)
   from_before before e k b q = ap (slice_get (bookings script)) (zero-add k) ∙ booked_kept before script e k b q
 
   fills_append : (xs : List Access) (x : Access) → filter_map (λ (a : Access). a.fills) (xs ++ x ∷ []) ≡ filter_map (λ (a : Access). a.fills) xs ++ filter_map (λ (a : Access). a.fills) (x ∷ [])
-  fills_append [] x = refl
-  fills_append (y ∷ xs) x = go y.fills (fills_append xs x)
-    where
-      go : (o : Option (List Booked)) → filter_map (λ (a : Access). a.fills) (xs ++ x ∷ []) ≡ filter_map (λ (a : Access). a.fills) xs ++ filter_map (λ (a : Access). a.fills) (x ∷ [])
-          → cons_option o (filter_map (λ (a : Access). a.fills) (xs ++ x ∷ [])) ≡ cons_option o (filter_map (λ (a : Access). a.fills) xs) ++ filter_map (λ (a : Access). a.fills) (x ∷ [])
-      go None h = h
-      go (Some bs) h = ap (λ rs. bs ∷ rs) h
+  fills_append xs x = filter_map-append (λ (a : Access). a.fills) xs (x ∷ [])
 
   abbrev decoded : List (List NumberedPass) → List (List (Option Pass))
   decoded ls = map (map (pass_at script)) ls

@@ -3,11 +3,11 @@ use Rattle.std.proofs.Common.{◌≡◌, ◌≢◌, ℕ, Bool, true, false, List
 use Rattle.std.specs.Prelude.{filter}
 use Rattle.std.proofs.lemmas.Bool.Decides.{Decides-eqb}
 use Rattle.rdf_values.specs.Names.{same}
+use Rattle.rdf_values.specs.declared.value.Value.{Value}
+use Rattle.rdf_model.specs.Evaluation.{Outcome, Gives, Faults, Needs, evaluate, is_need, without, is_met, untyped}
 use Rattle.rdf_values.specs.Depends.{columns_in, columns_in_all}
 use Rattle.rdf_values.specs.EachColumn.{EachColumn, EachArgument}
 use Rattle.rdf_values.specs.Tree.{Tree, Trees, Lit, Truth, Col, Neg, Not, Bin, Cond, Pick, Call, End, More}
-use Rattle.rdf_values.specs.declared.value.Value.{Value}
-use Rattle.rdf_model.specs.Evaluation.{Outcome, Gives, Faults, Needs, evaluate, is_need, without, is_met, untyped}
 use Rattle.rdf_model.specs.Laws.{IsKnown, gives, faults}
 use Rattle.rdf_model.proofs.Accepted.{names_equal, itself}
 use Rattle.rdf_model.proofs.Close as close
@@ -16,6 +16,7 @@ use Rattle.rdf_model.specs.Alike.{Alike}
 use Rattle.rdf_model.proofs.Missing.{everywhere}
 use Rattle.rdf_model.specs.Alike as alike
 use Rattle.rdf_model.proofs.Missing as missing
+use Rattle.graph_numbers.proofs.Listed.{by_test}
 
 -- ---- elements of lists
 
@@ -31,17 +32,15 @@ pub in_right : {A : Type 0} {x : A} (xs ys : List A) → In x ys → In x (xs ++
 in_right [] ys h = h
 in_right (y ∷ xs) ys h = there (in_right xs ys h)
 
+-- what stands in joined lists stands in one of them
+pub in_joined : {A P : Type 0} {x : A} (xs ys : List A) → In x (xs ++ ys) → (In x xs → P) → (In x ys → P) → P
+in_joined [] ys h f g = g h
+in_joined (y ∷ xs) ys here f g = f here
+in_joined (y ∷ xs) ys (there h) f g = in_joined xs ys h (λ k. f (there k)) g
+
 pub in_filter : {A : Type 0} {x : A} (p : A → Bool) (xs : List A) → In x xs → p x ≡ true → In x (filter p xs)
-in_filter {x = x} p xs (here {xs = zs}) e = go (p x) e
-  where
-    go : (b : Bool) → b ≡ true → In x (if b then x ∷ filter p zs else filter p zs)
-    go true e = here
-    go false e = cc e
-in_filter {x = x} p xs (there {y = y} {xs = zs} h) e = go (p y) (in_filter p zs h e)
-  where
-    go : (b : Bool) → In x (filter p zs) → In x (if b then y ∷ filter p zs else filter p zs)
-    go true k = there k
-    go false k = k
+in_filter p xs here e = rw e here
+in_filter {x = x} p xs (there {y = y} {xs = zs} h) e = by_test (p y) (λ t. rw t (there (in_filter p zs h e))) (λ t. rw t (in_filter p zs h e))
 
 -- what holds of each column that stands in an expression
 module _ {C F : Type 0} (P : C → Type 0) where
@@ -65,23 +64,28 @@ module _ {C F : Type 0} (P : C → Type 0) where
     each_of_all End h = tt
     each_of_all (More a rest) h = (each_of a (λ c k. h c (in_left (columns_in a) (columns_in_all rest) k)), each_of_all rest (λ c k. h c (in_right (columns_in a) (columns_in_all rest) k)))
 
--- two facts of each column
-module _ {C F : Type 0} (P Q R : C → Type 0) (f : (c : C) → P c → Q c → R c) where
+-- what holds of each column of an expression holds of each in its list
+module _ {C F : Type 0} (P : C → Type 0) where
   mutual
-    pub each_both : (e : Tree C F) → EachColumn P e → EachColumn Q e → EachColumn R e
-    each_both (Lit z) h k = tt
-    each_both (Truth b) h k = tt
-    each_both (Col c) h k = f c h k
-    each_both (Neg a) h k = each_both a h k
-    each_both (Not a) h k = each_both a h k
-    each_both (Bin o a b) h k = (each_both a h.0 k.0, each_both b h.1 k.1)
-    each_both (Cond c a b) h k = (each_both c h.0 k.0, each_both a h.1 k.1, each_both b h.2 k.2)
-    each_both (Pick v i) h k = (each_both v h.0 k.0, each_both i h.1 k.1)
-    each_both (Call g args) h k = each_both_all args h k
+    pub each_at : (e : Tree C F) → EachColumn P e → (c : C) → In c (columns_in e) → P c
+    each_at (Lit z) h c k = elim k [ ]
+    each_at (Truth b) h c k = elim k [ ]
+    each_at (Col d) h c here = h
+    each_at (Col d) h c (there k) = elim k [ ]
+    each_at (Neg a) h c k = each_at a h c k
+    each_at (Not a) h c k = each_at a h c k
+    each_at (Bin o a b) h c k = in_joined (columns_in a) (columns_in b) k (each_at a h.0 c) (each_at b h.1 c)
+    each_at (Cond d a b) h c k = in_joined (columns_in d ++ columns_in a) (columns_in b) k (λ l. in_joined (columns_in d) (columns_in a) l (each_at d h.0 c) (each_at a h.1 c)) (each_at b h.2 c)
+    each_at (Pick v i) h c k = in_joined (columns_in v) (columns_in i) k (each_at v h.0 c) (each_at i h.1 c)
+    each_at (Call f args) h c k = each_argument_at args h c k
 
-    pub each_both_all : (es : Trees C F) → EachArgument P es → EachArgument Q es → EachArgument R es
-    each_both_all End h k = tt
-    each_both_all (More a rest) h k = (each_both a h.0 k.0, each_both_all rest h.1 k.1)
+    each_argument_at : (es : Trees C F) → EachArgument P es → (c : C) → In c (columns_in_all es) → P c
+    each_argument_at End h c k = elim k [ ]
+    each_argument_at (More a rest) h c k = in_joined (columns_in a) (columns_in_all rest) k (each_at a h.0 c) (each_argument_at rest h.1 c)
+
+-- two facts of each column
+pub each_both : {C F : Type 0} (P Q R : C → Type 0) → ((c : C) → P c → Q c → R c) → (e : Tree C F) → EachColumn P e → EachColumn Q e → EachColumn R e
+each_both P Q R f e h k = each_of R e (λ c i. f c (each_at P e h c i) (each_at Q e k c i))
 
 -- ---- what is needed
 
@@ -146,18 +150,10 @@ module _ {F : Type 0} (number : List ℕ → ℕ) (look : ℕ → Outcome ℕ Va
   all_missing n = if nat_eq c (number n) then Needs n else named n
 
   missing_alike : (n : List ℕ) → Alike (look (number n)) (named n) → Alike (without nat_eq c look (number n)) (all_missing n)
-  missing_alike n h = go (nat_eq c (number n))
-    where
-      go : (b : Bool) → Alike (if b then Needs c else look (number n)) (if b then Needs n else named n)
-      go true = alike.needs
-      go false = h
+  missing_alike n h = by_test (nat_eq c (number n)) (λ e. rw e alike.needs) (λ e. rw e h)
 
   its_number : (n m : List ℕ) → all_missing n ≡ Needs m → (n ≡ m) × (nat_eq c (number n) ≡ true)
-  its_number n m h = go (nat_eq c (number n)) refl h
-    where
-      go : (b : Bool) → nat_eq c (number n) ≡ b → (if b then Needs n else named n) ≡ Needs m → (n ≡ m) × (nat_eq c (number n) ≡ true)
-      go true p q = (ap (in_need m) q, p)
-      go false p q = absurd (not_known (named n) m (named_known n) q)
+  its_number n m h = by_test (nat_eq c (number n)) (λ e. (ap (in_need m) (rw e at h), e)) (λ e. absurd (not_known (named n) m (named_known n) (rw e at h)))
 
   -- of the missing names the one that is needed, alone
   alone : (n : List ℕ) → nat_eq c (number n) ≡ true → (m : List ℕ) → close.Close (λ d. d ≢ n) (all_missing m) (without same n named m)

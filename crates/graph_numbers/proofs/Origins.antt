@@ -1,31 +1,31 @@
 -- The version of a visible column is given by what gives the column its value at that node.
-use Rattle.std.proofs.Common.{◌≡◌, ℕ, zero, suc, ◌+◌, ◌<◌, Bool, true, false, List, [], ◌∷◌, length, map, Option, Some, None, Ok, option_map, refl, sym, ◌∙◌, ap, subst, arith, nat_eq, slice_get, if◌then◌else◌}
+use Rattle.std.proofs.Common.{◌≡◌, ℕ, zero, suc, ◌+◌, ◌<◌, Bool, true, false, List, [], ◌∷◌, length, map, Option, Some, None, Ok, refl, sym, ◌∙◌, ap, subst, arith, nat_eq, slice_get, if◌then◌else◌}
 use Rattle.std.proofs.lemmas.Option.{get_or_from_slice_get}
 use Rattle.std.proofs.lemmas.Bool.Decides.{Decides-eqb}
 use Rattle.lemmas.proofs.Places.{kept_at}
+use Rattle.rdf_values.specs.Kinds.{FunctionNames, scope_of, column_kind}
 use Rattle.rdf_values.specs.Names.{same, place}
 use Rattle.rdf_values.specs.Path.{Path, Under, makes, parent_of, path, target_of}
-use Rattle.rdf_values.specs.Kinds.{FunctionNames, scope_of, column_kind}
 use Rattle.rdf_values.specs.Tree.{NamedTree}
 use Rattle.rdf_values.specs.Verdict.{AreAccepted, aliases, made_columns, visible_columns, kind_or_int, check_target, check_values, check_lists, first_refusal, refuse_unless, scope_at}
 use Rattle.rdf_values.specs.declared.column.Column.{Column}
-use Rattle.rdf_values.specs.declared.value.ColType.{ColType}
-use Rattle.rdf_values.specs.declared.value.Value.{Value}
-use Rattle.rdf_values.specs.declared.graph_cause.GraphCause.TheVariants as cause
-use Rattle.rdf_values.specs.declared.vary_values.VaryValues.{VaryValues}
-use Rattle.rdf_values.specs.declared.vary_values.VaryValues.TheVariants.{Lists, Vector}
 use Rattle.rdf_values.specs.declared.statement.Statement.{Statement}
 use Rattle.rdf_values.specs.declared.statement.Statement.TheVariants.{Define, Redefine, Vary}
-use Rattle.rdf_model.specs.Evaluation.{Gives}
+use Rattle.rdf_values.specs.declared.value.ColType.{ColType}
+use Rattle.rdf_values.specs.declared.value.Value.{Value}
+use Rattle.rdf_values.specs.declared.vary_values.VaryValues.{VaryValues}
+use Rattle.rdf_values.specs.declared.vary_values.VaryValues.TheVariants.{Lists, Vector}
 use Rattle.rdf_model.specs.ColumnValues.{cell, expression_at, own_place, varied}
 use Rattle.rdf_model.specs.Demanded.{site_at}
-use Rattle.rdf_model.proofs.Accepted.{both_none, unless_holds, names_equal, passed_over, sound_path, checked_of, target_is_none, own_within, lists_kind, visible_resolved}
-use Rattle.graph_numbers.specs.Versions.{column_place, version_or, own_version, version_count, named_version, version_at}
+use Rattle.rdf_values.specs.declared.graph_cause.GraphCause.TheVariants as cause
+use Rattle.rdf_model.proofs.Accepted.{both_none, unless_holds, passed_over, sound_path, checked_of, target_is_none, own_within, lists_kind, visible_resolved}
 use Rattle.graph_numbers.specs.Sites.{SiteAt, list_start, site_in, list_sites, lists_sites, sites, own_sites, site_count}
 use Rattle.graph_numbers.specs.Sources.{own_source, source_in, sources, own_sources, varied_sources, cell_sources, cell_value}
+use Rattle.graph_numbers.specs.Versions.{column_place, version_or, own_version, version_count, named_version, version_at}
 use Rattle.graph_numbers.specs.declared.source.Source.{Source}
 use Rattle.graph_numbers.specs.declared.source.Source.TheVariants as from
-use Rattle.graph_numbers.proofs.Listed.{next_at}
+use Rattle.graph_numbers.proofs.Bookable.{list_count}
+use Rattle.graph_numbers.proofs.Listed.{by_test, next_at, place_gives}
 use Rattle.graph_numbers.proofs.Extending.{Extends, itself, further, site_kept, source_kept, source_count}
 
 -- ---- the table's columns
@@ -33,30 +33,18 @@ use Rattle.graph_numbers.proofs.Extending.{Extends, itself, further, site_kept, 
 pub cell_is : {M : Type 0} (cs : List Column) (row : List Value) (name : List ℕ) (t : ColType) → column_kind (scope_of cs) name ≡ Ok t → cell {M = M} cs row name ≡ cell_value (slice_get row (column_place cs name))
 cell_is [] row name t h = cc h
 cell_is (c ∷ cs) [] name t h = refl
-cell_is {M} (c ∷ cs) (v ∷ vs) name t h = go (same c.name name) h (cell_is cs vs name t)
-  where
-    go : (b : Bool) → (if b then Ok c.kind else column_kind (scope_of cs) name) ≡ Ok t → (column_kind (scope_of cs) name ≡ Ok t → cell {M = M} cs vs name ≡ cell_value (slice_get vs (column_place cs name)))
-        → (if b then Gives v else cell {M = M} cs vs name) ≡ cell_value (slice_get (v ∷ vs) (if b then 0 else suc (column_place cs name)))
-    go true q next = refl
-    go false q next = next q
+cell_is {M} (c ∷ cs) (v ∷ vs) name t h = by_test (same c.name name) (λ e. rw e refl) (λ e. rw e (cell_is cs vs name t (rw e at h)))
 
 cell_source : (n : ℕ) (cs : List Column) (name : List ℕ) (t : ColType) → column_kind (scope_of cs) name ≡ Ok t → slice_get (cell_sources n cs) (column_place cs name) ≡ Some (from.Cell (n + column_place cs name))
 cell_source n [] name t h = cc h
-cell_source n (c ∷ cs) name t h = go (same c.name name) h (cell_source (suc n) cs name t)
-  where
-    go : (b : Bool) → (if b then Ok c.kind else column_kind (scope_of cs) name) ≡ Ok t
-        → (column_kind (scope_of cs) name ≡ Ok t → slice_get (cell_sources (suc n) cs) (column_place cs name) ≡ Some (from.Cell (suc n + column_place cs name)))
-        → slice_get (from.Cell n ∷ cell_sources (suc n) cs) (if b then 0 else suc (column_place cs name)) ≡ Some (from.Cell (n + (if b then 0 else suc (column_place cs name))))
-    go true q next = let e : n ≡ n + 0 = omega arith in ap (λ k. Some (from.Cell k)) e
-    go false q next = let e : suc n + column_place cs name ≡ n + suc (column_place cs name) = omega arith in next q ∙ ap (λ k. Some (from.Cell k)) e
+cell_source n (c ∷ cs) name t h =
+    by_test (same c.name name) (λ e. let z : n ≡ n + 0 = omega arith in rw e (ap (λ k. Some (from.Cell k)) z))
+    (λ e. let z : suc n + column_place cs name ≡ n + suc (column_place cs name) = omega arith in rw e (cell_source (suc n) cs name t (rw e at h) ∙ ap (λ k. Some (from.Cell k)) z))
 
 place_within_columns : (cs : List Column) (name : List ℕ) (t : ColType) → column_kind (scope_of cs) name ≡ Ok t → column_place cs name < length cs
 place_within_columns [] name t h = cc h
-place_within_columns (c ∷ cs) name t h = go (same c.name name) h (place_within_columns cs name t)
-  where
-    go : (b : Bool) → (if b then Ok c.kind else column_kind (scope_of cs) name) ≡ Ok t → (column_kind (scope_of cs) name ≡ Ok t → column_place cs name < length cs) → (if b then 0 else suc (column_place cs name)) < length (c ∷ cs)
-    go true q next = omega arith
-    go false q next = let lt = next q in omega (arith, lt)
+place_within_columns (c ∷ cs) name t h =
+    by_test (same c.name name) (λ e. rw e (omega arith)) (λ e. let lt = place_within_columns cs name t (rw e at h) in rw e (omega (arith, lt)))
 
 -- ---- the sites of a Vary
 
@@ -71,10 +59,6 @@ module _ (header : List Column) (names : FunctionNames) (before : List Statement
       let at : suc k + l ≡ k + suc l = omega arith in
       list_site_at i (suc k) l es e h ∙ (λ j. Some (site_in header names before parent (record { node = node; column = i; tag = at j }) e))
 
-  list_sites_count : (i k : ℕ) (es : List NamedTree) → length (list_sites header names before parent node i k es) ≡ length es
-  list_sites_count i k [] = refl
-  list_sites_count i k (e ∷ es) = ap suc (list_sites_count i (suc k) es)
-
   -- the site for the column at place i and the tag at place k
   pub lists_site_at : (j i k : ℕ) (lists : List (List NamedTree)) (e : NamedTree) → expression_at lists i k ≡ Some e
       → slice_get (lists_sites header names before parent node j lists) (list_start lists i + k) ≡ Some (site_in header names before parent (record { node = node; column = j + i; tag = k }) e)
@@ -87,45 +71,38 @@ module _ (header : List Column) (names : FunctionNames) (before : List Statement
   lists_site_at j (suc i) k (es ∷ lists) e h =
       let at : suc j + i ≡ j + suc i = omega arith in
       let n : length es + list_start lists i + k ≡ length (list_sites header names before parent node j 0 es) + (list_start lists i + k) =
-      (let c = list_sites_count j 0 es in omega (arith, c)) in
+      (let c = list_count header names before parent node j 0 es in omega (arith, c)) in
       next_at (list_sites header names before parent node j 0 es) (lists_sites header names before parent node (suc j) lists) (list_start lists i + k) _ n
       ∙ lists_site_at (suc j) i k lists e h
       ∙ (λ l. Some (site_in header names before parent (record { node = node; column = at l; tag = k }) e))
 
--- ---- sources
+-- ---- readings
 
--- the source at a place among those of a Vary's columns
-place_suc : (o : Option ℕ) (i : ℕ) → option_map suc o ≡ Some i → (j : ℕ) × (o ≡ Some j) × (suc j ≡ i)
-place_suc None i h = cc h
-place_suc (Some j) i h = (j, refl, cc h)
+-- a reading of columns under nominal or a variation: what it makes of a name at a path, of a table's column, of a site, of the element of a
+-- site's vector at the place of a tag among so many, and of a Vary's column at a place under the tag at a place
+pub record Reading (A : Type 0) : Type 0 where
+  pub read : Path → List ℕ → A
+  pub of_cell : ℕ → A
+  pub of_site : SiteAt → A
+  pub of_element : SiteAt → ℕ → ℕ → A
+  pub of_tag : Path → List ℕ → VaryValues → ℕ → ℕ → ℕ → A
 
--- a reading of columns at nodes under nominal or a variation: what it makes of a table's column, of a site, and of the element of a site's
--- vector at the place of a tag among so many
-module _ {A : Type 0} (columns : List Column) (names : FunctionNames) (u : Under) (read : Path → List ℕ → A) (of_cell : ℕ → A) (of_site : SiteAt → A) (of_element : SiteAt → ℕ → ℕ → A) (nothing : A) where
-  abbrev pub if_expression : (NamedTree → A) → Option NamedTree → A
-  if_expression f None = nothing
-  if_expression f (Some e) = f e
-
-  -- what a Vary makes of the column at place i under the tag at place k
-  abbrev pub of_tag : List Statement → List ℕ → List ℕ → VaryValues → ℕ → ℕ → ℕ → A
-  of_tag before parent node (Lists lists) tags i k = if_expression (λ e. of_site (site_in columns names before parent (record { node = node; column = i; tag = k }) e)) (expression_at lists i k)
-  of_tag before parent node (Vector e) tags i k = of_element (site_in columns names before parent (site_at node) e) k tags
-
+module _ {A : Type 0} (columns : List Column) (names : FunctionNames) (u : Under) (r : Reading A) where
   -- what is read at the node of a statement of a column that is no alias
   abbrev pub at_step : List Statement → Statement → List ℕ → A
-  at_step before (Define node parent column expr) name = if same column name then of_site (site_in columns names before parent (site_at node) expr) else read (path before parent) name
-  at_step before (Redefine node parent column expr) name = if same column name then of_site (site_in columns names before parent (site_at node) expr) else read (path before parent) name
-  at_step before (Vary node parent cs values tags vary) name = varied (own_place u vary tags) (place (same name) cs) (of_tag before parent node values (length tags)) (read (path before parent) name)
-  at_step before s name = read (path before (parent_of s)) name
+  at_step before (Define node parent column expr) name = if same column name then r.of_site (site_in columns names before parent (site_at node) expr) else r.read (path before parent) name
+  at_step before (Redefine node parent column expr) name = if same column name then r.of_site (site_in columns names before parent (site_at node) expr) else r.read (path before parent) name
+  at_step before (Vary node parent cs values tags vary) name = varied (own_place u vary tags) (place (same name) cs) (r.of_tag (path before parent) node values (length tags)) (r.read (path before parent) name)
+  at_step before s name = r.read (path before (parent_of s)) name
 
   abbrev pub own_list : List Statement → Statement → List Source
   own_list before s = own_sources columns names u before (sources columns names u before) s
 
   -- the source gives this
   abbrev pub IsGiven : List Statement → Source → A → Type 0
-  IsGiven before (from.Cell col) a = (col < length columns) × (a ≡ of_cell col)
-  IsGiven before (from.Site t) a = (x : SiteAt) × (slice_get (sites columns names before) t ≡ Some x) × (a ≡ of_site x)
-  IsGiven before (from.Element t k tags) a = (x : SiteAt) × (slice_get (sites columns names before) t ≡ Some x) × (a ≡ of_element x k tags)
+  IsGiven before (from.Cell col) a = (col < length columns) × (a ≡ r.of_cell col)
+  IsGiven before (from.Site t) a = (x : SiteAt) × (slice_get (sites columns names before) t ≡ Some x) × (a ≡ r.of_site x)
+  IsGiven before (from.Element t k tags) a = (x : SiteAt) × (slice_get (sites columns names before) t ≡ Some x) × (a ≡ r.of_element x k tags)
 
   -- version c has a source, which gives this
   abbrev pub HasSource : List Statement → ℕ → A → Type 0
@@ -143,7 +120,17 @@ module _ {A : Type 0} (columns : List Column) (names : FunctionNames) (u : Under
   has_further before s = source_later before (s ∷ before) (further s itself)
 
   abbrev Above : List Statement → List ℕ → Type 0
-  Above before node = (name : List ℕ) (t : ColType) → column_kind (made_columns names (scope_of columns) (path before node)) name ≡ Ok t → HasSource before (named_version columns before node name) (read (path before node) name)
+  Above before node = (name : List ℕ) (t : ColType) → column_kind (made_columns names (scope_of columns) (path before node)) name ≡ Ok t → HasSource before (named_version columns before node name) (r.read (path before node) name)
+
+  -- the only site of a statement, as it is booked
+  own_site : (s : Statement) (before : List Statement) (x : SiteAt) → own_sites columns names before s ≡ x ∷ [] → slice_get (sites columns names (s ∷ before)) (site_count columns names before) ≡ Some x
+  own_site s before x its =
+      let m : site_count columns names before ≡ length (sites columns names before) + 0 = omega arith in
+      next_at (sites columns names before) (own_sites columns names before s) 0 _ m ∙ ap (λ xs. slice_get xs 0) its
+
+  -- the source of a statement's version at a place
+  own_version_source : (s : Statement) (before : List Statement) (i n : ℕ) → n ≡ version_count columns before + i → slice_get (sources columns names u (s ∷ before)) n ≡ slice_get (own_list before s) i
+  own_version_source s before i n e = next_at (sources columns names u before) (own_list before s) i n (let c = source_count columns names u before in omega (arith, c, e))
 
   -- a column that a Define or Redefine makes
   defined_source : (s : Statement) (before : List Statement) (node parent column name : List ℕ) (expr : NamedTree) (t k : ColType)
@@ -152,14 +139,12 @@ module _ {A : Type 0} (columns : List Column) (names : FunctionNames) (u : Under
       → Above before parent → (b : Bool)
       → (if b then Ok k else column_kind (made_columns names (scope_of columns) (path before parent)) name) ≡ Ok t
       → HasSource (s ∷ before) (if b then version_count columns before else named_version columns before parent name)
-      (if b then of_site (site_in columns names before parent (site_at node) expr) else read (path before parent) name)
-  defined_source s before node parent column name expr t k own its above true h =
-      let n : version_count columns before ≡ length (sources columns names u before) + 0 = (let c = source_count columns names u before in omega (arith, c)) in
-      let m : site_count columns names before ≡ length (sites columns names before) + 0 = omega arith in (
-        from.Site (site_count columns names before),
-        next_at (sources columns names u before) (own_list before s) 0 _ n ∙ ap (λ xs. slice_get xs 0) own,
-        (site_in columns names before parent (site_at node) expr, next_at (sites columns names before) (own_sites columns names before s) 0 _ m ∙ ap (λ xs. slice_get xs 0) its, refl),
-      )
+      (if b then r.of_site (site_in columns names before parent (site_at node) expr) else r.read (path before parent) name)
+  defined_source s before node parent column name expr t k own its above true h = (
+    from.Site (site_count columns names before),
+    own_version_source s before 0 _ (omega arith) ∙ ap (λ xs. slice_get xs 0) own,
+    (site_in columns names before parent (site_at node) expr, own_site s before _ its, refl),
+  )
   defined_source s before node parent column name expr t k own its above false h = has_further before s _ _ (above name t h)
 
   own_none : (values : VaryValues) (n i tags : ℕ) (below : Source) → own_source values n i tags None below ≡ below
@@ -171,106 +156,78 @@ module _ {A : Type 0} (columns : List Column) (names : FunctionNames) (u : Under
   own_of before parent values tags vary n name =
       own_source values (site_count columns names before) n (length tags) (own_place u vary tags) (source_in (sources columns names u before) (named_version columns before parent name))
 
-  abbrev vary_list : List Statement → List ℕ → VaryValues → List (List ℕ) → List ℕ → ℕ → List (List ℕ) → List Source
-  vary_list before parent values tags vary j cs = varied_sources columns names u before (sources columns names u before) parent values tags vary j cs
-
-  varied_source : (before : List Statement) (parent : List ℕ) (values : VaryValues) (tags : List (List ℕ)) (vary name : List ℕ) (j i : ℕ) (cs : List (List ℕ)) → place (same name) cs ≡ Some i
-      → slice_get (vary_list before parent values tags vary j cs) i ≡ Some (own_of before parent values tags vary (j + i) name)
+  varied_source : (before : List Statement) (parent : List ℕ) (values : VaryValues) (tags : List (List ℕ)) (vary name : List ℕ) (j i : ℕ) (cs : List (List ℕ)) → slice_get cs i ≡ Some name
+      → slice_get (varied_sources columns names u before (sources columns names u before) parent values tags vary j cs) i ≡ Some (own_of before parent values tags vary (j + i) name)
   varied_source before parent values tags vary name j i [] h = cc h
-  varied_source before parent values tags vary name j i (c ∷ cs) h = go (same name c) refl h (λ k q. varied_source before parent values tags vary name (suc j) k cs q)
-    where
-      here : (k : ℕ) → k ≡ 0 → name ≡ c → slice_get (vary_list before parent values tags vary j (c ∷ cs)) k ≡ Some (own_of before parent values tags vary (j + k) name)
-      here zero e is = let at : j ≡ j + 0 = omega arith in λ l. Some (own_of before parent values tags vary (at l) (sym is l))
-      here (suc k) e is = cc e
+  varied_source before parent values tags vary name j zero (c ∷ cs) h = let is : c ≡ name = cc h in let at : j ≡ j + 0 = omega arith in λ l. Some (own_of before parent values tags vary (at l) (is l))
+  varied_source before parent values tags vary name j (suc i) (c ∷ cs) h =
+      let at : suc j + i ≡ j + suc i = omega arith in varied_source before parent values tags vary name (suc j) i cs h ∙ (λ l. Some (own_of before parent values tags vary (at l) name))
 
-      below : (k m : ℕ) → suc m ≡ k → slice_get (vary_list before parent values tags vary (suc j) cs) m ≡ Some (own_of before parent values tags vary (suc j + m) name)
-          → slice_get (vary_list before parent values tags vary j (c ∷ cs)) k ≡ Some (own_of before parent values tags vary (j + k) name)
-      below zero m e q = cc e
-      below (suc k) m e q =
-          let at : suc j + m ≡ j + suc k = omega (arith, e) in let n : m ≡ k = omega (arith, e) in
-          ap (slice_get (vary_list before parent values tags vary (suc j) cs)) (sym n) ∙ q ∙ (λ l. Some (own_of before parent values tags vary (at l) name))
+  -- by the walk from the node up to the head
+  module _ (heads : (name : List ℕ) (t : ColType) → column_kind (scope_of columns) name ≡ Ok t → r.read [] name ≡ r.of_cell (column_place columns name))
+      (steps : (before : List Statement) (s : Statement) (name : List ℕ) → r.read (s ∷ path before (parent_of s)) name ≡ at_step before s name)
+      (of_lists : (before : List Statement) (parent node : List ℕ) (lists : List (List NamedTree)) (tags i k : ℕ) (e : NamedTree) → expression_at lists i k ≡ Some e
+      → r.of_tag (path before parent) node (Lists lists) tags i k ≡ r.of_site (site_in columns names before parent (record { node = node; column = i; tag = k }) e))
+      (of_vector : (before : List Statement) (parent node : List ℕ) (e : NamedTree) (tags i k : ℕ)
+      → r.of_tag (path before parent) node (Vector e) tags i k ≡ r.of_element (site_in columns names before parent (site_at node) e) k tags) where
+    -- a column at a Vary
+    vary_source : (before : List Statement) (node parent : List ℕ) (cs : List (List ℕ)) (values : VaryValues) (tags : List (List ℕ)) (vary name : List ℕ) (t : ColType)
+        → (first_refusal (map (check_target (visible_columns names (scope_of columns) (path before parent)) (path before parent)) cs) ≡ None)
+        × (check_values names (visible_columns names (scope_of columns) (path before parent)) (length tags) cs values ≡ None)
+        → Above before parent
+        → column_kind (made_columns names (scope_of columns) (path before parent)) name ≡ Ok t
+        → (o : Option ℕ) → place (same name) cs ≡ o
+        → HasSource (Vary node parent cs values tags vary ∷ before) (version_or (version_count columns before) o (named_version columns before parent name))
+        (varied (own_place u vary tags) o (r.of_tag (path before parent) node values (length tags)) (r.read (path before parent) name))
+    vary_source before node parent cs values tags vary name t checked above h None p =
+        subst (HasSource (Vary node parent cs values tags vary ∷ before) (named_version columns before parent name)) (sym (none_varied (own_place u vary tags) _ _)) (has_further before (Vary node parent cs values tags vary) _ _ (above name t h))
+      where
+        none_varied : (k : Option ℕ) (own : ℕ → ℕ → A) (o : A) → varied k None own o ≡ o
+        none_varied None own o = refl
+        none_varied (Some k) own o = refl
+    vary_source before node parent cs values tags vary name t checked above h (Some i) p =
+        at_tag values (own_place u vary tags) refl checked.1
+        (own_version_source (Vary node parent cs values tags vary) before i _ refl ∙ varied_source before parent values tags vary name 0 i cs (place_gives name cs i p)
+        ∙ (let z : 0 + i ≡ i = omega arith in λ l. Some (own_of before parent values tags vary (z l) name)))
+      where
+        known : column_kind (visible_columns names (scope_of columns) (path before parent)) name ≡ Ok t
+        known =
+            passed_over (λ a. kind_or_int (column_kind (made_columns names (scope_of columns) (path before parent)) (target_of (path before parent) a))) (made_columns names (scope_of columns) (path before parent)) name t (aliases (path before parent))
+            (target_is_none (visible_columns names (scope_of columns) (path before parent)) (path before parent) cs name i p checked.0) h
 
-      go : (b : Bool) → same name c ≡ b → (if b then Some 0 else option_map suc (place (same name) cs)) ≡ Some i
-          → ((k : ℕ) → place (same name) cs ≡ Some k → slice_get (vary_list before parent values tags vary (suc j) cs) k ≡ Some (own_of before parent values tags vary (suc j + k) name))
-          → slice_get (vary_list before parent values tags vary j (c ∷ cs)) i ≡ Some (own_of before parent values tags vary (j + i) name)
-      go true p q next = here i (cc q) (names_equal name c p)
-      go false p q next = let w = place_suc (place (same name) cs) i q in below i w.0 w.2 (next w.0 w.1)
+        at_tag : (values : VaryValues) (k : Option ℕ) → own_place u vary tags ≡ k → check_values names (visible_columns names (scope_of columns) (path before parent)) (length tags) cs values ≡ None
+            → slice_get (sources columns names u (Vary node parent cs values tags vary ∷ before)) (version_count columns before + i) ≡ Some (own_of before parent values tags vary i name)
+            → HasSource (Vary node parent cs values tags vary ∷ before) (version_count columns before + i)
+            (varied (own_place u vary tags) (Some i) (r.of_tag (path before parent) node values (length tags)) (r.read (path before parent) name))
+        at_tag values None e ok src =
+            let a = above name t h in
+            let below : source_in (sources columns names u before) (named_version columns before parent name) ≡ a.0 =
+            get_or_from_slice_get (sources columns names u before) (named_version columns before parent name) a.0 (from.Cell 0) a.1 in (
+              a.0,
+              src ∙ (λ l. Some (own_source values (site_count columns names before) i (length tags) (e l) (below l))) ∙ ap Some (own_none values (site_count columns names before) i (length tags) a.0),
+              rw e (given_later before (Vary node parent cs values tags vary ∷ before) (further (Vary node parent cs values tags vary) itself) a.0 _ a.2),
+            )
+        at_tag (Lists lists) (Some k) e ok src =
+            let parts = both_none (refuse_unless (nat_eq (length lists) (length cs)) cause.WrongCount) (check_lists names (visible_columns names (scope_of columns) (path before parent)) (length tags) cs lists) ok in
+            let many : length lists ≡ length cs = (Decides-eqb (length lists) (length cs)).0 (unless_holds (nat_eq (length lists) (length cs)) cause.WrongCount parts.0) in
+            let x = lists_kind names (visible_columns names (scope_of columns) (path before parent)) (length tags) name t known cs lists i k p many (own_within u vary tags k e) parts.1 in
+            let n : site_count columns names before + list_start lists i + k ≡ length (sites columns names before) + (list_start lists i + k) = omega arith in
+            let z : 0 + i ≡ i = omega arith in (
+              from.Site (site_count columns names before + list_start lists i + k),
+              src ∙ (λ l. Some (own_source (Lists lists) (site_count columns names before) i (length tags) (e l) (source_in (sources columns names u before) (named_version columns before parent name)))),
+              (
+                site_in columns names before parent (record { node = node; column = i; tag = k }) x.0,
+                next_at (sites columns names before) (lists_sites columns names before parent node 0 lists) (list_start lists i + k) _ n ∙ lists_site_at columns names before parent node 0 i k lists x.0 x.1
+                    ∙ (λ l. Some (site_in columns names before parent (record { node = node; column = z l; tag = k }) x.0)),
+                rw e (of_lists before parent node lists (length tags) i k x.0 x.1),
+              ),
+            )
+        at_tag (Vector x) (Some k) e ok src = (
+          from.Element (site_count columns names before) k (length tags),
+          src ∙ (λ l. Some (own_source (Vector x) (site_count columns names before) i (length tags) (e l) (source_in (sources columns names u before) (named_version columns before parent name)))),
+          (site_in columns names before parent (site_at node) x, own_site (Vary node parent cs (Vector x) tags vary) before _ refl, rw e (of_vector before parent node x (length tags) i k)),
+        )
 
-  -- a column at a Vary
-  vary_source : (before : List Statement) (node parent : List ℕ) (cs : List (List ℕ)) (values : VaryValues) (tags : List (List ℕ)) (vary name : List ℕ) (t : ColType)
-      → AreAccepted names (scope_of columns) before
-      → (first_refusal (map (check_target (visible_columns names (scope_of columns) (path before parent)) (path before parent)) cs) ≡ None)
-      × (check_values names (visible_columns names (scope_of columns) (path before parent)) (length tags) cs values ≡ None)
-      → Above before parent
-      → column_kind (made_columns names (scope_of columns) (path before parent)) name ≡ Ok t
-      → (o : Option ℕ) → place (same name) cs ≡ o
-      → HasSource (Vary node parent cs values tags vary ∷ before) (version_or (version_count columns before) o (named_version columns before parent name))
-      (varied (own_place u vary tags) o (of_tag before parent node values (length tags)) (read (path before parent) name))
-  vary_source before node parent cs values tags vary name t good checked above h None p =
-      subst (HasSource (Vary node parent cs values tags vary ∷ before) (named_version columns before parent name)) (sym (none_varied (own_place u vary tags) _ _)) (has_further before (Vary node parent cs values tags vary) _ _ (above name t h))
-    where
-      none_varied : (k : Option ℕ) (own : ℕ → ℕ → A) (o : A) → varied k None own o ≡ o
-      none_varied None own o = refl
-      none_varied (Some k) own o = refl
-  vary_source before node parent cs values tags vary name t good checked above h (Some i) p =
-      at_tag values (own_place u vary tags) refl checked.1 (from_list values)
-    where
-      known : column_kind (visible_columns names (scope_of columns) (path before parent)) name ≡ Ok t
-      known =
-          passed_over (λ a. kind_or_int (column_kind (made_columns names (scope_of columns) (path before parent)) (target_of (path before parent) a))) (made_columns names (scope_of columns) (path before parent)) name t (aliases (path before parent))
-          (target_is_none (visible_columns names (scope_of columns) (path before parent)) (path before parent) cs name i p checked.0) h
-
-      from_list : (values : VaryValues) → slice_get (sources columns names u (Vary node parent cs values tags vary ∷ before)) (version_count columns before + i) ≡ Some (own_of before parent values tags vary i name)
-      from_list values =
-          let n : version_count columns before + i ≡ length (sources columns names u before) + i = (let c = source_count columns names u before in omega (arith, c)) in
-          let z : 0 + i ≡ i = omega arith in
-          next_at (sources columns names u before) (vary_list before parent values tags vary 0 cs) i _ n ∙ varied_source before parent values tags vary name 0 i cs p
-          ∙ (λ l. Some (own_of before parent values tags vary (z l) name))
-
-      at_tag : (values : VaryValues) (k : Option ℕ) → own_place u vary tags ≡ k → check_values names (visible_columns names (scope_of columns) (path before parent)) (length tags) cs values ≡ None
-          → slice_get (sources columns names u (Vary node parent cs values tags vary ∷ before)) (version_count columns before + i) ≡ Some (own_of before parent values tags vary i name)
-          → HasSource (Vary node parent cs values tags vary ∷ before) (version_count columns before + i)
-          (varied (own_place u vary tags) (Some i) (of_tag before parent node values (length tags)) (read (path before parent) name))
-      at_tag values None e ok src =
-          let a = above name t h in
-          let below : source_in (sources columns names u before) (named_version columns before parent name) ≡ a.0 =
-          get_or_from_slice_get (sources columns names u before) (named_version columns before parent name) a.0 (from.Cell 0) a.1 in (
-            a.0,
-            src ∙ (λ l. Some (own_source values (site_count columns names before) i (length tags) (e l) (below l))) ∙ ap Some (own_none values (site_count columns names before) i (length tags) a.0),
-            subst (λ (k : Option ℕ). IsGiven (Vary node parent cs values tags vary ∷ before) a.0 (varied k (Some i) (of_tag before parent node values (length tags)) (read (path before parent) name))) (sym e)
-                (given_later before (Vary node parent cs values tags vary ∷ before) (further (Vary node parent cs values tags vary) itself) a.0 _ a.2),
-          )
-      at_tag (Lists lists) (Some k) e ok src =
-          let parts : (refuse_unless (nat_eq (length lists) (length cs)) cause.WrongCount ≡ None) × (first_refusal (check_lists names (visible_columns names (scope_of columns) (path before parent)) (length tags) cs lists) ≡ None) =
-          both_none (refuse_unless (nat_eq (length lists) (length cs)) cause.WrongCount) (check_lists names (visible_columns names (scope_of columns) (path before parent)) (length tags) cs lists) ok in
-          let many : length lists ≡ length cs = (Decides-eqb (length lists) (length cs)).0 (unless_holds (nat_eq (length lists) (length cs)) cause.WrongCount parts.0) in
-          let x = lists_kind names (visible_columns names (scope_of columns) (path before parent)) (length tags) name t known cs lists i k p many (own_within u vary tags k e) parts.1 in
-          let n : site_count columns names before + list_start lists i + k ≡ length (sites columns names before) + (list_start lists i + k) = omega arith in
-          let z : 0 + i ≡ i = omega arith in (
-            from.Site (site_count columns names before + list_start lists i + k),
-            src ∙ (λ l. Some (own_source (Lists lists) (site_count columns names before) i (length tags) (e l) (source_in (sources columns names u before) (named_version columns before parent name)))),
-            (
-              site_in columns names before parent (record { node = node; column = i; tag = k }) x.0,
-              next_at (sites columns names before) (lists_sites columns names before parent node 0 lists) (list_start lists i + k) _ n ∙ lists_site_at columns names before parent node 0 i k lists x.0 x.1
-                  ∙ (λ l. Some (site_in columns names before parent (record { node = node; column = z l; tag = k }) x.0)),
-              (λ l. varied (e l) (Some i) (of_tag before parent node (Lists lists) (length tags)) (read (path before parent) name))
-                  ∙ ap (if_expression (λ e. of_site (site_in columns names before parent (record { node = node; column = i; tag = k }) e))) x.1,
-            ),
-          )
-      at_tag (Vector x) (Some k) e ok src =
-          let n : site_count columns names before ≡ length (sites columns names before) + 0 = omega arith in (
-            from.Element (site_count columns names before) k (length tags),
-            src ∙ (λ l. Some (own_source (Vector x) (site_count columns names before) i (length tags) (e l) (source_in (sources columns names u before) (named_version columns before parent name)))),
-            (
-              site_in columns names before parent (site_at node) x,
-              next_at (sites columns names before) (site_in columns names before parent (site_at node) x ∷ []) 0 _ n,
-              (λ l. varied (e l) (Some i) (of_tag before parent node (Vector x) (length tags)) (read (path before parent) name)),
-            ),
-          )
-
-  -- a reading by the walk from the node up to the head
-  module _ (heads : (name : List ℕ) (t : ColType) → column_kind (scope_of columns) name ≡ Ok t → read [] name ≡ of_cell (column_place columns name))
-      (steps : (before : List Statement) (s : Statement) (name : List ℕ) → read (s ∷ path before (parent_of s)) name ≡ at_step before s name) where
     -- a column at the node of a statement
     at_statement : (before : List Statement) (s : Statement) (name : List ℕ) (t : ColType)
         → AreAccepted names (scope_of columns) (s ∷ before)
@@ -282,7 +239,7 @@ module _ {A : Type 0} (columns : List Column) (names : FunctionNames) (u : Under
     at_statement before (Redefine node parent column expr) name t good above h =
         defined_source (Redefine node parent column expr) before node parent column name expr t _ refl refl above (same column name) h
     at_statement before (Vary node parent cs values tags vary) name t good above h =
-        vary_source before node parent cs values tags vary name t good.1 (checked_of names (scope_of columns) before (Vary node parent cs values tags vary) good.0) above h (place (same name) cs) refl
+        vary_source before node parent cs values tags vary name t (checked_of names (scope_of columns) before (Vary node parent cs values tags vary) good.0) above h (place (same name) cs) refl
     at_statement before s name t good above h = has_further before s _ _ (above name t h)
 
     -- each column that is there at a node, and that is no alias, has a version, whose source gives what is read of the column
@@ -292,22 +249,18 @@ module _ {A : Type 0} (columns : List Column) (names : FunctionNames) (u : Under
         let lt = place_within_columns columns name t h in (
           from.Cell (0 + column_place columns name),
           cell_source 0 columns name t h,
-          (omega (arith, lt), heads name t h ∙ ap of_cell z),
+          (omega (arith, lt), heads name t h ∙ ap r.of_cell z),
         )
-    has_source (s ∷ before) good node name t h = go (makes s node) (has_source before good.1 (parent_of s)) (has_source before good.1 node name t) h
-      where
-        go : (b : Bool) → Above before (parent_of s)
-            → (column_kind (made_columns names (scope_of columns) (path before node)) name ≡ Ok t → HasSource before (named_version columns before node name) (read (path before node) name))
-            → column_kind (made_columns names (scope_of columns) (if b then s ∷ path before (parent_of s) else path before node)) name ≡ Ok t
-            → HasSource (s ∷ before) (if b then own_version s (version_count columns before) name (named_version columns before (parent_of s) name) else named_version columns before node name)
-            (read (if b then s ∷ path before (parent_of s) else path before node) name)
-        go true above other h = subst (HasSource (s ∷ before) (own_version s (version_count columns before) name (named_version columns before (parent_of s) name))) (sym (steps before s name)) (at_statement before s name t good above h)
-        go false above other h = has_further before s _ _ (other h)
+    has_source (s ∷ before) good node name t h =
+        by_test (makes s node)
+        (λ e. rw e (subst (HasSource (s ∷ before) (own_version s (version_count columns before) name (named_version columns before (parent_of s) name))) (sym (steps before s name))
+        (at_statement before s name t good (has_source before good.1 (parent_of s)) (rw e at h))))
+        (λ e. rw e (has_further before s _ _ (has_source before good.1 node name t (rw e at h))))
 
     -- each visible column has a version, whose source gives what is read of the column
     pub visible_source : (before : List Statement) → AreAccepted names (scope_of columns) before → (node name : List ℕ) (t : ColType)
         → column_kind (scope_at names (scope_of columns) before node) name ≡ Ok t
-        → HasSource before (version_at columns before node name) (read (path before node) (target_of (path before node) name))
+        → HasSource before (version_at columns before node name) (r.read (path before node) (target_of (path before node) name))
     visible_source before good node name t h =
         has_source before good node (target_of (path before node) name) t
         (visible_resolved names (scope_of columns) (path before node) (sound_path names (scope_of columns) before good node) name t h)

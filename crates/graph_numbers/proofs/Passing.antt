@@ -2,38 +2,34 @@
 use Rattle.std.proofs.Common.{◌≡◌, ℕ, ◌+◌, Bool, true, false, List, [], ◌∷◌, ◌++◌, length, map, Option, Some, None, Ok, Err, Result, refl, sym, ◌∙◌, ap, arith, if◌then◌else◌}
 use Rattle.std.specs.Prelude.{⊤}
 use Rattle.std.proofs.lemmas.List.{append-nil}
-use Rattle.rdf_values.specs.Tree.{NamedTree}
-use Rattle.rdf_values.specs.Path.{Under, makes, parent_of, path}
-use Rattle.rdf_values.specs.Bookings.{columns_of}
+use Rattle.rdf_values.specs.Bookings.{columns_of, bookings}
 use Rattle.rdf_values.specs.Functions.{Function, fn_names}
 use Rattle.rdf_values.specs.Kinds.{scope_of, column_kind}
+use Rattle.rdf_values.specs.Path.{Under, makes, parent_of, path}
+use Rattle.rdf_values.specs.Tree.{NamedTree}
 use Rattle.rdf_values.specs.Verdict.{AreAccepted, scope_at, check_columns, check_node, check_edges, check_results, check_passes, may_begin, permitted_kinds}
 use Rattle.rdf_values.specs.declared.action.ActionKind.{ActionKind}
 use Rattle.rdf_values.specs.declared.column.Column.{Column}
-use Rattle.rdf_values.specs.declared.value.ColType.{ColType}
-use Rattle.rdf_values.specs.declared.value.Value.{Value}
 use Rattle.rdf_values.specs.declared.graph_cause.GraphCause.{GraphCause}
-use Rattle.rdf_values.specs.declared.graph_cause.GraphCause.TheVariants as cause
 use Rattle.rdf_values.specs.declared.statement.Statement.{Statement}
 use Rattle.rdf_values.specs.declared.statement.Statement.TheVariants.{Filter, Action}
-use Rattle.rdf_values.specs.Bookings.{bookings}
-use Rattle.rdf_model.specs.Evaluation.{Outcome, Gives, Faults, Needs, ◌>>=◌, for_all}
+use Rattle.rdf_values.specs.declared.value.ColType.{ColType}
+use Rattle.rdf_values.specs.declared.value.Value.{Value}
 use Rattle.rdf_model.specs.ColumnValues.{column_value, expression_value}
 use Rattle.rdf_model.specs.Demanded.{site_at}
 use Rattle.rdf_model.specs.EntryOutcomes.{Skip, truth_of, feed_outcome, through, action_outcome}
+use Rattle.rdf_model.specs.Evaluation.{Outcome, Gives, ◌>>=◌, for_all}
+use Rattle.rdf_values.specs.declared.graph_cause.GraphCause.TheVariants as cause
 use Rattle.rdf_model.proofs.Accepted.{both_none}
-use Rattle.graph_numbers.specs.Versions.{version_at}
+use Rattle.graph_numbers.specs.Outcomes.{through_sites}
 use Rattle.graph_numbers.specs.Sites.{site_in, sites, site_count, site_outcome, own_filter_site, filter_sites}
 use Rattle.graph_numbers.specs.Sources.{site_value}
-use Rattle.graph_numbers.specs.Outcomes.{through_sites}
-use Rattle.graph_numbers.proofs.Listed.{next_at}
-use Rattle.graph_numbers.proofs.Extending.{Extends, itself, further, site_kept}
+use Rattle.graph_numbers.specs.Versions.{version_at}
+use Rattle.graph_numbers.proofs.Listed.{by_test, next_at}
+use Rattle.graph_numbers.proofs.Extending.{shorter}
+use Rattle.graph_numbers.proofs.Extending.{Extends, site_kept}
 use Rattle.graph_numbers.proofs.ColumnSources.{column_source}
 use Rattle.graph_numbers.proofs.Equations.{number_value, version_value, source_is, source_later}
-
-pub shorter : (s : Statement) (before after : List Statement) → Extends (s ∷ before) after → Extends before after
-shorter s before after itself = further s itself
-shorter s before after (further {after = c} t e) = further t (shorter s before c e)
 
 module _ {M : Type 0} (site : ℕ → Outcome M Value) where
   through_append : (ts : List ℕ) (s : ℕ) → through_sites site (ts ++ s ∷ []) ≡ (through_sites site ts >>= λ b. if b then (site s >>= truth_of) else Gives false)
@@ -41,18 +37,13 @@ module _ {M : Type 0} (site : ℕ → Outcome M Value) where
     where
       last : (o : Outcome M Bool) → (o >>= λ b. if b then Gives true else Gives false) ≡ o
       last (Gives true) = refl
-      last (Gives false) = refl
-      last (Faults k) = refl
-      last (Needs c) = refl
+      last o = refl
   through_append (t ∷ ts) s =
-      ap (λ r. site t >>= truth_of >>= λ b. if b then r else Gives false) (through_append ts s)
-      ∙ step (site t >>= truth_of) (through_sites site ts) (λ b. if b then (site s >>= truth_of) else Gives false) refl
+      ap (λ r. site t >>= truth_of >>= λ b. if b then r else Gives false) (through_append ts s) ∙ step (site t >>= truth_of) (through_sites site ts)
     where
-      step : (o r : Outcome M Bool) (f : Bool → Outcome M Bool) → f false ≡ Gives false → (o >>= λ b. if b then (r >>= f) else Gives false) ≡ ((o >>= λ b. if b then r else Gives false) >>= f)
-      step (Gives true) r f e = refl
-      step (Gives false) r f e = sym e
-      step (Faults k) r f e = refl
-      step (Needs c) r f e = refl
+      step : (o r : Outcome M Bool) → (o >>= λ b. if b then (r >>= λ c. if c then (site s >>= truth_of) else Gives false) else Gives false) ≡ ((o >>= λ b. if b then r else Gives false) >>= λ c. if c then (site s >>= truth_of) else Gives false)
+      step (Gives true) r = refl
+      step o r = refl
 
 module _ (M : Type 0) (fns : List Function) (columns : List Column) (row : List Value) (u : Under) (before : List Statement) where
   abbrev numbered : ℕ → Outcome M Value
@@ -83,15 +74,9 @@ module _ (M : Type 0) (fns : List Function) (columns : List Column) (row : List 
   pub through_is : (earlier : List Statement) → Extends earlier before → (node : List ℕ)
       → through fns columns row {M = M} (path earlier node) u ≡ through_sites numbered (filter_sites columns (fn_names fns) earlier node)
   through_is [] e node = refl
-  through_is (s ∷ earlier) e node = go (makes s node) (through_is earlier (shorter s earlier before e) (parent_of s)) (through_is earlier (shorter s earlier before e) node)
-    where
-      go : (b : Bool)
-          → through fns columns row {M = M} (path earlier (parent_of s)) u ≡ through_sites numbered (filter_sites columns (fn_names fns) earlier (parent_of s))
-          → through fns columns row {M = M} (path earlier node) u ≡ through_sites numbered (filter_sites columns (fn_names fns) earlier node)
-          → through fns columns row {M = M} (if b then s ∷ path earlier (parent_of s) else path earlier node) u
-          ≡ through_sites numbered (if b then filter_sites columns (fn_names fns) earlier (parent_of s) ++ own_filter_site s (site_count columns (fn_names fns) earlier) else filter_sites columns (fn_names fns) earlier node)
-      go true h k = through_statement earlier s e h
-      go false h k = k
+  through_is (s ∷ earlier) e node =
+      by_test (makes s node) (λ t. rw t (through_statement earlier s e (through_is earlier (shorter s earlier before e) (parent_of s))))
+      (λ t. rw t (through_is earlier (shorter s earlier before e) node))
 
   -- ---- actions
 
@@ -106,16 +91,12 @@ module _ (M : Type 0) (fns : List Function) (columns : List Column) (row : List 
   checked_visible earlier node permitted kinds (c ∷ cs) h =
       go (column_kind (scope_at (fn_names fns) (scope_of columns) earlier node) c) refl h (λ t k. checked_visible earlier node permitted (kinds ++ t ∷ []) cs k)
     where
-      if_begun : (b : Bool) (o : Option GraphCause) → (if b then o else Some cause.WrongType) ≡ None → o ≡ None
-      if_begun true o k = k
-      if_begun false o k = cc k
-
       go : (r : Result ColType GraphCause) → column_kind (scope_at (fn_names fns) (scope_of columns) earlier node) c ≡ r
           → (elim r as (λ _. Option GraphCause) [ Err e ↦ Some e | Ok t ↦ (if may_begin permitted (kinds ++ t ∷ []) then check_columns (scope_at (fn_names fns) (scope_of columns) earlier node) permitted (kinds ++ t ∷ []) cs else Some cause.WrongType) ]) ≡ None
           → ((t : ColType) → check_columns (scope_at (fn_names fns) (scope_of columns) earlier node) permitted (kinds ++ t ∷ []) cs ≡ None → AreVisible earlier node cs)
           → AreVisible earlier node (c ∷ cs)
       go (Err e) q k next = cc k
-      go (Ok t) q k next = ((t, q), next t (if_begun (may_begin permitted (kinds ++ t ∷ [])) _ k))
+      go (Ok t) q k next = ((t, q), next t (by_test (may_begin permitted (kinds ++ t ∷ [])) (λ b. rw b at k) (λ b. cc (rw b at k))))
 
   pub values_are : (earlier : List Statement) → AreAccepted (fn_names fns) (scope_of columns) earlier → Extends earlier before → (node : List ℕ) (cs : List (List ℕ)) → AreVisible earlier node cs
       → for_all (column_value fns columns row {M = M} (path earlier node) u) cs ≡ for_all versioned (map (version_at columns earlier node) cs)

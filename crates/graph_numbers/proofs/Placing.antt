@@ -1,21 +1,25 @@
 -- Where each site stands: after those of the statements before its own, over columns that are visible there.
-use Rattle.std.proofs.Common.{◌≡◌, ◌⊎◌, inl, inr, ℕ, zero, suc, ◌+◌, ◌≤◌, List, [], ◌∷◌, length, map, Some, None, Ok, arith, nat_eq, slice_get}
+use Rattle.std.proofs.Common.{subst, ◌≡◌, ℕ, sym, zero, suc, ◌≤◌, List, [], ◌∷◌, length, map, Some, None, Ok, arith, nat_eq, slice_get}
 use Rattle.std.proofs.lemmas.Bool.Decides.{Decides-eqb}
-use Rattle.rdf_values.specs.Kinds.{FunctionNames, scope_of, column_kind, kind_of}
+use Rattle.rdf_values.specs.Kinds.{shape_of, FunctionNames, scope_of, column_kind, kind_of}
 use Rattle.rdf_values.specs.Tree.{NamedTree}
 use Rattle.rdf_values.specs.Verdict.{AreAccepted, check, check_node, check_list, check_lists, check_vector_column, expect_kind, first_refusal, refuse_unless, kind_or_int, scope_at}
 use Rattle.rdf_values.specs.declared.column.Column.{Column}
-use Rattle.rdf_values.specs.declared.value.ColType.{ColType}
-use Rattle.rdf_values.specs.declared.value.ColType.TheVariants as kind
-use Rattle.rdf_values.specs.declared.graph_cause.GraphCause.TheVariants as cause
-use Rattle.rdf_values.specs.declared.vary_values.VaryValues.TheVariants.{Lists, Vector}
 use Rattle.rdf_values.specs.declared.statement.Statement.{Statement}
 use Rattle.rdf_values.specs.declared.statement.Statement.TheVariants.{Define, Redefine, Filter, Vary}
+use Rattle.rdf_values.specs.declared.value.ColType.{ColType}
+use Rattle.rdf_values.specs.declared.vary_values.VaryValues.TheVariants.{Lists, Vector}
 use Rattle.rdf_model.specs.Demanded.{Site, site_at}
+use Rattle.rdf_values.specs.declared.value.ColType.TheVariants as kind
+use Rattle.rdf_values.specs.declared.graph_cause.GraphCause.TheVariants as cause
 use Rattle.rdf_model.proofs.Accepted.{both_none, kind_known, kind_expected, unless_holds, checked_of}
+use Rattle.rdf_values.specs.EachColumn.{EachColumn}
+use Rattle.rdf_values.specs.Numbered.{callee}
+use Rattle.rdf_model.proofs.KnownColumns.{IsKnownColumn, each_renamed, each_weaker, known_columns}
 use Rattle.graph_numbers.specs.Sites.{SiteAt, site_in, list_sites, lists_sites, sites, own_sites, site_count}
-use Rattle.graph_numbers.proofs.Listed.{of_joined}
-use Rattle.graph_numbers.proofs.Extending.{Extends, itself, further}
+use Rattle.graph_numbers.specs.Versions.{version_at}
+use Rattle.graph_numbers.proofs.Listed.{joined, only_at}
+use Rattle.graph_numbers.proofs.Extending.{Extends, itself, shorter}
 
 module _ (header : List Column) (names : FunctionNames) where
   -- site s of the statements so far is one that reads its columns at a node, after statements that were accepted
@@ -55,72 +59,59 @@ module _ (header : List Column) (names : FunctionNames) where
   lists_own before parent node tags i l (c ∷ columns) (es ∷ lists) x many ok h =
       let p = both_none (check_list names (scope_at names (scope_of header) before parent) tags c es) (check_lists names (scope_at names (scope_of header) before parent) tags columns lists) ok in
       let q = both_none (refuse_unless (nat_eq (length es) tags) cause.WrongCount) (map (λ e. expect_kind (kind_or_int (column_kind (scope_at names (scope_of header) before parent) c)) (kind_of (scope_at names (scope_of header) before parent) names e)) es) p.0 in
-      go q.1 (λ k r. lists_own before parent node tags (suc i) k columns lists x (omega (arith, many)) p.1 r) (of_joined (list_sites header names before parent node i 0 es) (lists_sites header names before parent node (suc i) lists) l x h)
-    where
-      go : first_refusal (map (λ e. expect_kind (kind_or_int (column_kind (scope_at names (scope_of header) before parent) c)) (kind_of (scope_at names (scope_of header) before parent) names e)) es) ≡ None
-          → ((k : ℕ) → slice_get (lists_sites header names before parent node (suc i) lists) k ≡ Some x → IsOwn before parent x)
-          → (slice_get (list_sites header names before parent node i 0 es) l ≡ Some x) ⊎ ((k : ℕ) × (l ≡ length (list_sites header names before parent node i 0 es) + k) × (slice_get (lists_sites header names before parent node (suc i) lists) k ≡ Some x)) → IsOwn before parent x
-      go ok next (inl r) = list_own before parent node i 0 l _ es x ok r
-      go ok next (inr r) = next r.0 r.2
+      joined (list_sites header names before parent node i 0 es) (lists_sites header names before parent node (suc i) lists) l x h (λ r. list_own before parent node i 0 l _ es x q.1 r)
+      (λ k e r. lists_own before parent node tags (suc i) k columns lists x (omega (arith, many)) p.1 r)
 
   -- the sites of a statement that was checked
   pub own_placed : (before : List Statement) (s : Statement) (k : ℕ) (x : SiteAt) → check names (scope_of header) before s ≡ None → slice_get (own_sites header names before s) k ≡ Some x → (parent : List ℕ) × IsOwn before parent x
-  own_placed before (Define node parent column expr) zero x ok h =
-      let t = kind_known (kind_of (scope_at names (scope_of header) before parent) names expr) (checked_of names (scope_of header) before (Define node parent column expr) ok) in (parent, (site_at node, expr, t.0, cc h, t.1))
-  own_placed before (Define node parent column expr) (suc k) x ok h = cc h
-  own_placed before (Redefine node parent column expr) zero x ok h =
-      let t = kind_known (kind_of (scope_at names (scope_of header) before parent) names expr) (checked_of names (scope_of header) before (Redefine node parent column expr) ok) in (parent, (site_at node, expr, t.0, cc h, t.1))
-  own_placed before (Redefine node parent column expr) (suc k) x ok h = cc h
-  own_placed before (Filter node parent expr label) zero x ok h =
+  own_placed before (Define node parent column expr) k x ok h =
+      let t = kind_known (kind_of (scope_at names (scope_of header) before parent) names expr) (checked_of names (scope_of header) before (Define node parent column expr) ok) in (parent, (site_at node, expr, t.0, sym (only_at _ x k h), t.1))
+  own_placed before (Redefine node parent column expr) k x ok h =
+      let t = kind_known (kind_of (scope_at names (scope_of header) before parent) names expr) (checked_of names (scope_of header) before (Redefine node parent column expr) ok) in (parent, (site_at node, expr, t.0, sym (only_at _ x k h), t.1))
+  own_placed before (Filter node parent expr label) k x ok h =
       let p = both_none (check_node before node parent) (expect_kind kind.Bool (kind_of (scope_at names (scope_of header) before parent) names expr) ∷ []) ok in
-      let q = both_none (expect_kind kind.Bool (kind_of (scope_at names (scope_of header) before parent) names expr)) [] p.1 in (parent, (site_at node, expr, kind.Bool, cc h, kind_expected kind.Bool _ q.0))
-  own_placed before (Filter node parent expr label) (suc k) x ok h = cc h
+      let q = both_none (expect_kind kind.Bool (kind_of (scope_at names (scope_of header) before parent) names expr)) [] p.1 in (parent, (site_at node, expr, kind.Bool, sym (only_at _ x k h), kind_expected kind.Bool _ q.0))
   own_placed before (Vary node parent columns (Lists lists) tags vary) k x ok h =
       let c = checked_of names (scope_of header) before (Vary node parent columns (Lists lists) tags vary) ok in
       let p = both_none (refuse_unless (nat_eq (length lists) (length columns)) cause.WrongCount) (check_lists names (scope_at names (scope_of header) before parent) (length tags) columns lists) c.1 in
       let many : length lists ≡ length columns = (Decides-eqb (length lists) (length columns)).0 (unless_holds (nat_eq (length lists) (length columns)) cause.WrongCount p.0) in
       (parent, lists_own before parent node (length tags) 0 k columns lists x many p.1 h)
-  own_placed before (Vary node parent columns (Vector e) tags vary) zero x ok h =
+  own_placed before (Vary node parent columns (Vector e) tags vary) k x ok h =
       let c = checked_of names (scope_of header) before (Vary node parent columns (Vector e) tags vary) ok in
       let p = both_none (refuse_unless (nat_eq (length columns) 1) cause.WrongCount)
       (expect_kind kind.Vect (kind_of (scope_at names (scope_of header) before parent) names e) ∷ check_vector_column (scope_at names (scope_of header) before parent) columns ∷ []) c.1 in
       let q = both_none (expect_kind kind.Vect (kind_of (scope_at names (scope_of header) before parent) names e)) (check_vector_column (scope_at names (scope_of header) before parent) columns ∷ []) p.1 in
-      (parent, (site_at node, e, kind.Vect, cc h, kind_expected kind.Vect _ q.0))
-  own_placed before (Vary node parent columns (Vector e) tags vary) (suc k) x ok h = cc h
+      (parent, (site_at node, e, kind.Vect, sym (only_at _ x k h), kind_expected kind.Vect _ q.0))
   own_placed before s k x ok h = cc h
+
+  placed_upto : (before upto : List Statement) → Extends upto before → AreAccepted names (scope_of header) upto → (s : ℕ) (x : SiteAt) → slice_get (sites header names upto) s ≡ Some x → IsPlaced before s x
+  placed_upto before [] f good s x h = cc h
+  placed_upto before (t ∷ upto) f good s x h =
+      joined (sites header names upto) (own_sites header names upto t) s x h (λ q. placed_upto before upto (shorter t upto before f) good.1 s x q)
+      (λ k e q.
+      let o = own_placed upto t k x good.0 q in
+      record {
+        earlier = upto;
+        parent = o.0;
+        site = o.1.0;
+        expr = o.1.1;
+        kind = o.1.2;
+        is = o.1.3;
+        extends = shorter t upto before f;
+        start = omega (arith, e);
+        accepted = good.1;
+        typed = o.1.4;
+      })
 
   -- each site of an accepted script is placed
   pub placed : (before : List Statement) → AreAccepted names (scope_of header) before → (s : ℕ) (x : SiteAt) → slice_get (sites header names before) s ≡ Some x → IsPlaced before s x
-  placed [] good s x h = cc h
-  placed (t ∷ before) good s x h = go (placed before good.1 s x) (of_joined (sites header names before) (own_sites header names before t) s x h)
-    where
-      go : (slice_get (sites header names before) s ≡ Some x → IsPlaced before s x)
-          → (slice_get (sites header names before) s ≡ Some x) ⊎ ((k : ℕ) × (s ≡ length (sites header names before) + k) × (slice_get (own_sites header names before t) k ≡ Some x)) → IsPlaced (t ∷ before) s x
-      go next (inl q) =
-          let p = next q in
-          record {
-            earlier = p.earlier;
-            parent = p.parent;
-            site = p.site;
-            expr = p.expr;
-            kind = p.kind;
-            is = p.is;
-            extends = further t p.extends;
-            start = p.start;
-            accepted = p.accepted;
-            typed = p.typed;
-          }
-      go next (inr q) =
-          let o = own_placed before t q.0 x good.0 q.2 in
-          record {
-            earlier = before;
-            parent = o.0;
-            site = o.1.0;
-            expr = o.1.1;
-            kind = o.1.2;
-            is = o.1.3;
-            extends = further t itself;
-            start = (let e = q.1 in omega (arith, e));
-            accepted = good.1;
-            typed = o.1.4;
-          }
+  placed before = placed_upto before before itself
+
+  -- what holds of the version of each visible column holds of each that a placed site reads
+  pub each_version : (Q : ℕ → Type 0) (before : List Statement) (s : ℕ) (x : SiteAt) (p : IsPlaced before s x)
+      → ((c : List ℕ) (t : ColType) → column_kind (scope_at names (scope_of header) p.earlier p.parent) c ≡ Ok t → Q (version_at header p.earlier p.parent c)) → EachColumn Q x.tree
+  each_version Q before s x p f =
+      subst (λ (y : SiteAt). EachColumn Q y.tree) (sym p.is)
+      (each_renamed (version_at header p.earlier p.parent) (callee names) Q p.expr
+      (each_weaker (IsKnownColumn (column_kind (scope_at names (scope_of header) p.earlier p.parent)) (shape_of names)) _ (λ c k. f c k.0 k.1) p.expr
+      (known_columns (column_kind (scope_at names (scope_of header) p.earlier p.parent)) (shape_of names) p.expr p.kind p.typed)))

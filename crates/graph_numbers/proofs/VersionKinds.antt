@@ -1,42 +1,38 @@
 -- The version of a visible column has the column's kind, and comes to a value of it.
-use Rattle.std.proofs.Common.{◌≡◌, ℕ, zero, suc, ◌+◌, Bool, true, false, List, [], ◌∷◌, map, length, Option, Some, None, Ok, option_map, refl, sym, ◌∙◌, ap, subst, arith, slice_get, if◌then◌else◌}
+use Rattle.std.proofs.Common.{◌≡◌, ℕ, ◌+◌, Bool, true, false, List, [], ◌∷◌, map, length, Option, Some, None, Ok, refl, sym, ◌∙◌, ap, subst, arith, slice_get, if◌then◌else◌}
 use Rattle.std.proofs.lemmas.List.{length-append, length-map}
-use Rattle.lemmas.proofs.Places.{kept_at}
+use Rattle.lemmas.proofs.Places.{kept_at, mapped_at}
+use Rattle.rdf_values.specs.Functions.{fn_names}
+use Rattle.rdf_values.specs.Kinds.{FunctionNames, scope_of, column_kind}
 use Rattle.rdf_values.specs.Names.{same, place}
 use Rattle.rdf_values.specs.Path.{Under, makes, parent_of, path, target_of}
-use Rattle.rdf_values.specs.EachColumn.{EachColumn}
-use Rattle.rdf_values.specs.Functions.{fn_names}
-use Rattle.rdf_values.specs.Kinds.{FunctionNames, scope_of, column_kind, shape_of}
-use Rattle.rdf_values.specs.Numbered.{callee}
-use Rattle.rdf_values.specs.Tables.{FitsRow}
 use Rattle.rdf_values.specs.Verdict.{AreAccepted, aliases, made_columns, visible_columns, kind_or_int, check_target, first_refusal, scope_at}
 use Rattle.rdf_values.specs.declared.column.Column.{Column}
-use Rattle.rdf_values.specs.declared.value.ColType.{ColType}
-use Rattle.rdf_values.specs.declared.value.Value.{Value}
 use Rattle.rdf_values.specs.declared.statement.Statement.{Statement}
 use Rattle.rdf_values.specs.declared.statement.Statement.TheVariants.{Define, Redefine, Vary}
-use Rattle.rdf_model.specs.Evaluation.{Outcome, Gives, Faults, Needs}
+use Rattle.rdf_values.specs.declared.value.ColType.{ColType}
+use Rattle.rdf_values.specs.declared.value.Value.{Value}
 use Rattle.rdf_model.specs.ColumnValues.{column_value}
 use Rattle.rdf_model.specs.Demanded.{with_needs}
-use Rattle.rdf_model.specs.Laws.{FitsOutcome}
+use Rattle.rdf_model.specs.Evaluation.{Outcome, Gives, Faults, Needs}
 use Rattle.rdf_model.specs.Results.{Dataset}
-use Rattle.rdf_model.proofs.Accepted.{names_equal, passed_over, checked_of, target_is_none, visible_resolved, sound_path, column_fits}
+use Rattle.rdf_values.specs.EachColumn.{EachColumn}
+use Rattle.rdf_values.specs.Tables.{FitsRow}
+use Rattle.rdf_model.specs.Laws.{FitsOutcome}
+use Rattle.rdf_model.proofs.Accepted.{passed_over, checked_of, target_is_none, visible_resolved, sound_path, column_fits}
 use Rattle.rdf_model.proofs.Typing.{same_ok}
 use Rattle.graph_numbers.specs.Kinds.{own_kinds, version_kinds}
-use Rattle.graph_numbers.specs.Versions.{column_place, own_columns, version_or, own_version, version_count, named_version, version_at}
 use Rattle.graph_numbers.specs.Sites.{SiteAt, sites}
+use Rattle.graph_numbers.specs.Versions.{column_place, own_columns, version_or, own_version, version_count, named_version, version_at}
 use Rattle.graph_numbers.proofs.ColumnSources.{column_source}
 use Rattle.graph_numbers.proofs.Equations.{version_value, source_is, source_later}
-use Rattle.graph_numbers.proofs.Extending.{Extends, itself, further}
-use Rattle.rdf_model.proofs.KnownColumns.{IsKnownColumn, known_columns, each_weaker, each_renamed}
-use Rattle.graph_numbers.proofs.Listed.{next_at}
+use Rattle.graph_numbers.proofs.Extending.{Extends, kept}
+use Rattle.graph_numbers.proofs.Listed.{by_test, next_at, place_gives}
 use Rattle.rdf_model.proofs.Missing.{named_alike, alike_is}
-use Rattle.graph_numbers.proofs.Placing.{placed}
+use Rattle.graph_numbers.proofs.Placing.{each_version, placed}
 
 module _ (header : List Column) (names : FunctionNames) where
   own_count : (before : List Statement) (s : Statement) → length (own_kinds header names before s) ≡ length (own_columns s)
-  own_count before (Define node parent column expr) = refl
-  own_count before (Redefine node parent column expr) = refl
   own_count before (Vary node parent columns values tags vary) = length-map columns _
   own_count before s = refl
 
@@ -46,35 +42,11 @@ module _ (header : List Column) (names : FunctionNames) where
   kind_count (s ∷ before) = length-append (version_kinds header names before) (own_kinds header names before s) ∙ (λ i. kind_count before i + own_count before s i)
 
   pub kind_later : (before after : List Statement) → Extends before after → (c : ℕ) (t : ColType) → slice_get (version_kinds header names before) c ≡ Some t → slice_get (version_kinds header names after) c ≡ Some t
-  kind_later before after itself c t h = h
-  kind_later before after (further {after = b} s e) c t h = kept_at (version_kinds header names b) (own_kinds header names b s) c t (kind_later before b e c t h)
+  kind_later = kept (version_kinds header names) (own_kinds header names) (λ before s. refl)
 
   cell_kind : (cs : List Column) (name : List ℕ) (t : ColType) → column_kind (scope_of cs) name ≡ Ok t → slice_get (map (λ (c : Column). c.kind) cs) (column_place cs name) ≡ Some t
   cell_kind [] name t h = cc h
-  cell_kind (c ∷ cs) name t h = go (same c.name name) h (cell_kind cs name t)
-    where
-      go : (b : Bool) → (if b then Ok c.kind else column_kind (scope_of cs) name) ≡ Ok t → (column_kind (scope_of cs) name ≡ Ok t → slice_get (map (λ (c : Column). c.kind) cs) (column_place cs name) ≡ Some t)
-          → slice_get (map (λ (c : Column). c.kind) (c ∷ cs)) (if b then 0 else suc (column_place cs name)) ≡ Some t
-      go true q next = ap Some (same_ok c.kind t q)
-      go false q next = next q
-
-  -- the element of a mapped list at the place of a name
-  at_place : (f : List ℕ → ColType) (name : List ℕ) (i : ℕ) (cs : List (List ℕ)) → place (same name) cs ≡ Some i → slice_get (map f cs) i ≡ Some (f name)
-  at_place f name i [] h = cc h
-  at_place f name i (c ∷ cs) h = go (same name c) refl h (λ j q. at_place f name j cs q)
-    where
-      found : (k : ℕ) → k ≡ 0 → name ≡ c → slice_get (map f (c ∷ cs)) k ≡ Some (f name)
-      found zero e is = ap (λ x. Some (f x)) (sym is)
-      found (suc k) e is = cc e
-
-      after : (o : Option ℕ) → option_map suc o ≡ Some i → ((j : ℕ) → o ≡ Some j → slice_get (map f cs) j ≡ Some (f name)) → slice_get (map f (c ∷ cs)) i ≡ Some (f name)
-      after None q next = cc q
-      after (Some j) q next = let e : suc j ≡ i = cc q in subst (λ (k : ℕ). slice_get (map f (c ∷ cs)) k ≡ Some (f name)) e (next j refl)
-
-      go : (b : Bool) → same name c ≡ b → (if b then Some 0 else option_map suc (place (same name) cs)) ≡ Some i
-          → ((j : ℕ) → place (same name) cs ≡ Some j → slice_get (map f cs) j ≡ Some (f name)) → slice_get (map f (c ∷ cs)) i ≡ Some (f name)
-      go true p q next = found i (cc q) (names_equal name c p)
-      go false p q next = after (place (same name) cs) q next
+  cell_kind (c ∷ cs) name t h = by_test (same c.name name) (λ e. rw e (ap Some (same_ok c.kind t (rw e at h)))) (λ e. rw e (cell_kind cs name t (rw e at h)))
 
   abbrev Above : List Statement → List ℕ → Type 0
   Above before node = (name : List ℕ) (t : ColType) → column_kind (made_columns names (scope_of header) (path before node)) name ≡ Ok t → slice_get (version_kinds header names before) (named_version header before node name) ≡ Some t
@@ -100,7 +72,7 @@ module _ (header : List Column) (names : FunctionNames) where
       passed_over (λ a. kind_or_int (column_kind (made_columns names (scope_of header) (path before parent)) (target_of (path before parent) a))) (made_columns names (scope_of header) (path before parent)) name t (aliases (path before parent))
       (target_is_none (visible_columns names (scope_of header) (path before parent)) (path before parent) cs name i p ok) h in
       next_at (version_kinds header names before) (own_kinds header names before s) i _ n ∙ ap (λ xs. slice_get xs i) own
-      ∙ at_place (λ c. kind_or_int (column_kind (scope_at names (scope_of header) before parent) c)) name i cs p ∙ ap (λ r. Some (kind_or_int r)) known
+      ∙ mapped_at (λ c. kind_or_int (column_kind (scope_at names (scope_of header) before parent) c)) cs i name (place_gives name cs i p) ∙ ap (λ r. Some (kind_or_int r)) known
 
   at_statement : (before : List Statement) (s : Statement) (name : List ℕ) (t : ColType) → AreAccepted names (scope_of header) (s ∷ before) → Above before (parent_of s)
       → column_kind (made_columns names (scope_of header) (s ∷ path before (parent_of s))) name ≡ Ok t
@@ -113,14 +85,9 @@ module _ (header : List Column) (names : FunctionNames) where
 
   has_kind : (before : List Statement) → AreAccepted names (scope_of header) before → (node : List ℕ) → Above before node
   has_kind [] good node name t h = cell_kind header name t h
-  has_kind (s ∷ before) good node name t h = go (makes s node) (has_kind before good.1 (parent_of s)) (has_kind before good.1 node name t) h
-    where
-      go : (b : Bool) → Above before (parent_of s)
-          → (column_kind (made_columns names (scope_of header) (path before node)) name ≡ Ok t → slice_get (version_kinds header names before) (named_version header before node name) ≡ Some t)
-          → column_kind (made_columns names (scope_of header) (if b then s ∷ path before (parent_of s) else path before node)) name ≡ Ok t
-          → slice_get (version_kinds header names (s ∷ before)) (if b then own_version s (version_count header before) name (named_version header before (parent_of s) name) else named_version header before node name) ≡ Some t
-      go true above other h = at_statement before s name t good above h
-      go false above other h = kept_at (version_kinds header names before) (own_kinds header names before s) _ t (other h)
+  has_kind (s ∷ before) good node name t h =
+      by_test (makes s node) (λ e. rw e (at_statement before s name t good (has_kind before good.1 (parent_of s)) (rw e at h)))
+      (λ e. rw e (kept_at (version_kinds header names before) (own_kinds header names before s) _ t (has_kind before good.1 node name t (rw e at h))))
 
   -- the version of a visible column has its kind
   pub visible_kind : (before : List Statement) → AreAccepted names (scope_of header) before → (node name : List ℕ) (t : ColType) → column_kind (scope_at names (scope_of header) before node) name ≡ Ok t
@@ -157,10 +124,4 @@ module _ (d : Dataset) (row : List Value) (u : Under) (fits : FitsRow d.columns 
   pub site_fits : (before : List Statement) → AreAccepted (fn_names d.fns) (scope_of d.columns) before → (s : ℕ) (x : SiteAt) → slice_get (sites d.columns (fn_names d.fns) before) s ≡ Some x
       → EachColumn (FitsVersion before) x.tree
   site_fits before good s x h =
-      let p = placed d.columns (fn_names d.fns) before good s x h in
-      let e : EachColumn (λ c. FitsVersion before (version_at d.columns p.earlier p.parent c)) p.expr =
-      each_weaker (IsKnownColumn (column_kind (scope_at (fn_names d.fns) (scope_of d.columns) p.earlier p.parent)) (shape_of (fn_names d.fns))) _
-      (λ c k. visible_fits before p.earlier p.accepted p.extends p.parent c k.0 k.1) p.expr
-      (known_columns (column_kind (scope_at (fn_names d.fns) (scope_of d.columns) p.earlier p.parent)) (shape_of (fn_names d.fns)) p.expr p.kind p.typed) in
-      subst (λ (y : SiteAt). EachColumn (FitsVersion before) y.tree) (sym p.is)
-      (each_renamed (version_at d.columns p.earlier p.parent) (callee (fn_names d.fns)) (FitsVersion before) p.expr e)
+      let p = placed d.columns (fn_names d.fns) before good s x h in each_version d.columns (fn_names d.fns) (FitsVersion before) before s x p (visible_fits before p.earlier p.accepted p.extends p.parent)

@@ -1,18 +1,18 @@
 -- A version's source is what the version says.
-use Rattle.std.proofs.Common.{◌≡◌, ◌⊎◌, inl, inr, ℕ, zero, suc, ◌+◌, ◌<◌, Bool, true, false, List, [], ◌∷◌, length, map, Option, Some, None, option_map, refl, sym, ◌∙◌, ap, subst, arith, slice_get, if◌then◌else◌}
+use Rattle.std.proofs.Common.{◌≡◌, ℕ, zero, suc, ◌+◌, ◌<◌, Bool, true, false, List, [], ◌∷◌, length, map, Option, Some, None, option_map, refl, sym, ◌∙◌, ap, subst, arith, slice_get, if◌then◌else◌}
 use Rattle.std.proofs.lemmas.Option.{get_or_from_slice_get, slice_get_within}
-use Rattle.lemmas.proofs.Places.{kept_at, something_at}
+use Rattle.lemmas.proofs.Places.{mapped_at, something_at}
+use Rattle.rdf_values.specs.Kinds.{FunctionNames, scope_of}
 use Rattle.rdf_values.specs.Names.{same, place}
 use Rattle.rdf_values.specs.Path.{Under, Variation, own_variations, path, target_of, variations}
-use Rattle.rdf_values.specs.Kinds.{FunctionNames, scope_of}
 use Rattle.rdf_values.specs.Verdict.{AreAccepted, check_target, first_refusal, is_alias, is_visible, refuse_if, refuse_unless, scope_at}
 use Rattle.rdf_values.specs.declared.column.Column.{Column}
-use Rattle.rdf_values.specs.declared.graph_cause.GraphCause.TheVariants as cause
-use Rattle.rdf_values.specs.declared.vary_values.VaryValues.{VaryValues}
-use Rattle.rdf_values.specs.declared.vary_values.VaryValues.TheVariants.{Lists, Vector}
 use Rattle.rdf_values.specs.declared.statement.Statement.{Statement}
 use Rattle.rdf_values.specs.declared.statement.Statement.TheVariants.{Define, Redefine, Vary}
+use Rattle.rdf_values.specs.declared.vary_values.VaryValues.{VaryValues}
+use Rattle.rdf_values.specs.declared.vary_values.VaryValues.TheVariants.{Lists, Vector}
 use Rattle.rdf_model.specs.ColumnValues.{own_place}
+use Rattle.rdf_values.specs.declared.graph_cause.GraphCause.TheVariants as cause
 use Rattle.rdf_model.proofs.Accepted.{both_none, checked_of, if_fails, itself as same_as_itself, names_equal, no_target, unless_holds, visible_known}
 use Rattle.graph_numbers.specs.Kinds.{version_kinds}
 use Rattle.graph_numbers.specs.Results.{under_at}
@@ -20,53 +20,25 @@ use Rattle.graph_numbers.specs.Sites.{list_start, site_count}
 use Rattle.graph_numbers.specs.Sources.{IsSourceOf, cell_sources, cell_versions, numbers_from, own_source, own_sources, own_versions, source_in, sources, tag_source, varied_sources, varied_version, varied_versions, versions}
 use Rattle.graph_numbers.specs.Versions.{named_version}
 use Rattle.graph_numbers.specs.declared.source.Source.{Source}
-use Rattle.graph_numbers.specs.declared.source.Source.TheVariants as from
 use Rattle.graph_numbers.specs.declared.version.Version.{Version}
+use Rattle.graph_numbers.specs.declared.source.Source.TheVariants as from
 use Rattle.graph_numbers.specs.declared.version.Version.TheVariants as as_version
 use Rattle.graph_numbers.proofs.Apart.{variation_number}
-use Rattle.graph_numbers.proofs.Extending.{Extends, itself, further, source_count, source_kept, versions_count}
-use Rattle.graph_numbers.proofs.Listed.{next_at, of_joined}
-use Rattle.graph_numbers.proofs.Passing.{shorter}
+use Rattle.graph_numbers.proofs.Extending.{Extends, itself, further, kept, shorter, source_count, source_kept, versions_count}
+use Rattle.graph_numbers.proofs.Listed.{by_test, joined, next_at, place_gives}
 use Rattle.graph_numbers.proofs.VersionKinds.{kind_count, visible_kind}
 
 -- ---- places of names and numbers
 
--- a name stands at its place
-place_gives : (name : List ℕ) (names : List (List ℕ)) (k : ℕ) → place (same name) names ≡ Some k → slice_get names k ≡ Some name
-place_gives name [] k h = cc h
-place_gives name (x ∷ xs) k h = go (same name x) refl h (λ j q. place_gives name xs j q)
-  where
-    here : (j : ℕ) → j ≡ 0 → name ≡ x → slice_get (x ∷ xs) j ≡ Some name
-    here zero e is = ap Some (sym is)
-    here (suc j) e is = cc e
-
-    after : (o : Option ℕ) → option_map suc o ≡ Some k → ((j : ℕ) → o ≡ Some j → slice_get xs j ≡ Some name) → slice_get (x ∷ xs) k ≡ Some name
-    after None q next = cc q
-    after (Some j) q next = let e : suc j ≡ k = cc q in subst (λ (i : ℕ). slice_get (x ∷ xs) i ≡ Some name) e (next j refl)
-
-    go : (b : Bool) → same name x ≡ b → (if b then Some 0 else option_map suc (place (same name) xs)) ≡ Some k
-        → ((j : ℕ) → place (same name) xs ≡ Some j → slice_get xs j ≡ Some name) → slice_get (x ∷ xs) k ≡ Some name
-    go true p q next = here k (cc q) (names_equal name x p)
-    go false p q next = after (place (same name) xs) q next
-
 -- a name that stands among others has a place
 place_found : (name : List ℕ) (names : List (List ℕ)) (k : ℕ) → slice_get names k ≡ Some name → place (same name) names ≡ None → ⊥
 place_found name [] k h none = cc h
-place_found name (x ∷ xs) zero h none =
-    let is : x ≡ name = cc h in go (same name x) (ap (same name) is ∙ same_as_itself name) none
-  where
-    go : (b : Bool) → b ≡ true → (if b then Some 0 else option_map suc (place (same name) xs)) ≡ None → ⊥
-    go true e q = cc q
-    go false e q = cc e
-place_found name (x ∷ xs) (suc k) h none = go (same name x) none (place_found name xs k h)
+place_found name (x ∷ xs) zero h none = let is : same name x ≡ true = ap (same name) (let e : x ≡ name = cc h in e) ∙ same_as_itself name in cc (rw is at none)
+place_found name (x ∷ xs) (suc k) h none = by_test (same name x) (λ e. cc (rw e at none)) (λ e. place_found name xs k h (after (place (same name) xs) (rw e at none)))
   where
     after : (o : Option ℕ) → option_map suc o ≡ None → o ≡ None
     after None q = refl
     after (Some j) q = cc q
-
-    go : (b : Bool) → (if b then Some 0 else option_map suc (place (same name) xs)) ≡ None → (place (same name) xs ≡ None → ⊥) → ⊥
-    go true q next = cc q
-    go false q next = next (after (place (same name) xs) q)
 
 number_at : {A : Type 0} (n : ℕ) (xs : List A) (k : ℕ) → k < length xs → slice_get (numbers_from n xs) k ≡ Some (n + k)
 number_at n [] k lt = absurd (omega (arith, lt))
@@ -76,14 +48,7 @@ number_at n (x ∷ xs) (suc k) lt = let e : suc n + k ≡ n + suc k = omega arit
 -- ---- variations
 
 variation_kept : (before after : List Statement) → Extends before after → (k : ℕ) (x : Variation) → slice_get (variations before) k ≡ Some x → slice_get (variations after) k ≡ Some x
-variation_kept before after itself k x h = h
-variation_kept before after (further {after = b} s e) k x h = kept_at (variations b) (own_variations s) k x (variation_kept before b e k x h)
-
--- the variation of a tag
-tag_at : (vary : List ℕ) (tags : List (List ℕ)) (k : ℕ) (tag : List ℕ) → slice_get tags k ≡ Some tag → slice_get {X = Variation} (map (λ t. record { name = vary; tag = t }) tags) k ≡ Some (record { name = vary; tag = tag })
-tag_at vary [] k tag h = cc h
-tag_at vary (t ∷ tags) zero tag h = let e : t ≡ tag = cc h in ap (λ x. Some (record { name = vary; tag = x })) e
-tag_at vary (t ∷ tags) (suc k) tag h = tag_at vary tags k tag h
+variation_kept = kept variations (λ before s. own_variations s) (λ before s. refl)
 
 module _ (header : List Column) (names : FunctionNames) (script : List Statement) (good : AreAccepted names (scope_of header) script) (v : Option ℕ) where
   abbrev under : Under
@@ -100,7 +65,7 @@ module _ (header : List Column) (names : FunctionNames) (script : List Statement
       → (k : ℕ) (tag : List ℕ) → slice_get tags k ≡ Some tag → slice_get (variations script) (length (variations before) + k) ≡ Some (record { name = vary; tag = tag })
   tag_number before node parent cs values tags vary e k tag h =
       variation_kept (Vary node parent cs values tags vary ∷ before) script e (length (variations before) + k) _
-      (next_at (variations before) (own_variations (Vary node parent cs values tags vary)) k _ refl ∙ tag_at vary tags k tag h)
+      (next_at (variations before) (own_variations (Vary node parent cs values tags vary)) k _ refl ∙ mapped_at (λ t. record { name = vary; tag = t }) tags k tag h)
 
   own_place_is : (before : List Statement) (node parent : List ℕ) (cs : List (List ℕ)) (values : VaryValues) (tags : List (List ℕ)) (vary : List ℕ)
       → Extends (Vary node parent cs values tags vary ∷ before) script → IsPlaceOf (length (variations before)) (length tags) (own_place under vary tags)
@@ -131,11 +96,8 @@ module _ (header : List Column) (names : FunctionNames) (script : List Statement
           let t = something_at tags k lt in
           let at = tag_number before node parent cs values tags vary e k t.0 t.1 in
           let u : under ≡ Some (record { name = vary; tag = t.0 }) = ap (under_at script) is ∙ at in
-          other (same vary vary) (same_as_itself vary) t.0 (place_found t.0 tags k t.1) (sym (ap (λ (x : Under). own_place x vary tags) u) ∙ q)
-        where
-          other : (b : Bool) → b ≡ true → (tag : List ℕ) → (place (same tag) tags ≡ None → ⊥) → (if b then place (same tag) tags else None) ≡ None → ⊥
-          other true e tag next h = next h
-          other false e tag next h = cc e
+          let own : own_place (Some (record { name = vary; tag = t.0 })) vary tags ≡ None = sym (ap (λ (x : Under). own_place x vary tags) u) ∙ q in
+          place_found t.0 tags k t.1 (rw (same_as_itself vary) at own)
 
       go : (o : Option ℕ) → own_place under vary tags ≡ o → IsPlaceOf (length (variations before)) (length tags) o
       go (Some k) q = found v under refl refl k q
@@ -167,6 +129,9 @@ module _ (header : List Column) (names : FunctionNames) (script : List Statement
   said_by_cell n (col ∷ cs) zero x h = let is : as_version.Cell n ≡ x = cc h in (from.Cell n, refl, subst (λ (y : Version). Says [] y (from.Cell n)) is refl)
   said_by_cell n (col ∷ cs) (suc c) x h = said_by_cell (suc n) cs c x h
 
+  one_place : (first k j : ℕ) → v ≡ Some (first + k) → v ≡ Some (first + j) → j ≡ k
+  one_place first k j e is = let twice : Some (first + k) ≡ Some (first + j) = sym e ∙ is in let sum : first + k ≡ first + j = cc twice in omega (arith, sum)
+
   said_by_vary : (before : List Statement) (values : VaryValues) (below first site i : ℕ) (tags : List (List ℕ)) (o : Option ℕ) (b : Source)
       → IsPlaceOf first (length tags) o → slice_get (list_of before) below ≡ Some b
       → Says before (varied_version header names values below first site tags i) (own_source values site i (length tags) o b)
@@ -176,25 +141,14 @@ module _ (header : List Column) (names : FunctionNames) (script : List Statement
     b,
     at,
     (λ j lt is.
-        let twice : Some (first + k) ≡ Some (first + j) = sym own.1 ∙ is in
-        let sum : first + k ≡ first + j = cc twice in
-        let one : j ≡ k = omega (arith, sum) in
-        let number : slice_get (numbers_from (site + list_start lists i) tags) j ≡ Some (site + list_start lists i + j) = number_at (site + list_start lists i) tags j lt in
-        ap (λ n. Some (from.Site (site + list_start lists i + n))) (sym one) ∙ sym (ap (option_map (λ s. from.Site s)) number)),
+        ap (λ n. Some (from.Site (site + list_start lists i + n))) (sym (one_place first k j own.1 is))
+        ∙ sym (ap (option_map (λ s. from.Site s)) (number_at (site + list_start lists i) tags j lt))),
     λ none. absurd (none k own.0 own.1),
   )
-  said_by_vary before (Vector e) below first site i tags (Some k) b own at = (
-    b,
-    at,
-    (λ j lt is.
-        let twice : Some (first + k) ≡ Some (first + j) = sym own.1 ∙ is in
-        let sum : first + k ≡ first + j = cc twice in
-        let one : j ≡ k = omega (arith, sum) in
-        ap (λ n. Some (from.Element site n (length tags))) (sym one)),
-    λ none. absurd (none k own.0 own.1),
-  )
+  said_by_vary before (Vector e) below first site i tags (Some k) b own at =
+      (b, at, (λ j lt is. ap (λ n. Some (from.Element site n (length tags))) (sym (one_place first k j own.1 is))), λ none. absurd (none k own.0 own.1))
 
-  -- the version of a column that a Vary changes is something_at
+  -- the version of a column that a Vary changes is there
   below_there : (before : List Statement) → AreAccepted names (scope_of header) before → (parent name : List ℕ)
       → check_target (scope_at names (scope_of header) before parent) (path before parent) name ≡ None
       → (b : Source) × (slice_get (list_of before) (named_version header before parent name) ≡ Some b)
@@ -231,49 +185,37 @@ module _ (header : List Column) (names : FunctionNames) (script : List Statement
       let p = both_none (check_target (scope_at names (scope_of header) before parent) (path before parent) name) (map (check_target (scope_at names (scope_of header) before parent) (path before parent)) cs) free in
       said_by_columns before ok parent values tags vary own (suc i) c cs x p.1 h
 
+  said_by_site : (before : List Statement) (c : ℕ) (x : Version) → slice_get (as_version.Computed (site_count header names before) ∷ []) c ≡ Some x → HasSaid before (from.Site (site_count header names before) ∷ []) x c
+  said_by_site before zero x h = let is : as_version.Computed (site_count header names before) ≡ x = cc h in (from.Site (site_count header names before), refl, subst (λ (y : Version). Says before y (from.Site (site_count header names before))) is refl)
+  said_by_site before (suc c) x h = cc h
+
   own_said : (before : List Statement) (s : Statement) → AreAccepted names (scope_of header) (s ∷ before) → Extends (s ∷ before) script → (c : ℕ) (x : Version)
       → slice_get (own_versions header names before s) c ≡ Some x → HasSaid before (own_sources header names under before (list_of before) s) x c
-  own_said before (Define node parent column expr) ok e zero x h =
-      let is : as_version.Computed (site_count header names before) ≡ x = cc h in
-      (from.Site (site_count header names before), refl, subst (λ (y : Version). Says before y (from.Site (site_count header names before))) is refl)
-  own_said before (Redefine node parent column expr) ok e zero x h =
-      let is : as_version.Computed (site_count header names before) ≡ x = cc h in
-      (from.Site (site_count header names before), refl, subst (λ (y : Version). Says before y (from.Site (site_count header names before))) is refl)
+  own_said before (Define node parent column expr) ok e c x h = said_by_site before c x h
+  own_said before (Redefine node parent column expr) ok e c x h = said_by_site before c x h
   own_said before (Vary node parent cs values tags vary) ok e c x h =
       said_by_columns before ok.1 parent values tags vary (own_place_is before node parent cs values tags vary e) 0 c cs x
       (checked_of names (scope_of header) before (Vary node parent cs values tags vary) ok.0).0 h
-  own_said before (Define node parent column expr) ok e (suc c) x h = cc h
-  own_said before (Redefine node parent column expr) ok e (suc c) x h = cc h
   own_said before s ok e c x h = cc h
 
   said : (before : List Statement) → AreAccepted names (scope_of header) before → Extends before script → (c : ℕ) (x : Version)
       → slice_get (versions header names before) c ≡ Some x → HasSaid before (list_of before) x c
   said [] ok e c x h = said_by_cell 0 header c x h
-  said (s ∷ before) ok e c x h = go (said before ok.1 (shorter s before script e) c x) (of_joined (versions header names before) (own_versions header names before s) c x h)
-    where
-      go : (slice_get (versions header names before) c ≡ Some x → HasSaid before (list_of before) x c)
-          → (slice_get (versions header names before) c ≡ Some x) ⊎ ((k : ℕ) × (c ≡ length (versions header names before) + k) × (slice_get (own_versions header names before s) k ≡ Some x))
-          → HasSaid (s ∷ before) (list_of (s ∷ before)) x c
-      go next (inl q) =
-          let n = next q in (n.0, source_kept header names under before (s ∷ before) (further s itself) c n.0 n.1, says_further before s x n.0 n.2)
-      go next (inr q) =
-          let o = own_said before s ok e q.0 x q.2 in
-          let many = versions_count header names before in
-          let few = source_count header names under before in
-          let is = q.1 in
-          let n : c ≡ length (list_of before) + q.0 = omega (arith, many, few, is) in
-          (o.0, next_at (list_of before) (own_sources header names under before (list_of before) s) q.0 c n ∙ o.1, says_further before s x o.0 o.2)
+  said (s ∷ before) ok e c x h =
+      joined (versions header names before) (own_versions header names before s) c x h
+      (λ q. let n = said before ok.1 (shorter s before script e) c x q in (n.0, source_kept header names under before (s ∷ before) (further s itself) c n.0 n.1, says_further before s x n.0 n.2))
+      (λ k is q.
+      let o = own_said before s ok e k x q in
+      let n : c ≡ length (list_of before) + k = (let many = versions_count header names before in let few = source_count header names under before in omega (arith, many, few, is)) in
+      (o.0, next_at (list_of before) (own_sources header names under before (list_of before) s) k c n ∙ o.1, says_further before s x o.0 o.2))
 
   in_words : (x : Version) (src : Source) (c : ℕ) → slice_get (list_of script) c ≡ Some src → Says script x src → IsSourceOf (slice_get (list_of script)) v x (slice_get (list_of script) c)
   in_words (as_version.Cell col) src c at h = at ∙ ap Some h
   in_words (as_version.Computed site) src c at h = at ∙ ap Some h
   in_words (as_version.Varied below first tags its vector) src c at h = ((λ k lt is. at ∙ h.2 k lt is), λ none. at ∙ ap Some (h.3 none) ∙ sym h.1)
 
-  pub version_source' : (c : ℕ) (x : Version) → slice_get (versions header names script) c ≡ Some x → IsSourceOf (slice_get (list_of script)) v x (slice_get (list_of script) c)
-  version_source' c x h = let s = said script good itself c x h in in_words x s.0 c s.1 s.2
-
 -- under nominal or the variation of that number each version has the source that it says
 pub version_source : (header : List Column) (names : FunctionNames) (script : List Statement) → AreAccepted names (scope_of header) script
     → (v : Option ℕ) (c : ℕ) (x : Version) → slice_get (versions header names script) c ≡ Some x
     → IsSourceOf (slice_get (sources header names (under_at script v) script)) v x (slice_get (sources header names (under_at script v) script) c)
-version_source header names script good v c x h = version_source' header names script good v c x h
+version_source header names script good v c x h = let s = said header names script good v script good itself c x h in in_words header names script good v x s.0 c s.1 s.2

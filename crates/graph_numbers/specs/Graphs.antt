@@ -4,7 +4,6 @@ use Rattle.rdf_values.specs.Bookable.{IsBookable}
 use Rattle.rdf_values.specs.Bookings.{result_depends}
 use Rattle.rdf_values.specs.Kinds.{FunctionNames}
 use Rattle.rdf_values.specs.Path.{Variation, Under, history, variations}
-use Rattle.rdf_values.specs.Tables.{IsHeader}
 use Rattle.rdf_values.specs.Verdict.{verdict}
 use Rattle.rdf_values.specs.declared.column.Column.{Column}
 use Rattle.rdf_values.specs.declared.graph_cause.GraphCause.{GraphCause}
@@ -12,6 +11,7 @@ use Rattle.rdf_values.specs.declared.script.Script.{Script}
 use Rattle.rdf_values.specs.declared.statement.Statement.{Statement}
 use Rattle.rdf_values.specs.declared.value.ColType.{ColType}
 use Rattle.rdf_model.specs.Loops.{Access, accesses}
+use Rattle.rdf_values.specs.Tables.{IsHeader}
 use Rattle.expr_check.specs.NumKinds.{CheckedExpr, IsWellTyped, CallsFit}
 use Rattle.graph_numbers.specs.Sites.{SiteAt, sites, depends_on}
 use Rattle.graph_numbers.specs.Sources.{sources, versions}

@@ -1,7 +1,6 @@
--- Laws of a booked graph's numbers: what they are of the script's own definitions. Each is the contract of a function of this crate, and so proved.
+-- Laws of a booked graph's numbers: what they are of the script's own definitions. Each is a clause of `laws_hold`, and so proved.
 use Rattle.std.specs.Prelude.{◌≡◌, ◌<◌, ℕ, List, length, map, Option, Some, None, Ok, slice_get, option_and_then, option_map}
 use Rattle.rdf_values.specs.Bookings.{ActionAt, ReportOn, bookings, named_before}
-use Rattle.rdf_values.specs.EachColumn.{EachColumn}
 use Rattle.rdf_values.specs.Functions.{fn_names}
 use Rattle.rdf_values.specs.Kinds.{scope_of, column_kind}
 use Rattle.rdf_values.specs.Names.{place}
@@ -17,6 +16,7 @@ use Rattle.rdf_model.specs.EntryOutcomes.{booking_outcome}
 use Rattle.rdf_model.specs.Evaluation.{Outcome, evaluate, call_outcome}
 use Rattle.rdf_model.specs.Loops.{Access, accesses, loop_passes, loop_results}
 use Rattle.rdf_model.specs.Results.{Dataset}
+use Rattle.rdf_values.specs.EachColumn.{EachColumn}
 use Rattle.graph_numbers.specs.Graphs.{GraphView, IsGraph, graph_filters, graph_loops, graph_results, graph_runs, graph_sites, graph_sources, graph_variations, graph_versions}
 use Rattle.graph_numbers.specs.Outcomes.{booking_numbers}
 use Rattle.graph_numbers.specs.Results.{FilterAt, ResultAt, pass_at}

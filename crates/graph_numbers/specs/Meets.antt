@@ -2,8 +2,8 @@
 use Rattle.std.specs.Prelude.{⊤, ℕ, Bool, true, false, List, [], ◌∷◌, nat_eq}
 use Rattle.rdf_values.specs.Functions.{Function}
 use Rattle.rdf_values.specs.declared.value.Value.{Value}
-use Rattle.rdf_model.specs.Evaluation.{Outcome, Gives, Faults, Needs, ◌>>=◌, evaluate, call_outcome, is_need, without}
 use Rattle.rdf_model.specs.EntryOutcomes.{truth_of}
+use Rattle.rdf_model.specs.Evaluation.{Outcome, Gives, Faults, Needs, ◌>>=◌, evaluate, call_outcome, is_need, without}
 use Rattle.graph_numbers.specs.Sites.{SiteAt}
 use Rattle.graph_numbers.specs.declared.source.Source.{Source}
 use Rattle.graph_numbers.specs.declared.source.Source.TheVariants as from

@@ -3,8 +3,8 @@ use Rattle.std.specs.Prelude.{ℕ, Bool, true, false, List, [], ◌∷◌, Optio
 use Rattle.rdf_values.specs.Bookings.{Booking, ActionAt, ReportOn}
 use Rattle.rdf_values.specs.declared.action.ActionKind.{ActionKind}
 use Rattle.rdf_values.specs.declared.value.Value.{Value}
-use Rattle.rdf_model.specs.Evaluation.{Outcome, Gives, ◌>>=◌, for_all}
 use Rattle.rdf_model.specs.EntryOutcomes.{Entry, Skip, truth_of, feed_outcome}
+use Rattle.rdf_model.specs.Evaluation.{Outcome, Gives, ◌>>=◌, for_all}
 use Rattle.graph_numbers.specs.Results.{FilterAt, ResultAt}
 
 -- with what each site comes to

@@ -1,9 +1,9 @@
 -- The results, named filters and loops of a script by numbers.
 use Rattle.std.specs.Prelude.{ℕ, suc, Bool, not, List, [], ◌∷◌, ◌++◌, map, length, Option, Some, None, if◌then◌else◌, slice_get, option_map}
-use Rattle.rdf_values.specs.Names.{same, among, place}
-use Rattle.rdf_values.specs.Path.{Path, Under, makes, parent_of, path, variations}
 use Rattle.rdf_values.specs.Bookings.{columns_of, named_before, Booking, ActionAt, ReportOn, Booked, covered, bookings, result_depends, has_variations, Pass, filled}
 use Rattle.rdf_values.specs.Kinds.{FunctionNames}
+use Rattle.rdf_values.specs.Names.{same, among, place}
+use Rattle.rdf_values.specs.Path.{Path, Under, makes, parent_of, path, variations}
 use Rattle.rdf_values.specs.declared.column.Column.{Column}
 use Rattle.rdf_values.specs.declared.statement.Statement.{Statement}
 use Rattle.rdf_values.specs.declared.statement.Statement.TheVariants.{Filter, Action, Report, Print}

@@ -1,15 +1,15 @@
 -- What gives each version its value, under nominal or a variation.
 use Rattle.std.specs.Prelude.{◌≡◌, ℕ, suc, ◌+◌, ◌<◌, Bool, true, false, List, [], ◌∷◌, ◌++◌, length, Option, Some, None, slice_get, slice_index_or, option_map}
-use Rattle.rdf_values.specs.Path.{Under, variations}
 use Rattle.rdf_values.specs.Kinds.{FunctionNames}
+use Rattle.rdf_values.specs.Path.{Under, variations}
 use Rattle.rdf_values.specs.declared.column.Column.{Column}
-use Rattle.rdf_values.specs.declared.value.Value.{Value}
-use Rattle.rdf_values.specs.declared.vary_values.VaryValues.TheVariants.{Lists, Vector}
-use Rattle.rdf_values.specs.declared.vary_values.VaryValues.{VaryValues}
 use Rattle.rdf_values.specs.declared.statement.Statement.{Statement}
 use Rattle.rdf_values.specs.declared.statement.Statement.TheVariants.{Define, Redefine, Vary}
-use Rattle.rdf_model.specs.Evaluation.{Outcome, Gives, ◌>>=◌, untyped}
+use Rattle.rdf_values.specs.declared.value.Value.{Value}
+use Rattle.rdf_values.specs.declared.vary_values.VaryValues.{VaryValues}
+use Rattle.rdf_values.specs.declared.vary_values.VaryValues.TheVariants.{Lists, Vector}
 use Rattle.rdf_model.specs.ColumnValues.{own_place, tag_element}
+use Rattle.rdf_model.specs.Evaluation.{Outcome, Gives, ◌>>=◌, untyped}
 use Rattle.graph_numbers.specs.Versions.{named_version}
 use Rattle.graph_numbers.specs.Sites.{SiteAt, list_start, site_count}
 use Rattle.graph_numbers.specs.declared.source.Source.{Source}
