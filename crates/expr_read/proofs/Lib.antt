@@ -1,10 +1,7 @@
 pub mod Decided
 pub mod Examples
-pub mod Lists
-pub mod Numerals
+pub mod FirstTokens
 pub mod ReadOnce
-pub mod Readable
-pub mod Reading
 pub mod ReadsBack
 pub mod Scanned
 pub mod Shown
@@ -14,8 +11,6 @@ pub mod SpelledTree
 pub mod TokenSteps
 pub mod Took
 pub mod Unique
-pub mod UniqueValues
 pub mod ValidTokens
 pub mod Whole
 pub mod WholeReads
-pub mod Words

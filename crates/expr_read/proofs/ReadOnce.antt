@@ -2,7 +2,7 @@
 use Rattle.rdf_values.specs.Grammar.{Reads, ReadsValues}
 use Rattle.rdf_values.specs.Scans.{begin_expr, begin_values}
 use Rattle.rdf_values.proofs.OneScript.{AreReadOnce}
-use Rattle.expr_read.proofs.Reading.{one_tree, one_value, not_both}
+use Rattle.expr_read.proofs.Decided.{one_tree, one_value, not_both}
 use Rattle.expr_read.proofs.Whole.{whole, whole_values}
 
 pub read_once : AreReadOnce

@@ -1,16 +1,54 @@
 -- The canonical text of an expression that was read from a text reads as this expression.
-use Rattle.std.proofs.Common.{◌≡◌, ◌≤◌, ◌+◌, ◌-◌, ◌∙◌, ℕ, List, [], ◌++◌, length, Ok, arith, refl, sym, ap, subst}
-use Rattle.std.proofs.lemmas.List.{append-nil, length-map}
+use Rattle.std.proofs.Common.{◌≡◌, ℕ, true, List, [], ◌∷◌, ◌++◌, subst, ◌≤◌, ◌+◌, ◌-◌, ◌∙◌, length, Ok, arith, refl, sym, ap}
+use Rattle.lemmas.proofs.Booleans.{both_true}
 use Rattle.rdf_values.specs.Tree.{NamedTree}
 use Rattle.rdf_values.specs.Tokens.{Token, Placed, before, tokens, tokens_within}
-use Rattle.rdf_values.specs.Grammar.{Reads, bare}
+use Rattle.rdf_values.specs.Grammar.{NamedTrees, Reads, ReadsArgs, number, truth, name, parenthesized, call, pick, minus_sign, not_sign, binary, conditional, tighter, no_arguments, last_argument, more_arguments, bare}
+use Rattle.expr_read.specs.Valid.{is_valid, are_valid}
+use Rattle.expr_read.proofs.SpelledTree.{IsReadable, AreReadable, spells_tree}
+use Rattle.std.proofs.lemmas.List.{append-nil, length-map}
 use Rattle.rdf_values.specs.Scans.{ReadsText}
 use Rattle.rdf_values.specs.Canonical.{tokens_of, text_of}
 use Rattle.expr_read.proofs.Shown.{reads_shown, no_fewer, shown_whole}
-use Rattle.expr_read.proofs.SpelledTree.{IsReadable, spells_tree}
-use Rattle.expr_read.proofs.Readable.{readable}
 use Rattle.expr_read.proofs.TokenSteps.{no_tokens}
 use Rattle.expr_read.proofs.ValidTokens.{valid_tokens, few_tokens}
+
+abbrev AreValid : List Token → Type 0
+AreValid [] = Unit {0}
+AreValid (t ∷ ts) = (is_valid t ≡ true) × AreValid ts
+
+each_valid : (ts : List Token) → are_valid ts ≡ true → AreValid ts
+each_valid [] h = tt
+each_valid (t ∷ ts) h = let p = both_true (is_valid t) (are_valid ts) h in (p.0, each_valid ts p.1)
+
+split : (ts us : List Token) → AreValid (ts ++ us) → AreValid ts × AreValid us
+split [] us g = (tt, g)
+split (t ∷ ts) us g = let q = split ts us g.1 in ((g.0, q.0), q.1)
+
+mutual
+  readable_from : {n : ℕ} {ts : List Token} {a : NamedTree} → Reads n ts a → AreValid ts → IsReadable a
+  readable_from number g = g.0
+  readable_from truth g = tt
+  readable_from name g = g.0
+  readable_from (parenthesized {ts} r e) g = let h = subst AreValid e g in readable_from r (split ts _ h.1).0
+  readable_from (call {f} {ts} r e) g = let h = subst AreValid e g in (h.0, readable_args r (split ts _ h.1.1).0)
+  readable_from (pick {ts} {us} r q e) g = let h = split ts _ (subst AreValid e g) in (readable_from r h.0, readable_from q (split us _ h.1.1).0)
+  readable_from (minus_sign r) g = readable_from r g.1
+  readable_from (not_sign r) g = readable_from r g.1
+  readable_from (binary {ts = ts} r q l e) g = let h = split ts _ (subst AreValid e g) in (readable_from r h.0, readable_from q h.1.1)
+  readable_from (conditional {ts} {us} r q w e) g =
+      let h = split ts _ (subst AreValid e g) in
+      let k = split us _ h.1.1 in
+      (readable_from r h.0, readable_from q k.0, readable_from w k.1.1)
+  readable_from (tighter r) g = readable_from r g
+
+  readable_args : {ts : List Token} {args : NamedTrees} → ReadsArgs ts args → AreValid ts → AreReadable args
+  readable_args no_arguments g = tt
+  readable_args (last_argument r) g = (readable_from r g, tt)
+  readable_args (more_arguments {ts} r q e) g = let h = split ts _ (subst AreValid e g) in (readable_from r h.0, readable_args q h.1.1)
+
+pub readable : {ts : List Token} {a : NamedTree} → Reads 0 ts a → are_valid ts ≡ true → IsReadable a
+readable {ts} r h = readable_from r (each_valid ts h)
 
 spelled_back : (a : NamedTree) → IsReadable a → length (tokens_of a) ≤ 256 → ReadsText (text_of a) a
 spelled_back a r few =

@@ -102,14 +102,15 @@ level_high o = omega arith
 pub positive : (n : ℕ) → 1 ≤ n → nat_eq n 0 ≡ false
 positive n h = grind (arith, nat_tests)
 
-postfix_step : (t : Token) → (t ≡ Punct mark.OpenBracket → ⊥) → continues 8 t ≡ false
-postfix_step (Op o) isnt = le_false 8 (level_of o) (omega (arith, level_low o))
-postfix_step (Punct mark.OpenBracket) isnt = absurd (isnt refl)
-postfix_step t isnt = refl
+postfix_step : (n : ℕ) (t : Token) → 7 ≤ n → n ≤ 8 → (t ≡ Punct mark.OpenBracket → ⊥) → continues n t ≡ false
+postfix_step n (Op o) low high isnt = le_false n (level_of o) (omega (arith, level_low o))
+postfix_step n (Punct mark.OpenBracket) low high isnt = absurd (isnt refl)
+postfix_step n (Punct mark.Question) low high isnt = positive n (omega arith)
+postfix_step n t low high isnt = refl
 
-pub stops_postfix : (ts : List Placed) → BeginsNot (Punct mark.OpenBracket) ts → Stops 8 ts
-stops_postfix [] isnt = tt
-stops_postfix (p ∷ ts) isnt = postfix_step p.token (first_is_not (Punct mark.OpenBracket) p ts isnt)
+pub stops_postfix : (n : ℕ) (ts : List Placed) → 7 ≤ n → n ≤ 8 → BeginsNot (Punct mark.OpenBracket) ts → Stops n ts
+stops_postfix n [] low high isnt = tt
+stops_postfix n (p ∷ ts) low high isnt = postfix_step n p.token low high (first_is_not (Punct mark.OpenBracket) p ts isnt)
 
 sides_step : (n : ℕ) (t : Token) → 1 ≤ n → n ≤ 6 → continues (n + 1) t ≡ false → ((o : BinOp) → level_of o ≡ n → t ≡ Op o → ⊥) → continues n t ≡ false
 sides_step n (Op o) low high h isnt =

@@ -1,15 +1,29 @@
 -- Texts that spell tokens.
-use Rattle.std.proofs.Common.{◌≡◌, ◌+◌, ◌∙◌, ℕ, suc, Bool, true, false, List, [], ◌∷◌, ◌++◌, length, drop, Ok, arith, refl, sym, ap, subst, append_assoc, add-zero, zero-add, nat_eq, length-append}
-use Rattle.std.specs.Prelude.{not, codes}
+use Rattle.std.proofs.Common.{◌≡◌, ◌+◌, ◌∙◌, ℕ, suc, Bool, true, false, List, [], ◌∷◌, ◌++◌, length, drop, Ok, arith, refl, sym, ap, subst, append_assoc, add-zero, zero-add, nat_eq, length-append, ◌≤◌, ◌<◌, ◌^◌, ℤ, pos, negsuc, Some}
+use Rattle.std.specs.Prelude.{not, codes, take_while, nat_le, ◌&&◌, ◌||◌, decimal}
 use Rattle.std.proofs.lemmas.List.{map-append}
-use Rattle.rdf_values.specs.Names.{is_word_byte}
-use Rattle.rdf_values.specs.Tokens.{Token, Placed, Op, Punct, is_blank, first_token, long_mark, short_mark, before, tokens_within}
+use Rattle.rdf_values.specs.Names.{is_word_byte, is_word_start, is_digit, is_word, is_name, same}
+use Rattle.rdf_values.specs.Tokens.{Token, Placed, Op, Punct, is_blank, first_token, long_mark, short_mark, before, tokens_within, Word, Truth, word_token, word_first, Number, number_first}
 use Rattle.rdf_values.specs.Grammar.{bare}
-use Rattle.rdf_values.specs.Canonical.{op_text}
+use Rattle.rdf_values.specs.Canonical.{op_text, truth_text}
 use Rattle.rdf_values.specs.declared.expr.BinOp.{BinOp}
 use Rattle.rdf_values.specs.declared.expr.BinOp.TheVariants as op
 use Rattle.rdf_values.specs.declared.expr.Mark.TheVariants as mark
 use Rattle.expr_read.proofs.TokenSteps.{before_more, before_none, first_blank, first_found}
+use Rattle.std.specs.List.{prefix_len, list_all}
+use Rattle.std.proofs.Math.Seq.{take-append_seam}
+use Rattle.std.proofs.lemmas.Bool.Decides.{nat_tests}
+use Rattle.lemmas.proofs.Booleans.{both_true, not_true, right_false}
+use Rattle.lemmas.proofs.Orders.{eq_says, le_false, le_says}
+use Rattle.expr_read.proofs.FirstTokens.{first_word, first_number}
+use Rattle.std.specs.Fmt.{signed_decimal}
+use Rattle.std.specs.Str.{all_ascii_digits}
+use Rattle.std.specs.Str.Parse.{digits_value}
+use Rattle.std.proofs.lemmas.Str.Parse.{IsNumeralModel, numerals_by_value, tells_all_ascii_digits}
+use Rattle.std.proofs.lemmas.Fmt.{decimal_nonempty, digits_decimal}
+use Rattle.rdf_values.specs.Integers.{magnitude_of}
+use Rattle.rdf_values.proofs.OneText.{magnitude_decimal}
+use Rattle.expr_read.specs.Valid.{is_number}
 
 -- before the rest, the text spells these tokens
 pub record Spells (text : List ℕ) (ts : List Token) (rest : List ℕ) : Type 0 where
@@ -116,3 +130,142 @@ operator op.Eq rest = long 61 61 op.Eq rest refl refl
 operator op.Ne rest = long 33 61 op.Ne rest refl refl
 operator op.And rest = long 38 38 op.And rest refl refl
 operator op.Or rest = long 124 124 op.Or rest refl refl
+
+-- ---- words
+
+abbrev pub stops : (ℕ → Bool) → List ℕ → Type 0
+stops p [] = Unit {0}
+stops p (c ∷ cs) = p c ≡ false
+
+run_is : (p : ℕ → Bool) (cs rest : List ℕ) → list_all p cs ≡ true → stops p rest → prefix_len p (cs ++ rest) ≡ length cs
+run_is p [] [] h k = refl
+run_is p [] (d ∷ rest) h k = rw k refl
+run_is p (c ∷ cs) rest h k =
+    let here = both_true (p c) (list_all p cs) h in
+    let first : p c ≡ true = here.0 in
+    rw (first, run_is p cs rest here.1 k) (omega arith)
+
+pub taken : (p : ℕ → Bool) (cs rest : List ℕ) → list_all p cs ≡ true → stops p rest → take_while p (cs ++ rest) ≡ cs
+taken p cs rest h k = rw (run_is p cs rest h k) (take-append_seam cs rest)
+
+apart_stops : (rest : List ℕ) → is_apart rest ≡ true → stops is_word_byte rest
+apart_stops [] h = tt
+apart_stops (c ∷ cs) h = not_true (is_word_byte c) h
+
+blank_by : (c : ℕ) (b d : Bool) → nat_eq c 32 ≡ b → nat_eq c 9 ≡ d → is_word_start c ≡ true → is_blank c ≡ false
+blank_by c true d e f h = let k = subst (λ (x : ℕ). is_word_start x ≡ true) (eq_says c 32 e) h in cc k
+blank_by c false true e f h = let k = subst (λ (x : ℕ). is_word_start x ≡ true) (eq_says c 9 f) h in cc k
+blank_by c false false e f h = rw (e, f) refl
+
+starts_byte : (c : ℕ) → is_word_start c ≡ true → is_word_byte c ≡ true
+starts_byte c h = ap (λ (b : Bool). b || is_digit c) h
+
+short_word : (w : List ℕ) → length w ≤ 64 → word_first w ≡ Ok (word_token w, length w)
+unfolding word_first
+short_word w h = let fits : nat_le (length w) 64 ≡ true = grind (arith, nat_tests) in rw fits refl
+
+pub word : (c : ℕ) (cs rest : List ℕ) → is_word_start c ≡ true → list_all is_word_byte cs ≡ true → length (c ∷ cs) ≤ 64 → is_apart rest ≡ true → Spells (c ∷ cs) (word_token (c ∷ cs) ∷ []) rest
+word c cs rest start all few apart =
+    let whole : list_all is_word_byte (c ∷ cs) ≡ true = ap (λ (b : Bool). b && list_all is_word_byte cs) (starts_byte c start) ∙ all in
+    token c cs (word_token (c ∷ cs)) rest (blank_by c _ _ refl refl start)
+    (first_word c (cs ++ rest) start ∙ ap word_first (taken is_word_byte (c ∷ cs) rest whole (apart_stops rest apart)) ∙ short_word (c ∷ cs) few)
+
+pub truth : (b : Bool) (rest : List ℕ) → is_apart rest ≡ true → Spells (truth_text b) (Truth b ∷ []) rest
+truth true rest h = word 116 (codes "rue") rest refl refl (omega arith) h
+truth false rest h = word 102 (codes "alse") rest refl refl (omega arith) h
+
+pub bang : (rest : List ℕ) → is_unequal rest ≡ true → Spells (codes "!") (Punct mark.Bang ∷ []) rest
+unfolding first_token long_mark short_mark
+bang [] h = token 33 [] (Punct mark.Bang) [] refl refl
+bang (d ∷ rest) h = let other : nat_eq d 61 ≡ false = not_true (nat_eq d 61) h in token 33 [] (Punct mark.Bang) (d ∷ rest) refl (rw other refl)
+
+name_by : (a b c d : Bool) → (a && b && c && d) ≡ true → (a ≡ true) × (b ≡ true) × (c ≡ true) × (d ≡ true)
+name_by true true true true h = (refl, refl, refl, refl)
+name_by false b c d h = cc h
+name_by true false c d h = cc h
+name_by true true false d h = cc h
+name_by true true true false h = cc h
+
+name_parts : (x : List ℕ) → is_name x ≡ true → (is_word x ≡ true) × (nat_le (length x) 64 ≡ true) × (not (same x (codes "true")) ≡ true) × (not (same x (codes "false")) ≡ true)
+unfolding is_name
+name_parts x h = name_by (is_word x) (nat_le (length x) 64) (not (same x (codes "true"))) (not (same x (codes "false"))) h
+
+name_token : (x : List ℕ) → is_name x ≡ true → word_token x ≡ Word x
+name_token x h =
+    let p = name_parts x h in
+    rw (not_true (same x (codes "true")) p.2, not_true (same x (codes "false")) p.3) refl
+
+pub name : (x rest : List ℕ) → is_name x ≡ true → is_apart rest ≡ true → Spells x (Word x ∷ []) rest
+name [] rest h apart = let p = name_parts [] h in cc (p.0)
+name (c ∷ cs) rest h apart =
+    let p = name_parts (c ∷ cs) h in
+    let word_of = both_true (is_word_start c) (list_all is_word_byte cs) p.0 in
+    let few : length (c ∷ cs) ≤ 64 = let k = p.1 in grind (arith, nat_tests) in
+    subst (λ (t : Token). Spells (c ∷ cs) (t ∷ []) rest) (name_token (c ∷ cs) h) (word c cs rest word_of.0 word_of.1 few apart)
+
+unequal_by : (c : ℕ) (b : Bool) → nat_eq c 61 ≡ b → is_word_start c ≡ true → not (nat_eq c 61) ≡ true
+unequal_by c true e h = let k = subst (λ (x : ℕ). is_word_start x ≡ true) (eq_says c 61 e) h in cc k
+unequal_by c false e h = rw e refl
+
+pub name_head : (x rest : List ℕ) → is_name x ≡ true → is_unequal (x ++ rest) ≡ true
+name_head [] rest h = let p = name_parts [] h in cc (p.0)
+name_head (c ∷ cs) rest h =
+    let p = name_parts (c ∷ cs) h in
+    unequal_by c _ refl (both_true (is_word_start c) (list_all is_word_byte cs) p.0).0
+
+-- ---- numbers
+
+own : IsNumeralModel (λ ds. all_ascii_digits ds ≡ true) (digits_value 10)
+own = numerals_by_value _ tells_all_ascii_digits
+
+apart_digit : (rest : List ℕ) → is_apart rest ≡ true → stops is_digit rest
+apart_digit [] h = tt
+apart_digit (c ∷ cs) h = right_false (is_word_start c) (is_digit c) (not_true (is_word_byte c) h)
+
+unequal : (n m : ℕ) → n < m → nat_eq n m ≡ false
+unequal n m h = grind (arith, nat_tests)
+
+over : (n m : ℕ) → m < n → nat_eq n m ≡ false
+over n m h = grind (arith, nat_tests)
+
+no_word : (c : ℕ) → 48 ≤ c → c ≤ 57 → is_word_start c ≡ false
+no_word c low high = rw (le_false 97 c (omega arith), le_false 65 c (omega arith), unequal c 95 (omega arith)) refl
+
+no_blank : (c : ℕ) → 48 ≤ c → is_blank c ≡ false
+no_blank c low = rw (over c 32 (omega arith), over c 9 (omega arith)) refl
+
+found : (ds : List ℕ) (n : ℕ) → magnitude_of 9223372036854775807 ds ≡ Some n → number_first ds ≡ Ok (Number (pos n), length ds)
+unfolding number_first
+found ds n h = rw h refl
+
+digits_token : (ds : List ℕ) (n : ℕ) (rest : List ℕ) → 0 < length ds → all_ascii_digits ds ≡ true → magnitude_of 9223372036854775807 ds ≡ Some n → is_apart rest ≡ true → Spells ds (Number (pos n) ∷ []) rest
+digits_token [] n rest some all value apart = absurd (omega arith)
+digits_token (c ∷ cs) n rest some all value apart =
+    let first : is_digit c ≡ true = (both_true (is_digit c) (list_all is_digit cs) all).0 in
+    let range = both_true (nat_le 48 c) (nat_le c 57) first in
+    let low : 48 ≤ c = le_says 48 c range.0 in
+    let high : c ≤ 57 = le_says c 57 range.1 in
+    token c cs (Number (pos n)) rest (no_blank c low)
+    (first_number c (cs ++ rest) (no_word c low high) first ∙ ap number_first (taken is_digit (c ∷ cs) rest all (apart_digit rest apart)) ∙ found (c ∷ cs) n value)
+
+decimal_number : (n : ℕ) (rest : List ℕ) → n < 2 ^ 63 → is_apart rest ≡ true → Spells (signed_decimal (pos n)) (Number (pos n) ∷ []) rest
+decimal_number n rest h apart = digits_token (decimal n) n rest (decimal_nonempty n (omega arith)) (digits_decimal own n (omega arith)) (magnitude_decimal 9223372036854775807 n (omega arith) (omega arith)) apart
+
+below : (n : ℕ) → is_number (pos n) ≡ true → n < 2 ^ 63
+below n h = grind (arith, nat_tests)
+
+-- the text of a number that can be read
+pub number : (z : ℤ) (rest : List ℕ) → is_number z ≡ true → is_apart rest ≡ true → Spells (signed_decimal z) (Number z ∷ []) rest
+number (pos n) rest h apart = decimal_number n rest (below n h) apart
+number (negsuc n) rest h apart = cc h
+
+head_digits : (ds rest : List ℕ) → 0 < length ds → all_ascii_digits ds ≡ true → is_unequal (ds ++ rest) ≡ true
+head_digits [] rest some all = absurd (omega arith)
+head_digits (c ∷ cs) rest some all =
+    let first : is_digit c ≡ true = (both_true (is_digit c) (list_all is_digit cs) all).0 in
+    let high : c ≤ 57 = le_says c 57 (both_true (nat_le 48 c) (nat_le c 57) first).1 in
+    rw (unequal c 61 (omega arith)) refl
+
+pub number_head : (z : ℤ) (rest : List ℕ) → is_number z ≡ true → is_unequal (signed_decimal z ++ rest) ≡ true
+number_head (pos n) rest h = let low = below n h in head_digits (decimal n) rest (decimal_nonempty n (omega arith)) (digits_decimal own n (omega arith))
+number_head (negsuc n) rest h = cc h

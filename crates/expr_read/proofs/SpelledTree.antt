@@ -11,9 +11,7 @@ use Rattle.rdf_values.specs.declared.expr.BinOp.{BinOp}
 use Rattle.rdf_values.specs.declared.expr.BinOp.TheVariants as op
 use Rattle.rdf_values.specs.declared.expr.Mark.TheVariants as mark
 use Rattle.expr_read.specs.Valid.{is_number}
-use Rattle.expr_read.proofs.Spelled.{Spells, joined, nothing, spells_as, is_apart, is_unequal, minus, open_paren, close_paren, open_bracket, close_bracket, comma, question, colon, operator}
-use Rattle.expr_read.proofs.Words.{name, name_head, truth, bang}
-use Rattle.expr_read.proofs.Numerals.{number, number_head}
+use Rattle.expr_read.proofs.Spelled.{Spells, joined, nothing, spells_as, is_apart, is_unequal, minus, open_paren, close_paren, open_bracket, close_bracket, comma, question, colon, operator, name, name_head, truth, bang, number, number_head}
 
 abbrev mutual
   -- its names and numbers can be read

@@ -1,4 +1,4 @@
--- Tokens read as one tree: a machine that shifts and reduces comes to it.
+-- Tokens read as one tree, and as one value of a Vary: a machine that shifts and reduces comes to it.
 use Rattle.std.proofs.Common.{◌≡◌, ◌<◌, ◌≤◌, ◌∙◌, ℕ, suc, true, List, [], ◌∷◌, ◌++◌, arith, refl, sym, ap, append_assoc, nat_eq}
 use Rattle.std.specs.Prelude.{nat_le, if◌then◌else◌}
 use Rattle.std.proofs.lemmas.Bool.Decides.{nat_tests}
@@ -6,9 +6,11 @@ use Rattle.lemmas.proofs.Orders.{le_false, le_true}
 use Rattle.rdf_values.specs.Tree.{NamedTree, Lit, Col, Neg, Not, Bin, Cond, Pick, Call, End, More}
 use Rattle.rdf_values.specs.Tree as e
 use Rattle.rdf_values.specs.Tokens.{Token, Word, Truth, Number, Op, Punct}
-use Rattle.rdf_values.specs.Grammar.{NamedTrees, Reads, ReadsArgs, number, truth, name, parenthesized, call, pick, minus_sign, not_sign, binary, conditional, tighter, no_arguments, last_argument, more_arguments, level_of}
+use Rattle.rdf_values.specs.Grammar.{NamedTrees, Reads, ReadsArgs, number, truth, name, parenthesized, call, pick, minus_sign, not_sign, binary, conditional, tighter, no_arguments, last_argument, more_arguments, level_of, ReadsList, ReadsLists, ReadsValues, last_item, more_items, last_list, more_lists, one_list, several_lists, vector}
 use Rattle.rdf_values.specs.declared.expr.BinOp.{BinOp}
 use Rattle.rdf_values.specs.declared.expr.Mark.TheVariants as mark
+use Rattle.rdf_values.specs.declared.vary_values.VaryValues.{VaryValues}
+use Rattle.rdf_values.specs.declared.vary_values.VaryValues.TheVariants.{Lists, Vector}
 use Rattle.expr_read.proofs.Scanned.{positive, level_low, level_high}
 
 -- what waits for the tree that is being read
@@ -19,22 +21,24 @@ data Frame : Type 0 where
   Ask : (c : NamedTree) → Frame
   Other : (c a : NamedTree) → Frame
   Args : (f : List ℕ) (before : List NamedTree) → Frame
+  Items : (before : List NamedTree) → Frame
+  Outer : (before : List (List NamedTree)) → Frame
 
+-- a tree is wanted, or was read; in the values of a Vary also a list, or all lists, or a list is wanted
 data State : Type 0 where
   Want : (frames : List Frame) → State
   Have : (a : NamedTree) (frames : List Frame) → State
+  Closed : (es : List NamedTree) (frames : List Frame) → State
+  Next : (before : List (List NamedTree)) → State
+  All : (ls : List (List NamedTree)) → State
 
 -- the tree with what waits for it at a level or tighter
 abbrev reduce : ℕ → List Frame → NamedTree → NamedTree × List Frame
-reduce n [] t = (t, [])
 reduce n (Left a o ∷ fs) t = if nat_le n (level_of o) then reduce n fs (Bin o a t) else (t, Left a o ∷ fs)
 reduce n (Minus ∷ fs) t = if nat_le n 7 then reduce n fs (Neg t) else (t, Minus ∷ fs)
 reduce n (Bang ∷ fs) t = if nat_le n 7 then reduce n fs (Not t) else (t, Bang ∷ fs)
 reduce n (Other c a ∷ fs) t = if nat_eq n 0 then reduce n fs (Cond c a t) else (t, Other c a ∷ fs)
-reduce n (Paren ∷ fs) t = (t, Paren ∷ fs)
-reduce n (Bracket v ∷ fs) t = (t, Bracket v ∷ fs)
-reduce n (Ask c ∷ fs) t = (t, Ask c ∷ fs)
-reduce n (Args f before ∷ fs) t = (t, Args f before ∷ fs)
+reduce n fs t = (t, fs)
 
 -- arguments after others
 abbrev onto : List NamedTree → NamedTrees → NamedTrees
@@ -68,7 +72,17 @@ on_bracket (i, fs) = stuck
 
 abbrev on_comma : NamedTree × List Frame → State
 on_comma (a, Args f before ∷ fs) = Want (Args f (before ++ a ∷ []) ∷ fs)
+on_comma (a, Items before ∷ fs) = Want (Items (before ++ a ∷ []) ∷ fs)
 on_comma (a, fs) = stuck
+
+abbrev on_end : NamedTree × List Frame → State
+on_end (a, Items before ∷ fs) = Closed (before ++ a ∷ []) fs
+on_end (a, fs) = stuck
+
+abbrev on_brace : List Frame → State
+on_brace [] = Want (Items [] ∷ [])
+on_brace (Items [] ∷ []) = Want (Items [] ∷ Outer [] ∷ [])
+on_brace fs = stuck
 
 abbrev on_open : NamedTree → List Frame → State
 on_open (Col f) fs = Want (Args f [] ∷ fs)
@@ -86,7 +100,7 @@ feed (Want fs) (Op o) = Want (Minus ∷ fs)
 feed (Want fs) (Punct mark.Bang) = Want (Bang ∷ fs)
 feed (Want fs) (Punct mark.Open) = Want (Paren ∷ fs)
 feed (Want fs) (Punct mark.Close) = at_once fs
-feed (Want fs) (Punct m) = stuck
+feed (Want fs) (Punct mark.OpenBrace) = on_brace fs
 feed (Have t fs) (Op o) = on_side o (reduce (level_of o) fs t)
 feed (Have t fs) (Punct mark.OpenBracket) = on_index (reduce 8 fs t)
 feed (Have t fs) (Punct mark.Question) = on_question (reduce 1 fs t)
@@ -95,7 +109,11 @@ feed (Have t fs) (Punct mark.Close) = on_close (reduce 0 fs t)
 feed (Have t fs) (Punct mark.CloseBracket) = on_bracket (reduce 0 fs t)
 feed (Have t fs) (Punct mark.Comma) = on_comma (reduce 0 fs t)
 feed (Have t fs) (Punct mark.Open) = on_open t fs
-feed (Have t fs) k = stuck
+feed (Have t fs) (Punct mark.CloseBrace) = on_end (reduce 0 fs t)
+feed (Closed es (Outer before ∷ [])) (Punct mark.Comma) = Next (before ++ es ∷ [])
+feed (Closed es (Outer before ∷ [])) (Punct mark.CloseBrace) = All (before ++ es ∷ [])
+feed (Next before) (Punct mark.OpenBrace) = Want (Items [] ∷ Outer before ∷ [])
+feed s t = stuck
 
 abbrev feeds : State → List Token → State
 feeds s [] = s
@@ -150,45 +168,26 @@ onto_more : (before : List NamedTree) (a : NamedTree) (args : NamedTrees) → on
 onto_more [] a args = refl
 onto_more (b ∷ before) a args = ap (λ (x : NamedTrees). More b x) (onto_more before a args)
 
-fed_side : (o : BinOp) (h a : NamedTree) (gs fs : List Frame) (us : List Token) → reduce (level_of o) gs h ≡ (a, fs) → feeds (Have h gs) (Op o ∷ us) ≡ feeds (Want (Left a o ∷ fs)) us
-fed_side o h a gs fs us e = ap (λ (p : NamedTree × List Frame). feeds (on_side o p) us) e
+fed : (f : NamedTree × List Frame → State) {p q : NamedTree × List Frame} (us : List Token) → p ≡ q → feeds (f p) us ≡ feeds (f q) us
+fed f us e = ap (λ (x : NamedTree × List Frame). feeds (f x) us) e
 
-fed_index : (h a : NamedTree) (gs fs : List Frame) (us : List Token) → reduce 8 gs h ≡ (a, fs) → feeds (Have h gs) (Punct mark.OpenBracket ∷ us) ≡ feeds (Want (Bracket a ∷ fs)) us
-fed_index h a gs fs us e = ap (λ (p : NamedTree × List Frame). feeds (on_index p) us) e
-
-fed_question : (h a : NamedTree) (gs fs : List Frame) (us : List Token) → reduce 1 gs h ≡ (a, fs) → feeds (Have h gs) (Punct mark.Question ∷ us) ≡ feeds (Want (Ask a ∷ fs)) us
-fed_question h a gs fs us e = ap (λ (p : NamedTree × List Frame). feeds (on_question p) us) e
-
-fed_colon : (h a c : NamedTree) (gs fs : List Frame) (us : List Token) → reduce 0 gs h ≡ (a, Ask c ∷ fs) → feeds (Have h gs) (Punct mark.Colon ∷ us) ≡ feeds (Want (Other c a ∷ fs)) us
-fed_colon h a c gs fs us e = ap (λ (p : NamedTree × List Frame). feeds (on_colon p) us) e
-
-fed_comma : (h a : NamedTree) (f : List ℕ) (before : List NamedTree) (gs fs : List Frame) (us : List Token) → reduce 0 gs h ≡ (a, Args f before ∷ fs) → feeds (Have h gs) (Punct mark.Comma ∷ us) ≡ feeds (Want (Args f (before ++ a ∷ []) ∷ fs)) us
-fed_comma h a f before gs fs us e = ap (λ (p : NamedTree × List Frame). feeds (on_comma p) us) e
+have : {n : ℕ} {fs : List Frame} {ts : List Token} {a : NamedTree} → feeds (Want fs) ts ≡ Have a fs → Built n fs ts a
+have {fs = fs} {a = a} e = record { top = a; frames = fs; state = e; folds = λ m k. refl }
 
 mutual
   built : {n : ℕ} {ts : List Token} {a : NamedTree} → Reads n ts a → (fs : List Frame) → Loose n fs → Built n fs ts a
-  built (number {z}) fs h = record { top = Lit z; frames = fs; state = refl; folds = λ m k. refl }
-  built (truth {b}) fs h = record { top = e.Truth b; frames = fs; state = refl; folds = λ m k. refl }
-  built (name {x}) fs h = record { top = Col x; frames = fs; state = refl; folds = λ m k. refl }
-  built (parenthesized {ts} {a = a} r e) fs h =
+  built number fs h = have refl
+  built truth fs h = have refl
+  built name fs h = have refl
+  built (parenthesized {ts} r e) fs h =
       let x = built r (Paren ∷ fs) tt in
-      record {
-        top = a;
-        frames = fs;
-        state = rw e (through (Want (Paren ∷ fs)) _ ts _ x.state ∙ ap on_close (x.folds 0 (omega arith)));
-        folds = λ m k. refl;
-      }
-  built (call {f} {ts} {args = args} r e) fs h = record { top = Call f args; frames = fs; state = rw e (built_args r f [] fs); folds = λ m k. refl }
-  built (pick {ts} {us} {a = a} {b = b} r q e) fs h =
+      have (rw e (through (Want (Paren ∷ fs)) _ ts _ x.state ∙ fed on_close [] (x.folds 0 (omega arith))))
+  built (call {f} r e) fs h = have (rw e (built_args r f [] fs))
+  built (pick {ts} {us} {a = a} r q e) fs h =
       let x = built r fs h in
       let y = built q (Bracket a ∷ fs) tt in
       let here : reduce 8 x.frames x.top ≡ (a, fs) = x.folds 8 (omega arith) ∙ waits_postfix fs a in
-      record {
-        top = Pick a b;
-        frames = fs;
-        state = rw e (through (Want fs) _ ts _ x.state ∙ fed_index x.top a x.frames fs (us ++ Punct mark.CloseBracket ∷ []) here ∙ through (Want (Bracket a ∷ fs)) _ us (Punct mark.CloseBracket ∷ []) y.state ∙ ap on_bracket (y.folds 0 (omega arith)));
-        folds = λ m k. refl;
-      }
+      have (rw e (through (Want fs) _ ts _ x.state ∙ fed on_index (us ++ Punct mark.CloseBracket ∷ []) here ∙ through (Want (Bracket a ∷ fs)) _ us (Punct mark.CloseBracket ∷ []) y.state ∙ fed on_bracket [] (y.folds 0 (omega arith))))
   built (minus_sign {a = a} r) fs h =
       let x = built r (Minus ∷ fs) (omega arith) in
       record { top = x.top; frames = x.frames; state = x.state; folds = λ m k. x.folds m k ∙ rw (le_true m 7 k) refl }
@@ -202,7 +201,7 @@ mutual
       record {
         top = y.top;
         frames = y.frames;
-        state = rw e (through (Want fs) _ ts _ x.state ∙ fed_side o x.top a x.frames fs us here ∙ y.state);
+        state = rw e (through (Want fs) _ ts _ x.state ∙ fed (on_side o) us here ∙ y.state);
         folds = λ m k. y.folds m (omega arith) ∙ (let tight : m ≤ level_of o = omega arith in rw (le_true m (level_of o) tight) refl);
       }
   built (conditional {ts} {us} {ws} {c = c} {a = a} {b = b} r q w e) fs h =
@@ -213,7 +212,7 @@ mutual
       record {
         top = z.top;
         frames = z.frames;
-        state = rw e (through (Want fs) _ ts _ x.state ∙ fed_question x.top c x.frames fs (us ++ Punct mark.Colon ∷ ws) here ∙ through (Want (Ask c ∷ fs)) _ us (Punct mark.Colon ∷ ws) y.state ∙ fed_colon y.top a c y.frames fs ws (y.folds 0 (omega arith)) ∙ z.state);
+        state = rw e (through (Want fs) _ ts _ x.state ∙ fed on_question (us ++ Punct mark.Colon ∷ ws) here ∙ through (Want (Ask c ∷ fs)) _ us (Punct mark.Colon ∷ ws) y.state ∙ fed on_colon ws (y.folds 0 (omega arith)) ∙ z.state);
         folds = λ m k. z.folds m k ∙ rw (zero_is m k) refl;
       }
   built (tighter {n} r) fs h = let x = built r fs (looser n fs h) in record { top = x.top; frames = x.frames; state = x.state; folds = λ m k. x.folds m (omega arith) }
@@ -222,17 +221,44 @@ mutual
   built_args no_arguments f before fs = refl
   built_args (last_argument {ts} {a} r) f before fs =
       let x = built r (Args f before ∷ fs) tt in
-      through (Want (Args f before ∷ fs)) _ ts _ x.state ∙ ap on_close (x.folds 0 (omega arith))
+      through (Want (Args f before ∷ fs)) _ ts _ x.state ∙ fed on_close [] (x.folds 0 (omega arith))
   built_args (more_arguments {ts} {us} {a = a} {b = b} {args = args} r q e) f before fs =
       let x = built r (Args f before ∷ fs) tt in
-      rw (e, append_assoc) (through (Want (Args f before ∷ fs)) _ ts _ x.state ∙ fed_comma x.top a f before x.frames fs (us ++ Punct mark.Close ∷ []) (x.folds 0 (omega arith)) ∙ built_args q f (before ++ a ∷ []) fs ∙ ap (λ (xs : NamedTrees). Have (Call f xs) fs) (onto_more before a (More b args)))
+      rw (e, append_assoc) (through (Want (Args f before ∷ fs)) _ ts _ x.state ∙ fed on_comma (us ++ Punct mark.Close ∷ []) (x.folds 0 (omega arith)) ∙ built_args q f (before ++ a ∷ []) fs ∙ ap (λ (xs : NamedTrees). Have (Call f xs) fs) (onto_more before a (More b args)))
+
+built_list : {ts : List Token} {es : List NamedTree} → ReadsList ts es → (before : List NamedTree) (fs : List Frame) (us : List Token)
+    → feeds (Want (Items before ∷ fs)) (ts ++ Punct mark.CloseBrace ∷ us) ≡ feeds (Closed (before ++ es) fs) us
+built_list (last_item {ts} r) before fs us =
+    let x = built r (Items before ∷ fs) tt in
+    through (Want (Items before ∷ fs)) _ ts _ x.state ∙ fed on_end us (x.folds 0 (omega arith))
+built_list (more_items {ts} {us = vs} {a = a} {es = es} r q e) before fs us =
+    let x = built r (Items before ∷ fs) tt in
+    rw (e, append_assoc) (through (Want (Items before ∷ fs)) _ ts _ x.state ∙ fed on_comma (vs ++ Punct mark.CloseBrace ∷ us) (x.folds 0 (omega arith)) ∙ built_list q (before ++ a ∷ []) fs us
+    ∙ ap (λ (xs : List NamedTree). feeds (Closed xs fs) us) (append_assoc before (a ∷ []) es))
+
+-- lists, from where the `{` of the first is taken
+built_lists : {ts : List Token} {ls : List (List NamedTree)} → ReadsLists ts ls → (s : State) (before : List (List NamedTree)) → feed s (Punct mark.OpenBrace) ≡ Want (Items [] ∷ Outer before ∷ [])
+    → feeds s (ts ++ Punct mark.CloseBrace ∷ []) ≡ All (before ++ ls)
+built_lists (last_list {ts} r e) s before h =
+    rw (e, append_assoc) (ap (λ (x : State). feeds x (ts ++ Punct mark.CloseBrace ∷ Punct mark.CloseBrace ∷ [])) h ∙ built_list r [] (Outer before ∷ []) (Punct mark.CloseBrace ∷ []))
+built_lists (more_lists {ts} {us} {es = es} {ls = ls} r q e) s before h =
+    let more = Punct mark.Comma ∷ (us ++ Punct mark.CloseBrace ∷ []) in
+    rw (e, append_assoc) (ap (λ (x : State). feeds x (ts ++ Punct mark.CloseBrace ∷ more)) h ∙ built_list r [] (Outer before ∷ []) more
+    ∙ built_lists q (Next (before ++ es ∷ [])) (before ++ es ∷ []) refl ∙ ap All (append_assoc before (es ∷ []) ls))
+
+abbrev value : State → VaryValues
+value (Have a fs) = Vector (reduce 0 fs a).0
+value (Closed es fs) = Lists (es ∷ [])
+value (All ls) = Lists ls
+value s = Lists []
+
+valued : {ts : List Token} {v : VaryValues} → ReadsValues ts v → value (feeds (Want []) ts) ≡ v
+valued (vector r) = let x = built r [] tt in ap value x.state ∙ ap (λ (p : NamedTree × List Frame). Vector p.0) (x.folds 0 (omega arith))
+valued (one_list r e) = rw e (ap value (built_list r [] [] []))
+valued (several_lists r e) = rw e (ap value (built_lists r (Want (Items [] ∷ [])) [] refl))
+
+pub unique_values : (ts : List Token) (v w : VaryValues) → ReadsValues ts v → ReadsValues ts w → v ≡ w
+unique_values ts v w r q = sym (valued r) ∙ valued q
 
 pub unique : (ts : List Token) (a b : NamedTree) → Reads 0 ts a → Reads 0 ts b → a ≡ b
-unique ts a b r q =
-    let x = built r [] tt in
-    let y = built q [] tt in
-    let same : Have x.top x.frames ≡ Have y.top y.frames = sym x.state ∙ y.state in
-    let fold : State → NamedTree = λ s. elim s [ Want fs ↦ a | Have t fs ↦ (reduce 0 fs t).0 ] in
-    let fx = x.folds 0 (omega arith) in
-    let fy = y.folds 0 (omega arith) in
-    ap (λ (p : NamedTree × List Frame). p.0) (sym fx) ∙ ap fold same ∙ ap (λ (p : NamedTree × List Frame). p.0) fy
+unique ts a b r q = let same : Vector a ≡ Vector b = unique_values ts _ _ (vector r) (vector q) in cc same

@@ -9,7 +9,7 @@ use Rattle.rdf_values.specs.declared.expr.BinOp.TheVariants as op
 use Rattle.rdf_values.specs.declared.expr.Mark.TheVariants as mark
 use Rattle.expr_read.specs.Parsing.{BeginsNot}
 use Rattle.expr_read.proofs.Scanned.{name_ends, argument_first}
-use Rattle.expr_read.proofs.Lists.{vector_first, item_first}
+use Rattle.expr_read.proofs.Took.{vector_first, item_first}
 use Rattle.rdf_values.specs.declared.vary_values.VaryValues.{VaryValues}
 
 -- the scan goes from one state to another, up to tokens that are these

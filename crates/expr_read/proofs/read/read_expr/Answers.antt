@@ -1,5 +1,5 @@
 use Rattle.std.proofs.lemmas.Result.{err_from_is_err_and}
-use Rattle.expr_read.proofs.Reading.{tokens_refused, text_refused, memory_alone, one_tree}
+use Rattle.expr_read.proofs.Decided.{tokens_refused, text_refused, memory_alone, one_tree}
 use Rattle.rdf_values.specs.Grammar.{Reads}
 use Rattle.rdf_values.specs.Scans.{begin_expr}
 use Rattle.expr_read.proofs.Whole.{whole}

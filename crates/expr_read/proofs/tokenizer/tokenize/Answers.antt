@@ -5,7 +5,7 @@ use Rattle.std.proofs.lemmas.List.{map-append}
 use Rattle.std.proofs.lemmas.Grind.{common_steps}
 use Rattle.expr_read.specs.Views.{placed_of}
 use Rattle.expr_read.proofs.TokenSteps.{step_blank, step_bad, step_many, step_token, at_end}
-use Rattle.expr_read.proofs.Sizes.{token_sized, refusal_sized, from_place}
+use Rattle.expr_read.proofs.FirstTokens.{token_sized, refusal_sized, from_place}
 use Rattle.expr_read.proofs.tokenizer.tokenize.Goals as goal
 
 pub loop-place-preserved-then-is_blank : goal.loop-place-preserved-then-is_blank

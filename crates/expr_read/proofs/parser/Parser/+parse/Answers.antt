@@ -67,7 +67,7 @@ pub postfix-loop-self-preserved : goal.postfix-loop-self-preserved
 postfix-loop-self-preserved t c = took_as c.in_ok-vector-2.ensures.ok (took_pick c.loop-self.invariant c.loop-self-test.ensures c.in_ok-index.ensures.took c.in_ok-expect.ensures.ok)
 
 pub postfix-returns-clause-stops : goal.postfix-returns-clause-stops
-postfix-returns-clause-stops t c = subst (λ (ts : List Placed). Stops 8 ts) (sym c.loop-self-test.ensures.0) (stops_postfix _ c.loop-self-test.ensures.1)
+postfix-returns-clause-stops t c = subst (λ (ts : List Placed). Stops 8 ts) (sym c.loop-self-test.ensures.0) (stops_postfix 8 _ (omega arith) (omega arith) c.loop-self-test.ensures.1)
 
 pub primary-returns-in_err-expect-in-Some-Punct-Open-clause-stuck : goal.primary-returns-in_err-expect-in-Some-Punct-Open-clause-stuck
 primary-returns-in_err-expect-in-Some-Punct-Open-clause-stuck t c _ s =

@@ -4,7 +4,7 @@ use Rattle.rdf_values.specs.Tokens.{Placed, Punct}
 use Rattle.rdf_values.specs.declared.expr.Mark.TheVariants as mark
 use Rattle.expr_read.specs.Parsing.{BeginsNot, stuck_at}
 use Rattle.expr_read.proofs.Scanned.{stuck_inside}
-use Rattle.expr_read.proofs.Lists.{list_more, list_done}
+use Rattle.expr_read.proofs.Took.{list_more, list_done}
 use Rattle.expr_read.proofs.parser.Parser.list.Goals as goal
 
 pub returns-in_err-expect-clause-stuck : goal.returns-in_err-expect-clause-stuck

@@ -4,7 +4,7 @@ use Rattle.rdf_values.specs.Tokens.{Placed, Punct}
 use Rattle.rdf_values.specs.declared.expr.Mark.TheVariants as mark
 use Rattle.expr_read.specs.Parsing.{BeginsNot, stuck_at}
 use Rattle.expr_read.proofs.Scanned.{scan_after}
-use Rattle.expr_read.proofs.Lists.{lists_more, lists_done, stuck_between, stuck_next}
+use Rattle.expr_read.proofs.Took.{lists_more, lists_done, stuck_between, stuck_next}
 use Rattle.expr_read.proofs.parser.Parser.lists.Goals as goal
 
 pub returns-in_err-expect-clause-stuck : goal.returns-in_err-expect-clause-stuck

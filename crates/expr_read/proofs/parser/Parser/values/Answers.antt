@@ -3,7 +3,7 @@ use Rattle.std.proofs.lemmas.Grind.{common_steps}
 use Rattle.rdf_values.specs.Tokens.{Placed, Punct}
 use Rattle.rdf_values.specs.declared.expr.Mark.TheVariants as mark
 use Rattle.expr_read.specs.Parsing.{BeginsNot}
-use Rattle.expr_read.proofs.Lists.{vector_first, item_first, took_vector, took_lists, took_list}
+use Rattle.expr_read.proofs.Took.{vector_first, item_first, took_vector, took_lists, took_list}
 use Rattle.rdf_values.specs.Tree.{NamedTree}
 use Rattle.expr_read.proofs.parser.Parser.values.Goals as goal
 
