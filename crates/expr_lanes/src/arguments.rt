@@ -79,7 +79,7 @@ pub(crate) fn call_lanes<C: Calls>(
 {
     match (callee, lanes) {
         (Callee::Abs, [argument]) => {
-            run(&Magnitude(&Lane(&argument.left)), selection, lane, stops)
+            run(&Magnitude(Lane(&argument.left)), selection, lane, stops)
         }
         (Callee::Given(number), _) => {
             let step = Called {
@@ -89,6 +89,6 @@ pub(crate) fn call_lanes<C: Calls>(
             };
             run(&step, selection, lane, stops)
         }
-        _ => run(&Copied(&Same(0)), selection, lane, stops),
+        _ => run(&Copied(Same(0)), selection, lane, stops),
     }
 }

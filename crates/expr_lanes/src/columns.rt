@@ -55,7 +55,7 @@ pub(crate) fn read_column<S: LaneInputs>(
     let column = scope.column(number);
     let numbers = column.numbers;
     match column.known {
-        Known::Everywhere => run(&Copied(&Lane(numbers)), selection, lane, stops),
+        Known::Everywhere => run(&Copied(Lane(numbers)), selection, lane, stops),
         Known::Marked(marks) => {
             let part = PartOfColumn {
                 scope,

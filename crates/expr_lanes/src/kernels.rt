@@ -24,13 +24,13 @@ pub(crate) fn stop_at_fault(answer: Result<i64, EntryFault>) -> Result<i64, Scal
 }
 
 /// The numbers themselves.
-#[derive(Drop)]
-pub(crate) struct Copied<'a, N: Numbers>(pub(crate) &'a N);
+#[derive(Clone, Copy)]
+pub(crate) struct Copied<N: Numbers>(pub(crate) N);
 
-impl<'a, N: Numbers> Kernel for Copied<'a, N> {
-    ghost can = { λ s p. N.has s.0.now p };
+impl<N: Numbers> Kernel for Copied<N> {
+    ghost can = { λ s p. N.has s.0 p };
 
-    ghost gives = { λ s p. Gives (N.number s.0.now p) };
+    ghost gives = { λ s p. Gives (N.number s.0 p) };
 
     #[inline(always)]
     fn at(&self, place: u32) -> Result<i64, ScalarStop> {
@@ -39,13 +39,13 @@ impl<'a, N: Numbers> Kernel for Copied<'a, N> {
 }
 
 /// The numbers without their signs.
-#[derive(Drop)]
-pub(crate) struct Magnitude<'a, N: Numbers>(pub(crate) &'a N);
+#[derive(Clone, Copy)]
+pub(crate) struct Magnitude<N: Numbers>(pub(crate) N);
 
-impl<'a, N: Numbers> Kernel for Magnitude<'a, N> {
-    ghost can = { λ s p. N.has s.0.now p };
+impl<N: Numbers> Kernel for Magnitude<N> {
+    ghost can = { λ s p. N.has s.0 p };
 
-    ghost gives = { λ s p. checked (pos (nat_abs (N.number s.0.now p))) };
+    ghost gives = { λ s p. checked (pos (nat_abs (N.number s.0 p))) };
 
     #[inline(always)]
     fn at(&self, place: u32) -> Result<i64, ScalarStop> {
@@ -54,17 +54,13 @@ impl<'a, N: Numbers> Kernel for Magnitude<'a, N> {
 }
 
 /// An operator between two numbers of each place.
-#[derive(Drop)]
-pub(crate) struct Combined<'a, A: Numbers, B: Numbers>(
-    pub(crate) BinOp,
-    pub(crate) &'a A,
-    pub(crate) &'a B,
-);
+#[derive(Clone, Copy)]
+pub(crate) struct Combined<A: Numbers, B: Numbers>(pub(crate) BinOp, pub(crate) A, pub(crate) B);
 
-impl<'a, A: Numbers, B: Numbers> Kernel for Combined<'a, A, B> {
-    ghost can = { λ s p. A.has s.1.now p × B.has s.2.now p };
+impl<A: Numbers, B: Numbers> Kernel for Combined<A, B> {
+    ghost can = { λ s p. A.has s.1 p × B.has s.2 p };
 
-    ghost gives = { λ s p. number_operation s.0 (A.number s.1.now p) (B.number s.2.now p) };
+    ghost gives = { λ s p. number_operation s.0 (A.number s.1 p) (B.number s.2 p) };
 
     #[inline(always)]
     fn at(&self, place: u32) -> Result<i64, ScalarStop> {

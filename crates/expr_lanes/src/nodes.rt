@@ -33,8 +33,10 @@ use rdf_values::{BinOp, NumArgs, NumNode};
 
 type Stops = ArrayVec<Stopped, MAX_PLACES>;
 
+const ZERO: NumNode = NumNode::Lit(0);
+
 // A function's parameters that are lent have a lifetime each: so what takes its level of scratch beside the deeper ones is a
-// function of its own.
+// function of its own. What few nodes need isn't inlined, so that an operator's node has a small frame.
 
 #[cycle(lanes)]
 pub(crate) fn eval_node<S: LaneInputs + Calls>(
@@ -91,6 +93,7 @@ pub(crate) fn eval_node<S: LaneInputs + Calls>(
 
 /// `-x` as `0 - x`, and `!x` as `x == 0`.
 #[cycle(lanes)]
+#[inline(never)]
 fn eval_unary<S: LaneInputs + Calls>(
     node: &NumNode,
     scope: &S,
@@ -104,10 +107,9 @@ fn eval_unary<S: LaneInputs + Calls>(
     requires ready { IsReady (S.size scope.now) selection.old lane.old stops.old.items }
     ensures { Evaluated (lane_at S.look S.functions scope.now (num_tree node.now)) selection.old selection.new lane.old lane.new stops.old.items stops.new.items }
 {
-    let zero = NumNode::Lit(0);
     let (op, left, right) = match node {
-        NumNode::Neg(right) => (BinOp::Sub, &zero, &**right),
-        NumNode::Not(left) => (BinOp::Eq, &**left, &zero),
+        NumNode::Neg(right) => (BinOp::Sub, &ZERO, &**right),
+        NumNode::Not(left) => (BinOp::Eq, &**left, &ZERO),
         _ => unreachable!(),
     };
     let sides = Sides {
@@ -125,7 +127,7 @@ fn write_number(number: i64, selection: &mut Selection, lane: &mut [i64], stops:
     requires room { length stops.old.items + length selection.old ≤ MAX_PLACES }
     ensures { Evaluated (λ p. Gives number) selection.old selection.new lane.old lane.new stops.old.items stops.new.items }
 {
-    run(&Copied(&Same(number)), selection, lane, stops)
+    run(&Copied(Same(number)), selection, lane, stops)
 }
 
 /// A side that needs no evaluation: a number, or a column that is known everywhere.
@@ -248,6 +250,7 @@ fn eval_sides<S: LaneInputs + Calls>(
 }
 
 #[cycle(lanes)]
+#[inline(never)]
 fn eval_choice<S: LaneInputs + Calls>(
     choice: &Choice<'_, S>,
     selection: &mut Selection,
@@ -307,6 +310,7 @@ fn args_length(args: &NumArgs) -> usize
 }
 
 #[cycle(lanes)]
+#[inline(never)]
 fn eval_call<S: LaneInputs + Calls>(
     called: &Called<'_, S>,
     selection: &mut Selection,

@@ -3,7 +3,7 @@ ghost use Rattle.std.specs.Prelude.{◌≡◌, ◌<◌, ◌≤◌, ℕ, ℤ, len
 ghost use Rattle.expr_lanes.specs.Places.{at_place};
 
 /// A number at each place.
-pub(crate) trait Numbers {
+pub(crate) trait Numbers: Copy {
     ghost has: { Self → ℕ → Type 0 };
 
     ghost number: { Self → ℕ → ℤ };

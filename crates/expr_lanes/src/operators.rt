@@ -19,17 +19,17 @@ use rdf_values::BinOp;
 /// The operator between two numbers of each selected place.
 fn combine<A: Numbers, B: Numbers>(
     op: BinOp,
-    left: &A,
-    right: &B,
+    left: A,
+    right: B,
     selection: &mut Selection,
     lane: &mut [i64],
     stops: &mut ArrayVec<Stopped, MAX_PLACES>,
 )
-    requires left { EachPlace selection.old (A.has left.now) }
-    requires right { EachPlace selection.old (B.has right.now) }
+    requires left { EachPlace selection.old (A.has left) }
+    requires right { EachPlace selection.old (B.has right) }
     requires inside { EachPlace selection.old (λ p. p < length lane.old) }
     requires room { length stops.old.items + length selection.old ≤ MAX_PLACES }
-    ensures { Evaluated (λ p. number_operation op (A.number left.now p) (B.number right.now p)) selection.old selection.new lane.old lane.new stops.old.items stops.new.items }
+    ensures { Evaluated (λ p. number_operation op (A.number left p) (B.number right p)) selection.old selection.new lane.old lane.new stops.old.items stops.new.items }
 {
     match op {
         BinOp::Add => run(&Combined(BinOp::Add, left, right), selection, lane, stops),
@@ -65,16 +65,16 @@ pub(crate) fn combine_sides(
 {
     match (left, right) {
         (Side::Number(x), Side::Number(y)) => {
-            combine(op, &Same(x), &Same(y), selection, lane, stops)
+            combine(op, Same(x), Same(y), selection, lane, stops)
         }
         (Side::Number(x), Side::Lane(ys)) => {
-            combine(op, &Same(x), &Lane(ys), selection, lane, stops)
+            combine(op, Same(x), Lane(ys), selection, lane, stops)
         }
         (Side::Lane(xs), Side::Number(y)) => {
-            combine(op, &Lane(xs), &Same(y), selection, lane, stops)
+            combine(op, Lane(xs), Same(y), selection, lane, stops)
         }
         (Side::Lane(xs), Side::Lane(ys)) => {
-            combine(op, &Lane(xs), &Lane(ys), selection, lane, stops)
+            combine(op, Lane(xs), Lane(ys), selection, lane, stops)
         }
     }
 }
