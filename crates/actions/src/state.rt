@@ -320,67 +320,32 @@ impl State {
         ensures within { (n m : ℕ) → IsWithin n self.old → IsWithin m other.now → OnOk result (IsWithin (n + m) self.new) }
         ensures fed { (a b : List Fed) → Holds self.old a → Holds other.now b → OnOk result (Holds self.new (a ++ b)) }
     {
-        match self {
-            State::Count(entries) => match other {
-                State::Count(more) => {
-                    *entries += *more;
-                    Ok(())
-                }
-                _ => unreachable!(),
-            },
-            State::Sum { sum, .. } => match other {
-                State::Sum { sum: more, .. } => {
-                    *sum += *more;
-                    Ok(())
-                }
-                _ => unreachable!(),
-            },
-            State::Min { least, .. } => match other {
-                State::Min { least: more, .. } => {
-                    *least = least_of(*least, *more);
-                    Ok(())
-                }
-                _ => unreachable!(),
-            },
-            State::Max { greatest, .. } => match other {
-                State::Max { greatest: more, .. } => {
-                    *greatest = greatest_of(*greatest, *more);
-                    Ok(())
-                }
-                _ => unreachable!(),
-            },
-            State::Take { values, .. } => match other {
-                State::Take { values: more, .. } => {
-                    *values = merged(alloc, values.as_slice(), more.as_slice())?;
-                    Ok(())
-                }
-                _ => unreachable!(),
-            },
-            State::Reduce { reduction, .. } => match other {
+        match (self, other) {
+            (State::Count(entries), State::Count(more)) => *entries += *more,
+            (State::Sum { sum, .. }, State::Sum { sum: more, .. }) => *sum += *more,
+            (State::Min { least, .. }, State::Min { least: more, .. }) => {
+                *least = least_of(*least, *more);
+            }
+            (State::Max { greatest, .. }, State::Max { greatest: more, .. }) => {
+                *greatest = greatest_of(*greatest, *more);
+            }
+            (State::Take { values, .. }, State::Take { values: more, .. }) => {
+                *values = merged(alloc, values.as_slice(), more.as_slice())?;
+            }
+            (
+                State::Reduce { reduction, .. },
                 State::Reduce {
                     reduction: more,
                     ..
-                } => {
-                    reduction.value = reduce(reduction.op, reduction.value, more.value);
-                    Ok(())
-                }
-                _ => unreachable!(),
-            },
-            State::Histo1D { hist, .. } => match other {
-                State::Histo1D { hist: more, .. } => {
-                    hist.merge(more);
-                    Ok(())
-                }
-                _ => unreachable!(),
-            },
-            State::Histo2D { hist, .. } => match other {
-                State::Histo2D { hist: more, .. } => {
-                    hist.merge(more);
-                    Ok(())
-                }
-                _ => unreachable!(),
-            },
+                },
+            ) => {
+                reduction.value = reduce(reduction.op, reduction.value, more.value);
+            }
+            (State::Histo1D { hist, .. }, State::Histo1D { hist: more, .. }) => hist.merge(more),
+            (State::Histo2D { hist, .. }, State::Histo2D { hist: more, .. }) => hist.merge(more),
+            _ => unreachable!(),
         }
+        Ok(())
     }
 
     /// What was made of the items so far.

@@ -5,46 +5,39 @@ use Rattle.lemmas.proofs.Orders.{abs_add}
 use Rattle.actions.proofs.Merges.{merge_count, merge_flat, merge_max, merge_min, merge_reduce, merge_square, merge_sum, merge_take}
 use Rattle.actions.proofs.Sums.{fits_sum}
 use Rattle.actions.proofs.state.State.merge.Goals as goal
+use Rattle.actions.proofs.state.State.merge.Goals.{in-Count-Count, in-Sum-Sum, in-Min-Min, in-Max-Max, in-Take-Take+in_ok-values-in-Take-Take, in-Reduce-Reduce, in-Histo1D-Histo1D, in-Histo2D-Histo2D}
 
-pub returns-in-Count-other-clause-fed : goal.returns-in-Count-other-clause-fed
-returns-in-Count-other-clause-fed c = λ a b held more. merge_count a b c.in-Count.entries c.in-Count-other.more (rw c.in-Count.is at held) (rw c.in-Count-other.is at more)
-
-pub returns-in-Sum-other-clause-fed : goal.returns-in-Sum-other-clause-fed
-returns-in-Sum-other-clause-fed c = λ a b held more.
-    let fits_x : FitsSigned w128 c.in-Sum.sum = search rules in
-    let fits_y : FitsSigned w128 c.in-Sum-other.more = search rules in
-    let room = rw c.in-Sum.is at c.requires.room in
-    let other_room = rw c.in-Sum-other.is at c.requires.other_room in
-    let fits : FitsSigned w128 (c.in-Sum.sum +ℤ c.in-Sum-other.more) = fits_sum (c.in-Sum.sum +ℤ c.in-Sum-other.more) (let sum = abs_add c.in-Sum.sum c.in-Sum-other.more in omega arith) in
-    merge_sum a b c.in-Sum.column c.in-Sum-other.column c.in-Sum.sum c.in-Sum-other.more _ (simp (to_z-of_z w128 _ fits_x, to_z-of_z w128 _ fits_y, to_z-of_z w128 _ fits)) (rw c.in-Sum.is at held) (rw c.in-Sum-other.is at more)
-
-pub returns-in-Min-other-clause-fed : goal.returns-in-Min-other-clause-fed
-returns-in-Min-other-clause-fed c = λ a b held more. merge_min a b c.in-Min.column c.in-Min-other.column c.in-Min.least c.in-Min-other.more _ c.least_of.ensures (rw c.in-Min.is at held) (rw c.in-Min-other.is at more)
-
-pub returns-in-Max-other-clause-fed : goal.returns-in-Max-other-clause-fed
-returns-in-Max-other-clause-fed c = λ a b held more. merge_max a b c.in-Max.column c.in-Max-other.column c.in-Max.greatest c.in-Max-other.more _ c.greatest_of.ensures (rw c.in-Max.is at held) (rw c.in-Max-other.is at more)
-
-pub returns-in_ok-values-in-Take-other-clause-fed : goal.returns-in_ok-values-in-Take-other-clause-fed
-returns-in_ok-values-in-Take-other-clause-fed c = λ a b held more.
-    merge_take a b c.in-Take.column c.in-Take-other.column c.in-Take.values c.in-Take-other.more c.in_ok-values-in-Take-other.field-0
-    (rw (c.as_slice.ensures, c.as_slice-in-Take-other.ensures) at (c.in_ok-values-in-Take-other.ensures.order a b)) (rw c.in-Take.is at held) (rw c.in-Take-other.is at more)
-
-pub returns-in-Reduce-other-clause-fed : goal.returns-in-Reduce-other-clause-fed
-returns-in-Reduce-other-clause-fed c = λ a b held more.
-    let fits_x : FitsSigned w64 c.in-Reduce.reduction.value = search rules in
-    let fits_y : FitsSigned w64 c.in-Reduce-other.more.value = search rules in
-    let fits : FitsSigned w64 c.reduce-reduction.result = search rules in
-    let same : c.in-Reduce-other.more.op ≡ c.in-Reduce.reduction.op = let kinds = rw (c.in-Reduce.is, c.in-Reduce-other.is) at c.requires.kind in cc in
-    let reduced = rw (to_z-of_z w64 c.in-Reduce.reduction.value fits_x, to_z-of_z w64 c.in-Reduce-other.more.value fits_y) at c.reduce-reduction.ensures in
-    merge_reduce a b c.in-Reduce.column c.in-Reduce-other.column c.in-Reduce.reduction.op c.in-Reduce-other.more.op c.in-Reduce.reduction.value c.in-Reduce-other.more.value _ same
-    (to_z-of_z w64 c.reduce-reduction.result fits ∙ reduced)
-    (rw c.in-Reduce.is at held) (rw c.in-Reduce-other.is at more)
-
-pub returns-in-Histo1D-other-clause-fed : goal.returns-in-Histo1D-other-clause-fed
-returns-in-Histo1D-other-clause-fed c = λ a b held more.
-    merge_flat a b c.in-Histo1D.hist c.in-Histo1D-other.more c.merge.new.self c.in-Histo1D.x c.in-Histo1D-other.x c.in-Histo1D.weight c.in-Histo1D-other.weight c.merge.ensures.filled (rw c.in-Histo1D.is at held) (rw c.in-Histo1D-other.is at more)
-
-pub returns-in-Histo2D-other-clause-fed : goal.returns-in-Histo2D-other-clause-fed
-returns-in-Histo2D-other-clause-fed c = λ a b held more.
-    merge_square a b c.in-Histo2D.hist c.in-Histo2D-other.more c.merge-in-Histo2D-other.new.self c.in-Histo2D.x c.in-Histo2D.y c.in-Histo2D-other.x c.in-Histo2D-other.y c.in-Histo2D.weight c.in-Histo2D-other.weight c.merge-in-Histo2D-other.ensures.filled
-    (rw c.in-Histo2D.is at held) (rw c.in-Histo2D-other.is at more)
+pub returns-clause-fed : goal.returns-clause-fed
+returns-clause-fed c = λ a b held more. elim c.match-self.branch [
+  | in-Count-Count w ↦ let x = w.in-Count-Count in rw w.self-is (merge_count a b x.entries x.more (rw x.is-0 at held) (rw x.is-1 at more))
+  | in-Sum-Sum w ↦
+      let x = w.in-Sum-Sum in
+      let fits_x : FitsSigned w128 x.sum = search rules in
+      let fits_y : FitsSigned w128 x.more = search rules in
+      let room = rw x.is-0 at c.requires.room in
+      let other_room = rw x.is-1 at c.requires.other_room in
+      let fits : FitsSigned w128 (x.sum +ℤ x.more) = fits_sum (x.sum +ℤ x.more) (let sum = abs_add x.sum x.more in omega arith) in
+      rw w.self-is (merge_sum a b x.column-0 x.column-1 x.sum x.more _ (simp (to_z-of_z w128 _ fits_x, to_z-of_z w128 _ fits_y, to_z-of_z w128 _ fits)) (rw x.is-0 at held) (rw x.is-1 at more))
+  | in-Min-Min w ↦ let x = w.in-Min-Min in rw w.self-is (merge_min a b x.column-0 x.column-1 x.least x.more _ w.least_of.ensures (rw x.is-0 at held) (rw x.is-1 at more))
+  | in-Max-Max w ↦ let x = w.in-Max-Max in rw w.self-is (merge_max a b x.column-0 x.column-1 x.greatest x.more _ w.greatest_of.ensures (rw x.is-0 at held) (rw x.is-1 at more))
+  | in-Take-Take+in_ok-values-in-Take-Take w ↦
+      let x = w.in-Take-Take in
+      let y = w.in_ok-values-in-Take-Take in
+      let order = rw (w.as_slice.ensures, w.as_slice-in-Take-Take.ensures) at (y.ensures.order a b) in
+      rw w.self-is (merge_take a b x.column-0 x.column-1 x.values x.more y.field-0 order (rw x.is-0 at held) (rw x.is-1 at more))
+  | in-Reduce-Reduce w ↦
+      let x = w.in-Reduce-Reduce in
+      let fits_x : FitsSigned w64 x.reduction.value = search rules in
+      let fits_y : FitsSigned w64 x.more.value = search rules in
+      let fits : FitsSigned w64 w.reduce-reduction.result = search rules in
+      let same : x.more.op ≡ x.reduction.op = let kinds = rw (x.is-0, x.is-1) at c.requires.kind in cc in
+      let reduced = to_z-of_z w64 w.reduce-reduction.result fits ∙ (rw (to_z-of_z w64 x.reduction.value fits_x, to_z-of_z w64 x.more.value fits_y) at w.reduce-reduction.ensures) in
+      rw w.self-is (merge_reduce a b x.column-0 x.column-1 x.reduction.op x.more.op x.reduction.value x.more.value _ same reduced (rw x.is-0 at held) (rw x.is-1 at more))
+  | in-Histo1D-Histo1D w ↦
+      let x = w.in-Histo1D-Histo1D in
+      rw w.self-is (merge_flat a b x.hist x.more w.merge.new.self x.x-0 x.x-1 x.weight-0 x.weight-1 w.merge.ensures.filled (rw x.is-0 at held) (rw x.is-1 at more))
+  | in-Histo2D-Histo2D w ↦
+      let x = w.in-Histo2D-Histo2D in
+      let m = w.merge-in-Histo2D-Histo2D in
+      rw w.self-is (merge_square a b x.hist x.more m.new.self x.x-0 x.y-0 x.x-1 x.y-1 x.weight-0 x.weight-1 m.ensures.filled (rw x.is-0 at held) (rw x.is-1 at more))
+]
