@@ -1,15 +1,14 @@
 -- Counts over the passes of results, by their rows.
-use Rattle.std.proofs.Common.{◌≡◌, ℕ, zero, suc, ◌+◌, ◌*◌, ◌≤◌, Bool, true, false, List, [], ◌∷◌, ◌++◌, length, Option, Some, None, slice_get, nat_lt, if◌then◌else◌, refl, sym, ◌∙◌, ap, subst, arith}
-use Rattle.std.specs.Prelude.{⊤}
-use Rattle.std.specs.List.{sum_by, filter}
-use Rattle.std.proofs.lemmas.List.{length-map}
+use Rattle.std.proofs.Common.{◌≡◌, ℕ, zero, suc, ◌+◌, ◌*◌, ◌≤◌, Bool, true, false, List, [], ◌∷◌, ◌++◌, length, Option, Some, None, slice_get, nat_lt, if◌then◌else◌, refl, sym, ◌∙◌, ap, subst, arith, ◌<◌, ◌||◌, map, Decides}
+use Rattle.std.specs.List.{sum_by, filter, AllZip}
+use Rattle.std.proofs.lemmas.List.{append-nil, length-map, length-append}
 use Rattle.std.proofs.lemmas.List.Sums.{sum_by-cons}
-use Rattle.rdf_values.specs.Bookings.{Booking, Booked, Pass, bookings, results_named, passes_of, varied_passes, has_variations, result_depends}
+use Rattle.rdf_values.specs.Bookings.{Booking, Booked, Pass, bookings, results_named, passes_of, varied_passes, has_variations, result_depends, ActionAt, columns_of}
 use Rattle.rdf_values.specs.Names.{same}
-use Rattle.rdf_values.specs.Path.{Variation, variations}
-use Rattle.rdf_values.specs.Verdict.{first_refusal, refuse_if, over_passes, cells_of, takes_of, check_passes, printed_results}
+use Rattle.rdf_values.specs.Path.{Variation, variations, path, own_variations}
+use Rattle.rdf_values.specs.Verdict.{first_refusal, refuse_if, over_passes, cells_of, takes_of, check_passes, printed_results, AreAccepted, check, check_columns, permitted_kinds, check_node, check_tags, check_target, check_values, is_variation_name, repeats, scope_at}
 use Rattle.rdf_values.specs.declared.statement.Statement.{Statement}
-use Rattle.rdf_values.specs.declared.statement.Statement.TheVariants.{Action, Report, Print}
+use Rattle.rdf_values.specs.declared.statement.Statement.TheVariants.{Action, Report, Print, Vary}
 use Rattle.rdf_values.specs.declared.graph_cause.GraphCause.{GraphCause}
 use Rattle.rdf_values.specs.declared.graph_cause.GraphCause.TheVariants.{TooMany}
 use Rattle.graph_numbers.specs.Graphs.{holds_at}
@@ -18,6 +17,24 @@ use Rattle.graph.specs.declared.var_set.VarSet.{VarSet}
 use Rattle.graph.specs.Amounts.{front, row_passes, rows_named, printed_rows, IsAmount}
 use Rattle.graph.specs.declared.amounts.Amounts.{Amounts}
 use Rattle.graph.specs.declared.result_row.ResultRow.{ResultRow}
+use Rattle.graph.proofs.Listing.{zip_both, zip_by}
+use Rattle.std.proofs.lemmas.Bool.Decides.{Decides-ltb}
+use Rattle.rdf_values.specs.Kinds.{FunctionNames, scope_of}
+use Rattle.rdf_values.specs.declared.action.ActionKind.{ActionKind}
+use Rattle.rdf_values.specs.declared.column.Column.{Column}
+use Rattle.rdf_values.specs.declared.graph_cause.GraphCause.TheVariants as cause
+use Rattle.rdf_values.specs.declared.vary_values.VaryValues.{VaryValues}
+use Rattle.rdf_model.proofs.Accepted.{both_none, if_fails}
+use Rattle.graph_numbers.specs.Versions.{version_at}
+use Rattle.graph.specs.Dependence.{Numbers, IsSet, depends_at, any_depends, action_set, site_sets, result_sets}
+use Rattle.graph.specs.Gains.{AreRows, IsRow, IsBookedRow, AreTables}
+use Rattle.graph.specs.declared.tables.Tables.{Tables}
+use Rattle.graph.specs.SiteNumbers.{filter_numbers}
+use Rattle.graph.specs.VarSets.{any_has}
+use Rattle.graph.proofs.ResultSets.{beyond, result_is, result_beyond, action_beyond, filters_are, columns_are}
+use Rattle.graph.proofs.SetTables.{sets_any, row_set}
+use Rattle.graph.proofs.SiteTotals.{numbers_are}
+use Rattle.graph.proofs.Depending.{tells, tags_count}
 
 pub front_is : (rows xs : List ResultRow) (x : ResultRow) → rows ≡ xs ++ x ∷ [] → front rows ≡ xs
 front_is rows xs x e = ap front e ∙ go xs
@@ -38,11 +55,7 @@ pub count_filter : {A : Type 0} (p : A → Bool) (k : ℕ) (xs : List A) (q : �
 count_filter p k [] q le h = none_below k q h
 count_filter p zero (x ∷ xs) q le h = absurd (omega (arith, le))
 count_filter p (suc k) (x ∷ xs) q le h =
-    (λ i. (if h 0 i then 1 else 0) + count_filter p k xs (λ v. q (suc v)) (omega (arith, le)) (λ v. h (suc v)) i) ∙ go (p x)
-  where
-    go : (b : Bool) → (if b then 1 else 0) + length (filter p xs) ≡ length (if b then x ∷ filter p xs else filter p xs)
-    go true = omega arith
-    go false = omega arith
+    let first = h 0 in let rest = count_filter p k xs (λ v. q (suc v)) (omega (arith, le)) (λ v. h (suc v)) in grind (arith, first, rest)
 
 pub set_counted : {A : Type 0} (p : A → Bool) (xs : List A) (s : VarSet) → length xs ≤ 128 → ((v : ℕ) → has s v ≡ holds_at p (slice_get xs v)) → count_of s ≡ length (filter p xs)
 unfolding count_of
@@ -59,10 +72,7 @@ module _ (script : List Statement) where
     pub varied : count_of r.set ≡ length (filter (λ v. result_depends v b.booking) (variations script))
 
   abbrev pub AllPassed : List Booked → List ResultRow → Type 0
-  AllPassed [] [] = ⊤
-  AllPassed [] (r ∷ rs) = ⊥
-  AllPassed (b ∷ bs) [] = ⊥
-  AllPassed (b ∷ bs) (r ∷ rs) = IsPassed b r × AllPassed bs rs
+  AllPassed bs rs = AllZip IsPassed bs rs
 
   passes_counted : (b : Booked) (r : ResultRow) → IsPassed b r → length (passes_of script b) ≡ row_passes script r
   passes_counted b r h = go (has_variations script b.name) ∙ ap (λ n. suc (if has_variations script n then count_of r.set else 0)) (sym h.name)
@@ -93,10 +103,7 @@ module _ (script : List Statement) where
       e ∙ λ i. first_refusal (refuse_if (nat_lt 1048576 (c i)) TooMany ∷ refuse_if (nat_lt 16 (t i)) TooMany ∷ [])
 
   pub passed_both : (bs cs : List Booked) (rs ss : List ResultRow) → AllPassed bs rs → AllPassed cs ss → AllPassed (bs ++ cs) (rs ++ ss)
-  passed_both [] cs [] ss h k = k
-  passed_both [] cs (r ∷ rs) ss h k = elim h [ ]
-  passed_both (b ∷ bs) cs [] ss h k = elim h [ ]
-  passed_both (b ∷ bs) cs (r ∷ rs) ss h k = (h.0, passed_both bs cs rs ss h.1 k)
+  passed_both bs cs rs ss h k = zip_both IsPassed bs cs rs ss h k
 
   named_passed : (name : List ℕ) (bs : List Booked) (rs : List ResultRow) → AllPassed bs rs → AllPassed (results_named name bs) (rows_named name rs)
   named_passed name [] [] h = tt
@@ -123,12 +130,8 @@ module _ (script : List Statement) where
       go (y ∷ ys) k = elim k [ ]
   front_passed (x ∷ bs) b (r ∷ q ∷ rs) h = (h.0, front_passed bs b (q ∷ rs) h.1)
 
-  no_more : {A : Type 0} (xs : List A) → xs ++ [] ≡ xs
-  no_more [] = refl
-  no_more (x ∷ xs) = ap (λ ys. x ∷ ys) (no_more xs)
-
   same_rows : (before : List Statement) (rs : List ResultRow) → AllPassed (bookings before ++ []) rs → AllPassed (bookings before) rs
-  same_rows before rs h = subst (λ bs. AllPassed bs rs) (no_more (bookings before)) h
+  same_rows before rs h = subst (λ bs. AllPassed bs rs) (append-nil (bookings before)) h
 
   -- the rows of the printed results are theirs
   pub printed_passed : (before : List Statement) (rs : List ResultRow) → AllPassed (bookings before) rs → AllPassed (printed_results before) (printed_rows before rs)
@@ -143,3 +146,104 @@ module _ (script : List Statement) where
   -- and with those of one Print more
   pub printed_with : (before : List Statement) (name : List ℕ) (rs : List ResultRow) → AllPassed (bookings before) rs → AllPassed (printed_results (Print name ∷ before)) (printed_rows (Print name ∷ before) rs)
   printed_with before name rs h = passed_both (results_named name (bookings before)) (printed_results before) (rows_named name rs) (printed_rows before rs) (named_passed name (bookings before) rs h) (printed_passed before rs h)
+
+module _ (header : List Column) (names : FunctionNames) where
+  -- a Vary that was checked makes at most 128 variations with those before it
+  pub few_with : (before : List Statement) (node parent vary : List ℕ) (columns tags : List (List ℕ)) (values : VaryValues) → check names (scope_of header) before (Vary node parent columns values tags vary) ≡ None
+      → length (variations before) + length tags ≤ 128
+  few_with before node parent vary columns tags values ok =
+      let targets : Option GraphCause = first_refusal (map (check_target (scope_at names (scope_of header) before parent) (path before parent)) columns) in
+      let value : Option GraphCause = check_values names (scope_at names (scope_of header) before parent) (length tags) columns values in
+      let a = both_none (check_node before node parent) (refuse_if (repeats columns) cause.NameTaken ∷ targets ∷ check_tags before tags vary ∷ value ∷ []) ok in
+      let b = both_none (refuse_if (repeats columns) cause.NameTaken) (targets ∷ check_tags before tags vary ∷ value ∷ []) a.1 in
+      let c = both_none targets (check_tags before tags vary ∷ value ∷ []) b.1 in
+      let d = both_none (check_tags before tags vary) (value ∷ []) c.1 in
+      let many : Option GraphCause = refuse_if (nat_lt 16 (length tags) || nat_lt 128 (length (variations before) + length tags)) cause.TooMany in
+      let e = both_none (refuse_if (repeats tags) cause.NameTaken) (refuse_if (is_variation_name before vary) cause.NameTaken ∷ many ∷ []) d.0 in
+      let f = both_none (refuse_if (is_variation_name before vary) cause.NameTaken) (many ∷ []) e.1 in
+      let g = both_none many [] f.1 in
+      let n : ℕ = length (variations before) + length tags in
+      go (nat_lt 16 (length tags)) (nat_lt 128 n) refl (if_fails _ cause.TooMany g.0) (Decides-ltb 128 n)
+    where
+      go : (a c : Bool) → nat_lt 128 (length (variations before) + length tags) ≡ c → (a || c) ≡ false → Decides (nat_lt 128 (length (variations before) + length tags)) (128 < length (variations before) + length tags)
+          → length (variations before) + length tags ≤ 128
+      go true c q h d = cc h
+      go false true q h d = cc h
+      go false false q h d = let no : (128 < length (variations before) + length tags → ⊥) = λ l. absurd (cc (sym q ∙ d.1 l)) in omega (arith, no)
+
+  pub few_variations : (before : List Statement) → AreAccepted names (scope_of header) before → length (variations before) ≤ 128
+  few_variations [] good = omega arith
+  few_variations (s ∷ before) good = own s good.0 (few_variations before good.1)
+    where
+      own : (t : Statement) → check names (scope_of header) before t ≡ None → length (variations before) ≤ 128 → length (variations (t ∷ before)) ≤ 128
+      own (Vary node parent columns values tags vary) ok le =
+          let f = few_with before node parent vary columns tags values ok in let c = tags_count vary tags in
+          let n = length-append (variations before) (own_variations (Vary node parent columns values tags vary)) in omega (arith, f, c, n)
+      own t ok le = let n = length-append (variations before) (own_variations t) in omega (arith, n, le)
+
+  -- a result's set has the numbers of the variations on which it depends
+  depends_is : (before : List Statement) → AreAccepted names (scope_of header) before → (r : ℕ) (b : Booked) → slice_get (bookings before) r ≡ Some b → (v : ℕ)
+      → depends_at (result_sets header names before) r v ≡ holds_at (λ w. result_depends w b.booking) (slice_get (variations before) v)
+  depends_is before good r b h v = go (slice_get (variations before) v) refl
+    where
+      go : (o : Option Variation) → slice_get (variations before) v ≡ o → depends_at (result_sets header names before) r v ≡ holds_at (λ w. result_depends w b.booking) o
+      go None e = result_beyond header names v before (beyond (variations before) v e) r
+      go (Some w) e = result_is header names v w before good (tells header names before good v w e) r b h
+
+  passed_from : (script : List Statement) (bs : List Booked) (ds : List Numbers) (rs : List ResultRow) → length (variations script) ≤ 128 → AreRows bs ds rs
+      → ((r : ℕ) (b : Booked) → slice_get bs r ≡ Some b → (v : ℕ) → depends_at ds r v ≡ holds_at (λ w. result_depends w b.booking) (slice_get (variations script) v)) → AllPassed script bs rs
+  passed_from script bs ds rs few h e =
+      zip_by IsRow (IsPassed script) bs rs
+      (λ n b r p q row. record {
+        name = row.name;
+        cells = row.cells;
+        takes = row.takes;
+        varied = set_counted (λ w. result_depends w b.booking) (variations script) r.set few (λ v. row_set bs ds rs h n r q v ∙ e n b p v);
+      }) h.0
+
+  -- the rows of the tables are those of the whole script
+  pub rows_passed : (script before : List Statement) → variations script ≡ variations before → AreAccepted names (scope_of header) before → (rs : List ResultRow) → AreRows (bookings before) (result_sets header names before) rs
+      → AllPassed script (bookings before) rs
+  rows_passed script before same good rs h =
+      passed_from script (bookings before) (result_sets header names before) rs (subst (λ (vs : List Variation). length vs ≤ 128) (sym same) (few_variations before good)) h
+      (λ r b q v. depends_is before good r b q v ∙ ap (λ (vs : List Variation). holds_at (λ w. result_depends w b.booking) (slice_get vs v)) (sym same))
+
+  -- an action whose columns were checked
+  action_is : (before : List Statement) → AreAccepted names (scope_of header) before → (parent : List ℕ) (k : ActionKind)
+      → check_columns (scope_at names (scope_of header) before parent) (permitted_kinds k) [] (columns_of k) ≡ None → (v : ℕ)
+      → action_set header names before parent (columns_of k) v ≡ holds_at (λ w. result_depends w (ActionAt k (path before parent))) (slice_get (variations before) v)
+  action_is before good parent k known v = go (slice_get (variations before) v) refl
+    where
+      go : (o : Option Variation) → slice_get (variations before) v ≡ o → action_set header names before parent (columns_of k) v ≡ holds_at (λ w. result_depends w (ActionAt k (path before parent))) o
+      go None e = action_beyond header names v before (beyond (variations before) v e) parent (columns_of k)
+      go (Some w) e =
+          let tell = tells header names before good v w e in
+          λ i. sym (filters_are header names v w before good tell parent) i || sym (columns_are header names v w before good tell parent (permitted_kinds k) [] (columns_of k) known) i
+
+  -- the rows of the tables and of one action more
+  pub action_passed : (before : List Statement) → AreAccepted names (scope_of header) before → (rs : List ResultRow) → AreRows (bookings before) (result_sets header names before) rs
+      → (name parent : List ℕ) (k : ActionKind) → check_columns (scope_at names (scope_of header) before parent) (permitted_kinds k) [] (columns_of k) ≡ None
+      → (r : ResultRow) → IsBookedRow header names before (Action name parent k) r
+      → AllPassed before (bookings (Action name parent k ∷ before)) (rs ++ r ∷ [])
+  action_passed before good rs h name parent k known r own =
+      passed_both before (bookings before) (record { name = name; booking = ActionAt k (path before parent) } ∷ []) rs (r ∷ []) (rows_passed before before refl good rs h) (
+        record {
+          name = own.rows.0.0.name;
+          cells = own.rows.0.0.cells;
+          takes = own.rows.0.0.takes;
+          varied = set_counted (λ w. result_depends w (ActionAt k (path before parent))) (variations before) r.set (few_variations before good) (λ v. own.rows.1.0 v ∙ action_is before good parent k known v);
+        },
+        tt,
+      )
+
+  -- ---- tables
+
+  -- the set of an action
+  pub action_set_is : (before : List Statement) (t : Tables) → AreTables header names before t → (parent : List ℕ) (cs columns : List (List ℕ)) → cs ≡ columns → (f i u : VarSet) (fs is : List VarSet) → fs ≡ t.site_sets.items → is ≡ t.version_sets.items
+      → ((v : ℕ) → has f v ≡ any_has fs (filter_numbers before parent) v) → ((v : ℕ) → has i v ≡ any_has is (map (version_at header before parent) cs) v)
+      → ((v : ℕ) → has u v ≡ (has f v || has i v)) → IsSet (action_set header names before parent columns) u
+  action_set_is before t h parent cs columns e f i u fs is a b p q r v =
+      r v ∙ (λ j. p v j || q v j)
+      ∙ (λ j.
+      (ap (λ ss. any_has ss (filter_numbers before parent) v) a ∙ sets_any _ t.site_sets.items h.site_sets (filter_numbers before parent) v ∙ ap (λ ns. any_depends (site_sets header names before) ns v) (numbers_are header names before parent)) j
+      || ((λ l. any_has (b l) (map (version_at header before parent) (e l)) v) ∙ sets_any _ t.version_sets.items h.version_sets (map (version_at header before parent) columns) v) j)

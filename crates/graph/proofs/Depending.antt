@@ -1,38 +1,106 @@
 -- A column, a site and a result depend on a variation exactly where their sets have its number.
-use Rattle.std.proofs.Common.{if◌then◌else◌, ◌≡◌, ℕ, zero, suc, ◌+◌, Bool, true, false, ◌&&◌, ◌||◌, List, [], ◌∷◌, ◌++◌, map, length, Option, Some, None, option_map, Ok, slice_get, refl, sym, ◌∙◌, ap, subst, arith}
+use Rattle.std.proofs.Common.{if◌then◌else◌, ◌≡◌, ℕ, suc, ◌+◌, Bool, true, false, ◌&&◌, ◌||◌, List, [], ◌∷◌, ◌++◌, map, length, Option, Some, None, Ok, slice_get, refl, sym, ◌∙◌, ap, subst, arith, ◌⊎◌, inl, inr, ◌<◌, ◌≤◌, nat_le, nat_lt}
 use Rattle.std.specs.List.{list_any}
-use Rattle.std.proofs.lemmas.List.{length-append, length-map}
-use Rattle.lemmas.proofs.Places.{kept_at}
+use Rattle.std.proofs.lemmas.List.{length-append, length-map, map-append}
+use Rattle.lemmas.proofs.Places.{kept_at, mapped_at, any_at}
 use Rattle.rdf_values.specs.Depends.{columns_in, columns_in_all, named_depends, column_depends, site_depends, is_own}
-use Rattle.rdf_values.specs.EachColumn.{EachColumn, EachArgument}
+use Rattle.rdf_values.specs.EachColumn.{EachColumn}
 use Rattle.rdf_values.specs.Kinds.{FunctionNames, scope_of, column_kind, kind_of, shape_of}
 use Rattle.rdf_values.specs.Names.{same, among, place}
 use Rattle.rdf_values.specs.Numbered.{renamed, all_renamed, callee}
-use Rattle.rdf_values.specs.Path.{Variation, makes, parent_of, path, target_of, variations}
+use Rattle.rdf_values.specs.Path.{Variation, makes, parent_of, path, target_of, variations, own_variations}
 use Rattle.rdf_values.specs.Tree.{Tree, Trees, NamedTree, Lit, Truth, Col, Neg, Not, Bin, Cond, Pick, Call, End, More}
-use Rattle.rdf_values.specs.Verdict.{AreAccepted, made_columns, scope_at}
+use Rattle.rdf_values.specs.Verdict.{AreAccepted, made_columns, scope_at, check, is_variation_name}
 use Rattle.rdf_values.specs.declared.column.Column.{Column}
 use Rattle.rdf_values.specs.declared.value.ColType.{ColType}
 use Rattle.rdf_values.specs.declared.vary_values.VaryValues.{VaryValues}
 use Rattle.rdf_values.specs.declared.statement.Statement.{Statement}
 use Rattle.rdf_values.specs.declared.statement.Statement.TheVariants.{Define, Redefine, Vary}
-use Rattle.rdf_model.proofs.Accepted.{kind_known, checked_of, names_equal, sound_path, visible_resolved}
+use Rattle.rdf_model.proofs.Accepted.{kind_known, checked_of, sound_path, visible_resolved, itself}
 use Rattle.rdf_model.proofs.KnownColumns.{IsKnownColumn, known_columns, each_weaker}
 use Rattle.graph_numbers.specs.Graphs.{holds_at}
 use Rattle.graph_numbers.specs.Versions.{column_place, own_columns, own_version, version_or, version_count, named_version, version_at}
-use Rattle.graph_numbers.proofs.Listed.{next_at}
+use Rattle.graph_numbers.proofs.Listed.{next_at, of_joined}
+use Rattle.graph_numbers.proofs.Meeting.{In, here, there, each_at}
 use Rattle.graph.specs.Dependence.{Numbers, depends_at, is_among_own, expression_set, varied_set, own_version_sets, version_sets}
-use Rattle.graph.proofs.Listing.{any_map, any_append}
-use Rattle.graph.proofs.Telling.{Tells}
+use Rattle.graph.proofs.Listing.{any_map, named_at, no_place}
+use Rattle.std.specs.Prelude.{⊤}
+use Rattle.std.proofs.lemmas.Bool.{le-leb}
+use Rattle.std.proofs.lemmas.List.Folds.{list_any-append}
+use Rattle.std.proofs.lemmas.Option.{slice_get_within}
+use Rattle.lemmas.proofs.Booleans.{and_holds, and_left_false, and_right_false, neither}
+use Rattle.lemmas.proofs.Orders.{le_false}
+use Rattle.graph_numbers.proofs.Apart.{any_false, other_way, of_tags, tags_checked}
+
+-- the variation w of number v is one of a Vary's own by its name exactly where it is by its number
+abbrev pub OwnTells : ℕ → Variation → Statement → ℕ → Type 0
+OwnTells v w (Vary node parent columns values tags vary) first = is_own w vary tags ≡ is_among_own first (length tags) v
+OwnTells v w s first = ⊤
+
+abbrev pub Tells : ℕ → Variation → List Statement → Type 0
+Tells v w [] = ⊤
+Tells v w (s ∷ before) = OwnTells v w s (length (variations before)) × Tells v w before
+
+-- ---- numbers
+
+before_own : (first count v : ℕ) → v < first → is_among_own first count v ≡ false
+before_own first count v h = and_left_false (nat_le first v) (nat_lt v (first + count)) (le_false first v h)
+
+pub after_own : (first count v : ℕ) → first + count ≤ v → is_among_own first count v ≡ false
+after_own first count v h = and_right_false (nat_le first v) (nat_lt v (first + count)) (le_false (suc v) (first + count) (omega (arith, h)))
+
+in_own : (first count k v : ℕ) → v ≡ first + k → k < count → is_among_own first count v ≡ true
+in_own first count k v e h = and_holds (nat_le first v) (nat_lt v (first + count)) (le-leb first v (omega (arith, e))) (le-leb (suc v) (first + count) (omega (arith, e, h)))
+
+-- ---- names
+
+pub tags_count : (vary : List ℕ) (tags : List (List ℕ)) → length {A = Variation} (map (λ t. record { name = vary; tag = t }) tags) ≡ length tags
+tags_count vary tags = length-map tags (λ t. record { name = vary; tag = t })
+
+-- a Vary of another name has no variation of that name
+other_vary : (w : Variation) (vary : List ℕ) (tags : List (List ℕ)) → list_any (λ (x : Variation). same x.name w.name) (map (λ t. record { name = vary; tag = t }) tags) ≡ false → is_own w vary tags ≡ false
+other_vary w vary [] h = and_right_false (same w.name vary) false refl
+other_vary w vary (t ∷ tags) h = and_left_false (same w.name vary) (among w.tag (t ∷ tags)) (other_way vary w.name (neither (same vary w.name) _ h).0)
+
+-- the statements before have none of the name, and the number is above theirs
+foreign : (v : ℕ) (w : Variation) (before : List Statement) → is_variation_name before w.name ≡ false → length (variations before) ≤ v → Tells v w before
+foreign v w [] h le = tt
+foreign v w (s ∷ before) h le =
+    let parts = neither (is_variation_name before w.name) (list_any (λ (x : Variation). same x.name w.name) (own_variations s)) (sym (list_any-append (λ (x : Variation). same x.name w.name) (variations before) (own_variations s)) ∙ h) in
+    let n : length (variations before) + length (own_variations s) ≤ v = let c = length-append (variations before) (own_variations s) in omega (arith, c, le) in
+    (own s parts.1 n, foreign v w before parts.0 (omega (arith, n)))
+  where
+    own : (t : Statement) → list_any (λ (x : Variation). same x.name w.name) (own_variations t) ≡ false → length (variations before) + length (own_variations t) ≤ v → OwnTells v w t (length (variations before))
+    own (Vary node parent columns values tags vary) p q =
+        other_vary w vary tags p ∙ sym (after_own (length (variations before)) (length tags) v (let c = tags_count vary tags in omega (arith, c, q)))
+    own t p q = tt
+
+module _ (header : List Column) (names : FunctionNames) where
+  -- a variation of an accepted script is told by its number
+  pub tells : (before : List Statement) → AreAccepted names (scope_of header) before → (v : ℕ) (w : Variation) → slice_get (variations before) v ≡ Some w → Tells v w before
+  tells [] good v w h = tt
+  tells (s ∷ before) good v w h = go s (tells before good.1 v w) good.0 (of_joined (variations before) (own_variations s) v w h)
+    where
+      go : (t : Statement) → (slice_get (variations before) v ≡ Some w → Tells v w before) → check names (scope_of header) before t ≡ None
+          → (slice_get (variations before) v ≡ Some w) ⊎ ((k : ℕ) × (v ≡ length (variations before) + k) × (slice_get (own_variations t) k ≡ Some w)) → Tells v w (t ∷ before)
+      go (Vary node parent columns values tags vary) next ok (inl q) =
+          let l = slice_get_within (variations before) v w q in
+          let f : same w.name vary ≡ false = any_false (λ (x : Variation). same x.name vary) (variations before) v w (tags_checked header names before node parent vary columns tags values ok).1 q in
+          (and_left_false (same w.name vary) (among w.tag tags) f ∙ sym (before_own (length (variations before)) (length tags) v l), next q)
+      go (Vary node parent columns values tags vary) next ok (inr q) =
+          let t = of_tags tags vary q.0 w q.2 in
+          let l = slice_get_within tags q.0 w.tag t.1 in
+          let n : length (variations before) ≤ v = let e = q.1 in omega (arith, e) in (
+            and_holds (same w.name vary) (among w.tag tags) (ap (λ x. same x vary) t.0 ∙ itself vary) (any_at (same w.tag) tags q.0 w.tag t.1 (itself w.tag)) ∙ sym (in_own (length (variations before)) (length tags) q.0 v q.1 l),
+            foreign v w before (ap (is_variation_name before) t.0 ∙ (tags_checked header names before node parent vary columns tags values ok).1) n,
+          )
+      go t next ok (inl q) = (tt, next q)
+      go t next ok (inr q) = cc q.2
 
 -- ---- the columns of an expression
 
 -- under other names, its columns are those under the other names
 module _ {C D F G : Type 0} (f : C → D) (g : F → G) where
-  map_append : (xs ys : List C) → map f (xs ++ ys) ≡ map f xs ++ map f ys
-  map_append [] ys = refl
-  map_append (x ∷ xs) ys = ap (λ zs. f x ∷ zs) (map_append xs ys)
-
   mutual
     pub renamed_columns : (e : Tree C F) → columns_in (renamed f g e) ≡ map f (columns_in e)
     renamed_columns (Lit z) = refl
@@ -40,69 +108,26 @@ module _ {C D F G : Type 0} (f : C → D) (g : F → G) where
     renamed_columns (Col c) = refl
     renamed_columns (Neg a) = renamed_columns a
     renamed_columns (Not a) = renamed_columns a
-    renamed_columns (Bin o a b) = (λ i. renamed_columns a i ++ renamed_columns b i) ∙ sym (map_append (columns_in a) (columns_in b))
+    renamed_columns (Bin o a b) = (λ i. renamed_columns a i ++ renamed_columns b i) ∙ sym (map-append f (columns_in a) (columns_in b))
     renamed_columns (Cond c a b) =
         (λ i. renamed_columns c i ++ renamed_columns a i ++ renamed_columns b i)
-        ∙ ap (λ xs. xs ++ map f (columns_in b)) (sym (map_append (columns_in c) (columns_in a))) ∙ sym (map_append (columns_in c ++ columns_in a) (columns_in b))
-    renamed_columns (Pick v j) = (λ i. renamed_columns v i ++ renamed_columns j i) ∙ sym (map_append (columns_in v) (columns_in j))
+        ∙ ap (λ xs. xs ++ map f (columns_in b)) (sym (map-append f (columns_in c) (columns_in a))) ∙ sym (map-append f (columns_in c ++ columns_in a) (columns_in b))
+    renamed_columns (Pick v j) = (λ i. renamed_columns v i ++ renamed_columns j i) ∙ sym (map-append f (columns_in v) (columns_in j))
     renamed_columns (Call k args) = renamed_arguments args
 
     pub renamed_arguments : (es : Trees C F) → columns_in_all (all_renamed f g es) ≡ map f (columns_in_all es)
     renamed_arguments End = refl
-    renamed_arguments (More a rest) = (λ i. renamed_columns a i ++ renamed_arguments rest i) ∙ sym (map_append (columns_in a) (columns_in_all rest))
+    renamed_arguments (More a rest) = (λ i. renamed_columns a i ++ renamed_arguments rest i) ∙ sym (map-append f (columns_in a) (columns_in_all rest))
 
 -- tests that agree on each column agree on the expression
-both_any : {C : Type 0} (p q : C → Bool) (xs ys : List C) → list_any p xs ≡ list_any q xs → list_any p ys ≡ list_any q ys → list_any p (xs ++ ys) ≡ list_any q (xs ++ ys)
-both_any p q xs ys a b = any_append p xs ys ∙ (λ i. a i || b i) ∙ sym (any_append q xs ys)
+any_listed : {A : Type 0} (p q : A → Bool) (xs : List A) → ((x : A) → In x xs → p x ≡ q x) → list_any p xs ≡ list_any q xs
+any_listed p q [] h = refl
+any_listed p q (x ∷ xs) h = λ i. h x here i || any_listed p q xs (λ y k. h y (there k)) i
 
-module _ {C F : Type 0} (p q : C → Bool) where
-  mutual
-    pub any_alike : (e : Tree C F) → EachColumn (λ c. p c ≡ q c) e → list_any p (columns_in e) ≡ list_any q (columns_in e)
-    any_alike (Lit z) h = refl
-    any_alike (Truth b) h = refl
-    any_alike (Col c) h = ap (λ b. b || false) h
-    any_alike (Neg a) h = any_alike a h
-    any_alike (Not a) h = any_alike a h
-    any_alike (Bin o a b) h = both_any p q (columns_in a) (columns_in b) (any_alike a h.0) (any_alike b h.1)
-    any_alike (Cond c a b) h = both_any p q (columns_in c ++ columns_in a) (columns_in b) (both_any p q (columns_in c) (columns_in a) (any_alike c h.0) (any_alike a h.1)) (any_alike b h.2)
-    any_alike (Pick v i) h = both_any p q (columns_in v) (columns_in i) (any_alike v h.0) (any_alike i h.1)
-    any_alike (Call k args) h = any_alike_argument args h
-
-    pub any_alike_argument : (es : Trees C F) → EachArgument (λ c. p c ≡ q c) es → list_any p (columns_in_all es) ≡ list_any q (columns_in_all es)
-    any_alike_argument End h = refl
-    any_alike_argument (More a rest) h = both_any p q (columns_in a) (columns_in_all rest) (any_alike a h.0) (any_alike_argument rest h.1)
+any_alike : {C F : Type 0} (p q : C → Bool) (e : Tree C F) → EachColumn (λ c. p c ≡ q c) e → list_any p (columns_in e) ≡ list_any q (columns_in e)
+any_alike p q e h = any_listed p q (columns_in e) (each_at (λ c. p c ≡ q c) e h)
 
 -- ---- versions
-
--- the element of a mapped list at the place of a name
-named_at : {A : Type 0} (f : List ℕ → A) (name : List ℕ) (i : ℕ) (cs : List (List ℕ)) → place (same name) cs ≡ Some i → (slice_get (map f cs) i ≡ Some (f name)) × (among name cs ≡ true)
-named_at f name i [] h = cc h
-named_at f name i (c ∷ cs) h = go (same name c) refl h (λ j q. named_at f name j cs q)
-  where
-    found : (k : ℕ) → k ≡ 0 → name ≡ c → slice_get (map f (c ∷ cs)) k ≡ Some (f name)
-    found zero e is = ap (λ x. Some (f x)) (sym is)
-    found (suc k) e is = cc e
-
-    after : (o : Option ℕ) → option_map suc o ≡ Some i → ((j : ℕ) → o ≡ Some j → (slice_get (map f cs) j ≡ Some (f name)) × (among name cs ≡ true)) → (slice_get (map f (c ∷ cs)) i ≡ Some (f name)) × (among name cs ≡ true)
-    after None q next = cc q
-    after (Some j) q next = let e : suc j ≡ i = cc q in let n = next j refl in (subst (λ (k : ℕ). slice_get (map f (c ∷ cs)) k ≡ Some (f name)) e n.0, n.1)
-
-    go : (b : Bool) → same name c ≡ b → (if b then Some 0 else option_map suc (place (same name) cs)) ≡ Some i
-        → ((j : ℕ) → place (same name) cs ≡ Some j → (slice_get (map f cs) j ≡ Some (f name)) × (among name cs ≡ true)) → (slice_get (map f (c ∷ cs)) i ≡ Some (f name)) × ((b || among name cs) ≡ true)
-    go true p q next = (found i (cc q) (names_equal name c p), refl)
-    go false p q next = after (place (same name) cs) q next
-
-no_place : (name : List ℕ) (cs : List (List ℕ)) → place (same name) cs ≡ None → among name cs ≡ false
-no_place name [] h = refl
-no_place name (c ∷ cs) h = go (same name c) h (no_place name cs)
-  where
-    mapped : (o : Option ℕ) → option_map suc o ≡ None → o ≡ None
-    mapped None q = refl
-    mapped (Some j) q = cc q
-
-    go : (b : Bool) → (if b then Some 0 else option_map suc (place (same name) cs)) ≡ None → (place (same name) cs ≡ None → among name cs ≡ false) → (b || among name cs) ≡ false
-    go true q next = cc q
-    go false q next = next (mapped (place (same name) cs) q)
 
 module _ (header : List Column) (names : FunctionNames) (v : ℕ) (w : Variation) where
   own_count : (before : List Statement) (sets : List Numbers) (s : Statement) → length (own_version_sets header names before sets s) ≡ length (own_columns s)
@@ -131,12 +156,7 @@ module _ (header : List Column) (names : FunctionNames) (v : ℕ) (w : Variation
 
   cell_set : (cs : List Column) (name : List ℕ) (t : ColType) → column_kind (scope_of cs) name ≡ Ok t → slice_get (empty_sets cs) (column_place cs name) ≡ Some (λ n. false)
   cell_set [] name t h = cc h
-  cell_set (c ∷ cs) name t h = go (same c.name name) h (cell_set cs name t)
-    where
-      go : (b : Bool) → (if b then Ok c.kind else column_kind (scope_of cs) name) ≡ Ok t → (column_kind (scope_of cs) name ≡ Ok t → slice_get (empty_sets cs) (column_place cs name) ≡ Some (λ n. false))
-          → slice_get (empty_sets (c ∷ cs)) (if b then 0 else suc (column_place cs name)) ≡ Some (λ n. false)
-      go true q next = refl
-      go false q next = next q
+  cell_set (c ∷ cs) name t h = grind (arith, cell_set cs name t)
 
   abbrev Above : List Statement → List ℕ → Type 0
   Above before node = (name : List ℕ) (t : ColType) → column_kind (made_columns names (scope_of header) (path before node)) name ≡ Ok t → HasSet before (named_version header before node name) (named_depends w (path before node) name)
@@ -172,13 +192,13 @@ module _ (header : List Column) (names : FunctionNames) (v : ℕ) (w : Variation
       → HasSet (Vary node parent cs values tags vary ∷ before) (version_or (version_count header before) o (named_version header before parent name))
       ((among name cs && is_own w vary tags) || named_depends w (path before parent) name)
   vary_set before node parent vary name cs tags values t tell above h None p =
-      subst (λ (b : Bool). HasSet (Vary node parent cs values tags vary ∷ before) (named_version header before parent name) ((b && is_own w vary tags) || named_depends w (path before parent) name)) (sym (no_place name cs p))
+      subst (λ (b : Bool). HasSet (Vary node parent cs values tags vary ∷ before) (named_version header before parent name) ((b && is_own w vary tags) || named_depends w (path before parent) name)) (sym (no_place (same name) cs p))
       (has_further before (Vary node parent cs values tags vary) _ _ (above name t h))
   vary_set before node parent vary name cs tags values t tell above h (Some i) p =
       let n : version_count header before + i ≡ length (version_sets header names before) + i = (let c = set_count before in omega (arith, c)) in
-      let at = named_at (varied_set header names before (version_sets header names before) parent (length tags)) name i cs p in (
+      let at = named_at cs name i p in (
         varied_set header names before (version_sets header names before) parent (length tags) name,
-        next_at (version_sets header names before) (own_version_sets header names before (version_sets header names before) (Vary node parent cs values tags vary)) i _ n ∙ at.0,
+        next_at (version_sets header names before) (own_version_sets header names before (version_sets header names before) (Vary node parent cs values tags vary)) i _ n ∙ mapped_at (varied_set header names before (version_sets header names before) parent (length tags)) cs i name at.0,
         (λ j. (at.1 j && tell j) || set_is before (named_version header before parent name) (named_depends w (path before parent) name) (above name t h) j),
       )
 

@@ -1,8 +1,10 @@
 -- Which results are filled, and the passes of a loop, by the numbers of results.
-use Rattle.std.proofs.Common.{if◌then◌else◌, ◌≡◌, ◌⊎◌, inl, inr, ℕ, zero, suc, ◌+◌, ◌<◌, ◌≤◌, Bool, true, false, not, ◌||◌, List, [], ◌∷◌, ◌++◌, map, length, take, drop, Option, Some, None, option_map, refl, sym, ◌∙◌, ap, subst, arith, slice_get, length-append, append_assoc}
-use Rattle.std.proofs.lemmas.List.{append-nil}
+use Rattle.std.proofs.Common.{if◌then◌else◌, ◌≡◌, ◌⊎◌, inl, inr, ℕ, zero, suc, ◌+◌, ◌<◌, ◌≤◌, Bool, true, false, not, List, [], ◌∷◌, ◌++◌, map, length, take, drop, Some, None, refl, sym, ◌∙◌, ap, subst, arith, slice_get, length-append, append_assoc, nat_lt}
+use Rattle.std.proofs.lemmas.List.{append-nil, take-append-drop, take-append-le}
 use Rattle.lemmas.proofs.Booleans.{neither}
+use Rattle.lemmas.proofs.Orders.{lt_true, lt_false}
 use Rattle.lemmas.proofs.Parts.{take_front, take_full}
+use Rattle.lemmas.proofs.Places.{within}
 use Rattle.rdf_values.specs.Bookings.{Booked, booked_by, bookings, names_of, filled, has_variations, result_depends}
 use Rattle.rdf_values.specs.Kinds.{FunctionNames, Scope}
 use Rattle.rdf_values.specs.Names.{same, among, place}
@@ -11,13 +13,15 @@ use Rattle.rdf_values.specs.Verdict.{AreAccepted, check, check_node, is_in_use, 
 use Rattle.rdf_values.specs.declared.graph_cause.GraphCause.TheVariants as cause
 use Rattle.rdf_values.specs.declared.statement.Statement.{Statement}
 use Rattle.rdf_values.specs.declared.statement.Statement.TheVariants.{Action, Report, Print}
-use Rattle.rdf_model.proofs.Accepted.{both_none, if_fails, unless_holds, names_equal, itself}
+use Rattle.rdf_model.proofs.Accepted.{both_none, if_fails, unless_holds, itself}
 use Rattle.graph_numbers.proofs.Listed.{of_joined}
 use Rattle.graph_numbers.specs.Graphs.{holds_at}
 use Rattle.graph_numbers.specs.Results.{places_from, numbered_pass, result_passes, passes_from}
 use Rattle.graph.specs.declared.result_row.ResultRow.{ResultRow}
 use Rattle.graph.specs.Sets.{has}
 use Rattle.graph.specs.LoopRows.{IsNamedInTurn, AreNamedInTurn, filled_count, members_from, IsRowOf, AreRowsOf, passes_of_row, passes_of_rows}
+use Rattle.graph.proofs.Listing.{zip_last}
+use Rattle.graph.proofs.Walking.{same_back}
 
 -- ---- names in turn
 
@@ -39,61 +43,24 @@ module _ (names : FunctionNames) (header : Scope) where
 
 -- ---- lists
 
-pub same_sym : (a b : List ℕ) → same a b ≡ same b a
-same_sym a b = go (same a b) (same b a) refl refl
-  where
-    go : (x y : Bool) → same a b ≡ x → same b a ≡ y → x ≡ y
-    go true true p q = refl
-    go false false p q = refl
-    go true false p q = let e : a ≡ b = names_equal a b p in cc (itself b, subst (λ (n : List ℕ). same b n ≡ false) e q)
-    go false true p q = let e : b ≡ a = names_equal b a q in cc (itself a, subst (λ (n : List ℕ). same a n ≡ false) e p)
-
-among_first : (bs : List Booked) (r : List ℕ) (n k : ℕ) → place (λ (b : Booked). same b.name r) bs ≡ Some n → n < k → among r (names_of (take k bs)) ≡ true
-among_first [] r n k h lt = cc h
-among_first (b ∷ bs) r n zero h lt = absurd (omega (arith, lt))
-among_first (b ∷ bs) r n (suc k) h lt = go (same b.name r) (same_sym r b.name) h (λ j e. among_first bs r j k e)
-  where
-    after : (o : Option ℕ) → option_map suc o ≡ Some n → place (λ (c : Booked). same c.name r) bs ≡ o → ((j : ℕ) → place (λ (c : Booked). same c.name r) bs ≡ Some j → j < k → among r (names_of (take k bs)) ≡ true) → among r (names_of (take k bs)) ≡ true
-    after None q e next = cc q
-    after (Some j) q e next = let m : suc j ≡ n = cc q in next j e (omega (arith, m, lt))
-
-    go : (t : Bool) → same r b.name ≡ t → (if t then Some 0 else option_map suc (place (λ (c : Booked). same c.name r) bs)) ≡ Some n
-        → ((j : ℕ) → place (λ (c : Booked). same c.name r) bs ≡ Some j → j < k → among r (names_of (take k bs)) ≡ true) → (same r b.name || among r (names_of (take k bs))) ≡ true
-    go true e q next = rw e refl
-    go false e q next = rw (e, after (place (λ (c : Booked). same c.name r) bs) q refl next) refl
-
-among_not : (bs : List Booked) (r : List ℕ) (n k : ℕ) → place (λ (b : Booked). same b.name r) bs ≡ Some n → k ≤ n → among r (names_of (take k bs)) ≡ false
-among_not [] r n k h le = cc h
-among_not (b ∷ bs) r n zero h le = refl
-among_not (b ∷ bs) r n (suc k) h le = go (same b.name r) (same_sym r b.name) h (λ j e. among_not bs r j k e)
-  where
-    after : (o : Option ℕ) → option_map suc o ≡ Some n → place (λ (c : Booked). same c.name r) bs ≡ o → ((j : ℕ) → place (λ (c : Booked). same c.name r) bs ≡ Some j → k ≤ j → among r (names_of (take k bs)) ≡ false) → among r (names_of (take k bs)) ≡ false
-    after None q e next = cc q
-    after (Some j) q e next = let m : suc j ≡ n = cc q in next j e (omega (arith, m, le))
-
-    none : (m : ℕ) → m ≡ 0 → suc k ≤ m → ⊥
-    none m e l = omega (arith, e, l)
-
-    go : (t : Bool) → same r b.name ≡ t → (if t then Some 0 else option_map suc (place (λ (c : Booked). same c.name r) bs)) ≡ Some n
-        → ((j : ℕ) → place (λ (c : Booked). same c.name r) bs ≡ Some j → k ≤ j → among r (names_of (take k bs)) ≡ false) → (same r b.name || among r (names_of (take k bs))) ≡ false
-    go true e q next = let z : 0 ≡ n = cc q in absurd (none n (sym z) le)
-    go false e q next = rw (e, after (place (λ (c : Booked). same c.name r) bs) q refl next) refl
-
-pub take_within : {A : Type 0} (k : ℕ) (xs ys : List A) → k ≤ length xs → take k (xs ++ ys) ≡ take k xs
-take_within zero xs ys h = refl
-take_within (suc k) [] ys h = absurd (omega (arith, h))
-take_within (suc k) (x ∷ xs) ys h = ap (λ l. x ∷ l) (take_within k xs ys (omega (arith, h)))
-
-pub take_drop : {A : Type 0} (k : ℕ) (xs : List A) → take k xs ++ drop k xs ≡ xs
-take_drop zero xs = refl
-take_drop (suc k) [] = refl
-take_drop (suc k) (x ∷ xs) = ap (λ l. x ∷ l) (take_drop k xs)
+-- a name is among the first so many exactly where its place is below
+among_first : (bs : List Booked) (r : List ℕ) (n k : ℕ) → place (λ (b : Booked). same b.name r) bs ≡ Some n → nat_lt n k ≡ among r (names_of (take k bs))
+among_first [] r n k h = cc h
+among_first (b ∷ bs) r n zero h = grind arith
+among_first (b ∷ bs) r zero (suc k) h = grind (arith, same_back)
+among_first (b ∷ bs) r (suc n) (suc k) h = grind (arith, same_back, among_first bs r n k)
 
 -- what isn't among all of a list isn't among its first
-among_less : (x : List ℕ) (bs : List Booked) (k : ℕ) → among x (names_of bs) ≡ false → among x (names_of (take k bs)) ≡ false
+pub among_less : (x : List ℕ) (bs : List Booked) (k : ℕ) → among x (names_of bs) ≡ false → among x (names_of (take k bs)) ≡ false
 among_less x bs zero h = refl
 among_less x [] (suc k) h = refl
-among_less x (b ∷ bs) (suc k) h = let n = neither (same x b.name) (among x (names_of bs)) h in rw (n.0, among_less x bs k n.1) refl
+among_less x (b ∷ bs) (suc k) h = grind (arith, neither, among_less x bs)
+
+-- the name of a result is among theirs
+among_there : (bs : List Booked) (j : ℕ) (b : Booked) → slice_get bs j ≡ Some b → among b.name (names_of bs) ≡ true
+among_there [] j b h = cc h
+among_there (c ∷ bs) zero b h = grind (arith, itself)
+among_there (c ∷ bs) (suc j) b h = grind (arith, among_there bs j b h)
 
 -- ---- what is filled
 
@@ -104,7 +71,7 @@ further_filled : (before : List Statement) (s : Statement) → filled (s ∷ bef
 unfolding IsFilled
 further_filled before s e f h =
     let c = length-append (bookings before) (booked_by before s) in let l = h.1 in (
-      e ∙ h.0 ∙ ap (λ bs. names_of bs) (sym (take_within (filled_count before) (bookings before) (booked_by before s) h.1))
+      e ∙ h.0 ∙ ap (λ bs. names_of bs) (sym (take-append-le (filled_count before) (bookings before) (booked_by before s) h.1))
           ∙ ap (λ k. names_of (take k (bookings before ++ booked_by before s))) (sym f),
       omega (arith, c, f, l),
     )
@@ -148,11 +115,6 @@ later_named (s ∷ before) h j b q k le = go (λ e l. later_named before h.1 j b
     some_is : (x y : Booked) → Some x ≡ Some y → x ≡ y
     some_is x y e = cc e
 
-    within : (n : ℕ) (x : Booked) (xs : List Booked) → slice_get xs n ≡ Some x → n < length xs
-    within n x [] e = cc e
-    within zero x (y ∷ xs) e = omega arith
-    within (suc n) x (y ∷ xs) e = let l = within n x xs e in omega (arith, l)
-
     own : (s : Statement) → IsNamedInTurn before s → (i : ℕ) → slice_get (booked_by before s) i ≡ Some b → (i ≡ 0) × (among b.name (names_of (bookings before)) ≡ false)
     own (Action result parent k) new zero e = (refl, subst (λ (c : Booked). among c.name (names_of (bookings before)) ≡ false) (some_is _ b e) new)
     own (Action result parent k) new (suc i) e = cc e
@@ -164,13 +126,13 @@ later_named (s ∷ before) h j b q k le = go (λ e l. later_named before h.1 j b
         → (slice_get (bookings before) j ≡ Some b) ⊎ ((i : ℕ) × (j ≡ length (bookings before) + i) × (slice_get (booked_by before s) i ≡ Some b))
         → among b.name (names_of (take k (bookings before ++ booked_by before s))) ≡ false
     go next (inl e) =
-        let lt = within j b (bookings before) e in
+        let lt = within (bookings before) j b e in
         let l : k ≤ length (bookings before) = omega (arith, lt, le) in
-        subst (λ (bs : List Booked). among b.name (names_of bs) ≡ false) (sym (take_within k (bookings before) (booked_by before s) l)) (next e le)
+        subst (λ (bs : List Booked). among b.name (names_of bs) ≡ false) (sym (take-append-le k (bookings before) (booked_by before s) l)) (next e le)
     go next (inr p) =
         let o = own s h.0 p.0 p.2 in let z = o.0 in let n = p.1 in
         let l : k ≤ length (bookings before) = omega (arith, z, n, le) in
-        subst (λ (bs : List Booked). among b.name (names_of bs) ≡ false) (sym (take_within k (bookings before) (booked_by before s) l)) (among_less b.name (bookings before) k o.1)
+        subst (λ (bs : List Booked). among b.name (names_of bs) ≡ false) (sym (take-append-le k (bookings before) (booked_by before s) l)) (among_less b.name (bookings before) k o.1)
 
 -- ---- passes by rows
 
@@ -212,34 +174,10 @@ module _ (script : List Statement) where
       ap (λ ps. (if test b then result_passes script n b else []) ++ ps) (passes_joined test (suc n) bs cs ∙ ap (λ m. passes_from script test (suc n) bs ++ passes_from script test m cs) s)
       ∙ sym (append_assoc (if test b then result_passes script n b else []) (passes_from script test (suc n) bs) (passes_from script test (n + length (b ∷ bs)) cs))
 
-  pub rows_first : (k : ℕ) (bs : List Booked) (rows : List ResultRow) → AreRowsOf script bs rows → AreRowsOf script (take k bs) (take k rows)
-  rows_first zero bs rows h = tt
-  rows_first (suc k) [] [] h = tt
-  rows_first (suc k) [] (r ∷ rows) h = absurd h
-  rows_first (suc k) (b ∷ bs) [] h = absurd h
-  rows_first (suc k) (b ∷ bs) (r ∷ rows) h = (h.0, rows_first k bs rows h.1)
-
-  rows_last : (k : ℕ) (bs : List Booked) (rows : List ResultRow) → AreRowsOf script bs rows → AreRowsOf script (drop k bs) (drop k rows)
-  rows_last zero bs rows h = h
-  rows_last (suc k) [] [] h = tt
-  rows_last (suc k) [] (r ∷ rows) h = absurd h
-  rows_last (suc k) (b ∷ bs) [] h = absurd h
-  rows_last (suc k) (b ∷ bs) (r ∷ rows) h = rows_last k bs rows h.1
-
   pub at_last : (k j : ℕ) (bs : List Booked) (b : Booked) → slice_get (drop k bs) j ≡ Some b → slice_get bs (k + j) ≡ Some b
   at_last zero j bs b h = let z : 0 + j ≡ j = omega arith in ap (slice_get bs) z ∙ h
   at_last (suc k) j [] b h = cc h
   at_last (suc k) j (c ∷ bs) b h = let z : suc k + j ≡ suc (k + j) = omega arith in ap (slice_get (c ∷ bs)) z ∙ at_last k j bs b h
-
-  among_there : (k j : ℕ) (bs : List Booked) (b : Booked) → slice_get (take k bs) j ≡ Some b → among b.name (names_of (take k bs)) ≡ true
-  among_there zero j bs b h = cc h
-  among_there (suc k) j [] b h = cc h
-  among_there (suc k) zero (c ∷ bs) b h = let e : c ≡ b = cc h in rw (ap (λ (x : Booked). same b.name x.name) e ∙ itself b.name) refl
-  among_there (suc k) (suc j) (c ∷ bs) b h = go (same b.name c.name) (among_there k j bs b h)
-    where
-      go : (t : Bool) → among b.name (names_of (take k bs)) ≡ true → (t || among b.name (names_of (take k bs))) ≡ true
-      go true e = refl
-      go false e = e
 
   abbrev waits : List Statement → Booked → Bool
   waits before b = not (among b.name (filled before))
@@ -248,15 +186,15 @@ module _ (script : List Statement) where
   pub loop_is : (before : List Statement) → AreNamedInTurn before → (rows : List ResultRow) → AreRowsOf script (bookings before) rows
       → passes_from script (λ (b : Booked). not (among b.name (filled before))) 0 (bookings before) ≡ passes_of_rows script (length (variations script)) (filled_count before) (drop (filled_count before) rows)
   loop_is before turn rows rs =
-      ap (passes_from script (waits before) 0) (sym (take_drop (filled_count before) (bookings before)))
+      ap (passes_from script (waits before) 0) (sym (take-append-drop (filled_count before) (bookings before)))
       ∙ passes_joined (waits before) 0 (take (filled_count before) (bookings before)) (drop (filled_count before) (bookings before))
       ∙ (λ i. none i ++ passes_from script (waits before) (count i) (drop (filled_count before) (bookings before)))
-      ∙ all_passes (waits before) (filled_count before) (drop (filled_count before) (bookings before)) (drop (filled_count before) rows) (rows_last (filled_count before) (bookings before) rows rs) all
+      ∙ all_passes (waits before) (filled_count before) (drop (filled_count before) (bookings before)) (drop (filled_count before) rows) (zip_last (IsRowOf script) (filled_count before) (bookings before) rows rs) all
     where
       none : passes_from script (waits before) 0 (take (filled_count before) (bookings before)) ≡ []
       none =
           no_passes (waits before) 0 (take (filled_count before) (bookings before))
-          (λ j b e. ap (λ ns. not (among b.name ns)) (filled_first before) ∙ ap not (among_there (filled_count before) j (bookings before) b e))
+          (λ j b e. ap (λ ns. not (among b.name ns)) (filled_first before) ∙ ap not (among_there (take (filled_count before) (bookings before)) j b e))
 
       count : 0 + length (take (filled_count before) (bookings before)) ≡ filled_count before
       count = let c = take_full (filled_count before) (bookings before) (filled_few before) in omega (arith, c)
@@ -268,7 +206,7 @@ module _ (script : List Statement) where
 
   -- whether a result is filled, by its number
   pub is_filled : (before : List Statement) (r : List ℕ) (n : ℕ) → place (λ (b : Booked). same b.name r) (bookings before) ≡ Some n → n < filled_count before → among r (filled before) ≡ true
-  is_filled before r n h lt = ap (among r) (filled_first before) ∙ among_first (bookings before) r n (filled_count before) h lt
+  is_filled before r n h lt = ap (among r) (filled_first before) ∙ sym (among_first (bookings before) r n (filled_count before) h) ∙ lt_true n (filled_count before) lt
 
   pub is_waiting : (before : List Statement) (r : List ℕ) (n : ℕ) → place (λ (b : Booked). same b.name r) (bookings before) ≡ Some n → filled_count before ≤ n → among r (filled before) ≡ false
-  is_waiting before r n h le = ap (among r) (filled_first before) ∙ among_not (bookings before) r n (filled_count before) h le
+  is_waiting before r n h le = ap (among r) (filled_first before) ∙ sym (among_first (bookings before) r n (filled_count before) h) ∙ lt_false n (filled_count before) le

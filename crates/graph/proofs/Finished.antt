@@ -1,8 +1,11 @@
 -- The fields of a finished graph.
-use Rattle.std.proofs.Common.{◌≡◌, inl, inr, ℕ, suc, ◌≤◌, Bool, List, [], ◌∷◌, ◌++◌, map, length, reverse, Option, Some, None, option_map, refl, sym, ◌∙◌, ap, subst, arith, slice_get, length-append}
-use Rattle.std.specs.List.{AllByRecursion}
-use Rattle.std.proofs.lemmas.List.{length-map, reverse-reverse, reverse-append}
-use Rattle.std.proofs.lemmas.List.Elements.{recursion_from_All}
+use Rattle.std.proofs.Common.{◌≡◌, inl, inr, ℕ, ◌≤◌, Bool, List, [], ◌∷◌, map, length, reverse, Option, Some, None, option_map, refl, sym, ◌∙◌, ap, subst, arith, slice_get, length-append}
+use Rattle.std.specs.List.{All, AllByRecursion}
+use Rattle.std.proofs.lemmas.List.{length-map, reverse-reverse}
+use Rattle.std.proofs.lemmas.List.Elements.{All-map, recursion_from_All}
+use Rattle.std.proofs.lemmas.List.Sorted.{All-permutation, IsPermutation-reverse}
+use Rattle.std.proofs.lemmas.Option.{slice_get-map}
+use Rattle.std.proofs.lemmas.Slice.Zip.{AllZip-long}
 use Rattle.rdf_values.specs.Answers.{Refuses}
 use Rattle.rdf_values.specs.Bookable.{IsBookable, IsShort}
 use Rattle.rdf_values.specs.Bookings.{Booked, bookings, is_watched, result_depends}
@@ -21,15 +24,15 @@ use Rattle.graph_numbers.specs.Graphs.{GraphView, IsGraph, booked, booked_unless
 use Rattle.graph_numbers.specs.Results.{ResultAt, result_number}
 use Rattle.graph_numbers.specs.declared.version.Version.{Version}
 use Rattle.graph_numbers.proofs.Extending.{versions_count}
-use Rattle.graph.specs.Dependence.{Numbers, depends_at, result_sets}
-use Rattle.graph.specs.Gains.{AreRows as AreCheckRows, AreTables}
+use Rattle.graph.specs.Dependence.{result_sets}
+use Rattle.graph.specs.Gains.{IsRow, AreRows as AreCheckRows, AreTables}
 use Rattle.graph.specs.Laws.{ResultSetsAreDependence, SiteSetsAreDependence}
 use Rattle.graph.specs.Lookups.{statements}
 use Rattle.graph.specs.declared.result_row.ResultRow.{ResultRow}
 use Rattle.graph.specs.Bookings.{refused, IsRefusal}
 use Rattle.graph.specs.declared.tables.Tables.{Tables}
 use Rattle.graph.specs.GraphFields.{IsBooked, view_of}
-use Rattle.graph.specs.LoopRows.{AreNamedInTurn, AreRowsOf, AreLoops}
+use Rattle.graph.specs.LoopRows.{AreNamedInTurn, IsRowOf, AreRowsOf, AreLoops}
 use Rattle.graph.specs.Refusals.{refused_at}
 use Rattle.graph.specs.VersionSources.{AreSourcesOf, AreAbove}
 use Rattle.graph.specs.declared.loops.LoopTables.{LoopTables}
@@ -38,7 +41,8 @@ use Rattle.graph.specs.declared.refusal.GraphRefusal.TheVariants as refusal
 use Rattle.graph.proofs.Counted.{filters_few, versions_are, sites_fit}
 use Rattle.graph.proofs.Filled.{all_in_turn}
 use Rattle.graph.proofs.Looped.{bookings_few, loops_few}
-use Rattle.graph.proofs.Reading.{mapped, rows_length}
+use Rattle.graph.proofs.Listing.{zip_by, zip_map}
+use Rattle.graph.proofs.SetTables.{row_set}
 use Rattle.graph.proofs.Refusing.{history_is, none_refused, verdict_of}
 use Rattle.graph.proofs.Sourced.{sources_are, versions_above}
 
@@ -63,46 +67,23 @@ refusal_answered script ls header names refusal.Memory e h = inl refl
 refusal_answered script ls header names (refusal.At line cause) e h =
     inr ((line, cause), refl, ap (booked_unless (record { script = script; header = header; names = names })) (sym (verdict_of names header script ls e) ∙ h))
 
-all_back : (P : Line → Type 0) (xs : List Line) → AllByRecursion P xs → AllByRecursion P (reverse xs)
-all_back P [] h = tt
-all_back P (x ∷ xs) h = subst (λ (ys : List Line). AllByRecursion P ys) (sym (reverse-append (x ∷ []) xs)) (joined (reverse xs) (all_back P xs h.1) h.0)
-  where
-    joined : (ys : List Line) → AllByRecursion P ys → P x → AllByRecursion P (ys ++ x ∷ [])
-    joined [] k q = (q, tt)
-    joined (y ∷ ys) k q = (k.0, joined ys k.1 q)
-
-short_statements : (ls : List Line) → AllByRecursion (λ (l : Line). IsShort l.statement) ls → AllByRecursion IsShort (statements ls)
-short_statements [] h = tt
-short_statements (l ∷ ls) h = (h.0, short_statements ls h.1)
-
 -- the statements of a script that can be booked are short
 pub all_short : (script : Script) (ls : List Line) → ls ≡ reverse script.lines → IsBookable script → AllByRecursion IsShort (statements ls)
 all_short script ls e h =
-    short_statements ls (subst (λ (xs : List Line). AllByRecursion (λ (l : Line). IsShort l.statement) xs) (sym e) (all_back (λ (l : Line). IsShort l.statement) script.lines (recursion_from_All (λ (l : Line). IsShort l.statement) script.lines h.short)))
+    recursion_from_All IsShort (statements ls)
+    (All-map IsShort (λ (l : Line). l.statement) ls
+    (subst (All (λ (l : Line). IsShort l.statement)) (sym e) (All-permutation (λ (l : Line). IsShort l.statement) script.lines (reverse script.lines) (IsPermutation-reverse script.lines) h.short)))
 
 -- ---- rows of results
 
-rows_of : (script : List Statement) (bs : List Booked) (ds : List Numbers) (rs : List ResultRow) → AreCheckRows bs ds rs
-    → ((j v : ℕ) (b : Booked) → slice_get bs j ≡ Some b → depends_at ds j v ≡ holds_at (λ w. result_depends w b.booking) (slice_get (variations script) v)) → AreRowsOf script bs rs
-rows_of script [] [] [] h k = tt
-rows_of script [] [] (r ∷ rs) h k = absurd h
-rows_of script [] (d ∷ ds) rs h k = absurd h
-rows_of script (b ∷ bs) [] rs h k = absurd h
-rows_of script (b ∷ bs) (d ∷ ds) [] h k = absurd h
-rows_of script (b ∷ bs) (d ∷ ds) (r ∷ rs) h k = (record { name = h.0.name; set = λ v. h.0.set v ∙ k 0 v b refl }, rows_of script bs ds rs h.1 (λ j v c q. k (suc j) v c q))
-
-watches_of : (f : List ℕ → Bool) (bs : List Booked) (ds : List Numbers) (rs : List ResultRow) → AreCheckRows bs ds rs → map (λ (r : ResultRow). f r.name) rs ≡ map (λ (b : Booked). f b.name) bs
-watches_of f [] [] [] h = refl
-watches_of f [] [] (r ∷ rs) h = absurd h
-watches_of f [] (d ∷ ds) rs h = absurd h
-watches_of f (b ∷ bs) [] rs h = absurd h
-watches_of f (b ∷ bs) (d ∷ ds) [] h = absurd h
-watches_of f (b ∷ bs) (d ∷ ds) (r ∷ rs) h = λ i. f (h.0.name i) ∷ watches_of f bs ds rs h.1 i
-
 rows_of_graph : (g : GraphView) → IsGraph g → ResultSetsAreDependence → (rs : List ResultRow) → AreCheckRows (bookings (booked_statements g)) (result_sets g.header g.names (booked_statements g)) rs → AreRowsOf (booked_statements g) (bookings (booked_statements g)) rs
 rows_of_graph g graph law rs h =
-    rows_of (booked_statements g) (bookings (booked_statements g)) (result_sets g.header g.names (booked_statements g)) rs h
-    (λ j v b q. law g graph j v ∙ at v b (slice_get (graph_results g) j) (sym (mapped (λ (x : ResultAt). x.booked) (graph_results g) j) ∙ ap (λ bs. slice_get bs j) (booked_are g.header g.names (booked_statements g)) ∙ q))
+    zip_by IsRow (IsRowOf (booked_statements g)) (bookings (booked_statements g)) rs
+    (λ j b r q p row. record {
+      name = row.name;
+      set = λ v. row_set _ _ rs h j r p v ∙ law g graph j v
+          ∙ at v b (slice_get (graph_results g) j) (sym (slice_get-map (λ (x : ResultAt). x.booked) (graph_results g) j) ∙ ap (λ bs. slice_get bs j) (booked_are g.header g.names (booked_statements g)) ∙ q);
+    }) h.0
   where
     at : (v : ℕ) (b : Booked) (o : Option ResultAt) → option_map (λ (x : ResultAt). x.booked) o ≡ Some b
         → holds_at (λ (x : ResultAt). holds_at (λ w. result_depends w x.booked.booking) (slice_get (graph_variations g) v)) o ≡ holds_at (λ w. result_depends w b.booking) (slice_get (variations (booked_statements g)) v)
@@ -136,7 +117,7 @@ module _ (ls all : List Line) (header : List Column) (names : FunctionNames) (t 
       (subst (λ (x : List Statement). AreRowsOf x (bookings x) t.results.items) (sym (history_of ls header names)) (rows_of_graph g graph law t.results.items tables_of.results)))
 
   pub finish_count : length rs ≡ length (bookings (statements all))
-  finish_count = ap length same_rows ∙ rows_length _ _ t.results.items h.results ∙ (λ i. length (bookings (statements (sym same_lines i))))
+  finish_count = ap length same_rows ∙ AllZip-long IsRow _ t.results.items h.results.0 ∙ (λ i. length (bookings (statements (sym same_lines i))))
 
   pub finish_few : length ls ≤ 256 → length rs ≤ 256
   finish_few few =
@@ -154,7 +135,7 @@ module _ (ls all : List Line) (header : List Column) (names : FunctionNames) (t 
     loops_here = subst (λ (x : List Statement). AreLoops x x loops) (history_of ls header names) (subst (λ (xs : List Line). AreLoops (statements xs) (statements xs) loops) same_lines are_loops)
 
     result_total : length t.results.items ≤ 256
-    result_total = let n = rows_length _ _ t.results.items tables_of.results in let f = bookings_few (booked_statements g) in let l = length_here in omega (arith, n, f, l, few)
+    result_total = let n = AllZip-long IsRow _ t.results.items tables_of.results.0 in let f = bookings_few (booked_statements g) in let l = length_here in omega (arith, n, f, l, few)
 
     print_total : length loops.prints.items ≤ 256
     print_total =
@@ -180,7 +161,7 @@ module _ (ls all : List Line) (header : List Column) (names : FunctionNames) (t 
       tables = tables_of;
       loops = loops_here;
       watches = are_watched ∙ (λ i. map (λ (r : ResultRow). is_watched (statements (same_lines i)) r.name) (same_rows i))
-          ∙ watches_of (is_watched (statements ls)) (bookings (statements ls)) _ t.results.items h.results
+          ∙ zip_map IsRow (λ (b : Booked). is_watched (statements ls) b.name) (λ (r : ResultRow). is_watched (statements ls) r.name) (bookings (statements ls)) t.results.items (λ b r row. ap (is_watched (statements ls)) row.name) h.results.0
           ∙ (λ i. map (λ (c : Booked). is_watched (history_of ls header names i) c.name) (bookings (history_of ls header names i)));
       site_sets = λ s v. site_law g graph s v;
       result_sets = λ n v. result_law g graph n v;

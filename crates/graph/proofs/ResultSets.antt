@@ -1,6 +1,7 @@
 -- A result depends on a variation exactly where its set has its number.
 use Rattle.std.proofs.Common.{◌≡◌, ◌⊎◌, inl, inr, ℕ, zero, suc, ◌+◌, ◌<◌, ◌≤◌, Bool, true, false, ◌||◌, List, [], ◌∷◌, ◌++◌, map, length, Option, Some, None, Ok, Err, Result, slice_get, if◌then◌else◌, refl, sym, ◌∙◌, ap, subst, arith}
 use Rattle.std.specs.List.{list_any, AllByRecursion}
+use Rattle.std.proofs.lemmas.List.Folds.{list_any-append}
 use Rattle.std.proofs.lemmas.List.{length-append, length-map, append-nil}
 use Rattle.std.proofs.lemmas.Option.{slice_get_within}
 use Rattle.lemmas.proofs.Booleans.{or_false}
@@ -8,7 +9,7 @@ use Rattle.lemmas.proofs.Places.{mapped_at}
 use Rattle.rdf_values.specs.Bookings.{ActionAt, ReportOn, Booked, covered, booked_by, bookings, columns_of, result_depends}
 use Rattle.rdf_values.specs.Depends.{columns_in, column_depends, site_depends, filters_depend}
 use Rattle.rdf_values.specs.Kinds.{FunctionNames, scope_of, column_kind, kind_of}
-use Rattle.rdf_values.specs.Path.{Variation, makes, parent_of, path, own_variations, variations}
+use Rattle.rdf_values.specs.Path.{Variation, makes, parent_of, path, own_variations, variations, history}
 use Rattle.rdf_values.specs.Verdict.{AreAccepted, check, check_node, check_columns, check_edges, check_results, check_passes, expect_kind, may_begin, permitted_kinds, scope_at}
 use Rattle.rdf_values.specs.declared.column.Column.{Column}
 use Rattle.rdf_values.specs.declared.value.ColType.{ColType}
@@ -19,16 +20,19 @@ use Rattle.rdf_values.specs.declared.graph_cause.GraphCause.TheVariants.{WrongTy
 use Rattle.rdf_values.specs.declared.statement.Statement.{Statement}
 use Rattle.rdf_values.specs.declared.statement.Statement.TheVariants.{Define, Redefine, Filter, Vary, Action, Report}
 use Rattle.rdf_model.proofs.Accepted.{both_none, kind_expected}
-use Rattle.graph_numbers.specs.Graphs.{holds_at}
-use Rattle.graph_numbers.specs.Sites.{SiteAt, own_sites, sites, site_count, own_filter_site, filter_sites}
+use Rattle.graph_numbers.specs.Graphs.{holds_at, GraphView, IsGraph}
+use Rattle.graph_numbers.specs.Sites.{SiteAt, own_sites, sites, site_count, own_filter_site, filter_sites, depends_on}
 use Rattle.graph_numbers.specs.Versions.{version_at, named_version}
 use Rattle.graph_numbers.proofs.Listed.{next_at, of_joined}
 use Rattle.graph_numbers.proofs.Placing.{own_placed}
 use Rattle.graph_numbers.proofs.Ranges.{AreBelow, filter_sites_below}
 use Rattle.graph.specs.Dependence.{Numbers, depends_at, any_depends, varied_set, own_version_sets, version_sets, site_set, own_site_sets, site_sets, action_set, own_result_sets, result_sets}
-use Rattle.graph.proofs.Depending.{visible_set, set_is, expression_set_is}
-use Rattle.graph.proofs.Listing.{any_append, any_none}
-use Rattle.graph.proofs.Telling.{Tells, after_own, own_count}
+use Rattle.graph.proofs.Depending.{visible_set, set_is, expression_set_is, Tells, after_own, tags_count, tells}
+use Rattle.graph.proofs.Listing.{any_none}
+use Rattle.rdf_model.proofs.Verdicts.{verdict_is_the_first_refusal}
+use Rattle.graph_numbers.specs.Results.{ResultAt, results}
+use Rattle.graph_numbers.proofs.Resulting.{booked_are}
+use Rattle.graph.specs.Laws.{VersionsDependAsColumns, SiteSetsAreDependence, ResultSetsAreDependence}
 
 -- ---- sets of places that are kept
 
@@ -75,7 +79,7 @@ module _ (header : List Column) (names : FunctionNames) (v : ℕ) where
       own (Define node parent column expr) le above = (lack_any v (version_sets header names before) above _, tt)
       own (Redefine node parent column expr) le above = (lack_any v (version_sets header names before) above _, tt)
       own (Vary node parent columns values tags vary) le above =
-          let n : length (variations before) + length tags ≤ v = (let c = length-append (variations before) (own_variations (Vary node parent columns values tags vary)) in let d = own_count vary tags in omega (arith, c, d, le)) in
+          let n : length (variations before) + length tags ≤ v = (let c = length-append (variations before) (own_variations (Vary node parent columns values tags vary)) in let d = tags_count vary tags in omega (arith, c, d, le)) in
           lack_map v (varied_set header names before (version_sets header names before) parent (length tags)) columns
           (λ c i. after_own (length (variations before)) (length tags) v n i || none_at v (version_sets header names before) above (named_version header before parent c) i)
       own t le above = tt
@@ -175,7 +179,7 @@ module _ (header : List Column) (names : FunctionNames) (v : ℕ) (w : Variation
           ap (holds_at (λ (d : Numbers). d v))
           (next_at (site_sets header names before) (own_site_sets header names before s) 0 (site_count header names before) n ∙ ap (λ u. slice_get (own_site_sets header names before u) 0) is)
           ∙ sym (expression_set_is header names v w before good.1 tell.1 parent expr kind.Bool (kind_expected kind.Bool _ q.0)) in
-          (λ i. e i || (sym own ∙ sym (or_false _)) i) ∙ sym (any_append (λ c. depends_at (site_sets header names (s ∷ before)) c v) (filter_sites header names before parent) (site_count header names before ∷ []))
+          (λ i. e i || (sym own ∙ sym (or_false _)) i) ∙ sym (list_any-append (λ c. depends_at (site_sets header names (s ∷ before)) c v) (filter_sites header names before parent) (site_count header names before ∷ []))
       step t is ok e = e ∙ ap (λ cs. any_depends (site_sets header names (s ∷ before)) cs v) (sym (append-nil (filter_sites header names before (parent_of t))))
 
       go : (b : Bool) → filters_depend w (path before (parent_of s)) ≡ any_depends (site_sets header names before) (filter_sites header names before (parent_of s)) v
@@ -233,3 +237,56 @@ module _ (header : List Column) (names : FunctionNames) (v : ℕ) (w : Variation
       go next (inr q) =
           let n : r ≡ length (result_sets header names before) + q.0 = (let c = result_set_count header names before in let e = q.1 in omega (arith, c, e)) in
           ap (holds_at (λ (d : Numbers). d v)) (next_at (result_sets header names before) (own_result_sets header names before s) q.0 r n) ∙ own_result before s good tell.1 q.0 b q.2
+
+accepted : (g : GraphView) → IsGraph g → AreAccepted g.names (scope_of g.header) (history g.script)
+accepted g h = (verdict_is_the_first_refusal g.names g.header g.script).0 h.accepted
+
+pub versions_depend : VersionsDependAsColumns
+versions_depend g h node name t k v w e =
+    sym (set_is g.header g.names v w (history g.script) _ _ (visible_set g.header g.names v w (history g.script) (accepted g h) (tells g.header g.names (history g.script) (accepted g h) v w e) node name t k))
+
+-- a place where nothing stands is beyond a list
+pub beyond : {A : Type 0} (xs : List A) (v : ℕ) → slice_get xs v ≡ None → length xs ≤ v
+beyond [] v e = omega arith
+beyond (x ∷ xs) zero e = cc e
+beyond (x ∷ xs) (suc v) e = let h = beyond xs v e in omega (arith, h)
+
+none_there : (ds : List Numbers) (s v : ℕ) → length ds ≤ s → depends_at ds s v ≡ false
+none_there [] s v h = refl
+none_there (d ∷ ds) zero v h = absurd (omega (arith, h))
+none_there (d ∷ ds) (suc s) v h = none_there ds s v (omega (arith, h))
+
+pub sites_depend : SiteSetsAreDependence
+sites_depend g h s v = go (slice_get (sites g.header g.names (history g.script)) s) refl
+  where
+    at : (x : SiteAt) → slice_get (sites g.header g.names (history g.script)) s ≡ Some x → (o : Option Variation) → slice_get (variations (history g.script)) v ≡ o
+        → depends_at (site_sets g.header g.names (history g.script)) s v ≡ holds_at (depends_on x) o
+    at x e None q = site_beyond g.header g.names v (history g.script) (beyond (variations (history g.script)) v q) s
+    at x e (Some w) q = site_is g.header g.names v w (history g.script) (accepted g h) (tells g.header g.names (history g.script) (accepted g h) v w q) s x e
+
+    go : (o : Option SiteAt) → slice_get (sites g.header g.names (history g.script)) s ≡ o
+        → depends_at (site_sets g.header g.names (history g.script)) s v ≡ holds_at (λ x. holds_at (depends_on x) (slice_get (variations (history g.script)) v)) o
+    go None e =
+        none_there (site_sets g.header g.names (history g.script)) s v
+        (let b = beyond (sites g.header g.names (history g.script)) s e in let c = site_set_count g.header g.names (history g.script) in omega (arith, b, c))
+    go (Some x) e = at x e (slice_get (variations (history g.script)) v) refl
+
+pub results_depend : ResultSetsAreDependence
+results_depend g h r v = go (slice_get (results g.header g.names (history g.script)) r) refl
+  where
+    at : (b : Booked) → slice_get (bookings (history g.script)) r ≡ Some b → (o : Option Variation) → slice_get (variations (history g.script)) v ≡ o
+        → depends_at (result_sets g.header g.names (history g.script)) r v ≡ holds_at (λ w. result_depends w b.booking) o
+    at b e None q = result_beyond g.header g.names v (history g.script) (beyond (variations (history g.script)) v q) r
+    at b e (Some w) q = result_is g.header g.names v w (history g.script) (accepted g h) (tells g.header g.names (history g.script) (accepted g h) v w q) r b e
+
+    count : length (results g.header g.names (history g.script)) ≡ length (bookings (history g.script))
+    count = sym (length-map (results g.header g.names (history g.script)) (λ (x : ResultAt). x.booked)) ∙ ap (λ (bs : List Booked). length bs) (booked_are g.header g.names (history g.script))
+
+    go : (o : Option ResultAt) → slice_get (results g.header g.names (history g.script)) r ≡ o
+        → depends_at (result_sets g.header g.names (history g.script)) r v ≡ holds_at (λ (x : ResultAt). holds_at (λ w. result_depends w x.booked.booking) (slice_get (variations (history g.script)) v)) o
+    go None e =
+        none_there (result_sets g.header g.names (history g.script)) r v
+        (let b = beyond (results g.header g.names (history g.script)) r e in let c = result_set_count g.header g.names (history g.script) in omega (arith, b, c, count))
+    go (Some x) e =
+        at x.booked (ap (λ (bs : List Booked). slice_get bs r) (sym (booked_are g.header g.names (history g.script))) ∙ mapped_at (λ (y : ResultAt). y.booked) (results g.header g.names (history g.script)) r x e)
+        (slice_get (variations (history g.script)) v) refl

@@ -14,15 +14,15 @@ use Rattle.graph_numbers.specs.Sources.{numbers_from, varied_version, varied_ver
 use Rattle.graph_numbers.specs.Versions.{named_version, version_at}
 use Rattle.graph_numbers.specs.declared.result_kind.ResultKind.TheVariants as what
 use Rattle.graph_numbers.specs.declared.version.Version.TheVariants as as_version
-use Rattle.graph.specs.SiteNumbers.{site_total}
-use Rattle.graph.specs.Rows.{count_from, varied_row, varied_rows, version_rows, is_named, filter_rows, own_named, named_numbers, has_made, covered_numbers, result_rows, result_path}
+use Rattle.graph.specs.SiteNumbers.{own_number, site_total}
+use Rattle.graph.specs.Rows.{count_from, varied_row, varied_rows, version_rows, is_named, filter_rows, named_numbers, has_made, covered_numbers, result_rows, result_path}
 use Rattle.graph.proofs.SiteTotals.{numbers_are, total_is}
 
 counted_are : {A : Type 0} (n : ℕ) (xs : List A) → numbers_from n xs ≡ count_from n (length xs)
 counted_are n [] = refl
 counted_are n (x ∷ xs) = ap (λ ms. n ∷ ms) (counted_are (suc n) xs)
 
-named_is : (s : Statement) (n : ℕ) → own_filter s n ≡ own_named (is_named s) n
+named_is : (s : Statement) (n : ℕ) → own_filter s n ≡ own_number (is_named s) n
 named_is (Filter node parent expr (Some label)) n = refl
 named_is s n = refl
 

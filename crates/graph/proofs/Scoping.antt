@@ -1,10 +1,10 @@
 -- A scope of the columns of an expression means what the node's columns do.
-use Rattle.std.proofs.Common.{if◌then◌else◌, ◌≡◌, ℕ, ◌<◌, Bool, true, false, ◌||◌, List, [], ◌∷◌, ◌++◌, All, length, Some, Result, Ok, Err, OnOk, IfOk, IfErr, refl, sym, ◌∙◌, ap, subst, slice_get, nat_eq}
+use Rattle.std.proofs.Common.{if◌then◌else◌, ◌≡◌, ℕ, ◌<◌, Bool, true, false, List, [], ◌∷◌, ◌++◌, All, length, Some, Result, Ok, Err, OnOk, IfOk, IfErr, refl, sym, ◌∙◌, ap, subst, slice_get, nat_eq, arith}
 use Rattle.std.specs.List.{AllByRecursion}
-use Rattle.std.proofs.lemmas.Bool.Decides.{Decides-eqb}
 use Rattle.std.proofs.lemmas.List.Elements.{All-push, All-weaker, recursion_from_All}
+use Rattle.lemmas.proofs.Orders.{eq_says}
 use Rattle.lemmas.proofs.Places.{within}
-use Rattle.rdf_values.specs.Depends.{columns_in, columns_in_all}
+use Rattle.rdf_values.specs.Depends.{columns_in}
 use Rattle.rdf_values.specs.EachColumn.{EachColumn, EachArgument}
 use Rattle.rdf_values.specs.Kinds.{FunctionNames, Scope, Shape, scope_of, column_kind, kind_of, kind_by, kinds_by, shape_of, ◌>>=◌, operator_kind, negated_kind, inverted_kind, chosen_kind, picked_kind, args_count, result_kind}
 use Rattle.rdf_values.specs.Names.{same}
@@ -25,63 +25,33 @@ use Rattle.expr_check.specs.Scopes.{numbers_in}
 use Rattle.graph.specs.Lookups.{AreKinds, IsFound, IsAlike, IsScopeAt, AreNoted, IsScopeOf, IsCheckedAt}
 use Rattle.graph_numbers.specs.Versions.{named_version, version_at, version_count}
 use Rattle.rdf_model.proofs.KnownColumns.{IsKnownColumn, known_columns, each_weaker}
+use Rattle.graph_numbers.proofs.Meeting.{In, here, there, each_of, each_both}
 use Rattle.graph_numbers.proofs.VersionKinds.{kind_count, visible_kind}
 
 -- a name that isn't visible is unknown
 pub invisible : (scope : Scope) (name : List ℕ) → is_visible scope name ≡ false → column_kind scope name ≡ Err UnknownColumn
 invisible [] name h = refl
-invisible (c ∷ cs) name h = go (same c.0 name) h (invisible cs name)
-  where
-    go : (b : Bool) → (b || is_visible cs name) ≡ false → (is_visible cs name ≡ false → column_kind cs name ≡ Err UnknownColumn) → (if b then Ok c.1 else column_kind cs name) ≡ Err UnknownColumn
-    go true q next = cc q
-    go false q next = next q
+invisible (c ∷ cs) name h = grind (arith, invisible cs name)
 
 -- a refusal of a name says that it is unknown
 only_unknown : (scope : Scope) (name : List ℕ) (c : GraphCause) → column_kind scope name ≡ Err c → column_kind scope name ≡ Err UnknownColumn
 only_unknown [] name c h = refl
-only_unknown (d ∷ ds) name c h = go (same d.0 name) h (only_unknown ds name c)
-  where
-    go : (b : Bool) → (if b then Ok d.1 else column_kind ds name) ≡ Err c → (column_kind ds name ≡ Err c → column_kind ds name ≡ Err UnknownColumn) → (if b then Ok d.1 else column_kind ds name) ≡ Err UnknownColumn
-    go true q next = cc q
-    go false q next = next q
+only_unknown (d ∷ ds) name c h = grind (arith, only_unknown ds name c)
 
 -- a column at the end, by its own name and by others
 end_own : (cs : List ScopeColumn) (e : ScopeColumn) → column_kind (kinds_in cs) e.name ≡ Err UnknownColumn → (column_kind (kinds_in (cs ++ e ∷ [])) e.name ≡ Ok e.kind) × (number_in (cs ++ e ∷ []) e.name ≡ e.number)
 end_own [] e h = (ap (λ b. if b then Ok e.kind else Err UnknownColumn) (itself e.name), ap (λ b. if b then e.number else 0) (itself e.name))
-end_own (c ∷ cs) e h = go (same c.name e.name) h (end_own cs e)
-  where
-    go : (b : Bool) → (if b then Ok c.kind else column_kind (kinds_in cs) e.name) ≡ Err UnknownColumn
-        → (column_kind (kinds_in cs) e.name ≡ Err UnknownColumn → (column_kind (kinds_in (cs ++ e ∷ [])) e.name ≡ Ok e.kind) × (number_in (cs ++ e ∷ []) e.name ≡ e.number))
-        → ((if b then Ok c.kind else column_kind (kinds_in (cs ++ e ∷ [])) e.name) ≡ Ok e.kind) × ((if b then c.number else number_in (cs ++ e ∷ []) e.name) ≡ e.number)
-    go true q next = cc q
-    go false q next = next q
+end_own (c ∷ cs) e h = grind (arith, end_own cs e)
 
 end_other : (cs : List ScopeColumn) (e : ScopeColumn) (x : List ℕ) → same e.name x ≡ false → (column_kind (kinds_in (cs ++ e ∷ [])) x ≡ column_kind (kinds_in cs) x) × (number_in (cs ++ e ∷ []) x ≡ number_in cs x)
 end_other [] e x h = (ap (λ b. if b then Ok e.kind else Err UnknownColumn) h, ap (λ b. if b then e.number else 0) h)
 end_other (c ∷ cs) e x h = let q = end_other cs e x h in (ap (λ r. if same c.name x then Ok c.kind else r) q.0, ap (λ n. if same c.name x then c.number else n) q.1)
 
-both_parts : {A : Type 0} (P : A → Type 0) (xs ys : List A) → AllByRecursion P (xs ++ ys) → AllByRecursion P xs × AllByRecursion P ys
-both_parts P [] ys h = (tt, h)
-both_parts P (x ∷ xs) ys h = let q = both_parts P xs ys h.1 in ((h.0, q.0), q.1)
-
-module _ {C F : Type 0} (P : C → Type 0) where
-  mutual
-    pub each_listed : (e : Tree C F) → AllByRecursion P (columns_in e) → EachColumn P e
-    each_listed (Lit z) h = tt
-    each_listed (Truth b) h = tt
-    each_listed (Col c) h = h.0
-    each_listed (Neg a) h = each_listed a h
-    each_listed (Not a) h = each_listed a h
-    each_listed (Bin o a b) h = let q = both_parts P (columns_in a) (columns_in b) h in (each_listed a q.0, each_listed b q.1)
-    each_listed (Cond c a b) h =
-        let q = both_parts P (columns_in c ++ columns_in a) (columns_in b) h in
-        let r = both_parts P (columns_in c) (columns_in a) q.0 in (each_listed c r.0, each_listed a r.1, each_listed b q.1)
-    each_listed (Pick v i) h = let q = both_parts P (columns_in v) (columns_in i) h in (each_listed v q.0, each_listed i q.1)
-    each_listed (Call f args) h = each_listed_argument args h
-
-    pub each_listed_argument : (es : Trees C F) → AllByRecursion P (columns_in_all es) → EachArgument P es
-    each_listed_argument End h = tt
-    each_listed_argument (More a rest) h = let q = both_parts P (columns_in a) (columns_in_all rest) h in (each_listed a q.0, each_listed_argument rest q.1)
+-- what holds of each of a list holds of one in it
+listed : {A : Type 0} (P : A → Type 0) (xs : List A) → AllByRecursion P xs → (x : A) → In x xs → P x
+listed P [] h y k = elim k [ ]
+listed P (x ∷ xs) h y here = h.0
+listed P (x ∷ xs) h y (there k) = listed P xs h.1 y k
 
 module _ (header : List Column) (names : FunctionNames) (before : List Statement) (node : List ℕ) (kinds : List ColType) where
   -- a visible column is found
@@ -113,7 +83,7 @@ module _ (header : List Column) (names : FunctionNames) (before : List Statement
   kinds_counted k = ap length k.are ∙ kind_count header names before
 
   pub scope_of_noted : (none scope : List ScopeColumn) → none ≡ [] → (e : NamedTree) (xs ys : List (List ℕ)) → ys ≡ columns_in e → xs ≡ ys → AreNoted header names before node kinds none scope xs → IsScopeOf header names before node kinds e scope
-  scope_of_noted none scope is_none e xs ys is eq n = record { scope_at_node = n.scope; each = each_listed (IsAlike header names before node scope) e (subst (AllByRecursion (IsAlike header names before node scope)) (eq ∙ is) n.each) }
+  scope_of_noted none scope is_none e xs ys is eq n = record { scope_at_node = n.scope; each = each_of (IsAlike header names before node scope) e (listed (IsAlike header names before node scope) (columns_in e) (subst (AllByRecursion (IsAlike header names before node scope)) (eq ∙ is) n.each)) }
 
   -- nothing is added for a name that isn't visible
   pub noted_unknown : (scope : List ScopeColumn) → IsScopeAt header names before node kinds scope → (name : List ℕ) → column_kind (scope_at names (scope_of header) before node) name ≡ Err UnknownColumn
@@ -192,31 +162,10 @@ module _ {C D F G : Type 0} (f g : C → D) (function : F → G) where
     all_renamed_alike End h = refl
     all_renamed_alike (More a rest) h = λ i. More (renamed_alike a h.0 i) (all_renamed_alike rest h.1 i)
 
-module _ {C F : Type 0} (P Q : C → Type 0) where
-  mutual
-    pub each_two : (e : Tree C F) → EachColumn P e → EachColumn Q e → EachColumn (λ c. P c × Q c) e
-    each_two (Lit z) h k = tt
-    each_two (Truth b) h k = tt
-    each_two (Col c) h k = (h, k)
-    each_two (Neg a) h k = each_two a h k
-    each_two (Not a) h k = each_two a h k
-    each_two (Bin o a b) h k = (each_two a h.0 k.0, each_two b h.1 k.1)
-    each_two (Cond c a b) h k = (each_two c h.0 k.0, each_two a h.1 k.1, each_two b h.2 k.2)
-    each_two (Pick v i) h k = (each_two v h.0 k.0, each_two i h.1 k.1)
-    each_two (Call f args) h k = each_two_argument args h k
-
-    pub each_two_argument : (es : Trees C F) → EachArgument P es → EachArgument Q es → EachArgument (λ c. P c × Q c) es
-    each_two_argument End h k = tt
-    each_two_argument (More a rest) h k = (each_two a h.0 k.0, each_two_argument rest h.1 k.1)
-
 -- the kind of a number that a scope has
 own_number : (kinds : List ColType) (cs : List ScopeColumn) (n : ℕ) (t : ColType) → AllByRecursion (λ (c : ScopeColumn). slice_get kinds c.number ≡ Some c.kind) cs → number_kind (numbers_in cs) n ≡ Ok t → slice_get kinds n ≡ Some t
 own_number kinds [] n t each h = cc h
-own_number kinds (c ∷ cs) n t each h = go (nat_eq c.number n) refl h (own_number kinds cs n t each.1)
-  where
-    go : (b : Bool) → nat_eq c.number n ≡ b → (if b then Ok c.kind else number_kind (numbers_in cs) n) ≡ Ok t → (number_kind (numbers_in cs) n ≡ Ok t → slice_get kinds n ≡ Some t) → slice_get kinds n ≡ Some t
-    go true e q next = let k : c.kind ≡ t = cc q in ap (slice_get kinds) (sym ((Decides-eqb c.number n).0 e)) ∙ each.0 ∙ ap Some k
-    go false e q next = next q
+own_number kinds (c ∷ cs) n t each h = let own = each.0 in grind (arith, eq_says, own_number kinds cs n t each.1)
 
 module _ (header : List Column) (names : FunctionNames) (before : List Statement) (node : List ℕ) (kinds : List ColType) (k : AreKinds header names before kinds) (e : NamedTree) (scope : List ScopeColumn) (s : IsScopeOf header names before node kinds e scope) where
   -- the expression has the kind that it has at the node
@@ -227,9 +176,8 @@ module _ (header : List Column) (names : FunctionNames) (before : List Statement
   pub scope_tree : (t : ColType) → kind_of (scope_at names (scope_of header) before node) names e ≡ Ok t → numbered scope names e ≡ renamed (version_at header before node) (callee names) e
   scope_tree t h =
       renamed_alike (number_in scope) (version_at header before node) (callee names) e
-      (each_weaker (λ c. IsAlike header names before node scope c × IsKnownColumn (column_kind (scope_at names (scope_of header) before node)) (shape_of names) c) _ (λ c q. q.0.number q.1.0 q.1.1) e
-      (each_two (IsAlike header names before node scope) (IsKnownColumn (column_kind (scope_at names (scope_of header) before node)) (shape_of names)) e s.each
-      (known_columns (column_kind (scope_at names (scope_of header) before node)) (shape_of names) e t h)))
+      (each_both (IsAlike header names before node scope) (IsKnownColumn (column_kind (scope_at names (scope_of header) before node)) (shape_of names)) _ (λ c a k. a.number k.0 k.1) e s.each
+      (known_columns (column_kind (scope_at names (scope_of header) before node)) (shape_of names) e t h))
 
   pub checked_at : (c : CheckedExpr) → kind_of (kinds_in scope) names e ≡ Ok c.kind → c.tree ≡ numbered scope names e → All (λ (n : ℕ × ColType). number_kind (numbers_in scope) n.0 ≡ Ok n.1) c.kinds
       → IsWellTyped names c → CallsFit names c.tree → IsCheckedAt header names before node e c

@@ -1,37 +1,33 @@
 -- Lists of sets of variations, and the sets by numbers that they are.
-use Rattle.std.proofs.Common.{◌≡◌, ℕ, zero, suc, Bool, true, false, not, ◌||◌, List, [], ◌∷◌, ◌++◌, map, Result, Ok, Err, OnOk, nat_eq, if◌then◌else◌, append_assoc, refl, sym, ◌∙◌, ap, subst}
+use Rattle.std.proofs.Common.{◌≡◌, ℕ, zero, suc, Bool, false, not, List, [], ◌∷◌, ◌++◌, map, Some, slice_get, Result, Ok, Err, OnOk, nat_eq, append_assoc, refl, sym, ◌∙◌, ap, subst, arith}
 use Rattle.std.specs.List.{list_any, filter}
-use Rattle.std.proofs.lemmas.Bool.Decides.{Decides-eqb}
+use Rattle.lemmas.proofs.Orders.{eq_says}
+use Rattle.lemmas.proofs.Places.{mapped_at}
+use Rattle.rdf_values.specs.Bookings.{Booked}
 use Rattle.rdf_values.specs.Depends.{columns_in}
 use Rattle.rdf_values.specs.Kinds.{FunctionNames}
 use Rattle.rdf_values.specs.declared.column.Column.{Column}
 use Rattle.rdf_values.specs.declared.statement.Statement.{Statement}
 use Rattle.rdf_values.specs.declared.value.ColType.{ColType}
 use Rattle.expr_check.specs.NumKinds.{CheckedExpr, distinct}
+use Rattle.graph_numbers.specs.Graphs.{holds_at}
 use Rattle.graph_numbers.specs.Sites.{SiteAt}
 use Rattle.graph.specs.declared.var_set.VarSet.{VarSet}
 use Rattle.graph.specs.Dependence.{Numbers, depends_at, any_depends, IsSet, AreSets, site_set, version_sets}
-use Rattle.graph.specs.Gains.{AreSites}
+use Rattle.graph.specs.Gains.{AreSites, AreRows}
+use Rattle.graph.specs.Sets.{has}
+use Rattle.graph.specs.declared.result_row.ResultRow.{ResultRow}
 use Rattle.graph.specs.VarSets.{has_at, any_has, read_sets, AppendsSets}
 use Rattle.graph.proofs.Listing.{any_same}
 
 -- a test of distinct numbers
 any_filtered : (p : ℕ → Bool) (x : ℕ) (ys : List ℕ) → p x ≡ false → list_any p (filter (λ y. not (nat_eq x y)) ys) ≡ list_any p ys
 any_filtered p x [] h = refl
-any_filtered p x (y ∷ ys) h = go (nat_eq x y) refl (any_filtered p x ys h)
-  where
-    go : (b : Bool) → nat_eq x y ≡ b → list_any p (filter (λ z. not (nat_eq x z)) ys) ≡ list_any p ys
-        → list_any p (if not b then y ∷ filter (λ z. not (nat_eq x z)) ys else filter (λ z. not (nat_eq x z)) ys) ≡ (p y || list_any p ys)
-    go true e q = q ∙ ap (λ b. b || list_any p ys) (sym (ap p (sym ((Decides-eqb x y).0 e)) ∙ h))
-    go false e q = ap (λ b. p y || b) q
+any_filtered p x (y ∷ ys) h = grind (arith, eq_says, any_filtered p x ys h)
 
 any_distinct_by : (p : ℕ → Bool) (xs : List ℕ) → list_any p (distinct xs) ≡ list_any p xs
 any_distinct_by p [] = refl
-any_distinct_by p (x ∷ xs) = go (p x) refl ∙ ap (λ b. p x || b) (any_distinct_by p xs)
-  where
-    go : (b : Bool) → p x ≡ b → (p x || list_any p (filter (λ y. not (nat_eq x y)) (distinct xs))) ≡ (p x || list_any p (distinct xs))
-    go true e = (λ i. e i || list_any p (filter (λ y. not (nat_eq x y)) (distinct xs))) ∙ (λ i. sym e i || list_any p (distinct xs))
-    go false e = ap (λ b. p x || b) (any_filtered p x (distinct xs) e)
+any_distinct_by p (x ∷ xs) = grind (arith, any_filtered p x (distinct xs), any_distinct_by p xs)
 
 pub any_distinct : (sets : List VarSet) (xs : List ℕ) (v : ℕ) → any_has sets (distinct xs) v ≡ any_has sets xs v
 any_distinct sets xs v = any_distinct_by (λ c. has_at sets c v) xs
@@ -42,18 +38,19 @@ one_more (Err e) f all x xs old mid new s is h m a = tt
 one_more (Ok u) f all x xs old mid new s is h m a =
     subst (λ ys. AppendsSets (map f ys) old new) (sym is) (record { more = s ∷ a.more; appended = a.appended ∙ ap (λ ys. ys ++ a.more) m ∙ append_assoc old (s ∷ []) a.more; each = (h, a.each) })
 
-pub sets_appended : (ds es : List Numbers) (ss ts : List VarSet) → AreSets ds ss → AreSets es ts → AreSets (ds ++ es) (ss ++ ts)
-sets_appended [] es [] ts h k = k
-sets_appended [] es (s ∷ ss) ts h k = elim h [ ]
-sets_appended (d ∷ ds) es [] ts h k = elim h [ ]
-sets_appended (d ∷ ds) es (s ∷ ss) ts h k = (h.0, sets_appended ds es ss ts h.1 k)
-
 pub sets_at : (ds : List Numbers) (ss : List VarSet) → AreSets ds ss → (c v : ℕ) → has_at ss c v ≡ depends_at ds c v
 sets_at [] [] h c v = refl
 sets_at [] (s ∷ ss) h c v = elim h [ ]
 sets_at (d ∷ ds) [] h c v = elim h [ ]
 sets_at (d ∷ ds) (s ∷ ss) h zero v = h.0 v
 sets_at (d ∷ ds) (s ∷ ss) h (suc c) v = sets_at ds ss h.1 c v
+
+-- the set in a list, and that of a result's row
+pub set_at : (ds : List Numbers) (ss : List VarSet) → AreSets ds ss → (n : ℕ) (s : VarSet) → slice_get ss n ≡ Some s → IsSet (depends_at ds n) s
+set_at ds ss h n s q v = sym (ap (holds_at (λ (x : VarSet). has x v)) q) ∙ sets_at ds ss h n v
+
+pub row_set : (bs : List Booked) (ds : List Numbers) (rs : List ResultRow) → AreRows bs ds rs → (n : ℕ) (r : ResultRow) → slice_get rs n ≡ Some r → IsSet (depends_at ds n) r.set
+row_set bs ds rs h n r q = set_at ds _ h.1 n r.set (mapped_at (λ (x : ResultRow). x.set) rs n r q)
 
 pub sets_any : (ds : List Numbers) (ss : List VarSet) → AreSets ds ss → (cs : List ℕ) (v : ℕ) → any_has ss cs v ≡ any_depends ds cs v
 sets_any ds ss h cs v = any_same (λ c. has_at ss c v) (λ c. depends_at ds c v) cs (λ c. sets_at ds ss h c v)

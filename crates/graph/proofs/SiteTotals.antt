@@ -1,6 +1,7 @@
 -- How many sites there are, and the numbers of filters, whatever table they stand over.
 use Rattle.std.proofs.Common.{◌≡◌, ℕ, suc, ◌+◌, List, [], ◌∷◌, ◌++◌, length, if◌then◌else◌, refl, sym, ◌∙◌, ap}
 use Rattle.std.proofs.lemmas.List.{length-append}
+use Rattle.std.proofs.lemmas.Slice.Zip.{AllZip-long}
 use Rattle.rdf_values.specs.Kinds.{FunctionNames}
 use Rattle.rdf_values.specs.Path.{makes, parent_of}
 use Rattle.rdf_values.specs.Tree.{NamedTree}
@@ -11,14 +12,11 @@ use Rattle.rdf_values.specs.declared.statement.Statement.{Statement}
 use Rattle.rdf_values.specs.declared.statement.Statement.TheVariants.{Define, Redefine, Filter, Vary}
 use Rattle.expr_check.specs.NumKinds.{CheckedExpr}
 use Rattle.graph_numbers.specs.Sites.{SiteAt, list_sites, lists_sites, own_sites, sites, site_count, own_filter_site, filter_sites}
-use Rattle.graph.specs.Gains.{AreSites}
+use Rattle.graph.specs.Gains.{IsSite, AreSites}
 use Rattle.graph.specs.SiteNumbers.{expression_total, own_site_total, site_total, is_filter, own_number, filter_numbers}
 
 pub sites_counted : (kinds : List ColType) (names : FunctionNames) (xs : List SiteAt) (cs : List CheckedExpr) → AreSites kinds names xs cs → length cs ≡ length xs
-sites_counted kinds names [] [] h = refl
-sites_counted kinds names [] (c ∷ cs) h = elim h [ ]
-sites_counted kinds names (x ∷ xs) [] h = elim h [ ]
-sites_counted kinds names (x ∷ xs) (c ∷ cs) h = ap suc (sites_counted kinds names xs cs h.1)
+sites_counted kinds names xs cs h = AllZip-long (IsSite kinds names) xs cs h
 
 module _ (header : List Column) (names : FunctionNames) where
   list_count : (before : List Statement) (parent node : List ℕ) (i k : ℕ) (es : List NamedTree) → length (list_sites header names before parent node i k es) ≡ length es

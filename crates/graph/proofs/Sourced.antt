@@ -2,13 +2,15 @@
 use Rattle.std.proofs.Common.{◌≡◌, ◌⊎◌, inl, inr, ℕ, zero, suc, ◌+◌, ◌-◌, ◌<◌, ◌≤◌, Bool, true, false, ◌&&◌, List, [], ◌∷◌, ◌++◌, map, length, Option, Some, None, option_map, refl, sym, ◌∙◌, ap, subst, arith, nat_le, nat_lt, slice_get, if◌then◌else◌}
 use Rattle.std.proofs.lemmas.Bool.Decides.{Decides-ltb}
 use Rattle.std.proofs.lemmas.Option.{slice_get_within, get_or_from_slice_get}
-use Rattle.lemmas.proofs.Orders.{le_says, le_true}
-use Rattle.lemmas.proofs.Places.{kept_at, something_at}
+use Rattle.lemmas.proofs.Orders.{le_says, le_true, lt_true}
+use Rattle.lemmas.proofs.Answers.{same_some}
+use Rattle.lemmas.proofs.Places.{any_at, kept_at, mapped_at, something_at}
 use Rattle.rdf_values.specs.Names.{same, place}
 use Rattle.rdf_values.specs.Path.{Variation, path, own_variations, variations}
 use Rattle.rdf_values.specs.Kinds.{FunctionNames, scope_of}
 use Rattle.rdf_values.specs.Verdict.{AreAccepted, check_node, check_tags, check_target, check_values, first_refusal, is_alias, is_visible, refuse_if, refuse_unless, repeats, scope_at}
 use Rattle.rdf_values.specs.declared.column.Column.{Column}
+use Rattle.rdf_values.specs.declared.graph_cause.GraphCause.{GraphCause}
 use Rattle.rdf_values.specs.declared.graph_cause.GraphCause.TheVariants as cause
 use Rattle.rdf_values.specs.declared.statement.Statement.{Statement}
 use Rattle.rdf_values.specs.declared.statement.Statement.TheVariants.{Define, Redefine, Vary}
@@ -30,11 +32,9 @@ use Rattle.graph_numbers.specs.declared.source.Source.TheVariants as from
 use Rattle.graph_numbers.specs.declared.version.Version.{Version}
 use Rattle.graph_numbers.specs.declared.version.Version.TheVariants as as_version
 use Rattle.graph.specs.VersionSources.{tag_at, tagged, version_source, AreSourcesOf, IsAbove, AreAbove}
+use Rattle.graph.proofs.Listing.{named_at, no_place}
 
 -- ---- tests and lists
-
-some_is : {A : Type 0} (x y : A) → Some x ≡ Some y → x ≡ y
-some_is x y e = cc e
 
 got_first : {A : Type 0} (xs ys : List A) (k : ℕ) → k < length xs → slice_get (xs ++ ys) k ≡ slice_get xs k
 got_first [] ys k lt = absurd (omega (arith, lt))
@@ -51,44 +51,17 @@ numbers_count n [] = refl
 numbers_count n (x ∷ xs) = ap suc (numbers_count (suc n) xs)
 
 -- a name in a list has a place
-has_place : (xs : List (List ℕ)) (k : ℕ) (x : List ℕ) → slice_get xs k ≡ Some x → (j : ℕ) × (place (same x) xs ≡ Some j)
-has_place [] k x h = cc h
-has_place (y ∷ xs) zero x h = go (same x y) (let e : y ≡ x = cc h in ap (same x) e ∙ same_itself x)
-  where
-    go : (b : Bool) → b ≡ true → (j : ℕ) × ((if b then Some 0 else option_map suc (place (same x) xs)) ≡ Some j)
-    go true e = (0, refl)
-    go false e = cc e
-has_place (y ∷ xs) (suc k) x h = go (same x y) (has_place xs k x h)
-  where
-    go : (b : Bool) → (j : ℕ) × (place (same x) xs ≡ Some j) → (j : ℕ) × ((if b then Some 0 else option_map suc (place (same x) xs)) ≡ Some j)
-    go true r = (0, refl)
-    go false r = (suc r.0, ap (option_map suc) r.1)
-
--- a name stands at its place
-at_place : (xs : List (List ℕ)) (x : List ℕ) (j : ℕ) → place (same x) xs ≡ Some j → slice_get xs j ≡ Some x
-at_place [] x j h = cc h
-at_place (y ∷ xs) x j h = go (same x y) refl h (λ i e. at_place xs x i e)
-  where
-    first : (i : ℕ) → i ≡ 0 → x ≡ y → slice_get (y ∷ xs) i ≡ Some x
-    first zero z e = ap Some (sym e)
-    first (suc i) z e = cc z
-
-    after : (o : Option ℕ) → option_map suc o ≡ Some j → place (same x) xs ≡ o → ((i : ℕ) → place (same x) xs ≡ Some i → slice_get xs i ≡ Some x) → slice_get (y ∷ xs) j ≡ Some x
-    after None q e next = cc q
-    after (Some i) q e next = let m : suc i ≡ j = cc q in ap (slice_get (y ∷ xs)) (sym m) ∙ next i e
-
-    go : (b : Bool) → same x y ≡ b → (if b then Some 0 else option_map suc (place (same x) xs)) ≡ Some j → ((i : ℕ) → place (same x) xs ≡ Some i → slice_get xs i ≡ Some x) → slice_get (y ∷ xs) j ≡ Some x
-    go true e q next = first j (let z : 0 ≡ j = cc q in sym z) (names_equal x y e)
-    go false e q next = after (place (same x) xs) q refl next
-
-of_named : (tags : List (List ℕ)) (name : List ℕ) (k : ℕ) (t : List ℕ) → slice_get tags k ≡ Some t → slice_get {X = Variation} (map (λ u. record { name = name; tag = u }) tags) k ≡ Some (record { name = name; tag = t })
-of_named [] name k t h = cc h
-of_named (u ∷ tags) name zero t h = let e : u ≡ t = cc h in λ i. Some (record { name = name; tag = e i })
-of_named (u ∷ tags) name (suc k) t h = of_named tags name k t h
+has_place : (xs : List (List ℕ)) (k : ℕ) (x : List ℕ) → slice_get xs k ≡ Some x → place (same x) xs ≡ None → ⊥
+has_place xs k x h e = cc (any_at (same x) xs k x h (same_itself x), no_place (same x) xs e)
 
 variation_kept : (before after : List Statement) → Extends before after → (k : ℕ) (x : Variation) → slice_get (variations before) k ≡ Some x → slice_get (variations after) k ≡ Some x
 variation_kept before after itself k x h = h
 variation_kept before after (further {after = c} s e) k x h = kept_at (variations c) (own_variations s) k x (variation_kept before c e k x h)
+
+each_passes : {A : Type 0} (f : A → Option GraphCause) (xs : List A) (k : ℕ) (x : A) → first_refusal (map f xs) ≡ None → slice_get xs k ≡ Some x → f x ≡ None
+each_passes f [] k x h q = cc q
+each_passes f (y ∷ xs) zero x h q = grind (arith, both_none (f y) (map f xs) h)
+each_passes f (y ∷ xs) (suc k) x h q = each_passes f xs k x (both_none (f y) (map f xs) h).1 q
 
 -- ---- the tag of a variation by its number
 
@@ -97,7 +70,7 @@ module _ (header : List Column) (names : FunctionNames) (script : List Statement
     own_at : (k : ℕ) (t : List ℕ) → slice_get tags k ≡ Some t → slice_get (variations script) (length (variations before) + k) ≡ Some (record { name = vary; tag = t })
     own_at k t h =
         variation_kept (Vary node parent cs values tags vary ∷ before) script e (length (variations before) + k) (record { name = vary; tag = t })
-        (next_at (variations before) (own_variations (Vary node parent cs values tags vary)) k (length (variations before) + k) refl ∙ of_named tags vary k t h)
+        (next_at (variations before) (own_variations (Vary node parent cs values tags vary)) k (length (variations before) + k) refl ∙ mapped_at (λ u. record { name = vary; tag = u }) tags k t h)
 
     -- a variation with a place among the Vary's own has that number
     own_number : (v k : ℕ) (w : Variation) → slice_get (variations script) v ≡ Some w → own_place (Some w) vary tags ≡ Some k → v ≡ length (variations before) + k
@@ -107,9 +80,9 @@ module _ (header : List Column) (names : FunctionNames) (script : List Statement
         go false q r = cc r
         go true q r =
             let is : ◌≡◌ {A = Variation} (record { name = vary; tag = w.tag }) w = λ i. record { name = sym (names_equal w.name vary q) i; tag = w.tag } in
-            some_is _ _
+            same_some
             (sym (variation_number header names script good v w h)
-            ∙ variation_number header names script good (length (variations before) + k) w (own_at k w.tag (at_place tags w.tag k r) ∙ ap Some is))
+            ∙ variation_number header names script good (length (variations before) + k) w (own_at k w.tag (named_at tags w.tag k r).0 ∙ ap Some is))
 
     tag_is_not : (v : ℕ) → (length (variations before) ≤ v → v < length (variations before) + length tags → ⊥) → tag_at (Some v) (length (variations before)) (length tags) ≡ None
     tag_is_not v h = go (nat_le (length (variations before)) v) (nat_lt v (length (variations before) + length tags)) refl refl
@@ -120,12 +93,9 @@ module _ (header : List Column) (names : FunctionNames) (script : List Statement
         go false b p q = refl
 
     tag_is_at : (v k : ℕ) → v ≡ length (variations before) + k → k < length tags → tag_at (Some v) (length (variations before)) (length tags) ≡ Some k
-    tag_is_at v k p lt = go (nat_le (length (variations before)) v) (nat_lt v (length (variations before) + length tags)) refl refl
-      where
-        go : (a b : Bool) → nat_le (length (variations before)) v ≡ a → nat_lt v (length (variations before) + length tags) ≡ b → (if a && b then Some (v - length (variations before)) else None) ≡ Some k
-        go true true q r = let d : v - length (variations before) ≡ k = omega (arith, p) in ap Some d
-        go true false q r = let m : v < length (variations before) + length tags = omega (arith, p, lt) in cc ((Decides-ltb v (length (variations before) + length tags)).1 m, r)
-        go false b q r = let m : length (variations before) ≤ v = omega (arith, p) in cc (le_true (length (variations before)) v m, q)
+    tag_is_at v k p lt =
+        let d : v - length (variations before) ≡ k = omega (arith, p) in
+        rw (le_true (length (variations before)) v (omega (arith, p)), lt_true v (length (variations before) + length tags) (omega (arith, p, lt))) (ap Some d)
 
     pub own_tag : (u : Option ℕ) → own_place (under_at script u) vary tags ≡ tag_at u (length (variations before)) (length tags)
     own_tag None = refl
@@ -140,10 +110,8 @@ module _ (header : List Column) (names : FunctionNames) (script : List Statement
                 let k : ℕ = v - length (variations before) in
                 let at : v ≡ length (variations before) + k = omega (arith, l) in
                 let t = something_at tags k (omega (arith, l, m)) in
-                let is : ◌≡◌ {A = Variation} (record { name = vary; tag = t.0 }) w = some_is _ _ (sym (own_at k t.0 t.1) ∙ ap (slice_get (variations script)) (sym at) ∙ h) in
-                let j = has_place tags k t.0 t.1 in
-                let mine : own_place (Some (record { name = vary; tag = t.0 })) vary tags ≡ Some j.0 = ap (λ b. if b then place (same t.0) tags else None) (same_itself vary) ∙ j.1 in
-                cc (mine, ap (λ (x : Variation). own_place (Some x) vary tags) is, p)
+                let is : ◌≡◌ {A = Variation} (record { name = vary; tag = t.0 }) w = same_some (sym (own_at k t.0 t.1) ∙ ap (slice_get (variations script)) (sym at) ∙ h) in
+                let mine : place (same t.0) tags ≡ None = sym (ap (λ b. if b then place (same t.0) tags else None) (same_itself vary)) ∙ ap (λ (x : Variation). own_place (Some x) vary tags) is ∙ p in has_place tags k t.0 t.1 mine
 
         go : (o : Option Variation) → slice_get (variations script) v ≡ o → own_place o vary tags ≡ tag_at (Some v) (length (variations before)) (length tags)
         go (Some w) h = place_of w h (own_place (Some w) vary tags) refl
@@ -157,23 +125,13 @@ module _ (header : List Column) (names : FunctionNames) (script : List Statement
 
     -- ---- the version below
 
-    target_checked : (ns : List (List ℕ)) (k : ℕ) (name : List ℕ) → first_refusal (map (check_target (scope_at names (scope_of header) before parent) (path before parent)) ns) ≡ None → slice_get ns k ≡ Some name
-        → check_target (scope_at names (scope_of header) before parent) (path before parent) name ≡ None
-    target_checked [] k name h q = cc q
-    target_checked (n ∷ ns) zero name h q =
-        let is : n ≡ name = cc q in
-        subst (λ (x : List ℕ). check_target (scope_at names (scope_of header) before parent) (path before parent) x ≡ None) is
-        (both_none (check_target (scope_at names (scope_of header) before parent) (path before parent) n) (map (check_target (scope_at names (scope_of header) before parent) (path before parent)) ns) h).0
-    target_checked (n ∷ ns) (suc k) name h q =
-        target_checked ns k name (both_none (check_target (scope_at names (scope_of header) before parent) (path before parent) n) (map (check_target (scope_at names (scope_of header) before parent) (path before parent)) ns) h).1 q
-
     below_is : AreAccepted names (scope_of header) (Vary node parent cs values tags vary ∷ before) → (k : ℕ) (name : List ℕ) → slice_get cs k ≡ Some name → named_version header before parent name < version_count header before
     below_is ok k name q =
         let scope = scope_at names (scope_of header) before parent in
         let a = both_none (check_node before node parent) (refuse_if (repeats cs) cause.NameTaken ∷ first_refusal (map (check_target scope (path before parent)) cs) ∷ check_tags before tags vary ∷ check_values names scope (length tags) cs values ∷ []) ok.0 in
         let b = both_none (refuse_if (repeats cs) cause.NameTaken) (first_refusal (map (check_target scope (path before parent)) cs) ∷ check_tags before tags vary ∷ check_values names scope (length tags) cs values ∷ []) a.1 in
         let c = both_none (first_refusal (map (check_target scope (path before parent)) cs)) (check_tags before tags vary ∷ check_values names scope (length tags) cs values ∷ []) b.1 in
-        let t = target_checked cs k name c.0 q in
+        let t = each_passes (check_target scope (path before parent)) cs k name c.0 q in
         let d = both_none (refuse_unless (is_visible scope name) cause.UnknownColumn) (refuse_if (is_alias (path before parent) name) cause.AliasTarget ∷ []) t in
         let known = visible_known scope name (unless_holds (is_visible scope name) cause.UnknownColumn d.0) in
         let own = no_target (path before parent) name (if_fails (is_alias (path before parent) name) cause.AliasTarget (both_none (refuse_if (is_alias (path before parent) name) cause.AliasTarget) [] d.1).0) in
@@ -220,7 +178,7 @@ module _ (header : List Column) (names : FunctionNames) (script : List Statement
           let z : j ≡ j + 0 = omega arith in (
             n,
             refl,
-            sym (some_is _ _ h) ∙ ap (varied_version header names values (below_of n) (length (variations before)) (site_count header names before) tags) z,
+            sym (same_some h) ∙ ap (varied_version header names values (below_of n) (length (variations before)) (site_count header names before) tags) z,
             ap (λ i. Some (own_source values (site_count header names before) i (length tags) (own_place (under_at script u) vary tags) (source_in (own before) (below_of n)))) z,
           )
       varied_at (n ∷ ns) j (suc k) x h =
@@ -268,10 +226,10 @@ module _ (header : List Column) (names : FunctionNames) (script : List Statement
         → slice_get (own_versions header names before s) k ≡ Some x → IsSourceAt (s ∷ before) c x
     unfolding IsSourceAt
     own_source_at before (Define node parent column expr) e ok zero c x n h =
-        let m = source_count header names (under_at script u) before in let is : as_version.Computed (site_count header names before) ≡ x = some_is _ _ h in
+        let m = source_count header names (under_at script u) before in let is : as_version.Computed (site_count header names before) ≡ x = same_some h in
         (next_at (own before) (from.Site (site_count header names before) ∷ []) 0 c (omega (arith, n, m)) ∙ ap (version_source u (own (Define node parent column expr ∷ before))) is, subst (IsAbove c) is tt)
     own_source_at before (Redefine node parent column expr) e ok zero c x n h =
-        let m = source_count header names (under_at script u) before in let is : as_version.Computed (site_count header names before) ≡ x = some_is _ _ h in
+        let m = source_count header names (under_at script u) before in let is : as_version.Computed (site_count header names before) ≡ x = same_some h in
         (next_at (own before) (from.Site (site_count header names before) ∷ []) 0 c (omega (arith, n, m)) ∙ ap (version_source u (own (Redefine node parent column expr ∷ before))) is, subst (IsAbove c) is tt)
     own_source_at before (Define node parent column expr) e ok (suc k) c x n h = cc h
     own_source_at before (Redefine node parent column expr) e ok (suc k) c x n h = cc h

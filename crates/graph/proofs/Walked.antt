@@ -24,23 +24,11 @@ named_more s before = omega arith
 
 column_few : (cs : List Column) (name : List ℕ) → column_place cs name ≤ length cs
 column_few [] name = omega arith
-column_few (c ∷ cs) name = go (same c.name name) (column_few cs name)
-  where
-    go : (b : Bool) → column_place cs name ≤ length cs → (if b then 0 else suc (column_place cs name)) ≤ length (c ∷ cs)
-    go true h = omega arith
-    go false h = omega (arith, h)
+column_few (c ∷ cs) name = grind (arith, column_few cs name)
 
 own_few : (s : Statement) (first above : ℕ) (name : List ℕ) → above ≤ first → own_version s first name above ≤ first + length (own_columns s)
-own_few (Define node parent column expr) first above name h = go (same column name)
-  where
-    go : (b : Bool) → (if b then first else above) ≤ first + 1
-    go true = omega arith
-    go false = omega (arith, h)
-own_few (Redefine node parent column expr) first above name h = go (same column name)
-  where
-    go : (b : Bool) → (if b then first else above) ≤ first + 1
-    go true = omega arith
-    go false = omega (arith, h)
+own_few (Define node parent column expr) first above name h = grind arith
+own_few (Redefine node parent column expr) first above name h = grind arith
 own_few (Vary node parent columns values tags vary) first above name h = go (place (same name) columns) refl
   where
     go : (o : Option ℕ) → place (same name) columns ≡ o → version_or first o above ≤ first + length columns

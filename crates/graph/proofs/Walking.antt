@@ -1,27 +1,22 @@
 -- Steps of the look-ups that walk the statements so far.
-use Rattle.std.proofs.Common.{◌≡◌, ℕ, Bool, true, false, ◌||◌, List, [], ◌∷◌, ◌++◌, map, refl, sym, ◌∙◌, ap}
-use Rattle.rdf_values.specs.Bookings.{Booked, booked_by, bookings, names_of}
+use Rattle.std.proofs.Common.{◌≡◌, ℕ, Bool, true, false, ◌||◌, List, [], ◌∷◌, ◌++◌, map, refl, sym, ◌∙◌, ap, arith, ◌+◌, if◌then◌else◌, length, subst}
+use Rattle.rdf_values.specs.Bookings.{Booked, booked_by, bookings, names_of, Booking}
 use Rattle.rdf_values.specs.Kinds.{FunctionNames, Scope, column_kind}
 use Rattle.rdf_values.specs.Names.{same, among}
 use Rattle.rdf_values.specs.Path.{Path, target_of}
-use Rattle.rdf_values.specs.Verdict.{aliases, is_alias, is_result, is_visible, kind_or_int, made_columns, visible_columns}
+use Rattle.rdf_values.specs.Verdict.{aliases, is_alias, is_result, is_visible, kind_or_int, made_columns, visible_columns, result_is, watched_results}
 use Rattle.rdf_values.specs.declared.statement.Statement.{Statement}
-use Rattle.rdf_values.specs.declared.statement.Statement.TheVariants.{Action, Report}
+use Rattle.rdf_values.specs.declared.statement.Statement.TheVariants.{Action, Report, Watch}
 use Rattle.rdf_values.specs.declared.value.ColType.{ColType}
-use Rattle.rdf_model.proofs.Accepted.{names_equal}
-use Rattle.std.proofs.lemmas.Slice.Eq.{bytes_eq-Decides}
+use Rattle.rdf_model.proofs.Accepted.{itself, names_equal}
+use Rattle.std.proofs.lemmas.List.{map-append, length-append}
+use Rattle.std.proofs.lemmas.List.Folds.{list_any-append}
 use Rattle.lemmas.proofs.Booleans.{or_false}
-use Rattle.graph.specs.Lookups.{books}
+use Rattle.graph.specs.Lookups.{books, own_results, result_in, IsSame}
 
 -- a name among the names of two lists
 among_both : (name : List ℕ) (xs ys : List Booked) → among name (names_of (xs ++ ys)) ≡ (among name (names_of xs) || among name (names_of ys))
-among_both name [] ys = refl
-among_both name (x ∷ xs) ys = go (same name x.name) (among_both name xs ys)
-  where
-    go : (b : Bool) → among name (names_of (xs ++ ys)) ≡ (among name (names_of xs) || among name (names_of ys))
-        → (b || among name (names_of (xs ++ ys))) ≡ ((b || among name (names_of xs)) || among name (names_of ys))
-    go true e = refl
-    go false e = e
+among_both name xs ys = ap (among name) (map-append (λ (b : Booked). b.name) xs ys) ∙ list_any-append (same name) (names_of xs) (names_of ys)
 
 books_is : (before : List Statement) (s : Statement) (name : List ℕ) → among name (names_of (booked_by before s)) ≡ books s name
 books_is before (Action result parent k) name = or_false (same name result)
@@ -39,19 +34,12 @@ same_back a b = go (same a b) (same b a) refl refl
     go : (x y : Bool) → same a b ≡ x → same b a ≡ y → x ≡ y
     go true true p q = refl
     go false false p q = refl
-    go true false p q = cc (sym q ∙ (bytes_eq-Decides b a).1 (sym (names_equal a b p)))
-    go false true p q = cc (sym p ∙ (bytes_eq-Decides a b).1 (sym (names_equal b a q)))
+    go true false p q = cc (itself b, ap (same b) (names_equal a b p), q)
+    go false true p q = cc (itself a, ap (same a) (names_equal b a q), p)
 
 visible_in : (f : List ℕ → ColType) (columns : Scope) (name : List ℕ) (names : List (List ℕ)) → is_visible (map (λ a. (a, f a)) names ++ columns) name ≡ (among name names || is_visible columns name)
 visible_in f columns name [] = refl
-visible_in f columns name (a ∷ names) = go (same a name) (same name a) (same_back a name) (visible_in f columns name names)
-  where
-    go : (b c : Bool) → b ≡ c → is_visible (map (λ x. (x, f x)) names ++ columns) name ≡ (among name names || is_visible columns name)
-        → (b || is_visible (map (λ x. (x, f x)) names ++ columns) name) ≡ ((c || among name names) || is_visible columns name)
-    go true true p e = refl
-    go false false p e = e
-    go true false p e = cc p
-    go false true p e = cc p
+visible_in f columns name (a ∷ names) = grind (arith, same_back a name, visible_in f columns name names)
 
 -- a name is visible as an alias or as a column
 pub visible_is : (names : FunctionNames) (header : Scope) (at : Path) (name : List ℕ) → is_visible (visible_columns names header at) name ≡ (is_alias at name || is_visible (made_columns names header at) name)
@@ -60,3 +48,47 @@ visible_is names header at name = visible_in (λ a. kind_or_int (column_kind (ma
 pub visible_else : (names : FunctionNames) (header : Scope) (at : Path) (name : List ℕ) (a m : Bool) → a ≡ is_alias at name → a ≡ false → m ≡ is_visible (made_columns names header at) name
     → m ≡ is_visible (visible_columns names header at) name
 visible_else names header at name a m p q h = h ∙ ap (λ b. b || is_visible (made_columns names header at) name) (sym q ∙ p) ∙ sym (visible_is names header at name)
+
+names_both : (xs ys : List Booked) → names_of (xs ++ ys) ≡ names_of xs ++ names_of ys
+names_both xs ys = map-append (λ (b : Booked). b.name) xs ys
+
+own_names : (before : List Statement) (s : Statement) → names_of (booked_by before s) ≡ own_results s
+own_names before (Action result parent k) = refl
+own_names before (Report result parent) = refl
+own_names before s = refl
+
+pub names_step : (before : List Statement) (s : Statement) → names_of (bookings (s ∷ before)) ≡ names_of (bookings before) ++ own_results s
+names_step before s = names_both (bookings before) (booked_by before s) ∙ ap (λ ns. names_of (bookings before) ++ ns) (own_names before s)
+
+pub count_step : (before : List Statement) (s : Statement) → length (bookings (s ∷ before)) ≡ length (bookings before) + length (booked_by before s)
+count_step before s = length-append (bookings before) (booked_by before s)
+
+in_both : (test : Booking → Bool) (name : List ℕ) (xs ys : List Booked) → result_in test name (xs ++ ys) ≡ (result_in test name xs || result_in test name ys)
+in_both test name [] ys = refl
+in_both test name (x ∷ xs) ys = grind (arith, in_both test name xs ys)
+
+pub result_is_step : (test : Booking → Bool) (before : List Statement) (s : Statement) (name : List ℕ) → result_is test (s ∷ before) name ≡ (result_is test before name || result_in test name (booked_by before s))
+result_is_step test before s name = in_both test name (bookings before) (booked_by before s)
+
+among_end : (x : List ℕ) (xs : List (List ℕ)) (r : List ℕ) → among x (xs ++ r ∷ []) ≡ (same x r || among x xs)
+among_end x [] r = refl
+among_end x (y ∷ xs) r = grind (arith, among_end x xs r)
+
+pub watched_none : IsSame [] []
+watched_none = record { count = refl; has = λ x. refl }
+
+pub watched_again : (before : List Statement) (s : Statement) (r : List ℕ) (ys : List (List ℕ)) → IsSame (watched_results before) ys → (b : Bool) → b ≡ among r ys → b ≡ true → watched_results (s ∷ before) ≡ watched_results (Watch r ∷ before) → IsSame (watched_results (s ∷ before)) ys
+watched_again before w r ys s b e h q = subst (λ xs. IsSame xs ys) (sym (q ∙ sym (ap (λ c. if c then watched_results before else r ∷ watched_results before) (sym h ∙ e ∙ s.has r)))) s
+
+pub watched_more : (before : List Statement) (s : Statement) (r : List ℕ) (ys zs : List (List ℕ)) → IsSame (watched_results before) ys → (b : Bool) → b ≡ among r ys → b ≡ false → zs ≡ ys ++ r ∷ [] → watched_results (s ∷ before) ≡ watched_results (Watch r ∷ before) → IsSame (watched_results (s ∷ before)) zs
+watched_more before w r ys zs s b e h z q =
+    subst (λ xs. IsSame xs zs) (sym (q ∙ sym (ap (λ c. if c then watched_results before else r ∷ watched_results before) (sym h ∙ e ∙ s.has r)))) (record { count = count; has = has })
+  where
+    count : length zs ≡ length (r ∷ watched_results before)
+    count = let a : length zs ≡ length ys + 1 = ap length z ∙ length-append ys (r ∷ []) in let c = s.count in omega (arith, a, c)
+
+    has : (x : List ℕ) → among x zs ≡ among x (r ∷ watched_results before)
+    has x = ap (among x) z ∙ among_end x ys r ∙ ap (λ c. same x r || c) (s.has x)
+
+pub watched_past : (before : List Statement) (s : Statement) (ys : List (List ℕ)) → IsSame (watched_results before) ys → watched_results (s ∷ before) ≡ watched_results before → IsSame (watched_results (s ∷ before)) ys
+watched_past before s ys h q = subst (λ xs. IsSame xs ys) (sym q) h

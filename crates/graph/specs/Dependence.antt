@@ -1,6 +1,6 @@
 -- Which variations versions, sites and results depend on, by numbers.
-use Rattle.std.specs.Prelude.{◌≡◌, ⊤, ℕ, ◌+◌, Bool, false, ◌||◌, ◌&&◌, List, [], ◌∷◌, ◌++◌, map, length, slice_get, nat_le, nat_lt}
-use Rattle.std.specs.List.{list_any}
+use Rattle.std.specs.Prelude.{◌≡◌, ℕ, ◌+◌, Bool, false, ◌||◌, ◌&&◌, List, [], ◌∷◌, ◌++◌, map, length, slice_get, nat_le, nat_lt}
+use Rattle.std.specs.List.{list_any, AllZip}
 use Rattle.rdf_values.specs.Bookings.{columns_of}
 use Rattle.rdf_values.specs.Depends.{columns_in}
 use Rattle.rdf_values.specs.Kinds.{FunctionNames}
@@ -90,7 +90,4 @@ IsSet d s = (v : ℕ) → has s v ≡ d v
 
 -- one for each
 abbrev pub AreSets : List Numbers → List VarSet → Type 0
-AreSets [] [] = ⊤
-AreSets [] (s ∷ ss) = ⊥
-AreSets (d ∷ ds) [] = ⊥
-AreSets (d ∷ ds) (s ∷ ss) = IsSet d s × AreSets ds ss
+AreSets ds ss = AllZip IsSet ds ss

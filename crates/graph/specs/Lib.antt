@@ -1,7 +1,7 @@
 pub mod Amounts
-pub mod Befores
 pub mod Bookings
 pub mod Checks
+pub mod Contexts
 pub mod Dependence
 pub mod Gains
 pub mod GraphFields

@@ -1,5 +1,6 @@
 -- The loops and Prints of a script, as they are listed while its lines are walked.
 use Rattle.std.specs.Prelude.{◌≡◌, ⊤, ◌≤◌, ℕ, zero, suc, Bool, true, false, List, [], ◌∷◌, ◌++◌, map, length, take, Option, Some, None, if◌then◌else◌, slice_get}
+use Rattle.std.specs.List.{AllZip}
 use Rattle.rdf_values.specs.Bookings.{Booked, bookings, names_of, filled, has_variations, result_depends}
 use Rattle.rdf_values.specs.Names.{among, place}
 use Rattle.rdf_values.specs.Path.{variations}
@@ -20,12 +21,6 @@ use Rattle.graph.specs.declared.loops.LoopTables.{LoopTables}
 abbrev pub IsNoPrint : Statement → Type 0
 IsNoPrint (Print result) = ⊥
 IsNoPrint s = ⊤
-
--- the statement books a result
-abbrev pub is_booking : Statement → Bool
-is_booking (Action result parent k) = true
-is_booking (Report result parent) = true
-is_booking s = false
 
 -- a result that is booked is new, and one that is printed isn't
 abbrev pub IsNamedInTurn : List Statement → Statement → Type 0
@@ -58,10 +53,7 @@ pub record IsRowOf (script : List Statement) (b : Booked) (r : ResultRow) : Type
 
 -- one for each result
 abbrev pub AreRowsOf : List Statement → List Booked → List ResultRow → Type 0
-AreRowsOf script [] [] = ⊤
-AreRowsOf script [] (r ∷ rs) = ⊥
-AreRowsOf script (b ∷ bs) [] = ⊥
-AreRowsOf script (b ∷ bs) (r ∷ rs) = IsRowOf script b r × AreRowsOf script bs rs
+AreRowsOf script bs rs = AllZip (IsRowOf script) bs rs
 
 -- the passes of results that are numbered from n on, over so many variations
 abbrev pub passes_of_row : List Statement → ℕ → ℕ → ResultRow → List Pass
@@ -86,6 +78,14 @@ pub record AreLoops (script before : List Statement) (t : LoopTables) : Type 0 w
   pub filling : map (λ n. Some n) t.filling.items ≡ map (λ (a : Access). filler_of before a.result) (accesses before)
   pub count : length t.fillers.items ≡ filled_count before
   pub fillers : (n l : ℕ) (b : Booked) → slice_get t.fillers.items n ≡ Some l → slice_get (bookings script) n ≡ Some b → filler_of before b.name ≡ Some l
+
+-- one Print more: its result, the loop that it runs, and the one that fills its result
+pub record IsNoted (old : LoopTables) (n : ℕ) (run : Option ℕ) (filler : ℕ) (new : LoopTables) : Type 0 where
+  pub loops : new.loops.items ≡ old.loops.items
+  pub fillers : new.fillers.items ≡ old.fillers.items
+  pub runs : new.runs.items ≡ old.runs.items ++ run ∷ []
+  pub prints : new.prints.items ≡ old.prints.items ++ n ∷ []
+  pub filling : new.filling.items ≡ old.filling.items ++ filler ∷ []
 
 -- the results of the former are the first of the latter's
 abbrev pub BeginsWith : List Statement → List Statement → Type 0

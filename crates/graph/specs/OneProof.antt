@@ -1,6 +1,7 @@
 -- What ghost fields say has one proof at most.
 use Rattle.std.specs.Prelude.{ℕ, List, [], ◌∷◌, Option}
 use Rattle.std.specs.Coded.{Coded-set, coded_list, coded_option}
+use Rattle.std.specs.List.{AllZip}
 use Rattle.std.proofs.Props.{props}
 use Rattle.rdf_values.specs.Bookings.{Booked}
 use Rattle.rdf_values.specs.Kinds.{FunctionNames, scope_of, args_count}
@@ -18,9 +19,9 @@ use Rattle.rdf_values.specs.declared.value.ColType.{ColType}
 use Rattle.expr_check.specs.NumKinds.{CheckedExpr, IsCallOf, CallsFit, AllCallsFit}
 use Rattle.graph_numbers.specs.Sites.{SiteAt}
 use Rattle.graph.specs.declared.var_set.VarSet.{VarSet}
-use Rattle.graph.specs.Dependence.{Numbers, AreSets}
-use Rattle.graph.specs.Gains.{AreSites, AreRows, AreTables}
-use Rattle.graph.specs.LoopRows.{AreRowsOf, IsScriptRows}
+use Rattle.graph.specs.Dependence.{Numbers, AreSets, IsSet as IsSetOf}
+use Rattle.graph.specs.Gains.{IsSite, AreSites, IsRow, AreTables}
+use Rattle.graph.specs.LoopRows.{IsRowOf, AreRowsOf, IsScriptRows}
 use Rattle.graph.specs.declared.result_row.ResultRow.{ResultRow}
 use Rattle.graph.specs.declared.tables.Tables.{Tables}
 
@@ -45,11 +46,14 @@ accepted-prop : (names : FunctionNames) (header : List Column) (before : List St
 accepted-prop names header [] = hlevel known
 accepted-prop names header (s ∷ before) = hlevel (known, accepted-prop names header before)
 
+zip-prop : {A B : Type 0} (R : A → B → Type 0) → ((x : A) (y : B) → IsProp (R x y)) → (xs : List A) (ys : List B) → IsProp (AllZip R xs ys)
+zip-prop R each [] [] = hlevel known
+zip-prop R each [] (y ∷ ys) = hlevel known
+zip-prop R each (x ∷ xs) [] = hlevel known
+zip-prop R each (x ∷ xs) (y ∷ ys) = hlevel (each, zip-prop R each xs ys)
+
 sets-prop : (ds : List Numbers) (ss : List VarSet) → IsProp (AreSets ds ss)
-sets-prop [] [] = hlevel known
-sets-prop [] (s ∷ ss) = hlevel known
-sets-prop (d ∷ ds) [] = hlevel known
-sets-prop (d ∷ ds) (s ∷ ss) = hlevel (known, sets-prop ds ss)
+sets-prop ds ss = zip-prop IsSetOf (λ d s. hlevel known) ds ss
 
 module _ (names : FunctionNames) where
   call-prop : (f : Callee) (count : ℕ) → IsProp (IsCallOf names f count)
@@ -73,24 +77,16 @@ module _ (names : FunctionNames) where
     all_calls-prop (More a rest) = hlevel (calls-prop a, all_calls-prop rest)
 
   sites-prop : (kinds : List ColType) (xs : List SiteAt) (cs : List CheckedExpr) → IsProp (AreSites kinds names xs cs)
-  sites-prop kinds [] [] = hlevel known
-  sites-prop kinds [] (c ∷ cs) = hlevel known
-  sites-prop kinds (x ∷ xs) [] = hlevel known
-  sites-prop kinds (x ∷ xs) (c ∷ cs) = hlevel (known, calls-prop c.tree, sites-prop kinds xs cs)
+  sites-prop kinds xs cs = zip-prop (IsSite kinds names) (λ x c. hlevel (known, calls-prop c.tree)) xs cs
 
-rows-prop : (bs : List Booked) (ds : List Numbers) (rs : List ResultRow) → IsProp (AreRows bs ds rs)
-rows-prop [] [] [] = hlevel known
-rows-prop (b ∷ bs) (d ∷ ds) (r ∷ rs) = hlevel (known, rows-prop bs ds rs)
-rows-prop bs ds rs = hlevel known
+rows-prop : (bs : List Booked) (rs : List ResultRow) → IsProp (AllZip IsRow bs rs)
+rows-prop bs rs = zip-prop IsRow (λ b r. hlevel known) bs rs
 
 pub tables-prop : (header : List Column) (names : FunctionNames) (before : List Statement) (t : Tables) → IsProp (AreTables header names before t)
 tables-prop header names before t = hlevel (known, accepted-prop names header before, sets-prop, sites-prop names, rows-prop)
 
 rows_of-prop : (script : List Statement) (bs : List Booked) (rs : List ResultRow) → IsProp (AreRowsOf script bs rs)
-rows_of-prop script [] [] = hlevel known
-rows_of-prop script [] (r ∷ rs) = hlevel known
-rows_of-prop script (b ∷ bs) [] = hlevel known
-rows_of-prop script (b ∷ bs) (r ∷ rs) = hlevel (known, rows_of-prop script bs rs)
+rows_of-prop script bs rs = zip-prop (IsRowOf script) (λ b r. hlevel known) bs rs
 
 pub script_rows-prop : (script : List Statement) (rows : List ResultRow) (count : ℕ) → IsProp (IsScriptRows script rows count)
 script_rows-prop script rows count = hlevel (known, rows_of-prop)

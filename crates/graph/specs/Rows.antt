@@ -13,7 +13,7 @@ use Rattle.graph_numbers.specs.Versions.{named_version, version_at}
 use Rattle.graph_numbers.specs.declared.result_kind.ResultKind.TheVariants as what
 use Rattle.graph_numbers.specs.declared.version.Version.{Version}
 use Rattle.graph_numbers.specs.declared.version.Version.TheVariants as as_version
-use Rattle.graph.specs.SiteNumbers.{filter_numbers}
+use Rattle.graph.specs.SiteNumbers.{filter_numbers, own_number}
 use Rattle.graph.specs.declared.result_path.ResultPath.{ResultPath}
 
 -- so many numbers from the first on
@@ -63,25 +63,25 @@ abbrev pub labels : List Statement → List (List ℕ)
 labels [] = []
 labels (s ∷ before) = labels before ++ option_to_list (own_label s)
 
--- the sites of a named filter: of those above it, and its own
+-- the sites of a Filter at a node, where it is named: of those above it, and its own
+abbrev pub named_rows : List Statement → ℕ → List ℕ → Option (List ℕ) → List (List ℕ)
+named_rows before site parent (Some label) = (filter_numbers before parent ++ site ∷ []) ∷ []
+named_rows before site parent None = []
+
+-- those of the statement
 abbrev pub filter_rows : List Statement → ℕ → Statement → List (List ℕ)
-filter_rows before site (Filter node parent expr (Some label)) = (filter_numbers before parent ++ site ∷ []) ∷ []
+filter_rows before site (Filter node parent expr label) = named_rows before site parent label
 filter_rows before site s = []
 
 -- so many named filters
 abbrev pub named_count : List Statement → ℕ
 named_count before = length (named_before before)
 
--- the number of a named filter, which is numbered next
-abbrev pub own_named : Bool → ℕ → List ℕ
-own_named true next = next ∷ []
-own_named false next = []
-
 -- the named filters of the path of a node, head first
 abbrev pub named_numbers : List Statement → List ℕ → List ℕ
 named_numbers [] node = []
 named_numbers (s ∷ before) node =
-    if makes s node then named_numbers before (parent_of s) ++ own_named (is_named s) (named_count before) else named_numbers before node
+    if makes s node then named_numbers before (parent_of s) ++ own_number (is_named s) (named_count before) else named_numbers before node
 
 -- ---- results
 

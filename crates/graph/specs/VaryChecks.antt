@@ -1,5 +1,6 @@
 -- The expressions of a Vary, and what their check gives.
-use Rattle.std.specs.Prelude.{◌≡◌, ⊤, ℕ, List, [], ◌∷◌, ◌++◌}
+use Rattle.std.specs.Prelude.{◌≡◌, ℕ, List, [], ◌∷◌, ◌++◌}
+use Rattle.std.specs.List.{AllZip}
 use Rattle.rdf_values.specs.Kinds.{FunctionNames}
 use Rattle.rdf_values.specs.Tree.{NamedTree}
 use Rattle.rdf_values.specs.declared.column.Column.{Column}
@@ -22,10 +23,7 @@ value_expressions (Vector e) = e ∷ []
 module _ (header : List Column) (names : FunctionNames) (before : List Statement) (node : List ℕ) where
   -- the expressions were checked at the node, in order
   abbrev pub AllCheckedAt : List NamedTree → List CheckedExpr → Type 0
-  AllCheckedAt [] [] = ⊤
-  AllCheckedAt [] (c ∷ cs) = ⊥
-  AllCheckedAt (e ∷ es) [] = ⊥
-  AllCheckedAt (e ∷ es) (c ∷ cs) = IsCheckedAt header names before node e c × AllCheckedAt es cs
+  AllCheckedAt es cs = AllZip (IsCheckedAt header names before node) es cs
 
   -- a list to which the checked expressions were appended
   pub record Appends (es : List NamedTree) (old new : List CheckedExpr) : Type 0 where

@@ -3,7 +3,7 @@ ghost use Rattle.std.specs.Prelude.{◌≡◌, ◌++◌, [], IfOk, OnOk};
 ghost use Rattle.rdf_values.specs.Bookings.{columns_of, weight_column};
 ghost use Rattle.rdf_values.specs.Verdict.{begins, may_begin, permitted_kinds, check_columns, check_edges};
 ghost use Rattle.rdf_values.specs.Edges.{are_edges, rises};
-ghost use Rattle.graph.specs.Befores.{scope_before};
+ghost use Rattle.graph.specs.Contexts.{scope_before};
 
 use crate::before::Before;
 use crate::parts::same_kind;
@@ -24,24 +24,6 @@ fn begins(kinds: &[ColType], permitted: &[ColType]) -> bool
     same_kind(*kind, *first) && begins(kinds, rest)
 }
 
-const INT: &[ColType] = &[ColType::Int];
-
-const VECT: &[ColType] = &[ColType::Vect];
-
-const TRUTH: &[ColType] = &[ColType::Bool];
-
-const INTS: &[ColType] = &[ColType::Int, ColType::Int];
-
-const VECT_INT: &[ColType] = &[ColType::Vect, ColType::Int];
-
-const VECTS: &[ColType] = &[ColType::Vect, ColType::Vect];
-
-const THREE_INTS: &[ColType] = &[ColType::Int, ColType::Int, ColType::Int];
-
-const VECTS_INT: &[ColType] = &[ColType::Vect, ColType::Vect, ColType::Int];
-
-const THREE_VECTS: &[ColType] = &[ColType::Vect, ColType::Vect, ColType::Vect];
-
 /// Whether kinds begin those of one of an action's forms.
 fn may_begin(action: &ActionKind, kinds: &[ColType]) -> bool
     ensures { result ≡ may_begin (permitted_kinds action.now) kinds.now }
@@ -49,20 +31,26 @@ fn may_begin(action: &ActionKind, kinds: &[ColType]) -> bool
     match action {
         ActionKind::Count => begins(kinds, &[]),
         ActionKind::Sum(_) | ActionKind::Min(_) | ActionKind::Max(_) => {
-            begins(kinds, INT) || begins(kinds, VECT)
+            begins(kinds, &[ColType::Int]) || begins(kinds, &[ColType::Vect])
         }
-        ActionKind::Take(_) => begins(kinds, INT) || begins(kinds, TRUTH),
-        ActionKind::Reduce(_, _) => begins(kinds, INT),
-        ActionKind::Histo1D { weight: None, .. } => begins(kinds, INT) || begins(kinds, VECT),
+        ActionKind::Take(_) => begins(kinds, &[ColType::Int]) || begins(kinds, &[ColType::Bool]),
+        ActionKind::Reduce(_, _) => begins(kinds, &[ColType::Int]),
+        ActionKind::Histo1D { weight: None, .. } => begins(kinds, &[ColType::Int])
+            || begins(kinds, &[ColType::Vect]),
         ActionKind::Histo1D {
             weight: Some(_),
             ..
-        } => begins(kinds, INTS) || begins(kinds, VECT_INT) || begins(kinds, VECTS),
-        ActionKind::Histo2D { weight: None, .. } => begins(kinds, INTS) || begins(kinds, VECTS),
+        } => begins(kinds, &[ColType::Int, ColType::Int])
+            || begins(kinds, &[ColType::Vect, ColType::Int])
+            || begins(kinds, &[ColType::Vect, ColType::Vect]),
+        ActionKind::Histo2D { weight: None, .. } => begins(kinds, &[ColType::Int, ColType::Int])
+            || begins(kinds, &[ColType::Vect, ColType::Vect]),
         ActionKind::Histo2D {
             weight: Some(_),
             ..
-        } => begins(kinds, THREE_INTS) || begins(kinds, VECTS_INT) || begins(kinds, THREE_VECTS),
+        } => begins(kinds, &[ColType::Int, ColType::Int, ColType::Int])
+            || begins(kinds, &[ColType::Vect, ColType::Vect, ColType::Int])
+            || begins(kinds, &[ColType::Vect, ColType::Vect, ColType::Vect]),
     }
 }
 

@@ -219,8 +219,8 @@ pub(crate) fn amounts_with(
 pub(crate) fn too_many(a: Amounts) -> Option<GraphCause>
     ensures { result ≡ first_refusal (refuse_if (nat_lt 1048576 a.cells) cause_of.TooMany ∷ refuse_if (nat_lt 16 a.takes) cause_of.TooMany ∷ []) }
 {
-    first_of(
+    first_of(&[
         refuse_if(a.cells > MOST_CELLS, GraphCause::TooMany),
         refuse_if(a.takes > MOST_TAKES, GraphCause::TooMany),
-    )
+    ])
 }

@@ -5,12 +5,12 @@ ghost use Rattle.rdf_values.specs.Verdict.{check_passes, is_result, printed_resu
 ghost use Rattle.rdf_values.specs.declared.graph_cause.GraphCause.TheVariants as cause_of;
 ghost use Rattle.rdf_values.specs.declared.statement.Statement.TheVariants.{VariationsFor, Watch, Print};
 ghost use Rattle.graph.specs.Lookups.{statements};
-ghost use Rattle.graph.specs.Befores.{history, verdict_after};
+ghost use Rattle.graph.specs.Contexts.{history, verdict_after};
 
 use crate::amounts::{amounts_of, amounts_printed_with, too_many};
 use crate::before::Before;
 use crate::lookup::is_result;
-use crate::refusals::{first_of, first_of_four, refuse_if, refuse_unless};
+use crate::refusals::{first_of, refuse_if, refuse_unless};
 use crate::results::{is_among, is_filled, is_report, is_watchable, watched_names};
 use rdf_values::{GraphCause, Line, Memory, Name};
 use std::alloc::Global;
@@ -45,17 +45,17 @@ pub(crate) fn check_watch(
 {
     let late = is_filled(alloc, before.lines, name)?;
     let more = one_watch_more(alloc, before.lines, name)?;
-    Ok(first_of_four(
+    Ok(first_of(&[
         known_result(before.lines, name),
         refuse_unless(is_watchable(before.lines, name), GraphCause::WrongKind),
         refuse_if(late, GraphCause::Late),
         more,
-    ))
+    ]))
 }
 
 /// Whether there are too many passes, where the variations of one result more are asked for.
 fn passes_asked(before: &Before<'_>, name: &Name) -> Result<Option<GraphCause>, Memory>
-    ensures { IfOk result (λ o. o ≡ check_passes (VariationsFor name.now ∷ statements before.now.lines.now) (bookings (history before.now))) }
+    ensures { IfOk result (λ o. o ≡ check_passes (VariationsFor name.now ∷ history before.now) (bookings (history before.now))) }
 {
     let rows = before.tables.results.as_slice();
     let amounts = amounts_of(before.lines, Some(name), rows)?;
@@ -72,17 +72,17 @@ pub(crate) fn check_variations_for(
 {
     let late = is_filled(alloc, before.lines, name)?;
     let many = passes_asked(before, name)?;
-    Ok(first_of_four(
+    Ok(first_of(&[
         known_result(before.lines, name),
         refuse_if(is_report(before.lines, name), GraphCause::WrongKind),
         refuse_if(late, GraphCause::Late),
         many,
-    ))
+    ]))
 }
 
 /// Whether the printed passes are too many with those of one Print more.
 fn passes_printed(before: &Before<'_>, name: &Name) -> Result<Option<GraphCause>, Memory>
-    ensures { IfOk result (λ o. o ≡ check_passes (history before.now) (printed_results (Print name.now ∷ statements before.now.lines.now))) }
+    ensures { IfOk result (λ o. o ≡ check_passes (history before.now) (printed_results (Print name.now ∷ history before.now))) }
 {
     let rows = before.tables.results.as_slice();
     let amounts = amounts_printed_with(before.lines, rows, name)?;
@@ -94,5 +94,5 @@ pub(crate) fn check_print(before: &Before<'_>, name: &Name) -> Result<Option<Gra
     ensures { IfOk result (λ o. o ≡ verdict_after before.now (Print name.now)) }
 {
     let many = passes_printed(before, name)?;
-    Ok(first_of(known_result(before.lines, name), many))
+    Ok(first_of(&[known_result(before.lines, name), many]))
 }

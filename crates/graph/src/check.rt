@@ -2,7 +2,7 @@
 ghost use Rattle.std.specs.Prelude.{◌≡◌, IfOk};
 ghost use Rattle.rdf_values.specs.Bookable.{IsShort};
 ghost use Rattle.graph.specs.Checks.{Decides};
-ghost use Rattle.graph.specs.Befores.{IsGainAfter, verdict_after};
+ghost use Rattle.graph.specs.Contexts.{IsGainAfter, verdict_after};
 
 use crate::asked_checks::{check_print, check_variations_for, check_watch};
 use crate::before::Before;

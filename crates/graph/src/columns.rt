@@ -8,7 +8,7 @@ ghost use Rattle.rdf_values.specs.declared.graph_cause.GraphCause.TheVariants.{U
 ghost use Rattle.expr_check.specs.CheckAnswers.{RefusedAs};
 ghost use Rattle.graph_numbers.specs.Versions.{named_version};
 ghost use Rattle.graph.specs.Lookups.{IsFound, IsScopeAt, AreNoted, IsScopeOf};
-ghost use Rattle.graph.specs.Befores.{IsCheckedBefore, history, named_version_before, scope_before};
+ghost use Rattle.graph.specs.Contexts.{IsCheckedBefore, history, named_version_before, scope_before};
 
 use crate::before::Before;
 use crate::lookup::{is_visible, named_version, target_of};

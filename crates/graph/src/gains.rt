@@ -1,20 +1,19 @@
 // What each accepted statement adds, or why it is refused.
-ghost use Rattle.std.specs.Prelude.{◌≡◌, ◌≤◌, ◌+◌, ℕ, List, Option, length, IfOk};
+ghost use Rattle.std.specs.Prelude.{◌≡◌, ◌≤◌, ◌+◌, Option, length, IfOk};
 ghost use Rattle.rdf_values.specs.Kinds.{kind_of};
-ghost use Rattle.rdf_values.specs.Tree.{NamedTree};
 ghost use Rattle.rdf_values.specs.Verdict.{refusal_in};
 ghost use Rattle.rdf_values.specs.declared.graph_cause.GraphCause.{GraphCause as Cause};
 ghost use Rattle.rdf_values.specs.declared.statement.Statement.TheVariants.{Define, Redefine, Alias, Filter, Vary, Action, Report};
 ghost use Rattle.graph.specs.Checks.{Decides};
 ghost use Rattle.graph.specs.Gains.{IsFilterGain, IsColumnGain, IsMadeGain, IsEmptyGain, IsRowGain, IsReportGain, IsVaryGain};
-ghost use Rattle.graph.specs.Rows.{filter_rows};
-ghost use Rattle.graph.specs.Befores.{IsGainAfter, history, scope_before, sites_so_far, variation_count, verdict_after};
+ghost use Rattle.graph.specs.Rows.{named_rows};
+ghost use Rattle.graph.specs.Contexts.{IsGainAfter, history, scope_before, sites_so_far, variation_count, verdict_after};
 
 use crate::before::Before;
 use crate::change::Change;
 use crate::gain::Gain;
 use crate::push::alone;
-use crate::refusals::{first_of, first_of_three, stop_if};
+use crate::refusals::{first_of, refuse_if, refuse_unless, stop_if};
 use crate::result_checks::{check_action, check_report};
 use crate::result_path::ResultPath;
 use crate::result_row::ResultRow;
@@ -65,7 +64,7 @@ fn named_filter(
     parent: &Name,
     label: &Option<Label>,
 ) -> Result<Vec<ListOf<u32>>, Memory>
-    ensures { (node : List ℕ) (expr : NamedTree) → IfOk result (λ rows. rows.items ≡ filter_rows (history before.now) (sites_so_far before.now) (Filter node parent.now expr label.now)) }
+    ensures { IfOk result (λ rows. rows.items ≡ named_rows (history before.now) (sites_so_far before.now) parent.now label.now) }
 {
     match label {
         None => Ok(Vec::new(alloc)),
@@ -85,7 +84,7 @@ fn site_gain(
     label: &Option<Label>,
     site: Checked,
 ) -> Result<Gain, Memory>
-    ensures { (node : List ℕ) (expr : NamedTree) → IfOk result (IsFilterGain before.now.tables.now.version_sets.items site (filter_rows (history before.now) (sites_so_far before.now) (Filter node parent.now expr label.now))) }
+    ensures { IfOk result (IsFilterGain before.now.tables.now.version_sets.items site (named_rows (history before.now) (sites_so_far before.now) parent.now label.now)) }
 {
     let filters = named_filter(alloc, before, parent, label)?;
     let sites = alone(alloc, site)?;
@@ -124,6 +123,7 @@ fn column_gain(alloc: Global, before: &Before<'_>, site: Checked) -> Result<Gain
 }
 
 /// What a Filter adds.
+#[tactic(auto, using(crate::proofs::Checking::no_memory))]
 pub(crate) fn filter_gain(
     alloc: Global,
     before: &Before<'_>,
@@ -142,6 +142,7 @@ pub(crate) fn filter_gain(
 }
 
 /// An expression at a node as a site, and the version that it makes.
+#[tactic(auto, using(crate::proofs::Checking::handed_on, crate::proofs::Checking::no_memory))]
 fn made_gain(alloc: Global, before: &Before<'_>, parent: &Name, expr: &Expr) -> Result<Gain, Stop>
     ensures made { IfOk result (IsMadeGain before.now.header.now before.now.names.now (history before.now) before.now.tables.now.version_sets.items parent.now expr.now) }
     ensures decided { Decides (refusal_in (kind_of (scope_before before.now parent.now) before.now.names.now expr.now)) result }
@@ -163,8 +164,11 @@ pub(crate) fn define_gain(
     ensures gained { IfOk result (IsGainAfter before.now (Define node.now parent.now column.now expr.now)) }
     ensures decided { Decides (verdict_after before.now (Define node.now parent.now column.now expr.now)) result }
 {
-    let taken = before.new_column(parent, column);
-    stop_if(first_of(before.check_node(node, parent), taken))?;
+    let taken = before.sees(parent, column);
+    stop_if(first_of(&[
+        before.check_node(node, parent),
+        refuse_if(taken, GraphCause::NameTaken),
+    ]))?;
     made_gain(alloc, before, parent, expr)
 }
 
@@ -181,7 +185,7 @@ pub(crate) fn redefine_gain(
     ensures decided { Decides (verdict_after before.now (Redefine node.now parent.now column.now expr.now)) result }
 {
     let wrong = before.check_target(parent, column);
-    stop_if(first_of(before.check_node(node, parent), wrong))?;
+    stop_if(first_of(&[before.check_node(node, parent), wrong]))?;
     made_gain(alloc, before, parent, expr)
 }
 
@@ -196,6 +200,7 @@ fn row_gain(alloc: Global, row: ResultRow) -> Result<Gain, Memory>
 }
 
 /// What an Action adds.
+#[tactic(auto, using(crate::proofs::Checking::handed_on, crate::proofs::Checking::no_memory))]
 pub(crate) fn action_gain(
     alloc: Global,
     before: &Before<'_>,
@@ -238,6 +243,7 @@ fn booked_report(
 }
 
 /// What a Report adds.
+#[tactic(auto, using(crate::proofs::Checking::no_memory))]
 pub(crate) fn report_gain(
     alloc: Global,
     before: &Before<'_>,
@@ -281,6 +287,7 @@ fn varied_gain(
 }
 
 /// What a Vary adds.
+#[tactic(auto, using(crate::proofs::Checking::handed_on, crate::proofs::Checking::no_memory))]
 pub(crate) fn vary_gain(
     alloc: Global,
     before: &Before<'_>,
@@ -307,10 +314,12 @@ pub(crate) fn alias_gain(
     ensures gained { IfOk result (IsGainAfter before.now (Alias node.now parent.now column.now target.now)) }
     ensures decided { Decides (verdict_after before.now (Alias node.now parent.now column.now target.now)) result }
 {
-    stop_if(first_of_three(
+    let taken = before.sees(parent, column);
+    let known = before.sees(parent, target);
+    stop_if(first_of(&[
         before.check_node(node, parent),
-        before.new_column(parent, column),
-        before.known_column(parent, target),
-    ))?;
+        refuse_if(taken, GraphCause::NameTaken),
+        refuse_unless(known, GraphCause::UnknownColumn),
+    ]))?;
     Ok(empty_gain(alloc))
 }

@@ -115,7 +115,7 @@ impl Graph {
             results,
             variations,
         };
-        let loops = loop_tables(alloc, &script, all, results.len())?;
+        let loops = loop_tables(alloc, &script, all)?;
         let watched = watched_results(alloc, all, results)?;
         Ok(Graph {
             lines,

@@ -1,9 +1,9 @@
 // The event loops of a script and the loop that each Print runs.
-ghost use Rattle.std.specs.Prelude.{◌≡◌, ◌≤◌, ◌<◌, ◌+◌, ◌++◌, ◌∷◌, [], ℕ, Some, None, length, map, replicate, take, drop, ◌-◌, List, IfOk, IfSome, OnOk, MatchOption, if◌then◌else◌, slice_get};
-ghost use Rattle.rdf_values.specs.Bookings.{bookings, is_watched};
+ghost use Rattle.std.specs.Prelude.{◌≡◌, ◌≤◌, ◌<◌, ◌+◌, ◌++◌, ◌∷◌, [], Some, length, map, take, drop, ◌-◌, List, IfOk, IfSome, OnOk, MatchOption, slice_get};
+ghost use Rattle.rdf_values.specs.Bookings.{is_watched};
 ghost use Rattle.rdf_values.specs.Names.{same, place};
 ghost use Rattle.graph_numbers.specs.Results.{numbered_pass};
-ghost use Rattle.graph.specs.LoopRows.{IsNoPrint, is_booking, AreNamedInTurn, members_from, IsScriptRows, passes_of_row, passes_of_rows, AreLoops, BeginsWith};
+ghost use Rattle.graph.specs.LoopRows.{IsNoPrint, AreNamedInTurn, members_from, IsScriptRows, passes_of_rows, AreLoops, BeginsWith};
 ghost use Rattle.graph.specs.OneProof.{script_rows-prop};
 ghost use Rattle.graph.specs.Lookups.{statements};
 ghost use Rattle.graph.specs.Sets.{has};
@@ -11,6 +11,7 @@ ghost use Rattle.graph.specs.Sets.{has};
 use crate::amounts::has_variations;
 use crate::push::{push, push_many};
 use crate::result_row::ResultRow;
+use crate::results::result_count;
 use crate::var_set::VarSet;
 use graph_numbers::Pass;
 use rdf_values::{Line, ListOf, Memory, Name, Statement};
@@ -37,7 +38,7 @@ pub struct LoopTables {
 }
 
 impl LoopTables {
-    ghost use Rattle.graph.specs.LoopRows.{IsNamedInTurn};
+    ghost use Rattle.graph.specs.LoopRows.{IsNoted};
     ghost use Rattle.rdf_values.specs.declared.statement.Statement.{Statement};
 
     /// No loops.
@@ -54,49 +55,25 @@ impl LoopTables {
         }
     }
 
-    /// Notes a Print of a result that was filled before.
-    fn add_again(&mut self, n: u32, filler: u32) -> Result<(), Memory>
-        ensures loops { self.new.loops ≡ self.old.loops }
-        ensures fillers { self.new.fillers ≡ self.old.fillers }
-        ensures runs { OnOk result (self.new.runs.items ≡ self.old.runs.items ++ None ∷ []) }
-        ensures prints { OnOk result (self.new.prints.items ≡ self.old.prints.items ++ n ∷ []) }
-        ensures filling { OnOk result (self.new.filling.items ≡ self.old.filling.items ++ filler ∷ []) }
+    /// Notes a Print: its result, the loop that it runs, and the one that fills its result.
+    fn note(&mut self, n: u32, run: Option<u32>, filler: u32) -> Result<(), Memory>
+        ensures { OnOk result (IsNoted self.old n run filler self.new) }
     {
-        push(&mut self.runs, None)?;
+        push(&mut self.runs, run)?;
         push(&mut self.prints, n)?;
         push(&mut self.filling, filler)
     }
 
-    /// Notes a Print that runs a new loop, which fills so many results more.
-    fn add_loop(&mut self, passes: ListOf<Pass>, n: u32, more: usize) -> Result<(), Memory>
-        requires { length self.old.loops.items ≤ 4294967295 }
-        ensures loops { OnOk result (self.new.loops.items ≡ self.old.loops.items ++ passes ∷ []) }
-        ensures fillers { OnOk result (self.new.fillers.items ≡ self.old.fillers.items ++ replicate more (length self.old.loops.items)) }
-        ensures runs { OnOk result (self.new.runs.items ≡ self.old.runs.items ++ Some (length self.old.loops.items) ∷ []) }
-        ensures prints { OnOk result (self.new.prints.items ≡ self.old.prints.items ++ n ∷ []) }
-        ensures filling { OnOk result (self.new.filling.items ≡ self.old.filling.items ++ length self.old.loops.items ∷ []) }
-    {
-        let place = self.loops.len() as u32;
-        push(&mut self.loops, passes)?;
-        push_many(&mut self.fillers, place, more)?;
-        push(&mut self.runs, Some(place))?;
-        push(&mut self.prints, n)?;
-        push(&mut self.filling, place)
-    }
-
-    /// Adds a Print after the lines before it, of which so many book results.
+    /// Adds a Print after the lines before it: where its result isn't filled yet, it runs a loop over all results that wait.
     fn add_print(
         &mut self,
         alloc: Global,
         script: &ScriptRows<'_>,
         before: &[Line],
-        booked: usize,
         name: &Name,
     ) -> Result<(), Memory>
-        requires turn { IsNamedInTurn (statements before.now) (Statement.Print name.now) }
-        requires named { AreNamedInTurn (statements before.now) }
+        requires named { AreNamedInTurn (Statement.Print name.now ∷ statements before.now) }
         requires begins { BeginsWith (statements script.now.lines.now) (statements before.now) }
-        requires booked { booked ≡ length (bookings (statements before.now)) }
         requires lines { length before.now ≤ 256 }
         requires old { AreLoops (statements script.now.lines.now) (statements before.now) self.old }
         ensures { OnOk result (AreLoops (statements script.now.lines.now) (Statement.Print name.now ∷ statements before.now) self.new) }
@@ -108,33 +85,14 @@ impl LoopTables {
         let filled = self.fillers.as_slice().len();
         if n < filled {
             let filler = number_at(self.fillers.as_slice(), n);
-            self.add_again(n as u32, filler)
+            self.note(n as u32, None, filler)
         } else {
+            let booked = result_count(before);
             let passes = waiting_passes(alloc, script, filled, booked)?;
-            self.add_loop(passes, n as u32, booked - filled)
-        }
-    }
-
-    /// Adds a statement after the lines before it, of which so many book results.
-    fn add_line(
-        &mut self,
-        alloc: Global,
-        script: &ScriptRows<'_>,
-        before: &[Line],
-        booked: usize,
-        statement: &Statement,
-    ) -> Result<(), Memory>
-        requires turn { IsNamedInTurn (statements before.now) statement.now }
-        requires named { AreNamedInTurn (statements before.now) }
-        requires begins { BeginsWith (statements script.now.lines.now) (statements before.now) }
-        requires booked { booked ≡ length (bookings (statements before.now)) }
-        requires lines { length before.now ≤ 256 }
-        requires old { AreLoops (statements script.now.lines.now) (statements before.now) self.old }
-        ensures { OnOk result (AreLoops (statements script.now.lines.now) (statement.now ∷ statements before.now) self.new) }
-    {
-        match printed(statement) {
-            None => Ok(()),
-            Some(name) => self.add_print(alloc, script, before, booked, name),
+            let place = self.loops.len() as u32;
+            push(&mut self.loops, passes)?;
+            push_many(&mut self.fillers, place, booked - filled)?;
+            self.note(n as u32, Some(place), place)
         }
     }
 }
@@ -147,57 +105,28 @@ fn number_at(numbers: &[u32], n: usize) -> u32
     numbers[n]
 }
 
-/// How many results are booked before the last statement of so many.
-fn booked_before(last: &Statement, booked: usize) -> usize
-    requires { (if is_booking last.now then 1 else 0) ≤ booked }
-    ensures { result ≡ booked - (if is_booking last.now then 1 else 0) }
-{
-    if is_booking(last) { booked - 1 } else { booked }
-}
-
-/// The passes of the results from the first that isn't filled to the last that is booked.
-fn waiting_passes(
-    alloc: Global,
-    script: &ScriptRows<'_>,
-    filled: usize,
-    booked: usize,
-) -> Result<ListOf<Pass>, Memory>
-    requires order { filled ≤ booked }
-    requires within { booked ≤ length script.now.results.now }
-    ensures { IfOk result (λ p. p ≡ passes_of_rows (statements script.now.lines.now) script.now.variations filled (take (booked - filled) (drop filled script.now.results.now))) }
-{
-    let mut passes = ListOf::new(alloc);
-    let open = &script.results[filled..booked];
-    push_passes(
-        &mut passes,
-        script.lines,
-        script.variations,
-        filled as u32,
-        open,
-    )?;
-    Ok(passes)
-}
-
-/// The loops of lines of a script, the latest first, of which so many book results.
+/// The loops of lines of a script, the latest first.
 pub(crate) fn loop_tables(
     alloc: Global,
     script: &ScriptRows<'_>,
     lines: &[Line],
-    booked: usize,
 ) -> Result<LoopTables, Memory>
     requires named { AreNamedInTurn (statements lines.now) }
     requires begins { BeginsWith (statements script.now.lines.now) (statements lines.now) }
-    requires booked { booked ≡ length (bookings (statements lines.now)) }
     requires lines { length lines.now ≤ 256 }
     ensures { IfOk result (AreLoops (statements script.now.lines.now) (statements lines.now)) }
 {
     let Some((last, rest)) = lines.split_first() else {
         return Ok(LoopTables::new(alloc));
     };
-    let below = booked_before(&last.statement, booked);
-    let mut tables = loop_tables(alloc, script, rest, below)?;
-    tables.add_line(alloc, script, rest, below, &last.statement)?;
-    Ok(tables)
+    let mut tables = loop_tables(alloc, script, rest)?;
+    match printed(&last.statement) {
+        None => Ok(tables),
+        Some(name) => {
+            tables.add_print(alloc, script, rest, name)?;
+            Ok(tables)
+        }
+    }
 }
 
 /// The result of a Print.
@@ -208,16 +137,6 @@ fn printed(statement: &Statement) -> Option<&Name>
         Statement::Print { result } => Some(result),
         _ => None,
     }
-}
-
-/// Whether the statement books a result.
-fn is_booking(statement: &Statement) -> bool
-    ensures { result ≡ is_booking statement.now }
-{
-    matches!(
-        statement,
-        Statement::Action { .. } | Statement::Report { .. }
-    )
 }
 
 /// Whether a line asks for partial results of the result.
@@ -274,17 +193,15 @@ fn push_varied(
     push_varied(passes, n, set, v + 1, left - 1)
 }
 
-/// Appends the passes of results that are numbered from n on, over so many variations.
+/// Appends the passes of results that are numbered from n on.
 fn push_passes(
     passes: &mut ListOf<Pass>,
-    all: &[Line],
-    variations: u32,
+    script: &ScriptRows<'_>,
     n: u32,
     results: &[ResultRow],
 ) -> Result<(), Memory>
-    requires few { variations ≤ 128 }
-    requires fit { n + length results.now ≤ 4294967295 }
-    ensures { OnOk result (passes.new ≡ passes.old ++ passes_of_rows (statements all.now) variations n results.now) }
+    requires { n + length results.now ≤ 4294967295 }
+    ensures { OnOk result (passes.new ≡ passes.old ++ passes_of_rows (statements script.now.lines.now) script.now.variations n results.now) }
 {
     let Some((first, rest)) = results.split_first() else {
         return Ok(());
@@ -293,10 +210,27 @@ fn push_passes(
         result: n,
         variation: None,
     })?;
-    if has_variations(all, &first.name) {
-        push_varied(passes, n, first.set, 0, variations)?;
+    if has_variations(script.lines, &first.name) {
+        push_varied(passes, n, first.set, 0, script.variations)?;
     }
-    push_passes(passes, all, variations, n + 1, rest)
+    push_passes(passes, script, n + 1, rest)
+}
+
+/// The passes of the results from the first that isn't filled to the last that is booked.
+fn waiting_passes(
+    alloc: Global,
+    script: &ScriptRows<'_>,
+    filled: usize,
+    booked: usize,
+) -> Result<ListOf<Pass>, Memory>
+    requires order { filled ≤ booked }
+    requires within { booked ≤ length script.now.results.now }
+    ensures { IfOk result (λ p. p ≡ passes_of_rows (statements script.now.lines.now) script.now.variations filled (take (booked - filled) (drop filled script.now.results.now))) }
+{
+    let mut passes = ListOf::new(alloc);
+    let open = &script.results[filled..booked];
+    push_passes(&mut passes, script, filled as u32, open)?;
+    Ok(passes)
 }
 
 /// For each result whether partial results of it are asked for.

@@ -2,13 +2,12 @@
 ghost use Rattle.std.specs.Prelude.{◌≡◌, Result, IfOk};
 ghost use Rattle.rdf_values.specs.Kinds.{kind_of, same_kind};
 ghost use Rattle.rdf_values.specs.Path.{path};
-ghost use Rattle.rdf_values.specs.Verdict.{check_node, check_target, refuse_if, refuse_unless, refusal_in, expect_kind, is_visible};
+ghost use Rattle.rdf_values.specs.Verdict.{check_node, check_target, refusal_in, expect_kind, is_visible};
 ghost use Rattle.rdf_values.specs.declared.graph_cause.GraphCause.{GraphCause};
-ghost use Rattle.rdf_values.specs.declared.graph_cause.GraphCause.TheVariants as cause_of;
 ghost use Rattle.rdf_values.specs.declared.value.ColType.{ColType};
 ghost use Rattle.expr_check.specs.CheckAnswers.{RefusedAs};
 ghost use Rattle.graph.specs.Checks.{IsStop, Decides};
-ghost use Rattle.graph.specs.Befores.{IsCheckedBefore, history, scope_before};
+ghost use Rattle.graph.specs.Contexts.{IsCheckedBefore, history, scope_before};
 
 use crate::before::Before;
 use crate::lookup::{is_alias, is_in_use, is_node, is_visible};
@@ -44,37 +43,29 @@ impl Before<'_> {
     pub(crate) fn check_node(&self, node: &Name, parent: &Name) -> Option<GraphCause>
         ensures { result ≡ check_node (history self.now) node.now parent.now }
     {
-        first_of(
+        first_of(&[
             refuse_if(is_in_use(self.lines, node), GraphCause::NameTaken),
             refuse_unless(is_node(self.lines, parent), GraphCause::UnknownName),
-        )
+        ])
     }
 
-    /// A new column.
-    pub(crate) fn new_column(&self, parent: &Name, column: &Name) -> Option<GraphCause>
-        ensures { result ≡ refuse_if (is_visible (scope_before self.now parent.now) column.now) cause_of.NameTaken }
+    /// Whether a column is visible at a node.
+    pub(crate) fn sees(&self, node: &Name, column: &Name) -> bool
+        ensures { result ≡ is_visible (scope_before self.now node.now) column.now }
     {
-        let visible = is_visible(self.lines, self.header, parent, column);
-        refuse_if(visible, GraphCause::NameTaken)
-    }
-
-    /// A column that is there.
-    pub(crate) fn known_column(&self, parent: &Name, column: &Name) -> Option<GraphCause>
-        ensures { result ≡ refuse_unless (is_visible (scope_before self.now parent.now) column.now) cause_of.UnknownColumn }
-    {
-        let visible = is_visible(self.lines, self.header, parent, column);
-        refuse_unless(visible, GraphCause::UnknownColumn)
+        is_visible(self.lines, self.header, node, column)
     }
 
     /// A column that a statement changes.
     pub(crate) fn check_target(&self, parent: &Name, column: &Name) -> Option<GraphCause>
         ensures { result ≡ check_target (scope_before self.now parent.now) (path (history self.now) parent.now) column.now }
     {
+        let visible = self.sees(parent, column);
         let alias = is_alias(self.lines, parent, column);
-        first_of(
-            self.known_column(parent, column),
+        first_of(&[
+            refuse_unless(visible, GraphCause::UnknownColumn),
             refuse_if(alias, GraphCause::AliasTarget),
-        )
+        ])
     }
 
     /// An expression at a node.
@@ -95,7 +86,7 @@ impl Before<'_> {
     }
 
     /// An expression of a given kind.
-    #[tactic(auto, using(crate::proofs::Varying::kind_is, crate::proofs::Varying::kind_isnt, crate::proofs::Varying::kind_stopped))]
+    #[tactic(auto, using(crate::proofs::Checking::kind_is, crate::proofs::Checking::kind_isnt, crate::proofs::Checking::kind_stopped, crate::proofs::Checking::handed_on))]
     pub(crate) fn expected(
         &self,
         alloc: Global,

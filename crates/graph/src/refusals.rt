@@ -1,5 +1,5 @@
 // The first refusal of several checks in order.
-ghost use Rattle.std.specs.Prelude.{◌≡◌, ◌∷◌, []};
+ghost use Rattle.std.specs.Prelude.{◌≡◌};
 ghost use Rattle.rdf_values.specs.Verdict.{first_refusal, refuse_if, refuse_unless};
 ghost use Rattle.graph.specs.Checks.{Decides};
 
@@ -18,41 +18,16 @@ pub(crate) fn refuse_unless(holds: bool, cause: GraphCause) -> Option<GraphCause
     if holds { None } else { Some(cause) }
 }
 
-/// The first of two refusals.
-pub(crate) fn first_of(first: Option<GraphCause>, second: Option<GraphCause>) -> Option<GraphCause>
-    ensures { result ≡ first_refusal (first ∷ second ∷ []) }
+/// The first refusal of several.
+pub(crate) fn first_of(refusals: &[Option<GraphCause>]) -> Option<GraphCause>
+    ensures { result ≡ first_refusal refusals.now }
 {
+    let Some((first, rest)) = refusals.split_first() else {
+        return None;
+    };
     match first {
-        Some(cause) => Some(cause),
-        None => second,
-    }
-}
-
-/// The first of three refusals.
-pub(crate) fn first_of_three(
-    first: Option<GraphCause>,
-    second: Option<GraphCause>,
-    third: Option<GraphCause>,
-) -> Option<GraphCause>
-    ensures { result ≡ first_refusal (first ∷ second ∷ third ∷ []) }
-{
-    match first {
-        Some(cause) => Some(cause),
-        None => first_of(second, third),
-    }
-}
-
-pub(crate) fn first_of_four(
-    first: Option<GraphCause>,
-    second: Option<GraphCause>,
-    third: Option<GraphCause>,
-    fourth: Option<GraphCause>,
-) -> Option<GraphCause>
-    ensures { result ≡ first_refusal (first ∷ second ∷ third ∷ fourth ∷ []) }
-{
-    match first {
-        Some(cause) => Some(cause),
-        None => first_of_three(second, third, fourth),
+        Some(cause) => Some(*cause),
+        None => first_of(rest),
     }
 }
 

@@ -6,13 +6,13 @@ ghost use Rattle.rdf_values.specs.declared.action.ActionKind.{ActionKind};
 ghost use Rattle.rdf_values.specs.declared.statement.Statement.TheVariants.{Action, Report};
 ghost use Rattle.graph.specs.Checks.{Decides};
 ghost use Rattle.graph.specs.Lookups.{statements};
-ghost use Rattle.graph.specs.Befores.{IsActionRowAfter, history, scope_before, verdict_after};
+ghost use Rattle.graph.specs.Contexts.{IsActionRowAfter, history, scope_before, verdict_after};
 
 use crate::action_checks::{action_columns, check_edges, columns_of};
 use crate::amounts::{amounts_with, cells_of, takes_of, too_many};
 use crate::before::Before;
 use crate::copies::copy_kind;
-use crate::refusals::{first_of, first_of_four, refuse_if, stop_if};
+use crate::refusals::{first_of, refuse_if, stop_if};
 use crate::result_path::ResultPath;
 use crate::result_row::ResultRow;
 use crate::results::result_count;
@@ -35,7 +35,7 @@ pub(crate) fn check_report(before: &Before<'_>, name: &Name, parent: &Name) -> O
     ensures { result ≡ verdict_after before.now (Report name.now parent.now) }
 {
     let many = one_result_more(before.lines);
-    first_of(before.check_node(name, parent), many)
+    first_of(&[before.check_node(name, parent), many])
 }
 
 /// The row of an action.
@@ -68,6 +68,7 @@ fn action_row(
 }
 
 /// The row of an action, where there aren't too many passes with its own.
+#[tactic(auto, using(crate::proofs::Checking::no_memory))]
 fn counted_action(
     alloc: Global,
     before: &Before<'_>,
@@ -77,7 +78,7 @@ fn counted_action(
 ) -> Result<ResultRow, Stop>
     requires known { check_columns (scope_before before.now parent.now) (permitted_kinds action.now) [] (columns_of action.now) ≡ None }
     ensures row { IfOk result (IsActionRowAfter before.now name.now parent.now action.now) }
-    ensures decided { Decides (check_passes (history before.now) (bookings (Action name.now parent.now action.now ∷ statements before.now.lines.now))) result }
+    ensures decided { Decides (check_passes (history before.now) (bookings (Action name.now parent.now action.now ∷ history before.now))) result }
 {
     let row = action_row(alloc, before, name, parent, action)?;
     let amounts = amounts_with(before.lines, before.tables.results.as_slice(), &row)?;
@@ -86,6 +87,7 @@ fn counted_action(
 }
 
 /// An Action.
+#[tactic(auto, using(crate::proofs::Checking::no_memory))]
 pub(crate) fn check_action(
     alloc: Global,
     before: &Before<'_>,
@@ -97,11 +99,11 @@ pub(crate) fn check_action(
     ensures decided { Decides (verdict_after before.now (Action name.now parent.now action.now)) result }
 {
     let wrong = action_columns(alloc, before, parent, action)?;
-    stop_if(first_of_four(
+    stop_if(first_of(&[
         before.check_node(name, parent),
         wrong,
         check_edges(action),
         one_result_more(before.lines),
-    ))?;
+    ]))?;
     counted_action(alloc, before, name, parent, action)
 }

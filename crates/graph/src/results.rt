@@ -32,7 +32,7 @@ fn push_result(alloc: Global, names: &mut Vec<Name>, statement: &Statement) -> R
 }
 
 /// The names of the results, in the order of booking.
-#[tactic(auto, using(crate::proofs::Resulted::names_step))]
+#[tactic(auto, using(crate::proofs::Walking::names_step))]
 pub(crate) fn result_names(alloc: Global, before: &[Line]) -> Result<Vec<Name>, Memory>
     ensures { IfOk result (λ v. v.items ≡ names_of (bookings (statements before.now))) }
 {
@@ -84,7 +84,7 @@ fn own_watch(statement: &Statement) -> Option<&Name>
 }
 
 /// The names of the results that are watched, each once, in some order.
-#[tactic(auto, using(crate::proofs::Resulted::watched_none, crate::proofs::Resulted::watched_again, crate::proofs::Resulted::watched_more, crate::proofs::Resulted::watched_past))]
+#[tactic(auto, using(crate::proofs::Walking::watched_none, crate::proofs::Walking::watched_again, crate::proofs::Walking::watched_more, crate::proofs::Walking::watched_past))]
 pub(crate) fn watched_names(alloc: Global, before: &[Line]) -> Result<Vec<Name>, Memory>
     ensures { IfOk result (λ v. IsSame (watched_results (statements before.now)) v.items) }
 {
@@ -136,7 +136,7 @@ fn own_report(statement: &Statement, name: &Name) -> bool
 }
 
 /// Whether the result of that name may be watched.
-#[tactic(auto, using(crate::proofs::Resulted::result_is_step))]
+#[tactic(auto, using(crate::proofs::Walking::result_is_step))]
 pub(crate) fn is_watchable(before: &[Line], name: &Name) -> bool
     ensures { result ≡ result_is can_watch (statements before.now) name.now }
 {
@@ -147,7 +147,7 @@ pub(crate) fn is_watchable(before: &[Line], name: &Name) -> bool
 }
 
 /// Whether the result of that name is a report.
-#[tactic(auto, using(crate::proofs::Resulted::result_is_step))]
+#[tactic(auto, using(crate::proofs::Walking::result_is_step))]
 pub(crate) fn is_report(before: &[Line], name: &Name) -> bool
     ensures { result ≡ result_is is_report (statements before.now) name.now }
 {
@@ -158,7 +158,7 @@ pub(crate) fn is_report(before: &[Line], name: &Name) -> bool
 }
 
 /// How many results there are.
-#[tactic(auto, using(crate::proofs::Resulted::count_step))]
+#[tactic(auto, using(crate::proofs::Walking::count_step))]
 pub(crate) fn result_count(before: &[Line]) -> usize
     ensures value { result ≡ length (bookings (statements before.now)) }
     ensures few { result ≤ length before.now }

@@ -6,7 +6,7 @@ ghost use Rattle.rdf_values.specs.Verdict.{kind_or_int};
 ghost use Rattle.graph.specs.Dependence.{AreSets};
 ghost use Rattle.graph.specs.VarSets.{any_has, read_sets, changed_set, AppendsSets};
 ghost use Rattle.graph.specs.Sets.{has};
-ghost use Rattle.graph.specs.Befores.{scope_before, set_changed, variation_count};
+ghost use Rattle.graph.specs.Contexts.{scope_before, set_changed, variation_count};
 
 use crate::before::Before;
 use crate::sets::{own_set, set_at, set_of};

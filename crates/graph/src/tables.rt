@@ -56,7 +56,7 @@ fn has_room(kinds: &[ColType], more: &[ColType]) -> bool
 }
 
 impl Tables {
-    ghost use Rattle.graph.specs.Gains.{AreTables, AreWith};
+    ghost use Rattle.graph.specs.Gains.{AreTables, GrowBy};
 
     /// The tables before the first statement.
     pub fn start(alloc: Global, header: &[Column]) -> Result<Tables, Memory>
@@ -83,7 +83,7 @@ impl Tables {
     /// Adds what an accepted statement adds. After want of memory the tables say nothing any more.
     pub(crate) fn add(&mut self, mut gain: Gain) -> Result<(), Memory>
         requires { length self.old.variations + length gain.variations.items ≤ 128 }
-        ensures { OnOk result (AreWith self.old gain self.new) }
+        ensures { OnOk result (GrowBy self.old gain self.new) }
     {
         if !has_room(self.kinds.as_slice(), gain.kinds.as_slice()) {
             return Err(Memory);

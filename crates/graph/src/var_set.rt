@@ -18,6 +18,7 @@ impl VarSet {
     }
 
     /// The set with one number more.
+    #[tactic(auto, using(crate::proofs::Bits::more_in))]
     pub fn with(self, v: u32) -> VarSet
         requires { v < 128 }
         ensures { (u : ℕ) → has result u ≡ (nat_eq u v || has self u) }
@@ -28,6 +29,7 @@ impl VarSet {
     }
 
     /// The numbers of either set.
+    #[tactic(auto, using(crate::proofs::Bits::either_in))]
     pub fn union(self, other: VarSet) -> VarSet
         ensures { (v : ℕ) → has result v ≡ (has self v || has other v) }
     {

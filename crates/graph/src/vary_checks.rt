@@ -7,16 +7,16 @@ ghost use Rattle.rdf_values.specs.declared.graph_cause.GraphCause.TheVariants as
 ghost use Rattle.rdf_values.specs.declared.statement.Statement.{Statement};
 ghost use Rattle.rdf_values.specs.declared.statement.Statement.TheVariants.{Vary};
 ghost use Rattle.rdf_values.specs.declared.value.ColType.TheVariants as a_kind;
-ghost use Rattle.rdf_values.specs.declared.vary_values.VaryValues.TheVariants.{Lists, Vector};
+ghost use Rattle.rdf_values.specs.declared.vary_values.VaryValues.TheVariants.{Vector};
 ghost use Rattle.graph.specs.Checks.{Decides, targets_at};
 ghost use Rattle.graph.specs.VaryChecks.{all_expressions, value_expressions};
-ghost use Rattle.graph.specs.Befores.{AppendsChecked, AreCheckedBefore, history, scope_before, verdict_after};
+ghost use Rattle.graph.specs.Contexts.{AppendsChecked, AreCheckedBefore, history, scope_before, verdict_after};
 
 use crate::before::Before;
 use crate::change::Change;
 use crate::parts::same_kind;
 use crate::push::{alone, push};
-use crate::refusals::{first_of, first_of_four, first_of_three, refuse_if, refuse_unless, stop_if};
+use crate::refusals::{first_of, refuse_if, refuse_unless, stop_if};
 use crate::results::is_among;
 use crate::stop::Stop;
 use crate::variations::Variations;
@@ -42,11 +42,11 @@ fn repeats(names: &[Name]) -> bool
 fn check_tags(known: &Variations, tags: &[Name], name: &Name) -> Option<GraphCause>
     ensures { (before : List Statement) → known.now ≡ variations before → result ≡ check_tags before tags.now name.now }
 {
-    first_of_three(
+    first_of(&[
         refuse_if(repeats(tags), GraphCause::NameTaken),
         refuse_if(known.has(name), GraphCause::NameTaken),
         refuse_if(are_too_many(known, tags), GraphCause::TooMany),
-    )
+    ])
 }
 
 /// Whether a Vary has too many tags, or with its tags there are too many variations.
@@ -57,19 +57,21 @@ fn are_too_many(known: &Variations, tags: &[Name]) -> bool
 }
 
 /// The columns that a Vary changes.
+#[tactic(auto, using(crate::proofs::Checking::targets_more))]
 fn check_targets(before: &Before<'_>, parent: &Name, columns: &[Name]) -> Option<GraphCause>
     ensures { result ≡ targets_at before.now.names.now (scope_of before.now.header.now) (history before.now) parent.now columns.now }
 {
     let Some((first, rest)) = columns.split_first() else {
         return None;
     };
-    first_of(
+    first_of(&[
         before.check_target(parent, first),
         check_targets(before, parent, rest),
-    )
+    ])
 }
 
 /// An expression of a given kind, appended.
+#[tactic(auto, using(crate::proofs::Checking::handed_on, crate::proofs::Checking::no_memory))]
 fn push_expected(
     alloc: Global,
     before: &Before<'_>,
@@ -86,7 +88,7 @@ fn push_expected(
 }
 
 /// Expressions of a given kind, appended.
-#[tactic(auto, using(crate::proofs::Varying::each_stop, crate::proofs::Varying::each_next))]
+#[tactic(auto, using(crate::proofs::Checking::each_stop, crate::proofs::Checking::each_next, crate::proofs::Checking::handed_on))]
 fn check_exprs(
     alloc: Global,
     before: &Before<'_>,
@@ -105,15 +107,15 @@ fn check_exprs(
     check_exprs(alloc, before, node, kind, rest, found)
 }
 
-/// Whether there are so many expressions.
-fn has_count(exprs: &[Expr], count: usize) -> bool
-    ensures { result ≡ nat_eq (length exprs.now) count }
+/// Whether a list has so many items.
+fn has_count<T>(items: &[T], count: usize) -> bool
+    ensures { result ≡ nat_eq (length items.now) count }
 {
-    exprs.len() == count
+    items.len() == count
 }
 
 /// The list of a column: an expression of the column's kind for each tag.
-#[tactic(auto, using(crate::proofs::Varying::decides_stop, crate::proofs::Varying::counted))]
+#[tactic(auto, using(crate::proofs::Checking::decides_stop, crate::proofs::Checking::counted))]
 fn check_list(
     alloc: Global,
     before: &Before<'_>,
@@ -177,40 +179,8 @@ fn check_vector_column(before: &Before<'_>, node: &Name, columns: &[Name]) -> Op
     }
 }
 
-/// A list for each column.
-fn list_values(
-    alloc: Global,
-    before: &Before<'_>,
-    node: &Name,
-    tags: usize,
-    columns: &[Name],
-    lists: &[ListOf<Expr>],
-) -> Result<Vec<Checked>, Stop>
-    ensures checked { IfOk result (λ found. AreCheckedBefore before.now node.now (all_expressions lists.now) found.items) }
-    ensures decided { Decides (check_values before.now.names.now (scope_before before.now node.now) tags columns.now (Lists lists.now)) result }
-{
-    if !are_paired(lists, columns) {
-        return Err(Stop::Cause(GraphCause::WrongCount));
-    }
-    check_lists(alloc, before, node, tags, columns, lists)
-}
-
-/// Whether there are as many lists as columns.
-fn are_paired(lists: &[ListOf<Expr>], columns: &[Name]) -> bool
-    ensures value { result ≡ nat_eq (length lists.now) (length columns.now) }
-    ensures same { result ≡ true → length lists.now ≡ length columns.now }
-{
-    lists.len() == columns.len()
-}
-
-/// Whether there is one column.
-fn is_one(columns: &[Name]) -> bool
-    ensures { result ≡ nat_eq (length columns.now) 1 }
-{
-    columns.len() == 1
-}
-
 /// A vector for the only column.
+#[tactic(auto, using(crate::proofs::Checking::no_memory))]
 fn vector_value(
     alloc: Global,
     before: &Before<'_>,
@@ -221,7 +191,7 @@ fn vector_value(
     ensures checked { IfOk result (λ found. AreCheckedBefore before.now node.now (expr.now ∷ []) found.items) }
     ensures decided { (tags : ℕ) → Decides (check_values before.now.names.now (scope_before before.now node.now) tags columns.now (Vector expr.now)) result }
 {
-    if !is_one(columns) {
+    if !has_count(columns, 1) {
         return Err(Stop::Cause(GraphCause::WrongCount));
     }
     let checked = before.expected(alloc, node, ColType::Vect, expr)?;
@@ -244,7 +214,10 @@ fn check_values(
 {
     match values {
         VaryValues::Lists(lists) => {
-            list_values(alloc, before, node, tags, columns, lists.as_slice())
+            if !has_count(lists.as_slice(), columns.len()) {
+                return Err(Stop::Cause(GraphCause::WrongCount));
+            }
+            check_lists(alloc, before, node, tags, columns, lists.as_slice())
         }
         VaryValues::Vector(expr) => vector_value(alloc, before, node, columns, expr),
     }
@@ -262,12 +235,12 @@ pub(crate) fn check_vary(
 {
     let parent = change.parent;
     let columns = change.columns;
-    stop_if(first_of_four(
+    stop_if(first_of(&[
         before.check_node(node, parent),
         refuse_if(repeats(columns), GraphCause::NameTaken),
         check_targets(before, parent, columns),
         check_tags(&before.tables.variations, change.tags, change.name),
-    ))?;
+    ]))?;
     let tags = change.tags.len();
     check_values(alloc, before, parent, tags, columns, change.values)
 }

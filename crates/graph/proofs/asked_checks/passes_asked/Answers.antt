@@ -4,8 +4,7 @@ use Rattle.rdf_values.specs.Bookings.{bookings}
 use Rattle.rdf_values.specs.Path.{variations}
 use Rattle.rdf_values.specs.declared.statement.Statement.TheVariants.{VariationsFor}
 use Rattle.graph.specs.Lookups.{statements}
-use Rattle.graph.proofs.Counting.{AllPassed, passes_checked}
-use Rattle.graph.proofs.SeenRows.{rows_passed}
+use Rattle.graph.proofs.Counting.{AllPassed, passes_checked, rows_passed}
 use Rattle.graph.proofs.asked_checks.passes_asked.Goals as goal
 
 pub returns : goal.returns

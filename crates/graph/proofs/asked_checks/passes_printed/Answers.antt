@@ -4,8 +4,7 @@ use Rattle.rdf_values.specs.Verdict.{printed_results}
 use Rattle.rdf_values.specs.declared.statement.Statement.TheVariants.{Print}
 use Rattle.graph.specs.Amounts.{printed_rows}
 use Rattle.graph.specs.Lookups.{statements}
-use Rattle.graph.proofs.Counting.{AllPassed, passes_checked, printed_with}
-use Rattle.graph.proofs.SeenRows.{rows_passed}
+use Rattle.graph.proofs.Counting.{AllPassed, passes_checked, printed_with, rows_passed}
 use Rattle.graph.proofs.asked_checks.passes_printed.Goals as goal
 
 pub returns : goal.returns

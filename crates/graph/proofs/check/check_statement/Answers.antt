@@ -1,7 +1,7 @@
 use Rattle.std.proofs.Common.{refl, sym, ◌∙◌}
-use Rattle.rdf_values.specs.declared.statement.Statement.TheVariants.{Vary}
+use Rattle.rdf_values.specs.declared.statement.Statement.TheVariants.{Vary, VariationsFor, Watch, Print}
 use Rattle.graph.specs.Lookups.{statements}
-use Rattle.graph.proofs.Gaining.{decided_at, empty_if}
+use Rattle.graph.proofs.Gaining.{decided_at, gained, nothing_gained}
 use Rattle.graph.proofs.check.check_statement.Goals as goal
 
 pub returns-in-Define-clause-decided : goal.returns-in-Define-clause-decided
@@ -25,21 +25,24 @@ returns-in-Alias-clause-decided c = decided_at c.args.before.now.header.now c.ar
 
 pub returns-in-VariationsFor-clause-gained : goal.returns-in-VariationsFor-clause-gained
 returns-in-VariationsFor-clause-gained c =
-    empty_if c.args.before.now.header.now c.args.before.now.names.now (statements c.args.before.now.lines.now) c.args.statement.now _ c.nothing.result c.in-VariationsFor.is (c.nothing.ensures.decided _ c.check_variations_for.ensures) refl refl refl refl c.nothing.ensures.empty
+    nothing_gained c.args.before.now.header.now c.args.before.now.names.now (statements c.args.before.now.lines.now) c.args.statement.now _ c.nothing.result c.in-VariationsFor.is (c.nothing.ensures.decided _ c.check_variations_for.ensures) c.nothing.ensures.empty
+    (λ g ok e. gained c.args.before.now.header.now c.args.before.now.names.now (statements c.args.before.now.lines.now) (VariationsFor c.in-VariationsFor.result) g ok e refl (λ out o. o) (λ out o. o) tt (tt, tt) refl)
 
 pub returns-in-VariationsFor-clause-decided : goal.returns-in-VariationsFor-clause-decided
 returns-in-VariationsFor-clause-decided c = decided_at c.args.before.now.header.now c.args.before.now.names.now (statements c.args.before.now.lines.now) c.args.statement.now _ c.nothing.result c.in-VariationsFor.is (c.nothing.ensures.decided _ c.check_variations_for.ensures)
 
 pub returns-in-Watch-clause-gained : goal.returns-in-Watch-clause-gained
 returns-in-Watch-clause-gained c =
-    empty_if c.args.before.now.header.now c.args.before.now.names.now (statements c.args.before.now.lines.now) c.args.statement.now _ c.nothing-in-Watch.result c.in-Watch.is (c.nothing-in-Watch.ensures.decided _ c.check_watch.ensures) refl refl refl refl c.nothing-in-Watch.ensures.empty
+    nothing_gained c.args.before.now.header.now c.args.before.now.names.now (statements c.args.before.now.lines.now) c.args.statement.now _ c.nothing-in-Watch.result c.in-Watch.is (c.nothing-in-Watch.ensures.decided _ c.check_watch.ensures) c.nothing-in-Watch.ensures.empty
+    (λ g ok e. gained c.args.before.now.header.now c.args.before.now.names.now (statements c.args.before.now.lines.now) (Watch c.in-Watch.result) g ok e refl (λ out o. o) (λ out o. o) tt (tt, tt) refl)
 
 pub returns-in-Watch-clause-decided : goal.returns-in-Watch-clause-decided
 returns-in-Watch-clause-decided c = decided_at c.args.before.now.header.now c.args.before.now.names.now (statements c.args.before.now.lines.now) c.args.statement.now _ c.nothing-in-Watch.result c.in-Watch.is (c.nothing-in-Watch.ensures.decided _ c.check_watch.ensures)
 
 pub returns-in-Print-clause-gained : goal.returns-in-Print-clause-gained
 returns-in-Print-clause-gained c =
-    empty_if c.args.before.now.header.now c.args.before.now.names.now (statements c.args.before.now.lines.now) c.args.statement.now _ c.nothing-in-Print.result c.in-Print.is (c.nothing-in-Print.ensures.decided _ c.check_print.ensures) refl refl refl refl c.nothing-in-Print.ensures.empty
+    nothing_gained c.args.before.now.header.now c.args.before.now.names.now (statements c.args.before.now.lines.now) c.args.statement.now _ c.nothing-in-Print.result c.in-Print.is (c.nothing-in-Print.ensures.decided _ c.check_print.ensures) c.nothing-in-Print.ensures.empty
+    (λ g ok e. gained c.args.before.now.header.now c.args.before.now.names.now (statements c.args.before.now.lines.now) (Print c.in-Print.result) g ok e refl (λ out o. o) (λ out o. o) tt (tt, tt) refl)
 
 pub returns-in-Print-clause-decided : goal.returns-in-Print-clause-decided
 returns-in-Print-clause-decided c = decided_at c.args.before.now.header.now c.args.before.now.names.now (statements c.args.before.now.lines.now) c.args.statement.now _ c.nothing-in-Print.result c.in-Print.is (c.nothing-in-Print.ensures.decided _ c.check_print.ensures)

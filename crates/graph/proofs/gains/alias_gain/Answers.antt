@@ -1,20 +1,22 @@
-use Rattle.std.proofs.Common.{refl, sym, ◌∙◌}
+use Rattle.std.proofs.Common.{[], ◌∷◌, ap, refl, sym, ◌∙◌}
+use Rattle.rdf_values.specs.Verdict.{first_refusal, refuse_if, refuse_unless}
+use Rattle.rdf_values.specs.declared.graph_cause.GraphCause.TheVariants as cause
 use Rattle.rdf_values.specs.declared.statement.Statement.TheVariants.{Alias}
 use Rattle.graph.specs.Lookups.{statements}
-use Rattle.graph.proofs.Checking.{three, handed_on, stops_for}
-use Rattle.graph.proofs.Gaining.{empty_gained}
+use Rattle.graph.proofs.Checking.{handed_on, stops_for}
+use Rattle.graph.proofs.Gaining.{gained}
 use Rattle.graph.proofs.gains.alias_gain.Goals as goal
 
 pub returns-in_err-stop_if-clause-decided : goal.returns-in_err-stop_if-clause-decided
 returns-in_err-stop_if-clause-decided c =
     handed_on _ _ _ c.from_residual.ensures.1
-    (stops_for _ _ _ (three c.check_node.result c.new_column.result c.known_column.result _ _ _ c.first_of_three.result c.check_node.ensures c.new_column.ensures c.known_column.ensures c.first_of_three.ensures) c.in_err-stop_if.ensures)
+    (stops_for _ _ _ (c.first_of.ensures ∙ λ i. first_refusal (c.check_node.ensures i ∷ (c.refuse_if.ensures ∙ ap (λ b. refuse_if b cause.NameTaken) c.sees-taken.ensures) i ∷ (c.refuse_unless.ensures ∙ ap (λ b. refuse_unless b cause.UnknownColumn) c.sees-known.ensures) i ∷ [])) c.in_err-stop_if.ensures)
 
 pub returns-clause-gained : goal.returns-clause-gained
 returns-clause-gained c =
     let s = Alias c.args.node.now c.args.parent.now c.args.column.now c.args.target.now in
-    empty_gained c.args.before.now.header.now c.args.before.now.names.now (statements c.args.before.now.lines.now) s s c.empty_gain.result refl
-    (sym (three c.check_node.result c.new_column.result c.known_column.result _ _ _ c.first_of_three.result c.check_node.ensures c.new_column.ensures c.known_column.ensures c.first_of_three.ensures) ∙ c.in_ok-stop_if.ensures) refl refl refl refl c.empty_gain.ensures
+    gained c.args.before.now.header.now c.args.before.now.names.now (statements c.args.before.now.lines.now) s c.empty_gain.result
+    (sym (c.first_of.ensures ∙ λ i. first_refusal (c.check_node.ensures i ∷ (c.refuse_if.ensures ∙ ap (λ b. refuse_if b cause.NameTaken) c.sees-taken.ensures) i ∷ (c.refuse_unless.ensures ∙ ap (λ b. refuse_unless b cause.UnknownColumn) c.sees-known.ensures) i ∷ [])) ∙ c.in_ok-stop_if.ensures) c.empty_gain.ensures refl (λ out o. o) (λ out o. o) tt (tt, tt) refl
 
 pub returns-clause-decided : goal.returns-clause-decided
-returns-clause-decided c = sym (three c.check_node.result c.new_column.result c.known_column.result _ _ _ c.first_of_three.result c.check_node.ensures c.new_column.ensures c.known_column.ensures c.first_of_three.ensures) ∙ c.in_ok-stop_if.ensures
+returns-clause-decided c = sym (c.first_of.ensures ∙ λ i. first_refusal (c.check_node.ensures i ∷ (c.refuse_if.ensures ∙ ap (λ b. refuse_if b cause.NameTaken) c.sees-taken.ensures) i ∷ (c.refuse_unless.ensures ∙ ap (λ b. refuse_unless b cause.UnknownColumn) c.sees-known.ensures) i ∷ [])) ∙ c.in_ok-stop_if.ensures

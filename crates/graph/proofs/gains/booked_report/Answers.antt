@@ -18,10 +18,7 @@ covered-requires c = ap length c.as_slice.ensures.value ∙ filters_are c.args.b
 pub returns : goal.returns
 returns c =
     report_alone (statements c.args.before.now.lines.now) c.args.name.now c.args.parent.now _ c.row_gain.result
-    (record {
-      name = c.in_ok-copy.ensures;
-      cells = refl;
-      takes = refl;
-      set = c.empty.ensures;
-      path = λ header i. record { kind = what.Report; filters = c.in_ok-filters_above.ensures i; inputs = c.new.ensures i; covers = c.in_ok-covered.ensures i } ∷ [];
+    (λ header names. record {
+      rows = ((record { name = c.in_ok-copy.ensures; cells = refl; takes = refl }, tt), (c.empty.ensures, tt));
+      path = λ i. record { kind = what.Report; filters = c.in_ok-filters_above.ensures i; inputs = c.new.ensures i; covers = c.in_ok-covered.ensures i } ∷ [];
     }) c.row_gain.ensures

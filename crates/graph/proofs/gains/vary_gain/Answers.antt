@@ -1,7 +1,6 @@
 use Rattle.graph.specs.Lookups.{statements}
-use Rattle.graph.proofs.Checking.{handed_on, no_memory}
 use Rattle.graph.proofs.Gaining.{vary_gained}
-use Rattle.graph.proofs.SeenRows.{few_with}
+use Rattle.graph.proofs.Counting.{few_with}
 use Rattle.graph.proofs.gains.vary_gain.Goals as goal
 
 pub varied_gain-requires : goal.varied_gain-requires
@@ -13,9 +12,3 @@ pub returns-clause-gained : goal.returns-clause-gained
 returns-clause-gained c =
     vary_gained c.args.before.now.header.now c.args.before.now.names.now (statements c.args.before.now.lines.now) c.args.before.now.tables.now c.args.before.now.are c.args.node.now c.args.change.now c.in_ok-sites.sites.items
     c.in_ok-gain.gain c.in_ok-sites.ensures.decided c.in_ok-sites.ensures.checked c.in_ok-gain.ensures
-
-pub returns-in_err-sites-clause-decided : goal.returns-in_err-sites-clause-decided
-returns-in_err-sites-clause-decided c = handed_on _ _ _ c.from_residual.ensures.1 c.in_err-sites.ensures.decided
-
-pub returns-in_err-gain-clause-decided : goal.returns-in_err-gain-clause-decided
-returns-in_err-gain-clause-decided c = no_memory _ _ c.from_residual-in_err-gain.ensures.1

@@ -1,6 +1,8 @@
-use Rattle.std.proofs.Common.{◌∙◌, arith, rules, length, ap}
+use Rattle.std.proofs.Common.{List, arith, rules, ap, length, subst}
+use Rattle.rdf_values.specs.declared.script.Line.{Line}
+use Rattle.graph.specs.LoopRows.{AreNamedInTurn, BeginsWith}
 use Rattle.graph.specs.Lookups.{statements}
-use Rattle.graph.proofs.Looped.{split, no_lines}
+use Rattle.graph.proofs.Looped.{begins_further, line_kept, no_lines}
 use Rattle.graph.proofs.loops.+loop_tables.Goals as goal
 
 pub returns-in_default : goal.returns-in_default
@@ -8,10 +10,16 @@ returns-in_default t c = no_lines (statements c.args.script.now.lines.now) c.arg
 
 pub loop_tables-requires : goal.loop_tables-requires
 loop_tables-requires t c =
-    let s = split (statements c.args.script.now.lines.now) c.args.lines.now c.in-Some.last.now c.in-Some.rest.now c.args.booked c.in-Some.ensures.cases.0 c.requires.named c.requires.begins c.requires.booked in
-    let n = ap length c.in-Some.ensures.cases.0 in let k = c.requires.lines in
-    (search rules, (s.named, (s.begins, (c.booked_before-below.ensures ∙ s.below, omega (arith, n, k)))))
+    let e = c.in-Some.ensures.cases.0 in let n = ap length e in let k = c.requires.lines in (
+      search rules,
+      (
+        (subst (λ (ls : List Line). AreNamedInTurn (statements ls)) e c.requires.named).1,
+        (
+          begins_further (statements c.args.script.now.lines.now) (statements c.in-Some.rest.now) c.in-Some.last.now.statement (subst (λ (ls : List Line). BeginsWith (statements c.args.script.now.lines.now) (statements ls)) e c.requires.begins),
+          omega (arith, n, k),
+        ),
+      ),
+    )
 
-pub add_line-requires-clause-begins : goal.add_line-requires-clause-begins
-add_line-requires-clause-begins t c =
-    (split (statements c.args.script.now.lines.now) c.args.lines.now c.in-Some.last.now c.in-Some.rest.now c.args.booked c.in-Some.ensures.cases.0 c.requires.named c.requires.begins c.requires.booked).begins
+pub returns-in-None : goal.returns-in-None
+returns-in-None t c = line_kept (statements c.args.script.now.lines.now) c.args.lines.now c.in-Some.last.now c.in-Some.rest.now c.in_ok-tables.tables c.in-Some.ensures.cases.0 c.in-None.ensures c.in_ok-tables.ensures

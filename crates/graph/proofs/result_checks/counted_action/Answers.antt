@@ -2,16 +2,9 @@ use Rattle.std.proofs.Common.{◌∷◌, ◌++◌, [], subst, sym, ◌∙◌}
 use Rattle.rdf_values.specs.Bookings.{bookings}
 use Rattle.rdf_values.specs.declared.statement.Statement.TheVariants.{Action}
 use Rattle.graph.specs.Lookups.{statements}
-use Rattle.graph.proofs.Checking.{handed_on, no_memory, stops_for}
-use Rattle.graph.proofs.Counting.{AllPassed, passes_checked}
-use Rattle.graph.proofs.SeenRows.{action_passed}
+use Rattle.graph.proofs.Checking.{handed_on, stops_for}
+use Rattle.graph.proofs.Counting.{AllPassed, passes_checked, action_passed}
 use Rattle.graph.proofs.result_checks.counted_action.Goals as goal
-
-pub returns-in_err-row-clause-decided : goal.returns-in_err-row-clause-decided
-returns-in_err-row-clause-decided c = no_memory _ _ c.from_residual.ensures.1
-
-pub returns-in_err-amounts-clause-decided : goal.returns-in_err-amounts-clause-decided
-returns-in_err-amounts-clause-decided c = no_memory _ _ c.from_residual-in_err-amounts.ensures.1
 
 pub returns-in_err-stop_if-clause-decided : goal.returns-in_err-stop_if-clause-decided
 returns-in_err-stop_if-clause-decided c =
@@ -19,7 +12,7 @@ returns-in_err-stop_if-clause-decided c =
     (passes_checked (statements c.args.before.now.lines.now) (bookings (Action c.args.name.now c.args.parent.now c.args.action.now ∷ statements c.args.before.now.lines.now)) (c.as_slice.result.now ++ c.in_ok-row.row ∷ [])
     (subst (λ rs. AllPassed (statements c.args.before.now.lines.now) (bookings (Action c.args.name.now c.args.parent.now c.args.action.now ∷ statements c.args.before.now.lines.now)) (rs ++ c.in_ok-row.row ∷ [])) (sym c.as_slice.ensures.value)
     (action_passed c.args.before.now.header.now c.args.before.now.names.now (statements c.args.before.now.lines.now) c.args.before.now.are.versions.accepted c.args.before.now.tables.now.results.items c.args.before.now.are.results c.args.name.now c.args.parent.now c.args.action.now
-    c.requires.known c.in_ok-row.row c.in_ok-row.ensures.row)) c.in_ok-amounts.amounts c.in_ok-amounts.ensures c.too_many.result c.too_many.ensures) c.in_err-stop_if.ensures)
+    c.requires.known c.in_ok-row.row c.in_ok-row.ensures)) c.in_ok-amounts.amounts c.in_ok-amounts.ensures c.too_many.result c.too_many.ensures) c.in_err-stop_if.ensures)
 
 pub returns-clause-decided : goal.returns-clause-decided
 returns-clause-decided c =
@@ -27,5 +20,5 @@ returns-clause-decided c =
     (passes_checked (statements c.args.before.now.lines.now) (bookings (Action c.args.name.now c.args.parent.now c.args.action.now ∷ statements c.args.before.now.lines.now)) (c.as_slice.result.now ++ c.in_ok-row.row ∷ [])
     (subst (λ rs. AllPassed (statements c.args.before.now.lines.now) (bookings (Action c.args.name.now c.args.parent.now c.args.action.now ∷ statements c.args.before.now.lines.now)) (rs ++ c.in_ok-row.row ∷ [])) (sym c.as_slice.ensures.value)
     (action_passed c.args.before.now.header.now c.args.before.now.names.now (statements c.args.before.now.lines.now) c.args.before.now.are.versions.accepted c.args.before.now.tables.now.results.items c.args.before.now.are.results c.args.name.now c.args.parent.now c.args.action.now
-    c.requires.known c.in_ok-row.row c.in_ok-row.ensures.row)) c.in_ok-amounts.amounts c.in_ok-amounts.ensures c.too_many.result c.too_many.ensures)
+    c.requires.known c.in_ok-row.row c.in_ok-row.ensures)) c.in_ok-amounts.amounts c.in_ok-amounts.ensures c.too_many.result c.too_many.ensures)
     ∙ c.in_ok-stop_if.ensures

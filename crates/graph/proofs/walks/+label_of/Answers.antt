@@ -1,5 +1,5 @@
 use Rattle.std.proofs.Common.{sym}
-use Rattle.graph.proofs.Labelled.{last_label, label_before}
+use Rattle.graph.proofs.Counted.{last_label, label_before}
 use Rattle.graph.proofs.walks.+label_of.Goals as goal
 
 pub returns-then-f-count : goal.returns-then-f-count

@@ -1,7 +1,7 @@
 use Rattle.std.proofs.Common.{◌∙◌, ap, length, sym}
 use Rattle.rdf_values.specs.Path.{variations}
 use Rattle.graph.specs.Lookups.{statements}
-use Rattle.graph.proofs.Finished.{finish_named, finish_rows, finish_few, finish_count, finished}
+use Rattle.graph.proofs.Finished.{finish_named, finish_rows, finish_few, finished}
 use Rattle.graph.proofs.graph.Graph.finish.Goals as goal
 
 pub loop_tables-requires-clause-named : goal.loop_tables-requires-clause-named
@@ -16,9 +16,6 @@ invariant_of-script c = record {
     few = c.len-variations.ensures.few;
   };
 }
-
-pub loop_tables-requires-clause-booked : goal.loop_tables-requires-clause-booked
-loop_tables-requires-clause-booked c = finish_count c.args.lines.items c.as_slice-all.result.now c.args.header.now c.args.names.now c.args.tables c.as_slice-results.result.now c.as_slice-all.ensures.value c.as_slice-results.ensures.value c.requires.graph c.requires.tables
 
 pub invariant_of-result : goal.invariant_of-result
 invariant_of-result c =

@@ -1,7 +1,6 @@
 use Rattle.std.proofs.Common.{arith}
 use Rattle.graph.specs.Sets.{count_of}
-use Rattle.graph.proofs.Bits.{ones_are_members}
-use Rattle.graph.proofs.Members.{counted_all, none_above}
+use Rattle.graph.proofs.Bits.{ones_are_members, counted_all, none_above}
 use Rattle.graph.proofs.var_set.VarSet.count.Goals as goal
 
 pub returns-clause-value : goal.returns-clause-value
@@ -12,4 +11,4 @@ pub returns-clause-members : goal.returns-clause-members
 returns-clause-members c = counted_all c.args.self (omega arith)
 
 pub returns-clause-above : goal.returns-clause-above
-returns-clause-above c = none_above c.args.self (omega arith)
+returns-clause-above c v le = none_above c.args.self.bits v (omega arith) le v (omega arith)

@@ -1,5 +1,5 @@
 use Rattle.std.proofs.Common.{arith}
-use Rattle.graph.proofs.Members.{below_few, counted, one_at_least}
+use Rattle.graph.proofs.Bits.{below_few, counted, one_at_least}
 use Rattle.graph.proofs.var_set.VarSet.count_below.Goals as goal
 
 pub overflow_sub-result : goal.overflow_sub-result

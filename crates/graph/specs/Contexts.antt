@@ -1,4 +1,4 @@
--- What stands before a statement, as contracts name it.
+-- What a statement is checked in: what stands before it, as contracts name it.
 use Rattle.std.specs.Prelude.{ℕ, List, length, Option}
 use Rattle.rdf_values.specs.Kinds.{Scope, scope_of}
 use Rattle.rdf_values.specs.Path.{variations}
