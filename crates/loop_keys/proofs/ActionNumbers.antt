@@ -1,39 +1,115 @@
 -- What an action tries and reads: sites, and versions that can be read, one for each of its columns, which come to values that it takes.
-use Rattle.std.proofs.Common.{◌≡◌, ◌⊎◌, inl, inr, ℕ, zero, suc, ◌+◌, ◌<◌, ◌≤◌, List, [], ◌∷◌, length, map, Some, sym, ◌∙◌, subst, arith, slice_get, length-append}
+use Rattle.std.proofs.Common.{◌≡◌, ℕ, suc, ◌<◌, ◌≤◌, List, [], ◌∷◌, length, map, Some, sym, ◌∙◌, subst, arith, slice_get, length-append, true, ◌++◌, Option, None, Ok, Err, Result, refl, ap, if◌then◌else◌}
 use Rattle.std.specs.Prelude.{⊤}
 use Rattle.std.specs.List.{AllByRecursion}
-use Rattle.std.proofs.lemmas.List.{length-map}
-use Rattle.std.proofs.lemmas.Option.{get_or_from_slice_get, slice_get_within}
-use Rattle.rdf_values.specs.Bookings.{ActionAt, Booking, ReportOn, columns_of, covered}
+use Rattle.std.proofs.lemmas.List.{length-map, append_assoc, append-nil}
+use Rattle.rdf_values.specs.Bookings.{ActionAt, Booking, ReportOn, columns_of, bookings}
 use Rattle.rdf_values.specs.Functions.{fn_names}
-use Rattle.rdf_values.specs.Kinds.{scope_of}
+use Rattle.rdf_values.specs.Kinds.{scope_of, Scope, FunctionNames, column_kind}
 use Rattle.rdf_values.specs.Path.{Under, path}
-use Rattle.rdf_values.specs.Tables.{FitsRow}
-use Rattle.rdf_values.specs.Verdict.{AreAccepted}
+use Rattle.rdf_values.specs.Verdict.{AreAccepted, permitted_kinds, may_begin, check_columns, check_node, check_edges, check_results, check_passes, scope_at}
 use Rattle.rdf_values.specs.declared.action.ActionKind.{ActionKind}
-use Rattle.rdf_values.specs.declared.value.Value.{Value}
+use Rattle.rdf_values.specs.declared.graph_cause.GraphCause.{GraphCause}
 use Rattle.rdf_values.specs.declared.statement.Statement.{Statement}
-use Rattle.rdf_values.specs.declared.statement.Statement.TheVariants.{Action, Report}
+use Rattle.rdf_values.specs.declared.statement.Statement.TheVariants.{Action}
+use Rattle.rdf_values.specs.declared.value.ColType.{ColType}
+use Rattle.rdf_values.specs.declared.value.Value.{Value}
+use Rattle.rdf_model.specs.ColumnValues.{column_value}
 use Rattle.rdf_model.specs.Evaluation.{Gives, Outcome, for_all}
-use Rattle.rdf_model.specs.Laws.{FitsFeed}
 use Rattle.rdf_model.specs.Results.{Dataset}
-use Rattle.graph_numbers.specs.Results.{ResultAt, covered_at, own_results, results}
+use Rattle.rdf_values.specs.Tables.{FitsRow, FitsKind}
+use Rattle.rdf_model.specs.Laws.{FitsFeed, Meets, FitKinds}
+use Rattle.graph_numbers.specs.Results.{ResultAt, results}
 use Rattle.graph_numbers.specs.Sites.{filter_sites, own_sites, site_count, sites}
 use Rattle.graph_numbers.specs.Sources.{IsBelow, source_in, sources}
 use Rattle.graph_numbers.specs.Versions.{version_at, version_count}
-use Rattle.graph_numbers.specs.declared.source.Source.{Source}
-use Rattle.graph_numbers.specs.declared.source.Source.TheVariants as from
-use Rattle.graph_numbers.proofs.ColumnSources.{HasSource, IsGiven, column_source}
-use Rattle.graph_numbers.proofs.Equations.{version_value}
-use Rattle.graph_numbers.proofs.Extending.{Extends, further, itself, source_count, source_kept}
-use Rattle.graph_numbers.proofs.Listed.{of_joined}
-use Rattle.graph_numbers.proofs.Passing.{AreVisible, action_visible, shorter, values_are}
-use Rattle.graph_numbers.proofs.Ranges.{filter_sites_below}
-use Rattle.loop_keys.proofs.FeedKinds.{action_values_fit}
+use Rattle.graph_numbers.proofs.ColumnSources.{column_source}
+use Rattle.graph_numbers.proofs.Equations.{below_of, version_value}
+use Rattle.graph_numbers.proofs.Extending.{Extends, further, itself, shorter}
+use Rattle.graph_numbers.proofs.Listed.{by_test}
+use Rattle.graph_numbers.proofs.Passing.{AreVisible, action_visible, values_are}
+use Rattle.graph_numbers.proofs.Ranges.{filter_sites_below, further_below}
+use Rattle.graph_numbers.proofs.Walks.{each_result}
+use Rattle.rdf_values.specs.declared.action.ActionKind.TheVariants as action
+use Rattle.rdf_values.specs.declared.graph_cause.GraphCause.TheVariants as cause
+use Rattle.rdf_model.proofs.Typing.{meets_bind}
+use Rattle.rdf_model.proofs.Accepted.{both_none, column_fits}
 
-further_below : (m n : ℕ) (ss : List ℕ) → m ≤ n → AllByRecursion (λ (s : ℕ). s < m) ss → AllByRecursion (λ (s : ℕ). s < n) ss
-further_below m n [] le h = tt
-further_below m n (s ∷ ss) le h = (let q = h.0 in omega (arith, q, le), further_below m n ss le h.1)
+-- ---- the kinds of an action's columns
+
+-- the kinds of columns, one by one
+abbrev KindsAre : Scope → List (List ℕ) → List ColType → Type 0
+KindsAre scope [] [] = ⊤
+KindsAre scope (c ∷ cs) (t ∷ ts) = (column_kind scope c ≡ Ok t) × KindsAre scope cs ts
+KindsAre scope cs ts = ⊥
+
+kinds_length : (scope : Scope) (cs : List (List ℕ)) (ts : List ColType) → KindsAre scope cs ts → length ts ≡ length cs
+kinds_length scope [] [] h = refl
+kinds_length scope (c ∷ cs) (t ∷ ts) h = ap suc (kinds_length scope cs ts h.1)
+kinds_length scope [] (t ∷ ts) h = elim h [ ]
+kinds_length scope (c ∷ cs) [] h = elim h [ ]
+
+module _ (scope : Scope) (permitted : List (List ColType)) where
+  abbrev HasKinds : List ColType → List (List ℕ) → Type 0
+  HasKinds kinds cs = (ts : List ColType) × KindsAre scope cs ts × (may_begin permitted (kinds ++ ts) ≡ true)
+
+  checked_kinds : (cs : List (List ℕ)) (kinds : List ColType) → may_begin permitted kinds ≡ true → check_columns scope permitted kinds cs ≡ None → HasKinds kinds cs
+  checked_kinds [] kinds m h = ([], tt, ap (may_begin permitted) (append-nil kinds) ∙ m)
+  checked_kinds (c ∷ cs) kinds m h = go (column_kind scope c) refl h (λ t e q. checked_kinds cs (kinds ++ t ∷ []) e q)
+    where
+      at_kind : (t : ColType) → column_kind scope c ≡ Ok t → HasKinds (kinds ++ t ∷ []) cs → HasKinds kinds (c ∷ cs)
+      at_kind t q r = (t ∷ r.0, (q, r.1), ap (may_begin permitted) (sym (append_assoc kinds (t ∷ []) r.0)) ∙ r.2)
+
+      go : (r : Result ColType GraphCause) → column_kind scope c ≡ r
+          → (elim r as (λ _. Option GraphCause) [ Err cause' ↦ Some cause' | Ok t ↦ (if may_begin permitted (kinds ++ t ∷ []) then check_columns scope permitted (kinds ++ t ∷ []) cs else Some cause.WrongType) ]) ≡ None
+          → ((t : ColType) → may_begin permitted (kinds ++ t ∷ []) ≡ true → check_columns scope permitted (kinds ++ t ∷ []) cs ≡ None → HasKinds (kinds ++ t ∷ []) cs) → HasKinds kinds (c ∷ cs)
+      go (Err e) q k next = cc k
+      go (Ok t) q k next = by_test (may_begin permitted (kinds ++ t ∷ [])) (λ e. at_kind t q (next t e (rw e at k))) (λ e. cc (rw e at k))
+
+-- no kinds begin each permitted list
+none_begin : (k : ActionKind) → may_begin (permitted_kinds k) [] ≡ true
+none_begin action.Count = refl
+none_begin (action.Sum c) = refl
+none_begin (action.Min c) = refl
+none_begin (action.Max c) = refl
+none_begin (action.Take c) = refl
+none_begin (action.Reduce o c) = refl
+none_begin (action.Histo1D edges x None) = refl
+none_begin (action.Histo1D edges x (Some w)) = refl
+none_begin (action.Histo2D xs ys x y None) = refl
+none_begin (action.Histo2D xs ys x y (Some w)) = refl
+
+-- ---- their values
+
+module _ (d : Dataset) (row : List Value) (before : List Statement) (parent : List ℕ) (u : Under) (good : AreAccepted (fn_names d.fns) (scope_of d.columns) before) (fits_row : FitsRow d.columns row) where
+  columns_fit : (cs : List (List ℕ)) (ts : List ColType) → KindsAre (scope_at (fn_names d.fns) (scope_of d.columns) before parent) cs ts
+      → Meets (FitKinds ts) (for_all (column_value d.fns d.columns row {M = ⊥} (path before parent) u) cs)
+  columns_fit [] [] h = tt
+  columns_fit (c ∷ cs) (t ∷ ts) h =
+      meets_bind ⊥ (FitsKind t) (FitKinds (t ∷ ts)) (column_value d.fns d.columns row (path before parent) u c) _ (column_fits d row before parent u c t good fits_row h.0)
+      (λ v f. meets_bind ⊥ (FitKinds ts) (FitKinds (t ∷ ts)) (for_all (column_value d.fns d.columns row (path before parent) u) cs) _ (columns_fit cs ts h.1) (λ vs g. (f, g)))
+  columns_fit [] (t ∷ ts) h = elim h [ ]
+  columns_fit (c ∷ cs) [] h = elim h [ ]
+
+-- in an accepted script what an action's columns come to is of kinds that the action takes
+action_values_fit : (d : Dataset) (row : List Value) (before : List Statement) (result parent : List ℕ) (k : ActionKind) (u : Under) (values : List Value)
+    → AreAccepted (fn_names d.fns) (scope_of d.columns) (Action result parent k ∷ before) → FitsRow d.columns row
+    → for_all (column_value d.fns d.columns row {M = ⊥} (path before parent) u) (columns_of k) ≡ Gives values → FitsFeed k values
+action_values_fit d row before result parent k u values here fits given =
+    let names : FunctionNames = fn_names d.fns in
+    let header : Scope = scope_of d.columns in
+    let columns : Option GraphCause = check_columns (scope_at names header before parent) (permitted_kinds k) [] (columns_of k) in
+    let rest : List (Option GraphCause) = check_edges k ∷ check_results (Action result parent k ∷ before) ∷ check_passes before (bookings (Action result parent k ∷ before)) ∷ [] in
+    let checked : columns ≡ None = (both_none columns rest (both_none (check_node before result parent) (columns ∷ rest) here.0).1).0 in
+    let found = checked_kinds (scope_at names header before parent) (permitted_kinds k) (columns_of k) [] (none_begin k) checked in
+    record {
+      kinds = found.0;
+      all = kinds_length (scope_at names header before parent) (columns_of k) found.0 found.1;
+      permitted = found.2;
+      fit = subst (λ (o : Outcome ⊥ (List Value)). Meets (FitKinds found.0) o) given (columns_fit d row before parent u here.1 fits (columns_of k) found.0 found.1);
+    }
+
+-- ---- what an action tries and reads
 
 module _ (d : Dataset) (u : Under) (before : List Statement) where
   -- the version is there, and is given by a column of the table or by a site
@@ -59,25 +135,11 @@ module _ (d : Dataset) (u : Under) (before : List Statement) where
       go after (further {after = b} s e) =
           let m = go b e in let n = length-append (sites d.columns (fn_names d.fns) b) (own_sites d.columns (fn_names d.fns) b s) in omega (arith, m, n)
 
-  -- what has a source among the statements so far is given by the table's columns and by their sites
-  below_of : (earlier : List Statement) → Extends earlier before → (c : ℕ) (o : Outcome ⊥ Value) → HasSource ⊥ d.fns d.columns [] u earlier c o → IsGivenBelow c
-  below_of earlier e c o h =
-      let at : slice_get (sources d.columns (fn_names d.fns) u before) c ≡ Some h.0 = source_kept d.columns (fn_names d.fns) u earlier before e c h.0 h.1 in
-      let lt = slice_get_within (sources d.columns (fn_names d.fns) u before) c h.0 at in (
-        subst (λ (n : ℕ). c < n) (source_count d.columns (fn_names d.fns) u before) lt,
-        subst (IsBelow (length d.columns) (site_count d.columns (fn_names d.fns) before)) (sym (get_or_from_slice_get (sources d.columns (fn_names d.fns) u before) c h.0 (from.Cell 0) at)) (go h.0 h.2),
-      )
-    where
-      go : (src : Source) → IsGiven ⊥ d.fns d.columns [] u earlier src o → IsBelow (length d.columns) (site_count d.columns (fn_names d.fns) before) src
-      go (from.Cell col) k = k.0
-      go (from.Site t) k = let lt = slice_get_within (sites d.columns (fn_names d.fns) earlier) t k.0 k.1 in let le = more_sites earlier e in omega (arith, lt, le)
-      go (from.Element t i tags) k = let lt = slice_get_within (sites d.columns (fn_names d.fns) earlier) t k.0 k.1 in let le = more_sites earlier e in omega (arith, lt, le)
-
   inputs_below : (earlier : List Statement) → AreAccepted (fn_names d.fns) (scope_of d.columns) earlier → Extends earlier before → (node : List ℕ) (cs : List (List ℕ))
       → AreVisible ⊥ d.fns d.columns [] u before earlier node cs → AllByRecursion IsGivenBelow (map (version_at d.columns earlier node) cs)
   inputs_below earlier ok e node [] v = tt
   inputs_below earlier ok e node (c ∷ cs) v = (
-    below_of earlier e (version_at d.columns earlier node c) _ (column_source ⊥ d.fns d.columns [] u earlier ok node c v.0.0 v.0.1),
+    below_of d.fns d.columns u before earlier e (site_count d.columns (fn_names d.fns) before) (version_at d.columns earlier node c) (more_sites earlier e) _ (column_source ⊥ d.fns d.columns [] u earlier ok node c v.0.0 v.0.1),
     inputs_below earlier ok e node cs v.1,
   )
 
@@ -99,28 +161,9 @@ module _ (d : Dataset) (u : Under) (before : List Statement) where
         (values_are ⊥ d.fns d.columns row u before earlier good.1 e parent (columns_of k) (action_visible ⊥ d.fns d.columns row u before earlier result parent k good) ∙ given);
   }
 
-  own_sound : (earlier : List Statement) (s : Statement) → AreAccepted (fn_names d.fns) (scope_of d.columns) (s ∷ earlier) → Extends earlier before
-      → (n : ℕ) (r : ResultAt) → slice_get (own_results d.columns (fn_names d.fns) earlier s) n ≡ Some r → IsSoundBooking r r.booked.booking
-  own_sound earlier (Action result parent k) good e zero r q =
-      let x : ResultAt = record { booked = record { name = result; booking = ActionAt k (path earlier parent) }; filters = filter_sites d.columns (fn_names d.fns) earlier parent; inputs = map (version_at d.columns earlier parent) (columns_of k); covers = [] } in
-      let is : x ≡ r = cc q in
-      subst (λ (y : ResultAt). IsSoundBooking y y.booked.booking) is (action_sound earlier result parent k good e)
-  own_sound earlier (Report result parent) good e zero r q =
-      let x : ResultAt = record { booked = record { name = result; booking = ReportOn (covered earlier (path earlier parent)) }; filters = filter_sites d.columns (fn_names d.fns) earlier parent; inputs = []; covers = covered_at earlier parent } in
-      let is : x ≡ r = cc q in
-      subst (λ (y : ResultAt). IsSoundBooking y y.booked.booking) is tt
-  own_sound earlier (Action result parent k) good e (suc n) r q = cc q
-  own_sound earlier (Report result parent) good e (suc n) r q = cc q
-  own_sound earlier s good e n r q = cc q
-
   pub result_sound : (earlier : List Statement) → AreAccepted (fn_names d.fns) (scope_of d.columns) earlier → Extends earlier before
       → (n : ℕ) (r : ResultAt) → slice_get (results d.columns (fn_names d.fns) earlier) n ≡ Some r → IsSoundBooking r r.booked.booking
-  result_sound [] good e n r h = cc h
-  result_sound (s ∷ earlier) good e n r h =
-      go (result_sound earlier good.1 (shorter s earlier before e) n r) (of_joined (results d.columns (fn_names d.fns) earlier) (own_results d.columns (fn_names d.fns) earlier s) n r h)
-    where
-      go : (slice_get (results d.columns (fn_names d.fns) earlier) n ≡ Some r → IsSoundBooking r r.booked.booking)
-          → (slice_get (results d.columns (fn_names d.fns) earlier) n ≡ Some r) ⊎ ((k : ℕ) × (n ≡ length (results d.columns (fn_names d.fns) earlier) + k) × (slice_get (own_results d.columns (fn_names d.fns) earlier s) k ≡ Some r))
-          → IsSoundBooking r r.booked.booking
-      go next (inl q) = next q
-      go next (inr q) = own_sound earlier s good (shorter s earlier before e) q.0 r q.2
+  result_sound earlier good e n r h =
+      each_result d.columns (fn_names d.fns) (λ upto r. AreAccepted (fn_names d.fns) (scope_of d.columns) upto → Extends upto before → IsSoundBooking r r.booked.booking)
+      (λ upto s r next fine f. next fine.1 (shorter s upto before f))
+      (λ upto result parent k fine f. action_sound upto result parent k fine (shorter (Action result parent k) upto before f)) (λ upto result parent fine f. tt) earlier n r h good e

@@ -1,18 +1,18 @@
 -- The columns of a site can be asked for, and come to values of their kinds.
-use Rattle.std.proofs.Common.{◌≡◌, inl, inr, ℕ, zero, suc, ◌<◌, Bool, true, false, not, List, [], ◌∷◌, map, length, Option, Some, None, refl, sym, ◌∙◌, ap, subst, arith, nat_eq, slice_get, if◌then◌else◌}
+use Rattle.std.proofs.Common.{◌≡◌, inl, inr, ℕ, zero, suc, ◌<◌, Bool, not, List, [], ◌∷◌, map, length, Option, Some, sym, ◌∙◌, subst, arith, nat_eq, slice_get}
 use Rattle.std.specs.Prelude.{filter, unwrap_or}
 use Rattle.std.specs.List.{AllByRecursion}
 use Rattle.std.proofs.lemmas.List.Elements.{All-from_recursion, recursion_from_All}
 use Rattle.std.proofs.lemmas.Option.{slice_get_within}
-use Rattle.rdf_values.specs.Path.{history}
-use Rattle.rdf_values.specs.Depends.{columns_in}
 use Rattle.rdf_values.specs.Functions.{fn_names}
+use Rattle.rdf_values.specs.Path.{history}
 use Rattle.rdf_values.specs.Tree.{NumTree}
-use Rattle.rdf_values.specs.Tables.{FitsRow, FitRows}
 use Rattle.rdf_values.specs.declared.column.Column.{Column}
 use Rattle.rdf_values.specs.declared.value.ColType.{ColType}
 use Rattle.rdf_values.specs.declared.value.Value.{Value}
 use Rattle.rdf_model.specs.Evaluation.{Outcome}
+use Rattle.rdf_values.specs.Depends.{columns_in}
+use Rattle.rdf_values.specs.Tables.{FitsRow, FitRows}
 use Rattle.rdf_model.specs.Laws.{FitsOutcome}
 use Rattle.expr_check.specs.NumKinds.{CheckedExpr, distinct}
 use Rattle.graph_numbers.specs.Graphs.{IsSiteExpr, graph_kinds, graph_sites, graph_under}
@@ -21,24 +21,21 @@ use Rattle.graph_numbers.specs.Sources.{IsBelow}
 use Rattle.graph_numbers.specs.Versions.{version_count}
 use Rattle.graph_numbers.specs.declared.source.Source.{Source}
 use Rattle.graph_numbers.specs.declared.source.Source.TheVariants as from
-use Rattle.graph_numbers.proofs.Closing.{each_at}
 use Rattle.graph_numbers.proofs.Equations.{columns_below}
 use Rattle.graph_numbers.proofs.Extending.{versions_count}
-use Rattle.graph_numbers.proofs.Meeting.{In, here, there, each_both}
+use Rattle.graph_numbers.proofs.Listed.{by_test}
+use Rattle.graph_numbers.proofs.Meeting.{In, here, there, each_both, in_joined, in_left, each_at}
 use Rattle.graph_numbers.proofs.VersionKinds.{FitsVersion, site_fits}
+use Rattle.loop_keys.proofs.Elements.{at_in, each_in, of_option}
 use Rattle.loop_keys.specs.Jobs.{JobView, IsJob, job_graph}
 use Rattle.loop_keys.specs.Store.{row_of, version_in, IsSound, source_at, look_at, CanLook, CanEvaluate, IsReadable}
 use Rattle.loop_keys.specs.declared.held.Held.{Held}
 use Rattle.loop_keys.proofs.EvaluateLaws.{accepted_of, told, IsToldOf}
 
-kept_or_not : {A : Type 0} (x y : A) (xs ys : List A) (b : Bool) → In x (if b then y ∷ ys else ys) → (In x ys → In x xs) → In x (y ∷ xs)
-kept_or_not x y xs ys true here next = here
-kept_or_not x y xs ys true (there k) next = there (next k)
-kept_or_not x y xs ys false k next = there (next k)
-
 of_filter : {A : Type 0} {x : A} (p : A → Bool) (xs : List A) → In x (filter p xs) → In x xs
 of_filter p [] h = h
-of_filter {x = x} p (y ∷ xs) h = kept_or_not x y xs (filter p xs) (p y) h (of_filter p xs)
+of_filter p (y ∷ xs) h =
+    by_test (p y) (λ e. in_joined (y ∷ []) (filter p xs) (rw e at h) (in_left (y ∷ []) xs) (λ k. there (of_filter p xs k))) (λ e. there (of_filter p xs (rw e at h)))
 
 of_distinct : {n : ℕ} (xs : List ℕ) → In n (distinct xs) → In n xs
 of_distinct [] h = h
@@ -48,14 +45,6 @@ of_distinct (x ∷ xs) (there k) = there (of_distinct xs (of_filter (λ y. not (
 in_map : {A B : Type 0} (f : A → B) {x : A} (xs : List A) → In x xs → In (f x) (map f xs)
 in_map f xs (here {xs = ys}) = here
 in_map f xs (there {xs = ys} h) = there (in_map f ys h)
-
-all_in : {A : Type 0} (P : A → Type 0) (xs : List A) → ((x : A) → In x xs → P x) → AllByRecursion P xs
-all_in P [] h = tt
-all_in P (x ∷ xs) h = (h x here, all_in P xs (λ y k. h y (there k)))
-
-at_all : {A : Type 0} (P : A → Type 0) (x : A) (xs : List A) → AllByRecursion P xs → In x xs → P x
-at_all P x xs h (here {xs = ys}) = h.0
-at_all P x xs h (there {xs = ys} k) = at_all P x ys h.1 k
 
 pub fits_at : (cs : List Column) (rows : List (List Value)) (e : ℕ) → FitRows cs rows → e < length rows → FitsRow cs (unwrap_or (slice_get rows e) [])
 fits_at cs [] e h lt = absurd (omega (arith, lt))
@@ -72,7 +61,7 @@ module _ (j : JobView) (job : IsJob j) (entry : ℕ) (u : Option ℕ) (cells : L
   told_fits x at c t k (inr q) f = subst (λ (o : Outcome ℕ Value). FitsOutcome t o) (sym q.0) tt
 
   pub can_evaluate : CanEvaluate j entry u cells e
-  can_evaluate = go (slice_get (graph_sites (job_graph j)) s) refl
+  can_evaluate = let x = of_option (λ (x : SiteAt). x.tree) (slice_get (graph_sites (job_graph j)) s) e.tree its.tree in at_site x.0 x.1 x.2
     where
       kinds : AllByRecursion (λ (c : ℕ × ColType). slice_get (graph_kinds (job_graph j)) c.0 ≡ Some c.1) e.kinds
       kinds = recursion_from_All (λ (c : ℕ × ColType). slice_get (graph_kinds (job_graph j)) c.0 ≡ Some c.1) e.kinds its.kinds
@@ -80,23 +69,21 @@ module _ (j : JobView) (job : IsJob j) (entry : ℕ) (u : Option ℕ) (cells : L
       in_tree : (c : ℕ × ColType) → In c e.kinds → In c.0 (columns_in e.tree)
       in_tree c k = of_distinct (columns_in e.tree) (subst (In c.0) its.typed.columns (in_map (λ (c : ℕ × ColType). c.0) e.kinds k))
 
-      go : (o : Option SiteAt) → slice_get (graph_sites (job_graph j)) s ≡ o → CanEvaluate j entry u cells e
-      go None q = cc (sym (ap (λ (o : Option SiteAt). elim o as (λ _. Option NumTree) [ None ↦ None | Some x ↦ Some x.tree ]) q) ∙ its.tree)
-      go (Some x) q =
-          let t : x.tree ≡ e.tree = (let a : ◌≡◌ {A = Option NumTree} (Some x.tree) (Some e.tree) = sym (ap (λ (o : Option SiteAt). elim o as (λ _. Option NumTree) [ None ↦ None | Some x ↦ Some x.tree ]) q) ∙ its.tree in cc a) in
+      at_site : (x : SiteAt) → slice_get (graph_sites (job_graph j)) s ≡ Some x → x.tree ≡ e.tree → CanEvaluate j entry u cells e
+      at_site x q t =
           let f = each_both (IsToldOf j job entry u cells sound s x q) (FitsVersion j.dataset (row_of j entry) (graph_under (job_graph j) u) (fits_at j.dataset.columns j.dataset.rows entry job.table.fit can.within) (history j.script))
           (λ c. (k : ColType) → slice_get (graph_kinds (job_graph j)) c ≡ Some k → FitsOutcome k (look_at j entry u cells c)) (λ c a b k w. told_fits x q c k w a b) x.tree (told j job entry u cells sound s x q)
           (site_fits j.dataset (row_of j entry) (graph_under (job_graph j) u) (fits_at j.dataset.columns j.dataset.rows entry job.table.fit can.within) (history j.script) (accepted_of j job) s x q) in
           record {
             can = All-from_recursion (λ (c : ℕ × ColType). IsReadable j u c.0) e.kinds
-                (all_in (λ (c : ℕ × ColType). IsReadable j u c.0) e.kinds
+                (each_in (λ (c : ℕ × ColType). IsReadable j u c.0) e.kinds
                 (λ c k. readable c.0 (each_at (λ d. (d < version_count j.dataset.columns (history j.script)) × IsBelow (length j.dataset.columns) s (source_at j u d)) x.tree
                 (columns_below j.dataset.fns j.dataset.columns (graph_under (job_graph j) u) (history j.script) (accepted_of j job) s x q) c.0
                 (subst (λ (v : NumTree). In c.0 (columns_in v)) (sym t) (in_tree c k)))));
             fit = All-from_recursion (λ (c : ℕ × ColType). FitsOutcome c.1 (look_at j entry u cells c.0)) e.kinds
-                (all_in (λ (c : ℕ × ColType). FitsOutcome c.1 (look_at j entry u cells c.0)) e.kinds
+                (each_in (λ (c : ℕ × ColType). FitsOutcome c.1 (look_at j entry u cells c.0)) e.kinds
                 (λ c k. each_at (λ d. (k : ColType) → slice_get (graph_kinds (job_graph j)) d ≡ Some k → FitsOutcome k (look_at j entry u cells d)) x.tree f c.0
-                (subst (λ (v : NumTree). In c.0 (columns_in v)) (sym t) (in_tree c k)) c.1 (at_all _ c e.kinds kinds k)));
+                (subst (λ (v : NumTree). In c.0 (columns_in v)) (sym t) (in_tree c k)) c.1 (at_in _ c e.kinds kinds k)));
           }
         where
           further_below : (src : Source) → IsBelow (length j.dataset.columns) s src → IsBelow (length j.dataset.columns) (length (graph_sites (job_graph j))) src

@@ -1,7 +1,7 @@
 -- How many keys the passes of an entry demand: at most as many as there are demands, each counted once.
-use Rattle.std.proofs.Common.{◌≡◌, ℕ, zero, suc, ◌≤◌, Bool, true, false, ◌||◌, ◌&&◌, List, [], ◌∷◌, Some, None, refl, sym, ap, subst, nat_eq, slice_get, unwrap_or, if◌then◌else◌}
+use Rattle.std.proofs.Common.{◌≡◌, ℕ, ◌≤◌, Bool, true, ◌&&◌, List, [], Some, None, refl, sym, ap, subst, nat_eq, unwrap_or}
 use Rattle.std.specs.Prelude.{flat_map}
-use Rattle.std.specs.List.{list_any, AllByRecursion}
+use Rattle.std.specs.List.{list_any}
 use Rattle.std.proofs.lemmas.Bool.Decides.{Decides-eqb}
 use Rattle.std.proofs.lemmas.List.Elements.{All-from_recursion}
 use Rattle.lemmas.proofs.Booleans.{both_true}
@@ -10,13 +10,15 @@ use Rattle.rdf_values.specs.Path.{Under, Variation, same_variation}
 use Rattle.rdf_values.specs.declared.value.Value.{Value}
 use Rattle.rdf_model.specs.Demanded.{Demand, Site, demanded, distinct, pass_demands, same_demand, same_site, same_under}
 use Rattle.rdf_model.proofs.Accepted.{names_equal}
-use Rattle.graph_numbers.proofs.Meeting.{In, here, there, in_left, in_right}
+use Rattle.graph_numbers.proofs.Listed.{by_test}
+use Rattle.graph_numbers.proofs.Meeting.{In, here, there}
+use Rattle.loop_keys.specs.Entries.{entry_demands}
 use Rattle.loop_keys.specs.Jobs.{JobView, job_graph, passes_in}
 use Rattle.loop_keys.specs.Keys.{demand_key}
 use Rattle.loop_keys.specs.Store.{keys_in, row_of}
-use Rattle.loop_keys.proofs.DemandSets.{keys_few}
-use Rattle.loop_keys.specs.Entries.{entry_demands}
 use Rattle.loop_keys.specs.Turns.{HasAllDemands}
+use Rattle.loop_keys.proofs.DemandSets.{keys_few}
+use Rattle.loop_keys.proofs.Elements.{any_in, each_in, in_any, in_flat}
 
 -- ---- equal demands
 
@@ -48,45 +50,11 @@ demand_is p q h =
     let a = site_is p.site q.site b.0 in let c = under_is p.under q.under b.1 in
     λ i. record { site = a i; under = c i }
 
--- ---- elements
-
-any_in : {A : Type 0} (test : A → Bool) (xs : List A) → list_any test xs ≡ true → (x : A) × In x xs × (test x ≡ true)
-any_in test [] h = cc h
-any_in test (x ∷ xs) h = go (test x) refl h (any_in test xs)
-  where
-    go : (b : Bool) → test x ≡ b → (b || list_any test xs) ≡ true → (list_any test xs ≡ true → (y : _) × In y xs × (test y ≡ true)) → (y : _) × In y (x ∷ xs) × (test y ≡ true)
-    go true e q next = (x, here, e)
-    go false e q next = let w = next q in (w.0, there w.1, w.2)
-
-pub in_any : {A : Type 0} (test : A → Bool) (x : A) (xs : List A) → In x xs → test x ≡ true → list_any test xs ≡ true
-in_any test x xs (here {xs = ys}) e = ap (λ b. b || list_any test ys) e
-in_any test x xs (there {y = y} {xs = ys} h) e = go (test y) (in_any test x ys h e)
-  where
-    go : (b : Bool) → list_any test ys ≡ true → (b || list_any test ys) ≡ true
-    go true q = refl
-    go false q = q
-
-pub each_in : {A : Type 0} (P : A → Type 0) (xs : List A) → ((x : A) → In x xs → P x) → AllByRecursion P xs
-each_in P [] h = tt
-each_in P (x ∷ xs) h = (h x here, each_in P xs (λ y k. h y (there k)))
-
-pub in_flat : {A B : Type 0} (f : A → List B) (xs : List A) (n : ℕ) (x : A) (y : B) → slice_get xs n ≡ Some x → In y (f x) → In y (flat_map f xs)
-in_flat f [] n x y h k = cc h
-in_flat f (z ∷ xs) zero x y h k = let e : z ≡ x = cc h in in_left (f z) (flat_map f xs) (subst (λ (w : _). In y (f w)) (sym e) k)
-in_flat f (z ∷ xs) (suc n) x y h k = in_right (f z) (flat_map f xs) (in_flat f xs n x y h k)
-
 -- each demand is among those that are kept once
 kept_once : (d : Demand) (ds : List Demand) → In d ds → In d (distinct ds)
-kept_once d ds (here {xs = ps}) = go (list_any (same_demand d) (distinct ps)) refl
-  where
-    go : (b : Bool) → list_any (same_demand d) (distinct ps) ≡ b → In d (if b then distinct ps else d ∷ distinct ps)
-    go true e = let w = any_in (same_demand d) (distinct ps) e in subst (λ (x : Demand). In x (distinct ps)) (sym (demand_is d w.0 w.2)) w.1
-    go false e = here
-kept_once d ds (there {y = p} {xs = ps} h) = go (list_any (same_demand p) (distinct ps)) (kept_once d ps h)
-  where
-    go : (b : Bool) → In d (distinct ps) → In d (if b then distinct ps else p ∷ distinct ps)
-    go true k = k
-    go false k = there k
+kept_once d ds (here {xs = ps}) =
+    by_test (list_any (same_demand d) (distinct ps)) (λ e. let w = any_in (same_demand d) (distinct ps) e in rw e (subst (λ (x : Demand). In x (distinct ps)) (sym (demand_is d w.0 w.2)) w.1)) (λ e. rw e here)
+kept_once d ds (there {y = p} {xs = ps} h) = by_test (list_any (same_demand p) (distinct ps)) (λ e. rw e (kept_once d ps h)) (λ e. rw e (there (kept_once d ps h)))
 
 -- ---- the keys of an entry's demands
 

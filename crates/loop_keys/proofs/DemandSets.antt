@@ -1,25 +1,29 @@
 -- What a pass demands, as a set of sites by their keys; and how many keys that is.
-use Rattle.std.proofs.Common.{◌≡◌, ℕ, zero, suc, ◌+◌, ◌<◌, ◌≤◌, Bool, true, false, ◌||◌, List, [], ◌∷◌, length, Option, Some, refl, sym, ◌∙◌, ap, subst, arith, nat_eq, slice_get, if◌then◌else◌}
-use Rattle.std.specs.Prelude.{All}
-use Rattle.std.specs.List.{list_any, AllByRecursion}
+use Rattle.std.proofs.Common.{◌≡◌, ℕ, zero, suc, ◌+◌, ◌<◌, ◌≤◌, Bool, true, false, ◌||◌, List, [], ◌∷◌, length, Option, Some, refl, sym, ◌∙◌, ap, subst, arith, nat_eq, slice_get, if◌then◌else◌, take, None}
+use Rattle.std.specs.Prelude.{All, count_by}
+use Rattle.std.specs.List.{list_any}
 use Rattle.std.proofs.lemmas.Bool.Decides.{Decides-eqb}
 use Rattle.std.proofs.lemmas.List.Elements.{recursion_from_All}
-use Rattle.rdf_values.specs.Path.{history}
-use Rattle.rdf_model.specs.Demanded.{Demand}
-use Rattle.graph_numbers.specs.Graphs.{graph_sites, graph_under, graph_variations}
+use Rattle.rdf_values.specs.Functions.{fn_names}
+use Rattle.rdf_values.specs.Path.{history, Variation}
+use Rattle.rdf_model.specs.Demanded.{Demand, projected}
+use Rattle.graph_numbers.specs.Graphs.{graph_sites, graph_under, graph_variations, holds_at}
 use Rattle.graph_numbers.specs.Meets.{HasSourceIn}
-use Rattle.graph_numbers.specs.Sites.{SiteAt}
+use Rattle.graph_numbers.specs.Sites.{SiteAt, depends_on}
 use Rattle.graph_numbers.specs.declared.source.Source.{Source}
 use Rattle.graph_numbers.specs.declared.source.Source.TheVariants as from
 use Rattle.graph_numbers.proofs.Closing.{IsDemanded, closed}
 use Rattle.graph_numbers.proofs.Demands.{AreExplained}
-use Rattle.graph_numbers.proofs.Meeting.{In, here, there}
+use Rattle.graph_numbers.proofs.Meeting.{In}
 use Rattle.loop_keys.specs.Jobs.{JobView, IsJob, job_graph}
-use Rattle.loop_keys.specs.Keys.{key, demand_key, keys_before, slot, slot_at}
+use Rattle.loop_keys.specs.Keys.{key, demand_key, keys_before, slot, slot_at, key_or_first, under_number}
 use Rattle.loop_keys.specs.Store.{row_of, source_at, IsClosed, IsSourceIn, HasAllKeys, keys_in}
-use Rattle.loop_keys.proofs.DemandKeys.{demand_key_is}
+use Rattle.loop_keys.proofs.Elements.{any_in, at_in, in_any}
+use Rattle.graph_numbers.proofs.Listed.{by_test}
 use Rattle.loop_keys.proofs.EvaluateLaws.{accepted_of}
-use Rattle.loop_keys.proofs.KeyLaws.{key_site}
+use Rattle.loop_keys.proofs.KeyLaws.{key_is, key_site}
+use Rattle.rdf_values.specs.Depends.{site_depends}
+use Rattle.graph_numbers.proofs.Apart.{site_number, variation_number}
 
 -- ---- how many keys a list has
 
@@ -36,19 +40,14 @@ keys_of_two P Q k (suc n) = let a = keys_of_two P Q (suc k) n in let b = one (P 
 -- none of the keys after a key
 keys_past : (m k n : ℕ) → m < k → keys_in (λ i. nat_eq i m) k n ≡ 0
 keys_past m k zero lt = refl
-keys_past m k (suc n) lt = go (nat_eq k m) refl (keys_past m (suc k) n (omega (arith, lt)))
-  where
-    go : (b : Bool) → nat_eq k m ≡ b → keys_in (λ i. nat_eq i m) (suc k) n ≡ 0 → (if b then 1 else 0) + keys_in (λ i. nat_eq i m) (suc k) n ≡ 0
-    go true e q = let i : k ≡ m = (Decides-eqb k m).0 e in absurd (omega (arith, i, lt))
-    go false e q = omega (arith, q)
+keys_past m k (suc n) lt =
+    by_test (nat_eq k m) (λ e. let i : k ≡ m = (Decides-eqb k m).0 e in absurd (omega (arith, i, lt))) (λ e. let q = keys_past m (suc k) n (omega (arith, lt)) in rw e (omega (arith, q)))
 
 keys_of_one : (m k n : ℕ) → keys_in (λ i. nat_eq i m) k n ≤ 1
 keys_of_one m k zero = omega arith
-keys_of_one m k (suc n) = go (nat_eq k m) refl (keys_of_one m (suc k) n)
-  where
-    go : (b : Bool) → nat_eq k m ≡ b → keys_in (λ i. nat_eq i m) (suc k) n ≤ 1 → (if b then 1 else 0) + keys_in (λ i. nat_eq i m) (suc k) n ≤ 1
-    go true e q = let i : k ≡ m = (Decides-eqb k m).0 e in let z = keys_past m (suc k) n (omega (arith, i)) in omega (arith, z)
-    go false e q = omega (arith, q)
+keys_of_one m k (suc n) =
+    by_test (nat_eq k m) (λ e. let i : k ≡ m = (Decides-eqb k m).0 e in let z = keys_past m (suc k) n (omega (arith, i)) in rw e (omega (arith, z)))
+    (λ e. let q = keys_of_one m (suc k) n in rw e (omega (arith, q)))
 
 -- the keys of a list of demands are at most as many as these
 pub keys_few : {A : Type 0} (f : A → ℕ) (ds : List A) (k n : ℕ) → keys_in (λ i. list_any (λ d. nat_eq i (f d)) ds) k n ≤ length ds
@@ -61,27 +60,30 @@ keys_few f (d ∷ ds) k n =
     let a = keys_of_two (λ i. nat_eq i (f d)) (λ i. list_any (λ x. nat_eq i (f x)) ds) k n in
     let b = keys_of_one (f d) k n in let c = keys_few f ds k n in omega (arith, a, b, c)
 
--- ---- elements
+-- ---- the key of what an entry calls for is that of the site's number and the variation's
 
-any_step : {A : Type 0} (p : A → Bool) (x : A) (xs : List A) (b : Bool) → p x ≡ b → (b || list_any p xs) ≡ true → (list_any p xs ≡ true → (y : A) × In y xs × (p y ≡ true)) → (y : A) × In y (x ∷ xs) × (p y ≡ true)
-any_step p x xs true e q next = (x, here, e)
-any_step p x xs false e q next = let w = next q in (w.0, there w.1, w.2)
+module _ (j : JobView) (job : IsJob j) where
+  slot_is : (x : SiteAt) (u : Option ℕ) → slot (graph_variations (job_graph j)) x (under_number (job_graph j) (projected x.at x.expr (graph_under (job_graph j) u))) ≡ slot (graph_variations (job_graph j)) x u
+  slot_is x None = refl
+  slot_is x (Some v) = go (slice_get (graph_variations (job_graph j)) v) refl
+    where
+      go : (o : Option Variation) → slice_get (graph_variations (job_graph j)) v ≡ o
+          → slot (graph_variations (job_graph j)) x (under_number (job_graph j) (projected x.at x.expr o)) ≡ (if holds_at (depends_on x) o then suc (count_by (depends_on x) (take v (graph_variations (job_graph j)))) else 0)
+      go None q = refl
+      go (Some w) q =
+          by_test (site_depends w x.at x.expr)
+          (λ e. rw (e, variation_number j.dataset.columns (fn_names j.dataset.fns) (history j.script) (accepted_of j job) v w q)
+          (ap (λ (b : Bool). if b then suc (count_by (depends_on x) (take v (graph_variations (job_graph j)))) else 0) (ap (holds_at (depends_on x)) q ∙ e)))
+          (λ e. rw e refl)
 
-any_in : {A : Type 0} (p : A → Bool) (xs : List A) → list_any p xs ≡ true → (x : A) × In x xs × (p x ≡ true)
-any_in p [] h = cc h
-any_in p (x ∷ xs) h = any_step p x xs (p x) refl h (any_in p xs)
-
-in_any : {A : Type 0} (p : A → Bool) (x : A) (xs : List A) → In x xs → p x ≡ true → list_any p xs ≡ true
-in_any p x xs (here {xs = ys}) e = ap (λ b. b || list_any p ys) e
-in_any p x xs (there {y = y} {xs = ys} h) e = go (p y) (in_any p x ys h e)
-  where
-    go : (b : Bool) → list_any p ys ≡ true → (b || list_any p ys) ≡ true
-    go true q = refl
-    go false q = q
-
-at_in : {A : Type 0} (P : A → Type 0) (x : A) (xs : List A) → AllByRecursion P xs → In x xs → P x
-at_in P x xs h (here {xs = ys}) = h.0
-at_in P x xs h (there {y = y} {xs = ys} k) = at_in P x ys h.1 k
+  -- of a site under nominal or a variation
+  pub demand_key_is : (s : ℕ) (x : SiteAt) (u : Option ℕ) → slice_get (graph_sites (job_graph j)) s ≡ Some x
+      → demand_key (job_graph j) (record { site = x.site; under = projected x.at x.expr (graph_under (job_graph j) u) }) ≡ key (job_graph j) s u
+  demand_key_is s x u q =
+      ap (λ o. key_or_first (job_graph j) o (projected x.at x.expr (graph_under (job_graph j) u))) (site_number j.dataset.columns (fn_names j.dataset.fns) (history j.script) (accepted_of j job) s x q)
+      ∙ ap (λ o. keys_before (graph_variations (job_graph j)) (graph_sites (job_graph j)) s + slot_at (graph_variations (job_graph j)) o (under_number (job_graph j) (projected x.at x.expr (graph_under (job_graph j) u)))) q
+      ∙ ap (λ n. keys_before (graph_variations (job_graph j)) (graph_sites (job_graph j)) s + n) (slot_is x u)
+      ∙ ap (λ o. keys_before (graph_variations (job_graph j)) (graph_sites (job_graph j)) s + slot_at (graph_variations (job_graph j)) o u) (sym q)
 
 -- ---- sites
 
@@ -93,9 +95,6 @@ module _ (j : JobView) (job : IsJob j) (entry : ℕ) (u : Option ℕ) (ds : List
 
   abbrev Demanded : ℕ → Type 0
   Demanded = IsDemanded j.dataset.fns j.dataset.columns (row_of j entry) (graph_under (job_graph j) u) (history j.script) (accepted_of j job) ds
-
-  key_by : (s : ℕ) (x : SiteAt) → slice_get (graph_sites (job_graph j)) s ≡ Some x → key (job_graph j) s u ≡ keys_before (graph_variations (job_graph j)) (graph_sites (job_graph j)) s + slot (graph_variations (job_graph j)) x u
-  key_by s x q = ap (λ o. keys_before (graph_variations (job_graph j)) (graph_sites (job_graph j)) s + slot_at (graph_variations (job_graph j)) o u) q
 
   -- a demanded site is one of them
   pub demanded_in : (s : ℕ) → Demanded s → in_demands s ≡ true
@@ -110,7 +109,7 @@ module _ (j : JobView) (job : IsJob j) (entry : ℕ) (u : Option ℕ) (ds : List
       let w = explained d.0 d.1 in
       let a : key (job_graph j) s u ≡ demand_key (job_graph j) d.0 = (Decides-eqb (key (job_graph j) s u) (demand_key (job_graph j) d.0)).0 d.2 in
       let b : demand_key (job_graph j) d.0 ≡ key (job_graph j) w.number u = ap (demand_key (job_graph j)) w.is ∙ demand_key_is j job w.number w.site u w.there_is in
-      let n : s ≡ w.number = key_site (graph_variations (job_graph j)) (graph_sites (job_graph j)) s w.number x w.site u u q w.there_is (sym (key_by s x q) ∙ a ∙ b ∙ key_by w.number w.site w.there_is) in
+      let n : s ≡ w.number = key_site (graph_variations (job_graph j)) (graph_sites (job_graph j)) s w.number x w.site u u q w.there_is (sym (key_is (job_graph j) s x u q) ∙ a ∙ b ∙ key_is (job_graph j) w.number w.site u w.there_is) in
       (w.site, ap (slice_get (graph_sites (job_graph j))) n ∙ w.there_is, subst (λ (y : Demand). In y ds) w.is d.1)
 
   source_by : (x : Source) → HasSourceIn Demanded x → IsSourceIn in_demands x

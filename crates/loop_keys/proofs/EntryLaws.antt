@@ -2,6 +2,7 @@
 use Rattle.std.proofs.Common.{◌≡◌, ℕ, zero, suc, ◌+◌, ◌<◌, ◌≤◌, List, [], ◌∷◌, ◌++◌, length, take, Option, Some, None, option_map, refl, sym, ◌∙◌, ap, arith, get_or, slice_get}
 use Rattle.std.specs.Prelude.{MatchOption}
 use Rattle.std.proofs.lemmas.Option.{slice_get-get_or}
+use Rattle.lemmas.proofs.Parts.{take_all}
 use Rattle.rdf_values.specs.Bookings.{ActionAt, Booking, Pass, ReportOn}
 use Rattle.rdf_values.specs.Path.{Path}
 use Rattle.rdf_values.specs.declared.action.ActionKind.{ActionKind}
@@ -13,12 +14,10 @@ use Rattle.graph_numbers.specs.declared.result_kind.ResultKind.{ResultKind}
 use Rattle.graph_numbers.specs.declared.result_kind.ResultKind.TheVariants as what
 use Rattle.loop_keys.specs.Caches.{IsActionBooking, IsActionPass, numbered_in}
 use Rattle.loop_keys.specs.Jobs.{JobView, job_graph, passes_in}
+use Rattle.loop_keys.specs.Turns.{IsReportPass, actions_before, numbered_passes}
 use Rattle.loop_keys.proofs.PassNumbers.{result_there, some_same}
 use Rattle.loop_keys.proofs.PassTies.{pass_of}
-use Rattle.loop_keys.specs.Turns.{IsReportPass, actions_before, numbered_passes}
 use Rattle.loop_keys.proofs.Taken.{place_next, place_same}
-
--- ---- the entry's row
 
 -- ---- the kinds of passes
 
@@ -73,29 +72,18 @@ pub report_next : (j : JobView) (n own place : ℕ) → IsReportPass j n own →
 report_next j n own place p e =
     e ∙ place_same j n _ p.filters (pass_of j n p.numbered p.its_pass p.result (ap (slice_get (graph_results (job_graph j))) p.its_result ∙ p.there_is)) p.report
 
--- ---- an action's pass
-
 -- ---- a report's pass
 
 pub own_covers : (j : JobView) (pass own : ℕ) (p : IsReportPass j pass own) (ns : List ℕ) → option_map (λ (x : ResultAt). x.covers) (slice_get (graph_results (job_graph j)) own) ≡ Some ns → p.result.covers ≡ ns
 own_covers j pass own p ns q = some_same p.result.covers ns (sym (ap (option_map (λ (x : ResultAt). x.covers)) p.there_is) ∙ q)
 
--- ---- the whole entry
-
--- ---- memory
-
--- ---- an action's pass, by what the cache answers
-
 -- ---- all passes
 
 pub all_taken : (ps : List Pass) → take (length ps) ps ≡ ps
-all_taken [] = refl
-all_taken (p ∷ ps) = ap (λ qs. p ∷ qs) (all_taken ps)
+all_taken ps = take_all ps (length ps) (omega arith)
 
 pub all_actions : (j : JobView) (n : ℕ) → n ≡ length (passes_in j) → actions_before j n ≡ length (kinds_in (passes_in j))
 all_actions j n e = ap (actions_before j) e ∙ ap (λ ps. length (kinds_in ps)) (all_taken (passes_in j))
 
 pub read_pass : (j : JobView) (ps : List NumberedPass) → ps ≡ numbered_passes j → (n : ℕ) → n < length ps → (d : NumberedPass) → numbered_in j n ≡ Some (get_or ps n d)
 read_pass j ps e n lt d = ap (λ qs. slice_get qs n) (sym e) ∙ slice_get-get_or ps n d lt
-
--- ---- the end of an entry

@@ -2,16 +2,16 @@
 use Rattle.std.proofs.Common.{◌≡◌, ◌≢◌, ◌⊎◌, inl, inr, ℕ, ◌<◌, Bool, true, false, List, length, Option, Some, None, refl, sym, ◌∙◌, ap, subst, arith, nat_eq, slice_get, if◌then◌else◌}
 use Rattle.std.proofs.lemmas.Bool.Decides.{Decides-eqb}
 use Rattle.std.proofs.lemmas.Option.{slice_get_within}
-use Rattle.rdf_values.specs.Path.{history}
-use Rattle.rdf_values.specs.EachColumn.{EachColumn}
 use Rattle.rdf_values.specs.Functions.{fn_names}
 use Rattle.rdf_values.specs.Kinds.{scope_of}
+use Rattle.rdf_values.specs.Path.{history}
 use Rattle.rdf_values.specs.Verdict.{AreAccepted}
 use Rattle.rdf_values.specs.declared.value.Value.{Value}
-use Rattle.rdf_values.specs.declared.value.Value.TheVariants as val
-use Rattle.rdf_model.specs.Evaluation.{Outcome, Gives, Faults, Needs, ◌>>=◌, evaluate, call_outcome, is_need, without}
 use Rattle.rdf_model.specs.ColumnValues.{tag_element}
 use Rattle.rdf_model.specs.Demanded.{with_needs}
+use Rattle.rdf_model.specs.Evaluation.{Outcome, Gives, Faults, Needs, ◌>>=◌, evaluate, call_outcome, is_need, without}
+use Rattle.rdf_values.specs.EachColumn.{EachColumn}
+use Rattle.rdf_values.specs.declared.value.Value.TheVariants as val
 use Rattle.rdf_model.proofs.Close as close
 use Rattle.rdf_model.proofs.Verdicts.{verdict_is_the_first_refusal}
 use Rattle.graph_numbers.specs.Graphs.{graph_sites, graph_under}
@@ -47,12 +47,10 @@ module _ (j : JobView) (job : IsJob j) (entry : ℕ) (u : Option ℕ) (cells : L
   abbrev pub IsToldOf : ℕ → Type 0
   IsToldOf c = (look_at j entry u cells c ≡ version_in j entry u c) ⊎ ((look_at j entry u cells c ≡ Needs c) × IsMissing j u cells s c)
 
-  held_is : (t : ℕ) (h : Held) → held_in cells (key (job_graph j) t u) ≡ h → IsRight (site_in j entry u t) h → (h ≡ held.Nothing) ⊎ ((c : ℕ) → held_or_need c h ≡ site_in {M = ℕ} j entry u t)
-  held_is t held.Nothing e r = inl refl
-  held_is t (held.Int z) e r = inr (λ c. ap with_needs r ∙ sym (site_known j entry u t))
-  held_is t (held.Bool b) e r = inr (λ c. ap with_needs r ∙ sym (site_known j entry u t))
-  held_is t (held.Vect zs) e r = inr (λ c. ap with_needs r ∙ sym (site_known j entry u t))
-  held_is t (held.Faulted k) e r = inr (λ c. ap with_needs r ∙ sym (site_known j entry u t))
+  -- nothing is held, or what the site comes to
+  held_is : {P : Type 0} (t : ℕ) (h : Held) → IsRight (site_in j entry u t) h → (h ≡ held.Nothing → P) → (((c : ℕ) → held_or_need c h ≡ site_in {M = ℕ} j entry u t) → P) → P
+  held_is t held.Nothing r empty known = empty refl
+  held_is t h r empty known = known (λ c. ap with_needs r ∙ sym (site_known j entry u t))
 
   within : s < length (graph_sites (job_graph j))
   within = slice_get_within (graph_sites (job_graph j)) s x its
@@ -60,19 +58,11 @@ module _ (j : JobView) (job : IsJob j) (entry : ℕ) (u : Option ℕ) (cells : L
   told_source : (c : ℕ) (src : Source) → IsBelow (length j.dataset.columns) s src
       → (looked_source j entry u cells c src ≡ source_value (row_of j entry) (site_in j entry u) src) ⊎ ((looked_source j entry u cells c src ≡ Needs c) × IsMissingSource j u cells s src)
   told_source c (from.Cell col) b = inl refl
-  told_source c (from.Site t) b = go (held_is t (held_in cells (key (job_graph j) t u)) refl (sound.each u t (let w = within in omega (arith, b, w))))
-    where
-      go : (held_in cells (key (job_graph j) t u) ≡ held.Nothing) ⊎ ((c : ℕ) → held_or_need c (held_in cells (key (job_graph j) t u)) ≡ site_in {M = ℕ} j entry u t)
-          → (held_or_need c (held_in cells (key (job_graph j) t u)) ≡ site_in {M = ℕ} j entry u t) ⊎ ((held_or_need c (held_in cells (key (job_graph j) t u)) ≡ Needs c) × ((t < s) × (held_in cells (key (job_graph j) t u) ≡ held.Nothing)))
-      go (inl e) = inr (ap (held_or_need c) e, (b, e))
-      go (inr k) = inl (k c)
-  told_source c (from.Element t i tags) b = go (held_is t (held_in cells (key (job_graph j) t u)) refl (sound.each u t (let w = within in omega (arith, b, w))))
-    where
-      go : (held_in cells (key (job_graph j) t u) ≡ held.Nothing) ⊎ ((c : ℕ) → held_or_need c (held_in cells (key (job_graph j) t u)) ≡ site_in {M = ℕ} j entry u t)
-          → ((held_or_need c (held_in cells (key (job_graph j) t u)) >>= tag_element tags i) ≡ (site_in {M = ℕ} j entry u t >>= tag_element tags i))
-          ⊎ (((held_or_need c (held_in cells (key (job_graph j) t u)) >>= tag_element tags i) ≡ Needs c) × ((t < s) × (held_in cells (key (job_graph j) t u) ≡ held.Nothing)))
-      go (inl e) = inr (ap (λ h. held_or_need c h >>= tag_element tags i) e, (b, e))
-      go (inr k) = inl (ap (λ o. o >>= tag_element tags i) (k c))
+  told_source c (from.Site t) b =
+      held_is t (held_in cells (key (job_graph j) t u)) (sound.each u t (let w = within in omega (arith, b, w))) (λ e. inr (ap (held_or_need c) e, (b, e))) (λ k. inl (k c))
+  told_source c (from.Element t i tags) b =
+      held_is t (held_in cells (key (job_graph j) t u)) (sound.each u t (let w = within in omega (arith, b, w)))
+      (λ e. inr (ap (λ h. held_or_need c h >>= tag_element tags i) e, (b, e))) (λ k. inl (ap (λ o. o >>= tag_element tags i) (k c)))
 
   told_column : (c : ℕ) → (c < version_count j.dataset.columns (history j.script)) × IsBelow (length j.dataset.columns) s (source_at j u c) → IsToldOf c
   told_column c b = go (told_source c (source_at j u c) b.1)
@@ -108,27 +98,20 @@ module _ (j : JobView) (job : IsJob j) (entry : ℕ) (u : Option ℕ) (cells : L
   -- an outcome that isn't held as a need
   right_of : (h : Held) (o : Outcome ⊥ Value) → is_held h ≡ true → held_or_need 0 h ≡ with_needs o → IsRight o h
   right_of held.Nothing o k e = cc k
-  right_of (held.Int z) (Gives v) k e = let i : val.Int z ≡ v = cc e in ap Gives i
-  right_of (held.Int z) (Faults f) k e = cc e
-  right_of (held.Bool z) (Gives v) k e = let i : val.Bool z ≡ v = cc e in ap Gives i
-  right_of (held.Bool z) (Faults f) k e = cc e
-  right_of (held.Vect z) (Gives v) k e = let i : val.Vect z ≡ v = cc e in ap Gives i
-  right_of (held.Vect z) (Faults f) k e = cc e
-  right_of (held.Faulted f) (Gives v) k e = cc e
-  right_of (held.Faulted f) (Faults g) k e = let i : f ≡ g = cc e in ap Faults i
   right_of h (Needs m) k e = elim m [ ]
+  right_of (held.Int z) (Gives v) k e = let i : val.Int z ≡ v = cc e in ap Gives i
+  right_of (held.Bool z) (Gives v) k e = let i : val.Bool z ≡ v = cc e in ap Gives i
+  right_of (held.Vect z) (Gives v) k e = let i : val.Vect z ≡ v = cc e in ap Gives i
+  right_of (held.Faulted f) (Faults g) k e = let i : f ≡ g = cc e in ap Faults i
+  right_of h o k e = cc e
 
   not_needed : (h : Held) (c : ℕ) → is_held h ≡ true → held_or_need 0 h ≡ Needs c → ⊥
   not_needed held.Nothing c k e = cc k
-  not_needed (held.Int z) c k e = cc e
-  not_needed (held.Bool z) c k e = cc e
-  not_needed (held.Vect z) c k e = cc e
-  not_needed (held.Faulted z) c k e = cc e
+  not_needed h c k e = cc e
 
   never_needed : (o : Outcome ⊥ Value) (c : ℕ) → with_needs {M = ℕ} o ≡ Needs c → ⊥
-  never_needed (Gives v) c e = cc e
-  never_needed (Faults k) c e = cc e
   never_needed (Needs m) c e = elim m [ ]
+  never_needed o c e = cc e
 
   -- what was found is the site's outcome
   pub found_right : (h : Held) → is_held h ≡ true → held_or_need 0 h ≡ looked → IsRight (site_in j entry u s) h

@@ -1,9 +1,10 @@
 -- Writing an outcome, and filling one site after another.
-use Rattle.std.proofs.Common.{◌≡◌, ℕ, zero, suc, ◌+◌, ◌<◌, ◌≤◌, Bool, true, List, [], ◌∷◌, Option, Some, None, option_map, refl, sym, ◌∙◌, ap, subst, arith, length, get_or-set_same, get_or-set_other, cond, ◌⊎◌, inl, inr, slice_get}
+use Rattle.std.proofs.Common.{◌≡◌, ℕ, ◌+◌, ◌<◌, ◌≤◌, Bool, true, List, Option, Some, sym, ◌∙◌, ap, subst, arith, length, get_or-set_same, get_or-set_other, cond, ◌⊎◌, inl, inr, slice_get}
 use Rattle.std.specs.Prelude.{slice_set}
 use Rattle.std.proofs.lemmas.Bool.{cases_eq}
 use Rattle.std.proofs.lemmas.List.Sums.{sum_by-set}
 use Rattle.lemmas.proofs.Places.{something_at}
+use Rattle.rdf_values.specs.Path.{history}
 use Rattle.rdf_values.specs.declared.value.Value.{Value}
 use Rattle.rdf_model.specs.Evaluation.{Outcome}
 use Rattle.expr_check.specs.NumKinds.{CheckedExpr}
@@ -13,11 +14,12 @@ use Rattle.graph_numbers.specs.Sources.{site_value}
 use Rattle.graph_numbers.specs.declared.source.Source.{Source}
 use Rattle.graph_numbers.specs.declared.source.Source.TheVariants as from
 use Rattle.loop_keys.specs.Jobs.{JobView, IsJob, job_graph}
-use Rattle.loop_keys.specs.Keys.{key, key_count, keys_before, slot, slot_at}
-use Rattle.loop_keys.specs.Store.{held_in, is_held, held_count, IsRight, row_of, site_in, IsSound, CanLook, IsSourceIn, IsSiteOf, OnlyIn, Grows, IsFilled, IsGrown}
+use Rattle.loop_keys.specs.Keys.{key, key_count, slot}
+use Rattle.loop_keys.specs.Store.{held_in, is_held, held_count, IsRight, row_of, site_in, IsSound, CanLook, IsSourceIn, IsSiteOf, OnlyIn, Grows, IsFilled}
 use Rattle.loop_keys.specs.declared.held.Held.{Held}
 use Rattle.loop_keys.specs.declared.held.Held.TheVariants.{Nothing}
-use Rattle.loop_keys.proofs.KeyLaws.{key_below, key_site, same_slot, under_in}
+use Rattle.loop_keys.proofs.Elements.{of_option}
+use Rattle.loop_keys.proofs.KeyLaws.{key_below, key_is, key_site, same_slot}
 
 -- ---- an expression of a site
 
@@ -26,11 +28,7 @@ module _ (j : JobView) (job : IsJob j) (entry : ℕ) (u : Option ℕ) (cells : L
   HasTree = (x : SiteAt) × (slice_get (graph_sites (job_graph j)) s ≡ Some x) × (x.tree ≡ e.tree)
 
   pub has_tree : HasTree
-  has_tree = go (slice_get (graph_sites (job_graph j)) s) refl its.tree
-    where
-      go : (o : Option SiteAt) → slice_get (graph_sites (job_graph j)) s ≡ o → option_map (λ (x : SiteAt). x.tree) o ≡ Some e.tree → HasTree
-      go None q k = cc k
-      go (Some x) q k = (x, q, cc k)
+  has_tree = of_option (λ (x : SiteAt). x.tree) (slice_get (graph_sites (job_graph j)) s) e.tree its.tree
 
 -- ---- writing
 
@@ -46,37 +44,23 @@ module _ (j : JobView) (entry : ℕ) (u : Option ℕ) (cells : List Held) (can :
   at_other : (k : ℕ) → (k ≡ key (job_graph j) s u → ⊥) → held_in (slice_set cells (key (job_graph j) s u) h) k ≡ held_in cells k
   at_other k n = get_or-set_other cells (key (job_graph j) s u) k h Nothing n
 
-  -- a site by its number
-  abbrev key_at : ℕ → SiteAt → Option ℕ → ℕ
-  key_at t x w = keys_before (graph_variations (job_graph j)) (graph_sites (job_graph j)) t + slot (graph_variations (job_graph j)) x w
-
-  key_is : (t : ℕ) (x : SiteAt) (w : Option ℕ) → slice_get (graph_sites (job_graph j)) t ≡ Some x → key (job_graph j) t w ≡ key_at t x w
-  key_is t x w q = ap (λ o. keys_before (graph_variations (job_graph j)) (graph_sites (job_graph j)) t + slot_at (graph_variations (job_graph j)) o w) q
-
   right_at : (w : Option ℕ) (t : ℕ) → t < length (graph_sites (job_graph j)) → key (job_graph j) t w ≡ key (job_graph j) s u → IsRight (site_in j entry w t) h
   right_at w t lt e =
       let x = something_at (graph_sites (job_graph j)) s inside in
       let y = something_at (graph_sites (job_graph j)) t lt in
-      let n : t ≡ s = key_site (graph_variations (job_graph j)) (graph_sites (job_graph j)) t s y.0 x.0 w u y.1 x.1 (sym (key_is t y.0 w y.1) ∙ e ∙ key_is s x.0 u x.1) in
+      let n : t ≡ s = key_site (graph_variations (job_graph j)) (graph_sites (job_graph j)) t s y.0 x.0 w u y.1 x.1 (sym (key_is (job_graph j) t y.0 w y.1) ∙ e ∙ key_is (job_graph j) s x.0 u x.1) in
       subst (λ (m : ℕ). key (job_graph j) m w ≡ key (job_graph j) s u → IsRight (site_in j entry w m) h) (sym n) (λ k. here x.0 x.1 k) e
     where
       here : (x : SiteAt) → slice_get (graph_sites (job_graph j)) s ≡ Some x → key (job_graph j) s w ≡ key (job_graph j) s u → IsRight (site_in j entry w s) h
       here x q k =
-          let a : key_at s x w ≡ key_at s x u = sym (key_is s x w q) ∙ k ∙ key_is s x u q in
+          let a = sym (key_is (job_graph j) s x w q) ∙ k ∙ key_is (job_graph j) s x u q in
           let b : slot (graph_variations (job_graph j)) x w ≡ slot (graph_variations (job_graph j)) x u = omega (arith, a) in
           let v = value_of x q w b in
           subst (λ (o : Outcome ⊥ Value). IsRight o h) v right
         where
-          same_under : (v : Option ℕ) → under_in (graph_variations (job_graph j)) v ≡ graph_under (job_graph j) v
-          same_under None = refl
-          same_under (Some n) = refl
-
           value_of : (x : SiteAt) → slice_get (graph_sites (job_graph j)) s ≡ Some x → (w : Option ℕ) → slot (graph_variations (job_graph j)) x w ≡ slot (graph_variations (job_graph j)) x u → site_in {M = ⊥} j entry u s ≡ site_in j entry w s
           value_of x q w b =
-              let o : site_outcome j.dataset.fns j.dataset.columns (row_of j entry) {M = ⊥} x (graph_under (job_graph j) u) ≡ site_outcome j.dataset.fns j.dataset.columns (row_of j entry) x (graph_under (job_graph j) w) =
-              ap (λ v. site_outcome j.dataset.fns j.dataset.columns (row_of j entry) {M = ⊥} x v) (sym (same_under u))
-              ∙ same_slot {M = ⊥} j.dataset.fns j.dataset.columns (row_of j entry) (graph_variations (job_graph j)) x u w (sym b)
-              ∙ ap (λ v. site_outcome j.dataset.fns j.dataset.columns (row_of j entry) {M = ⊥} x v) (same_under w) in
+              let o = same_slot (history j.script) {M = ⊥} j.dataset.fns j.dataset.columns (row_of j entry) x u w (sym b) in
               ap (site_value (λ x. site_outcome j.dataset.fns j.dataset.columns (row_of j entry) x (graph_under (job_graph j) u))) q ∙ o
               ∙ ap (site_value (λ x. site_outcome j.dataset.fns j.dataset.columns (row_of j entry) x (graph_under (job_graph j) w))) (sym q)
 
@@ -104,7 +88,7 @@ module _ (j : JobView) (entry : ℕ) (u : Option ℕ) (cells : List Held) (can :
   later t w l lt e =
       let x = something_at (graph_sites (job_graph j)) s inside in
       let a = key_below (graph_variations (job_graph j)) (graph_sites (job_graph j)) s t x.0 u x.1 l in
-      let b = key_is s x.0 u x.1 in
+      let b = key_is (job_graph j) s x.0 u x.1 in
       absurd (omega (arith, a, b, e))
 
   only_after : (D : ℕ → Bool) → D s ≡ true → OnlyIn j u D s cells (slice_set cells (key (job_graph j) s u) h)
@@ -142,9 +126,3 @@ pub in_source : (D : ℕ → Bool) (t : ℕ) (x : Source) → IsSiteOf t x → I
 in_source D t (from.Cell col) i h = elim i [ ]
 in_source D t (from.Site s) i h = ap D (sym i) ∙ h
 in_source D t (from.Element s k tags) i h = ap D (sym i) ∙ h
-
--- ---- the bound
-
-module _ (j : JobView) (entry : ℕ) (u : Option ℕ) (s : ℕ) (inside : s < length (graph_sites (job_graph j))) (a b : List Held) (grown : IsGrown j entry u s a b) (sized : length a ≡ key_count (job_graph j)) where
-  place : ℕ
-  place = key (job_graph j) s u

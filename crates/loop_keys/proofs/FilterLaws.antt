@@ -7,8 +7,8 @@ use Rattle.graph_numbers.specs.Graphs.{graph_filters}
 use Rattle.graph_numbers.specs.Results.{FilterAt}
 use Rattle.loop_keys.specs.Caches.{IsCovered}
 use Rattle.loop_keys.specs.Jobs.{JobView, IsJob, job_graph, passes_in}
-use Rattle.loop_keys.proofs.PassNumbers.{some_same}
 use Rattle.loop_keys.specs.Plans.{covered_in}
+use Rattle.loop_keys.proofs.PassNumbers.{some_same}
 use Rattle.loop_keys.proofs.Covered.{cover_at, cover_is, covered_count, covered_there}
 
 -- ---- the plan's answer
@@ -22,9 +22,3 @@ module _ (j : JobView) (job : IsJob j) (f : ℕ) (b : Bool) (h : slice_get (cove
 
 pub plan_covered : (j : JobView) (job : IsJob j) (f : ℕ) → slice_get (covered_in j) f ≡ Some true → IsCovered j f
 plan_covered j job f h = let x = plan_filter j f true h in covered_there j f (cover_is j job f x.0 x.1 ∙ cover_says j job f true h)
-
--- ---- what the tally takes in
-
--- ---- how the cache goes on
-
--- ---- the filters of a report in order

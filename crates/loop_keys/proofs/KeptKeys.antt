@@ -1,16 +1,16 @@
 -- The keys of sites as they are kept.
-use Rattle.std.proofs.Common.{◌≡◌, ◌⊎◌, inl, inr, ℕ, zero, suc, ◌+◌, ◌<◌, ◌≤◌, Bool, true, false, cond, List, [], ◌∷◌, ◌++◌, length, take, Option, Some, None, refl, sym, ◌∙◌, ap, subst, arith, get_or, slice_get, if◌then◌else◌}
+use Rattle.std.proofs.Common.{◌≡◌, ℕ, zero, suc, ◌+◌, ◌<◌, ◌≤◌, Bool, true, false, cond, List, [], ◌∷◌, length, take, Option, Some, None, refl, sym, ◌∙◌, ap, arith, get_or, slice_get, if◌then◌else◌}
 use Rattle.std.specs.Prelude.{count_by}
 use Rattle.std.proofs.lemmas.Option.{slice_get-get_or}
+use Rattle.lemmas.proofs.Parts.{take_all}
 use Rattle.lemmas.proofs.Places.{something_at}
 use Rattle.graph.specs.Sets.{has, members_below}
 use Rattle.graph.specs.declared.var_set.VarSet.{VarSet}
 use Rattle.graph_numbers.specs.Graphs.{GraphView, graph_sites, graph_variations, holds_at, site_depends_at}
 use Rattle.graph_numbers.specs.Sites.{SiteAt, depends_on}
-use Rattle.graph_numbers.proofs.Listed.{of_joined}
 use Rattle.loop_keys.specs.Keys.{AreKeysAt, AreSiteKeys, key, key_count, keys_before, own_keys, slot, slot_at, slot_in}
 use Rattle.loop_keys.specs.declared.keys.SiteKeys.{SiteKeys}
-use Rattle.loop_keys.proofs.KeyLaws.{counted, key_below, keys_next}
+use Rattle.loop_keys.proofs.KeyLaws.{counted, key_small, keys_next, keys_none}
 
 -- ---- members and places
 
@@ -43,12 +43,6 @@ module _ {A : Type 0} (p : A → Bool) (xs : List A) (s : VarSet) (all : (v : �
       let b : ◌≡◌ {A = ℕ} (if has s (n + 128) then 1 else 0) 0 = ap (λ b. if b then 1 else 0) (none (n + 128) (omega arith)) in
       ap (members_below s) e ∙ omega (arith, a, b)
 
-  take_all : (ys : List A) (n : ℕ) → length ys ≤ n → take n ys ≡ ys
-  take_all [] zero le = refl
-  take_all [] (suc n) le = refl
-  take_all (y ∷ ys) zero le = absurd (omega (arith, le))
-  take_all (y ∷ ys) (suc n) le = ap (λ zs. y ∷ zs) (take_all ys n (omega (arith, le)))
-
   pub members_all : ((v : ℕ) → 128 ≤ v → has s v ≡ false) → members_below s 128 ≡ count_by p xs
   members_all none = sym (members_end none (length xs)) ∙ members_counted (length xs + 128) ∙ ap (count_by p) (take_all xs (length xs + 128) (omega arith))
 
@@ -78,18 +72,13 @@ module _ (g : GraphView) (ks : List SiteKeys) (kept : AreSiteKeys g ks) (s : ℕ
       omega (arith, a, b)
 
   pub kept_small : (get_or ks s d).first + n < key_count g
-  kept_small =
-      let x = something_at (graph_sites g) s inside in
-      let a = kept_key in
-      let b = key_below (graph_variations g) (graph_sites g) s (length (graph_sites g)) x.0 u x.1 inside in
-      let c : key g s u ≡ keys_before (graph_variations g) (graph_sites g) s + slot (graph_variations g) x.0 u = ap (λ o. keys_before (graph_variations g) (graph_sites g) s + slot_at (graph_variations g) o u) x.1 in
-      omega (arith, a, b, c)
+  kept_small = let a = kept_key in let b = key_small g s u inside in omega (arith, a, b)
 
 -- ---- one more site
 
-module _ (g : GraphView) (ks : List SiteKeys) (site : ℕ) (k : SiteKeys) (first : ℕ) (many : length ks ≡ site) (inside : site < length (graph_sites g))
-    (next : first ≡ keys_before (graph_variations g) (graph_sites g) site) (is : k.first ≡ first) (depends : (v : ℕ) → has k.depends v ≡ site_depends_at g site v) where
-  here_kept : AreKeysAt g site k
+module _ (g : GraphView) (site : ℕ) (k : SiteKeys) (first : ℕ) (inside : site < length (graph_sites g)) (next : first ≡ keys_before (graph_variations g) (graph_sites g) site)
+    (is : k.first ≡ first) (depends : (v : ℕ) → has k.depends v ≡ site_depends_at g site v) where
+  pub here_kept : AreKeysAt g site k
   here_kept = record { first = is ∙ next; depends = depends }
 
   pub next_first : (count : ℕ) → count ≡ members_below k.depends 128 → ((v : ℕ) → 128 ≤ v → has k.depends v ≡ false) → first + (1 + count) ≡ keys_before (graph_variations g) (graph_sites g) (site + 1)
@@ -101,24 +90,6 @@ module _ (g : GraphView) (ks : List SiteKeys) (site : ℕ) (k : SiteKeys) (first
       let c : keys_before (graph_variations g) (graph_sites g) (suc site) ≡ keys_before (graph_variations g) (graph_sites g) (site + 1) = ap (keys_before (graph_variations g) (graph_sites g)) f in
       omega (arith, next, a, b, c, e)
 
-  pub next_each : ((s : ℕ) (y : SiteKeys) → slice_get ks s ≡ Some y → AreKeysAt g s y) → (s : ℕ) (y : SiteKeys) → slice_get (ks ++ k ∷ []) s ≡ Some y → AreKeysAt g s y
-  next_each each s y h = go (of_joined ks (k ∷ []) s y h)
-    where
-      last : (i : ℕ) → s ≡ length ks + i → slice_get (k ∷ []) i ≡ Some y → AreKeysAt g s y
-      last zero e q = let a : k ≡ y = cc q in let b : site ≡ s = omega (arith, many, e) in subst (λ (n : ℕ). AreKeysAt g n y) b (subst (AreKeysAt g site) a here_kept)
-      last (suc i) e q = cc q
-
-      go : (slice_get ks s ≡ Some y) ⊎ ((i : ℕ) × (s ≡ length ks + i) × (slice_get (k ∷ []) i ≡ Some y)) → AreKeysAt g s y
-      go (inl q) = each s y q
-      go (inr q) = last q.0 q.1 q.2
-
 -- no sites
 pub no_keys : (g : GraphView) → 0 ≡ keys_before (graph_variations g) (graph_sites g) 0
-no_keys g = go (graph_sites g)
-  where
-    go : (xs : List SiteAt) → 0 ≡ keys_before (graph_variations g) xs 0
-    go [] = refl
-    go (x ∷ xs) = refl
-
-pub none_there : (s : ℕ) (k : SiteKeys) → slice_get [] s ≡ Some k → ⊥
-none_there s k h = cc h
+no_keys g = sym (keys_none (graph_variations g) (graph_sites g))

@@ -1,16 +1,21 @@
 -- The keys of two sites differ, and one site has one outcome under the variations of one key.
-use Rattle.std.proofs.Common.{◌≡◌, ◌⊎◌, inl, inr, ℕ, zero, suc, ◌+◌, ◌<◌, ◌≤◌, Bool, true, false, cond, List, [], ◌∷◌, take, Option, Some, None, refl, sym, ◌∙◌, ap, arith, slice_get, if◌then◌else◌}
+use Rattle.std.proofs.Common.{◌≡◌, ◌⊎◌, inl, inr, ℕ, zero, suc, ◌+◌, ◌<◌, ◌≤◌, Bool, true, false, cond, List, [], ◌∷◌, length, take, Option, Some, None, refl, sym, ◌∙◌, ap, arith, slice_get, if◌then◌else◌}
 use Rattle.std.specs.Prelude.{count_by}
+use Rattle.std.proofs.lemmas.Bool.{cases_order}
 use Rattle.std.proofs.lemmas.List.Sums.{sum_by-cons}
-use Rattle.rdf_values.specs.Path.{Variation, Under}
 use Rattle.rdf_values.specs.Functions.{Function}
+use Rattle.rdf_values.specs.Path.{Variation, Under, variations}
 use Rattle.rdf_values.specs.declared.column.Column.{Column}
+use Rattle.rdf_values.specs.declared.statement.Statement.{Statement}
 use Rattle.rdf_values.specs.declared.value.Value.{Value}
 use Rattle.rdf_model.specs.Evaluation.{Outcome}
 use Rattle.rdf_model.proofs.Variations.{unvaried_site}
-use Rattle.graph_numbers.specs.Graphs.{holds_at}
+use Rattle.graph_numbers.specs.Graphs.{GraphView, graph_sites, graph_variations, holds_at}
+use Rattle.graph_numbers.specs.Results.{under_at}
 use Rattle.graph_numbers.specs.Sites.{SiteAt, depends_on, site_outcome}
-use Rattle.loop_keys.specs.Keys.{own_keys, keys_before, slot}
+use Rattle.graph_numbers.proofs.Listed.{by_test}
+use Rattle.lemmas.proofs.Places.{something_at}
+use Rattle.loop_keys.specs.Keys.{key, key_count, own_keys, keys_before, slot, slot_at}
 
 -- ---- counts
 
@@ -37,70 +42,54 @@ taken_apart p (suc v) (suc w) (x ∷ xs) lt h =
 module _ (vs : List Variation) (x : SiteAt) where
   pub slot_small : (u : Option ℕ) → slot vs x u < own_keys vs x
   slot_small None = omega arith
-  slot_small (Some v) = go (holds_at (depends_on x) (slice_get vs v)) refl
-    where
-      go : (b : Bool) → holds_at (depends_on x) (slice_get vs v) ≡ b → (if b then suc (count_by (depends_on x) (take v vs)) else 0) < suc (count_by (depends_on x) vs)
-      go true h = let c = taken_fewer (depends_on x) v vs h in omega (arith, c)
-      go false h = omega arith
+  slot_small (Some v) = by_test (holds_at (depends_on x) (slice_get vs v)) (λ h. let c = taken_fewer (depends_on x) v vs h in rw h (omega (arith, c))) (λ h. rw h (omega arith))
 
--- the variation of that number
-abbrev pub under_in : List Variation → Option ℕ → Under
-under_in vs None = None
-under_in vs (Some v) = slice_get vs v
+module _ (script : List Statement) where
+  abbrev vs : List Variation
+  vs = variations script
 
-module _ {M : Type 0} (fns : List Function) (columns : List Column) (row : List Value) (vs : List Variation) (x : SiteAt) where
-  abbrev at : Under → Outcome M Value
-  at u = site_outcome fns columns row x u
+  module _ {M : Type 0} (fns : List Function) (columns : List Column) (row : List Value) (x : SiteAt) where
+    abbrev at : Under → Outcome M Value
+    at u = site_outcome fns columns row x u
 
-  as_nominal : (o : Option Variation) → holds_at (depends_on x) o ≡ false → at o ≡ at None
-  as_nominal None h = refl
-  as_nominal (Some v) h = unvaried_site fns columns row v x.at x.expr h
+    as_nominal : (o : Option Variation) → holds_at (depends_on x) o ≡ false → at o ≡ at None
+    as_nominal None h = refl
+    as_nominal (Some v) h = unvaried_site fns columns row v x.at x.expr h
 
-  same_varied : (v w : ℕ) (a b : Bool) → holds_at (depends_on x) (slice_get vs v) ≡ a → holds_at (depends_on x) (slice_get vs w) ≡ b
-      → (if a then suc (count_by (depends_on x) (take v vs)) else 0) ≡ (if b then suc (count_by (depends_on x) (take w vs)) else 0)
-      → at (slice_get vs v) ≡ at (slice_get vs w)
-  same_varied v w true true h k e = go (order v w)
-    where
-      order : (m n : ℕ) → (m < n) ⊎ ((m ≡ n) ⊎ (n < m))
-      order zero zero = inr (inl refl)
-      order zero (suc n) = inl (omega arith)
-      order (suc m) zero = inr (inr (omega arith))
-      order (suc m) (suc n) = step (order m n)
-        where
-          step : (m < n) ⊎ ((m ≡ n) ⊎ (n < m)) → (suc m < suc n) ⊎ ((suc m ≡ suc n) ⊎ (suc n < suc m))
-          step (inl l) = inl (omega (arith, l))
-          step (inr (inl q)) = inr (inl (ap suc q))
-          step (inr (inr l)) = inr (inr (omega (arith, l)))
+    same_varied : (v w : ℕ) (a b : Bool) → holds_at (depends_on x) (slice_get vs v) ≡ a → holds_at (depends_on x) (slice_get vs w) ≡ b
+        → (if a then suc (count_by (depends_on x) (take v vs)) else 0) ≡ (if b then suc (count_by (depends_on x) (take w vs)) else 0)
+        → at (slice_get vs v) ≡ at (slice_get vs w)
+    same_varied v w true true h k e = go (cases_order v w)
+      where
+        go : (v ≡ w) ⊎ ((v < w) ⊎ (w < v)) → at (slice_get vs v) ≡ at (slice_get vs w)
+        go (inl q) = ap (λ n. at (slice_get vs n)) q
+        go (inr (inl l)) = let c = taken_apart (depends_on x) v w vs l h in absurd (omega (arith, c, e))
+        go (inr (inr l)) = let c = taken_apart (depends_on x) w v vs l k in absurd (omega (arith, c, e))
+    same_varied v w true false h k e = cc e
+    same_varied v w false true h k e = cc e
+    same_varied v w false false h k e = as_nominal (slice_get vs v) h ∙ sym (as_nominal (slice_get vs w) k)
 
-      go : (v < w) ⊎ ((v ≡ w) ⊎ (w < v)) → at (slice_get vs v) ≡ at (slice_get vs w)
-      go (inl l) = let c = taken_apart (depends_on x) v w vs l h in absurd (omega (arith, c, e))
-      go (inr (inl q)) = ap (λ n. at (slice_get vs n)) q
-      go (inr (inr l)) = let c = taken_apart (depends_on x) w v vs l k in absurd (omega (arith, c, e))
-  same_varied v w true false h k e = cc e
-  same_varied v w false true h k e = cc e
-  same_varied v w false false h k e = as_nominal (slice_get vs v) h ∙ sym (as_nominal (slice_get vs w) k)
+    nominal_varied : (w : ℕ) (b : Bool) → holds_at (depends_on x) (slice_get vs w) ≡ b → 0 ≡ (if b then suc (count_by (depends_on x) (take w vs)) else 0) → at None ≡ at (slice_get vs w)
+    nominal_varied w true k e = cc e
+    nominal_varied w false k e = sym (as_nominal (slice_get vs w) k)
 
-  nominal_varied : (w : ℕ) (b : Bool) → holds_at (depends_on x) (slice_get vs w) ≡ b → 0 ≡ (if b then suc (count_by (depends_on x) (take w vs)) else 0) → at None ≡ at (slice_get vs w)
-  nominal_varied w true k e = cc e
-  nominal_varied w false k e = sym (as_nominal (slice_get vs w) k)
-
-  -- one slot, one outcome
-  pub same_slot : (u w : Option ℕ) → slot vs x u ≡ slot vs x w → at (under_in vs u) ≡ at (under_in vs w)
-  same_slot None None e = refl
-  same_slot None (Some w) e = nominal_varied w (holds_at (depends_on x) (slice_get vs w)) refl e
-  same_slot (Some v) None e = sym (nominal_varied v (holds_at (depends_on x) (slice_get vs v)) refl (sym e))
-  same_slot (Some v) (Some w) e = same_varied v w (holds_at (depends_on x) (slice_get vs v)) (holds_at (depends_on x) (slice_get vs w)) refl refl e
+    -- one slot, one outcome
+    pub same_slot : (u w : Option ℕ) → slot vs x u ≡ slot vs x w → at (under_at script u) ≡ at (under_at script w)
+    same_slot None None e = refl
+    same_slot None (Some w) e = nominal_varied w (holds_at (depends_on x) (slice_get vs w)) refl e
+    same_slot (Some v) None e = sym (nominal_varied v (holds_at (depends_on x) (slice_get vs v)) refl (sym e))
+    same_slot (Some v) (Some w) e = same_varied v w (holds_at (depends_on x) (slice_get vs v)) (holds_at (depends_on x) (slice_get vs w)) refl refl e
 
 -- ---- sites
 
 module _ (vs : List Variation) where
+  pub keys_none : (xs : List SiteAt) → keys_before vs xs 0 ≡ 0
+  keys_none [] = refl
+  keys_none (x ∷ xs) = refl
+
   pub keys_next : (xs : List SiteAt) (s : ℕ) (x : SiteAt) → slice_get xs s ≡ Some x → keys_before vs xs (suc s) ≡ keys_before vs xs s + own_keys vs x
   keys_next [] s x h = cc h
-  keys_next (y ∷ xs) zero x h = let e : y ≡ x = cc h in let z : keys_before vs xs 0 ≡ 0 = none xs in let a : own_keys vs y ≡ own_keys vs x = ap (own_keys vs) e in omega (arith, z, a)
-    where
-      none : (ys : List SiteAt) → keys_before vs ys 0 ≡ 0
-      none [] = refl
-      none (y ∷ ys) = refl
+  keys_next (y ∷ xs) zero x h = let e : y ≡ x = cc h in let z = keys_none xs in let a : own_keys vs y ≡ own_keys vs x = ap (own_keys vs) e in omega (arith, z, a)
   keys_next (y ∷ xs) (suc s) x h = let e = keys_next xs s x h in omega (arith, e)
 
   pub keys_rise : (xs : List SiteAt) (s t : ℕ) → s ≤ t → keys_before vs xs s ≤ keys_before vs xs t
@@ -120,20 +109,17 @@ module _ (vs : List Variation) where
 
     -- the keys of two sites differ
     pub key_site : (s t : ℕ) (x y : SiteAt) (u w : Option ℕ) → slice_get xs s ≡ Some x → slice_get xs t ≡ Some y → at_key s x u ≡ at_key t y w → s ≡ t
-    key_site s t x y u w h k e = go (split s t)
+    key_site s t x y u w h k e = go (cases_order s t)
       where
-        split : (m n : ℕ) → (m < n) ⊎ ((m ≡ n) ⊎ (n < m))
-        split zero zero = inr (inl refl)
-        split zero (suc n) = inl (omega arith)
-        split (suc m) zero = inr (inr (omega arith))
-        split (suc m) (suc n) = step (split m n)
-          where
-            step : (m < n) ⊎ ((m ≡ n) ⊎ (n < m)) → (suc m < suc n) ⊎ ((suc m ≡ suc n) ⊎ (suc n < suc m))
-            step (inl l) = inl (omega (arith, l))
-            step (inr (inl q)) = inr (inl (ap suc q))
-            step (inr (inr l)) = inr (inr (omega (arith, l)))
-
-        go : (s < t) ⊎ ((s ≡ t) ⊎ (t < s)) → s ≡ t
-        go (inl l) = let a = key_below s t x u h l in absurd (omega (arith, a, e))
-        go (inr (inl q)) = q
+        go : (s ≡ t) ⊎ ((s < t) ⊎ (t < s)) → s ≡ t
+        go (inl q) = q
+        go (inr (inl l)) = let a = key_below s t x u h l in absurd (omega (arith, a, e))
         go (inr (inr l)) = let a = key_below t s y w k l in absurd (omega (arith, a, e))
+
+pub key_is : (g : GraphView) (s : ℕ) (x : SiteAt) (u : Option ℕ) → slice_get (graph_sites g) s ≡ Some x → key g s u ≡ keys_before (graph_variations g) (graph_sites g) s + slot (graph_variations g) x u
+key_is g s x u q = ap (λ o. keys_before (graph_variations g) (graph_sites g) s + slot_at (graph_variations g) o u) q
+
+pub key_small : (g : GraphView) (s : ℕ) (u : Option ℕ) → s < length (graph_sites g) → key g s u < key_count g
+key_small g s u inside =
+    let x = something_at (graph_sites g) s inside in
+    let b = key_below (graph_variations g) (graph_sites g) s (length (graph_sites g)) x.0 u x.1 inside in let c = key_is g s x.0 u x.1 in omega (arith, b, c)

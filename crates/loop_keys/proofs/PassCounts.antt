@@ -1,28 +1,24 @@
 -- How many passes a loop has.
-use Rattle.std.proofs.Common.{◌≡◌, ◌⊎◌, inl, inr, ℕ, zero, suc, ◌+◌, ◌*◌, ◌<◌, ◌≤◌, ◌^◌, Bool, true, false, not, List, [], ◌∷◌, ◌++◌, length, map, Option, Some, None, refl, ap, arith, slice_get, unwrap_or, if◌then◌else◌, length-append}
+use Rattle.std.proofs.Common.{◌≡◌, ℕ, zero, suc, ◌*◌, ◌<◌, ◌≤◌, ◌^◌, Bool, true, false, not, List, [], ◌∷◌, length, map, Option, Some, None, refl, ap, arith, slice_get, unwrap_or, if◌then◌else◌, length-append}
 use Rattle.std.proofs.Math.Nat.{mul-le-mul, mul-le-mul_right}
 use Rattle.std.proofs.lemmas.List.{length-map, length-reverse}
 use Rattle.rdf_values.specs.Bookings.{Booked, booked_by, bookings, filled, has_variations, result_depends}
 use Rattle.rdf_values.specs.Names.{among}
 use Rattle.rdf_values.specs.Path.{history, variations}
-use Rattle.rdf_values.specs.declared.script.Line.{Line}
 use Rattle.rdf_values.specs.declared.script.Script.{Script}
 use Rattle.rdf_values.specs.declared.statement.Statement.{Statement}
-use Rattle.rdf_values.specs.declared.statement.Statement.TheVariants.{Action, Print, Report}
+use Rattle.rdf_values.specs.declared.statement.Statement.TheVariants.{Action, Print}
+use Rattle.rdf_values.specs.declared.script.Line.{Line}
 use Rattle.graph_numbers.specs.Graphs.{graph_loops, graph_variations}
 use Rattle.graph_numbers.specs.Results.{loops, numbered_pass, own_loop, passes_from, places_from, result_passes}
 use Rattle.graph_numbers.specs.declared.pass.Pass.{Pass as NumberedPass}
-use Rattle.graph_numbers.proofs.Listed.{of_joined}
+use Rattle.graph_numbers.proofs.Listed.{by_test, joined}
 use Rattle.loop_keys.specs.Jobs.{JobView, IsJob, job_graph}
 use Rattle.loop_keys.specs.Turns.{numbered_passes}
 
 places_few : {A : Type 0} (test : A → Bool) (n : ℕ) (xs : List A) → length (places_from test n xs) ≤ length xs
 places_few test n [] = omega arith
-places_few test n (x ∷ xs) = go (test x) (places_few test (suc n) xs)
-  where
-    go : (b : Bool) → length (places_from test (suc n) xs) ≤ length xs → length (if b then n ∷ places_from test (suc n) xs else places_from test (suc n) xs) ≤ suc (length xs)
-    go true h = omega (arith, h)
-    go false h = omega (arith, h)
+places_few test n (x ∷ xs) = let h = places_few test (suc n) xs in by_test (test x) (λ e. rw e (omega (arith, h))) (λ e. rw e (omega (arith, h)))
 
 bookings_few : (before : List Statement) → length (bookings before) ≤ length before
 bookings_few [] = omega arith
@@ -30,31 +26,23 @@ bookings_few (s ∷ before) = let l = length-append (bookings before) (booked_by
   where
     own : (s : Statement) → length (booked_by before s) ≤ 1
     own (Action result parent k) = omega arith
-    own (Report result parent) = omega arith
     own s = omega arith
 
 module _ (script : List Statement) where
   result_few : (n : ℕ) (b : Booked) → length (result_passes script n b) ≤ suc (length (variations script))
-  result_few n b = go (has_variations script b.name)
-    where
-      go : (t : Bool) → suc (length (if t then map (λ v. numbered_pass n (Some v)) (places_from (λ v. result_depends v b.booking) 0 (variations script)) else [])) ≤ suc (length (variations script))
-      go true =
-          let l = length-map (places_from (λ v. result_depends v b.booking) 0 (variations script)) (λ v. numbered_pass n (Some v)) in
-          let h = places_few (λ v. result_depends v b.booking) 0 (variations script) in omega (arith, l, h)
-      go false = omega arith
+  result_few n b =
+      let l = length-map (places_from (λ v. result_depends v b.booking) 0 (variations script)) (λ v. numbered_pass n (Some v)) in
+      let h = places_few (λ v. result_depends v b.booking) 0 (variations script) in by_test (has_variations script b.name) (λ e. rw e (omega (arith, h, l))) (λ e. rw e (omega arith))
 
   passes_few : (test : Booked → Bool) (n : ℕ) (bs : List Booked) → length (passes_from script test n bs) ≤ length bs * suc (length (variations script))
   passes_few test n [] = omega arith
-  passes_few test n (b ∷ bs) = go (test b) (passes_few test (suc n) bs)
-    where
-      go : (t : Bool) → length (passes_from script test (suc n) bs) ≤ length bs * suc (length (variations script))
-          → length ((if t then result_passes script n b else []) ++ passes_from script test (suc n) bs) ≤ suc (length bs) * suc (length (variations script))
-      go true h = let l = length-append (result_passes script n b) (passes_from script test (suc n) bs) in let r = result_few n b in omega (arith, l, h, r)
-      go false h = omega (arith, h)
+  passes_few test n (b ∷ bs) =
+      let h = passes_few test (suc n) bs in let l = length-append (result_passes script n b) (passes_from script test (suc n) bs) in let r = result_few n b in
+      by_test (test b) (λ e. rw e (omega (arith, l, h, r))) (λ e. rw e (omega (arith, h)))
 
   loops_few : (before : List Statement) (k : ℕ) (ps : List NumberedPass) → slice_get (loops script before) k ≡ Some ps → length ps ≤ length before * suc (length (variations script))
   loops_few [] k ps h = cc h
-  loops_few (s ∷ before) k ps h = go (loops_few before k ps) (of_joined (loops script before) (own_loop script before s) k ps h)
+  loops_few (s ∷ before) k ps h = joined (loops script before) (own_loop script before s) k ps h (λ q. let n = loops_few before k ps q in omega (arith, n)) (λ i e q. own s i q)
     where
       printed : (b : Bool) (i : ℕ) → slice_get (if b then [] else passes_from script (λ (b : Booked). not (among b.name (filled before))) 0 (bookings before) ∷ []) i ≡ Some ps
           → length ps ≤ suc (length before) * suc (length (variations script))
@@ -70,11 +58,6 @@ module _ (script : List Statement) where
       own : (s : Statement) (i : ℕ) → slice_get (own_loop script before s) i ≡ Some ps → length ps ≤ suc (length before) * suc (length (variations script))
       own (Print result) i q = printed (among result (filled before)) i q
       own s i q = cc q
-
-      go : (slice_get (loops script before) k ≡ Some ps → length ps ≤ length before * suc (length (variations script)))
-          → (slice_get (loops script before) k ≡ Some ps) ⊎ ((i : ℕ) × (k ≡ length (loops script before) + i) × (slice_get (own_loop script before s) i ≡ Some ps)) → length ps ≤ suc (length before) * suc (length (variations script))
-      go next (inl q) = let n = next q in omega (arith, n)
-      go next (inr q) = own s q.0 q.2
 
 lines_few : (script : Script) → length script.lines ≤ 256 → length (history script) ≤ 256
 lines_few script h =

@@ -10,7 +10,8 @@ use Rattle.graph_numbers.specs.declared.pass.Pass.{Pass as NumberedPass}
 use Rattle.graph_numbers.proofs.Resulting.{booked_are}
 use Rattle.loop_keys.specs.Caches.{numbered_in}
 use Rattle.loop_keys.specs.Jobs.{JobView, job_graph}
-use Rattle.loop_keys.proofs.PassTies.{of_mapped, of_option, pass_is}
+use Rattle.loop_keys.proofs.Elements.{of_mapped, of_option}
+use Rattle.loop_keys.proofs.PassTies.{pass_is}
 
 pub some_same : {A : Type 0} (a b : A) → ◌≡◌ {A = Option A} (Some a) (Some b) → a ≡ b
 some_same a b e = cc e
@@ -28,5 +29,3 @@ module _ (j : JobView) (n : ℕ) (m : NumberedPass) (its : numbered_in j n ≡ S
 
   pub result_inside : m.result < length (graph_results (job_graph j))
   result_inside = slice_get_within (graph_results (job_graph j)) m.result result_there.0 result_there.1
-
--- ---- passes that feed

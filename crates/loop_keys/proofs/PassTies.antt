@@ -1,9 +1,9 @@
 -- A pass by the numbers of its result and variation: what it comes to and demands.
-use Rattle.std.proofs.Common.{◌≡◌, ℕ, zero, suc, List, [], ◌∷◌, map, Option, Some, None, option_map, refl, sym, ◌∙◌, ap, unwrap_or, slice_get}
+use Rattle.std.proofs.Common.{◌≡◌, ℕ, List, [], map, Option, Some, None, sym, ◌∙◌, ap, unwrap_or, slice_get}
 use Rattle.lemmas.proofs.Places.{mapped_at}
 use Rattle.rdf_values.specs.Bookings.{Booked, Pass, bookings}
-use Rattle.rdf_values.specs.Path.{history}
 use Rattle.rdf_values.specs.Functions.{fn_names}
+use Rattle.rdf_values.specs.Path.{history}
 use Rattle.rdf_values.specs.declared.value.Value.{Value}
 use Rattle.rdf_model.specs.EntryOutcomes.{booking_outcome}
 use Rattle.rdf_model.specs.Loops.{loop_passes, loop_results}
@@ -14,23 +14,12 @@ use Rattle.graph_numbers.specs.declared.pass.Pass.{Pass as NumberedPass}
 use Rattle.graph_numbers.proofs.Extending.{itself}
 use Rattle.graph_numbers.proofs.Looping.{loops_are}
 use Rattle.graph_numbers.proofs.Resulting.{booked_are, result_is}
+use Rattle.loop_keys.proofs.Elements.{of_chosen}
+use Rattle.loop_keys.proofs.Elements.{of_mapped, of_option}
 use Rattle.loop_keys.specs.Caches.{numbered_in}
 use Rattle.loop_keys.specs.Jobs.{JobView, IsJob, job_graph, passes_in, outcome_of, pass_outcome}
 use Rattle.loop_keys.specs.Store.{row_of, site_in, version_in}
 use Rattle.loop_keys.proofs.EvaluateLaws.{accepted_of}
-
-pub of_mapped : {A B : Type 0} (f : A → B) (xs : List A) (n : ℕ) (y : B) → slice_get (map f xs) n ≡ Some y → (x : A) × (slice_get xs n ≡ Some x) × (f x ≡ y)
-of_mapped f [] n y h = cc h
-of_mapped f (x ∷ xs) zero y h = (x, refl, cc h)
-of_mapped f (x ∷ xs) (suc n) y h = of_mapped f xs n y h
-
-pub of_chosen : {A : Type 0} (o : Option (List A)) (n : ℕ) (x : A) → slice_get (unwrap_or o []) n ≡ Some x → (xs : List A) × (o ≡ Some xs) × (slice_get xs n ≡ Some x)
-of_chosen None n x h = cc h
-of_chosen (Some xs) n x h = (xs, refl, h)
-
-pub of_option : {A B : Type 0} (f : A → B) (o : Option A) (y : B) → option_map f o ≡ Some y → (x : A) × (o ≡ Some x) × (f x ≡ y)
-of_option f None y h = cc h
-of_option f (Some x) y h = (x, refl, cc h)
 
 module _ (j : JobView) (n : ℕ) (m : NumberedPass) (its : numbered_in j n ≡ Some m) where
   -- the pass of that number is that of the script

@@ -1,5 +1,5 @@
 -- Sites without vectors: no evaluation of them wants memory, and what they need is among them.
-use Rattle.std.proofs.Common.{◌≡◌, ℕ, Bool, true, false, ◌&&◌, not, List, [], ◌∷◌, Option, Some, None, Ok, option_map, refl, sym, ◌∙◌, ap, subst, nat_eq, slice_get, unwrap_or, if◌then◌else◌}
+use Rattle.std.proofs.Common.{◌≡◌, ℕ, Bool, true, false, ◌&&◌, not, List, [], ◌∷◌, Option, Some, refl, sym, ◌∙◌, ap, subst, nat_eq, slice_get, unwrap_or, if◌then◌else◌}
 use Rattle.std.specs.List.{AllByRecursion}
 use Rattle.std.proofs.lemmas.Bool.Decides.{Decides-eqb}
 use Rattle.std.proofs.lemmas.List.Elements.{recursion_from_All}
@@ -8,30 +8,27 @@ use Rattle.rdf_values.specs.EachColumn.{EachColumn, EachArgument}
 use Rattle.rdf_values.specs.Tree.{Trees, NumTree, Lit, Truth, Col, Neg, Not, Bin, Cond, Pick, Call, End, More}
 use Rattle.rdf_values.specs.declared.num_expr.Callee.{Callee}
 use Rattle.rdf_values.specs.declared.value.ColType.{ColType}
-use Rattle.rdf_values.specs.declared.value.ColType.TheVariants as kind
 use Rattle.rdf_values.specs.declared.value.Value.{Value}
 use Rattle.rdf_model.specs.Demanded.{with_needs}
-use Rattle.rdf_model.specs.Evaluation.{Outcome, Gives, Faults, Needs, call_outcome, evaluate, is_need, without}
+use Rattle.rdf_model.specs.Evaluation.{Outcome, Needs, call_outcome, evaluate, is_need, without}
+use Rattle.rdf_values.specs.declared.value.ColType.TheVariants as kind
 use Rattle.rdf_model.proofs.Close as close
 use Rattle.expr_check.specs.NumKinds.{CheckedExpr, all_are_plain, gives_vector, is_plain, is_vector, number_kind, takes_no_vector}
 use Rattle.graph_numbers.specs.Graphs.{IsSiteExpr, graph_kinds, graph_sites}
 use Rattle.graph_numbers.specs.Sites.{SiteAt}
+use Rattle.graph_numbers.proofs.Listed.{by_test}
 use Rattle.rdf_model.proofs.KnownColumns.{each_weaker}
 use Rattle.loop_keys.specs.Jobs.{JobView, IsJob, job_graph}
 use Rattle.loop_keys.specs.Plain.{ArePlain, IsPlainVersion, is_vector_at}
 use Rattle.loop_keys.specs.Store.{IsClosed, IsSound, IsSourceIn, site_in, source_at, version_in}
+use Rattle.loop_keys.proofs.Elements.{of_option}
 use Rattle.loop_keys.proofs.EvaluateLaws.{whole}
 
 -- the kinds of versions, as an expression lists them
 not_vector : (all : List ColType) (ks : List (ℕ × ColType)) (c : ℕ) → AllByRecursion (λ (k : ℕ × ColType). slice_get all k.0 ≡ Some k.1) ks → is_vector_at all c ≡ false → gives_vector (number_kind ks c) ≡ false
 not_vector all [] c h e = refl
-not_vector all (k ∷ ks) c h e = go (nat_eq k.0 c) refl (not_vector all ks c h.1 e)
-  where
-    go : (b : Bool) → nat_eq k.0 c ≡ b → gives_vector (number_kind ks c) ≡ false → gives_vector (if b then Ok k.1 else number_kind ks c) ≡ false
-    go true q next =
-        let i : k.0 ≡ c = (Decides-eqb k.0 c).0 q in
-        ap (λ (o : Option ColType). is_vector (unwrap_or o kind.Int)) (sym h.0 ∙ ap (slice_get all) i) ∙ e
-    go false q next = next
+not_vector all (k ∷ ks) c h e =
+    by_test (nat_eq k.0 c) (λ q. rw q (ap (λ (o : Option ColType). is_vector (unwrap_or o kind.Int)) (sym h.0 ∙ ap (slice_get all) ((Decides-eqb k.0 c).0 q)) ∙ e)) (λ q. rw q (not_vector all ks c h.1 e))
 
 module _ (ks : List (ℕ × ColType)) where
   abbrev NoVector : ℕ → Type 0
@@ -57,24 +54,19 @@ module _ (ks : List (ℕ × ColType)) where
 
 -- a plain site's expression is plain
 pub plain_expr : (j : JobView) (used : ℕ → Bool) (s : ℕ) (e : CheckedExpr) → ArePlain j used → used s ≡ true → IsSiteExpr (job_graph j) s e → is_plain e.kinds e.tree ≡ true
-plain_expr j used s e plain u its = go (slice_get (graph_sites (job_graph j)) s) refl its.tree
-  where
-    go : (o : Option SiteAt) → slice_get (graph_sites (job_graph j)) s ≡ o → option_map (λ (x : SiteAt). x.tree) o ≡ Some e.tree → is_plain e.kinds e.tree ≡ true
-    go None q k = cc k
-    go (Some x) q k =
-        let t : x.tree ≡ e.tree = cc k in
-        let p = plain s x u q in
-        subst (λ (t : NumTree). is_plain e.kinds t ≡ true) t
-        (plain_by e.kinds x.tree
-        (each_weaker (IsPlainVersion (job_graph j) used) (NoVector e.kinds)
-        (λ c v. not_vector (graph_kinds (job_graph j)) e.kinds c (recursion_from_All (λ (c : ℕ × ColType). slice_get (graph_kinds (job_graph j)) c.0 ≡ Some c.1) e.kinds its.kinds) v.0) x.tree p.columns) p.parts)
+plain_expr j used s e plain u its =
+    let x = of_option (λ (x : SiteAt). x.tree) (slice_get (graph_sites (job_graph j)) s) e.tree its.tree in
+    let p = plain s x.0 u x.1 in
+    subst (λ (t : NumTree). is_plain e.kinds t ≡ true) x.2
+    (plain_by e.kinds x.0.tree
+    (each_weaker (IsPlainVersion (job_graph j) used) (NoVector e.kinds)
+    (λ c v. not_vector (graph_kinds (job_graph j)) e.kinds c (recursion_from_All (λ (c : ℕ × ColType). slice_get (graph_kinds (job_graph j)) c.0 ≡ Some c.1) e.kinds its.kinds) v.0) x.0.tree p.columns) p.parts)
 
 -- ---- what a plain site meets
 
 known_never : (o : Outcome ⊥ Value) → is_need (with_needs {M = ℕ} o) ≡ true → ⊥
-known_never (Gives v) e = cc e
-known_never (Faults k) e = cc e
 known_never (Needs m) e = elim m [ ]
+known_never o e = cc e
 
 module _ (j : JobView) (job : IsJob j) (entry : ℕ) (u : Option ℕ) (used : ℕ → Bool) (plain : ArePlain j used) where
   none_held : IsSound j entry []

@@ -1,15 +1,16 @@
 -- The plan of a loop, as it is made and read.
-use Rattle.std.proofs.Common.{◌≡◌, ℕ, zero, suc, ◌+◌, ◌<◌, ◌≤◌, Bool, true, false, ◌||◌, List, [], ◌∷◌, length, take, Option, Some, None, option_map, refl, sym, ◌∙◌, ap, arith, nat_eq, get_or, slice_get}
+use Rattle.std.proofs.Common.{◌≡◌, ℕ, zero, suc, ◌+◌, ◌<◌, ◌≤◌, Bool, true, false, List, [], ◌∷◌, length, take, Option, Some, None, option_map, refl, sym, ◌∙◌, ap, arith, nat_eq, get_or, slice_get}
 use Rattle.std.specs.List.{list_any}
 use Rattle.std.proofs.lemmas.Option.{slice_get-get_or}
 use Rattle.lemmas.proofs.Booleans.{neither, or_fails}
 use Rattle.lemmas.proofs.Parts.{take_all}
+use Rattle.lemmas.proofs.Places.{any_at}
 use Rattle.graph_numbers.specs.Graphs.{GraphView, graph_results}
 use Rattle.graph_numbers.specs.Results.{ResultAt}
 use Rattle.graph_numbers.specs.declared.pass.Pass.{Pass as NumberedPass}
 use Rattle.loop_keys.specs.Jobs.{JobView, job_graph}
-use Rattle.loop_keys.proofs.PassNumbers.{result_inside}
 use Rattle.loop_keys.specs.Turns.{covers_of, is_covering, numbered_passes}
+use Rattle.loop_keys.proofs.PassNumbers.{result_inside}
 
 -- ---- tests of a list's elements
 
@@ -18,15 +19,6 @@ any_next test [] i d lt h e = absurd (omega (arith, lt))
 any_next test (x ∷ xs) zero d lt h e = or_fails (test x) (list_any test (take 0 xs)) e refl
 any_next test (x ∷ xs) (suc i) d lt h e =
     let p = neither (test x) (list_any test (take i xs)) h in or_fails (test x) (list_any test (take (suc i) xs)) p.0 (any_next test xs i d (omega (arith, lt)) p.1 e)
-
-any_here : {A : Type 0} (test : A → Bool) (xs : List A) (i : ℕ) (d : A) → i < length xs → test (get_or xs i d) ≡ true → list_any test xs ≡ true
-any_here test [] i d lt e = absurd (omega (arith, lt))
-any_here test (x ∷ xs) zero d lt e = ap (λ b. b || list_any test xs) e
-any_here test (x ∷ xs) (suc i) d lt e = go (test x) (any_here test xs i d (omega (arith, lt)) e)
-  where
-    go : (b : Bool) → list_any test xs ≡ true → (b || list_any test xs) ≡ true
-    go true h = refl
-    go false h = h
 
 -- ---- a report of the loop
 
@@ -52,9 +44,7 @@ module _ (j : JobView) (ps : List NumberedPass) (e : ps ≡ numbered_passes j) (
   cover_next i d lt h k = let s : i + 1 ≡ suc i = omega arith in ap (λ n. list_any test (take n ps)) s ∙ any_next test ps i d lt h k
 
   pub cover_found : (i : ℕ) (d : NumberedPass) → i < length ps → test (get_or ps i d) ≡ true → true ≡ list_any test (numbered_passes j)
-  cover_found i d lt k = sym (ap (list_any test) (sym e) ∙ any_here test ps i d lt k)
+  cover_found i d lt k = sym (ap (list_any test) (sym e) ∙ any_at test ps i (get_or ps i d) (slice_get-get_or ps i d lt) k)
 
   pub cover_none : (i : ℕ) → length ps ≤ i → list_any test (take i ps) ≡ false → false ≡ list_any test (numbered_passes j)
   cover_none i le h = sym (ap (list_any test) (sym e) ∙ ap (list_any test) (sym (take_all ps i le)) ∙ h)
-
--- ---- the whole plan

@@ -1,7 +1,6 @@
 -- Reports: what their filters come to and demand, by their numbers.
-use Rattle.std.proofs.Common.{◌≡◌, ℕ, zero, suc, Bool, true, List, [], ◌∷◌, Option, Some, None, refl, sym, ◌∙◌, ap, subst, get_or, slice_get}
+use Rattle.std.proofs.Common.{◌≡◌, ℕ, zero, suc, Bool, true, List, [], ◌∷◌, Option, Some, None, refl, sym, ◌∙◌, ap, subst, slice_get}
 use Rattle.std.specs.Prelude.{All, Contains, flat_map}
-use Rattle.std.specs.List.{AllByRecursion}
 use Rattle.std.proofs.lemmas.List.Elements.{All-from_recursion, recursion_from_All}
 use Rattle.std.proofs.lemmas.Option.{slice_get-get_or}
 use Rattle.rdf_values.specs.Bookings.{ActionAt, Booking, ReportOn}
@@ -16,26 +15,19 @@ use Rattle.graph_numbers.specs.Outcomes.{booking_numbers, report_numbers}
 use Rattle.graph_numbers.specs.Results.{FilterAt}
 use Rattle.graph_numbers.proofs.Covering.{AreNumbersOf}
 use Rattle.graph_numbers.proofs.Extending.{itself}
-use Rattle.graph_numbers.proofs.Meeting.{In, here, there}
 use Rattle.loop_keys.specs.Caches.{HasFilterDemands, IsCovered}
 use Rattle.loop_keys.specs.Jobs.{JobView, IsJob, job_graph}
 use Rattle.loop_keys.specs.Keys.{demand_key}
 use Rattle.loop_keys.specs.Store.{site_in, version_in}
-use Rattle.loop_keys.proofs.PassTies.{pass_answer, pass_of}
 use Rattle.loop_keys.specs.Turns.{HasAllDemands, IsReportPass, pass_fault}
+use Rattle.loop_keys.proofs.PassTies.{pass_answer, pass_of}
 use Rattle.loop_keys.proofs.Covered.{AreCovers, covers_are}
-use Rattle.loop_keys.proofs.DemandCounts.{each_in, in_flat}
+use Rattle.loop_keys.proofs.Elements.{at_in, each_in, in_flat}
 
 -- ---- lists
 
-in_all : {A : Type 0} (P : A → Type 0) (x : A) (xs : List A) → AllByRecursion P xs → In x xs → P x
-in_all P x xs h (here {xs = ys}) = h.0
-in_all P x xs h (there {y = y} {xs = ys} k) = in_all P x ys h.1 k
-
 pub contained_at : {A : Type 0} (xs : List A) (x : A) → Contains xs x → (k : ℕ) × (slice_get xs k ≡ Some x)
 contained_at xs x h = (h.0, slice_get-get_or xs h.0 x h.1 ∙ ap Some h.2)
-
--- ---- outcomes
 
 -- ---- a filter that a report covers
 
@@ -84,7 +76,7 @@ module _ (j : JobView) (job : IsJob j) where
       subst (λ (y : FilterAt). All (λ (d : Demand). T (demand_key (job_graph j) d) ≡ true) (filter_demands j.dataset.fns j.dataset.columns row y.at None)) same
       (All-from_recursion P (filter_demands j.dataset.fns j.dataset.columns row r.filter.at None)
       (each_in P (filter_demands j.dataset.fns j.dataset.columns row r.filter.at None) (λ d k.
-      in_all P d (flat_map (λ p. filter_demands j.dataset.fns j.dataset.columns row p None) r.filters)
+      at_in P d (flat_map (λ p. filter_demands j.dataset.fns j.dataset.columns row p None) r.filters)
       (recursion_from_All P (flat_map (λ p. filter_demands j.dataset.fns j.dataset.columns row p None) r.filters) all)
       (in_flat (λ p. filter_demands j.dataset.fns j.dataset.columns row p None) r.filters r.place r.filter.at d r.path k))))
 

@@ -1,62 +1,32 @@
--- Where what is read of an entry stands, and how it is found something_at.
+-- Where what is read of an entry stands, and how it is found there.
 use Rattle.std.proofs.Common.{◌≡◌, ◌⊎◌, inl, inr, ℕ, zero, suc, ◌+◌, ◌<◌, ◌≤◌, List, [], ◌∷◌, ◌++◌, length, Option, Some, None, refl, sym, ◌∙◌, ap, subst, arith, get_or, slice_get, if◌then◌else◌}
 use Rattle.std.specs.Prelude.{count_by, take}
-use Rattle.std.proofs.lemmas.List.{get_or_past, length_push}
-use Rattle.std.proofs.lemmas.Option.{get_or_from_slice_get, slice_get-get_or}
-use Rattle.lemmas.proofs.Places.{something_at}
+use Rattle.std.proofs.lemmas.List.{get_or_past}
+use Rattle.std.proofs.lemmas.Bool.{cases_lt}
+use Rattle.std.proofs.lemmas.Option.{get_or_from_slice_get, slice_get_past}
 use Rattle.rdf_values.specs.Path.{Variation}
 use Rattle.graph_numbers.specs.Graphs.{GraphView, booked_statements, graph_sites, graph_sources, graph_variations, holds_at}
 use Rattle.graph_numbers.specs.Sites.{SiteAt, depends_on}
 use Rattle.graph_numbers.specs.Sources.{source_in, sources}
 use Rattle.graph_numbers.specs.declared.source.Source.{Source}
 use Rattle.graph_numbers.specs.declared.source.Source.TheVariants as from
-use Rattle.graph_numbers.proofs.Listed.{of_joined}
-use Rattle.loop_keys.specs.Keys.{AreEach, AreKeys, AreSiteKeys, AreUnder, IsRow, key, key_count, key_or_count, key_under, keys_before, place_of, row_under, slot, slot_at, slot_in}
+use Rattle.loop_keys.proofs.Elements.{more_each, read_each}
+use Rattle.loop_keys.specs.Keys.{AreEach, AreKeys, AreSiteKeys, AreUnder, IsRow, key, key_count, key_or_count, key_under, keys_before, place_of, row_under, slot_at, slot_in}
 use Rattle.loop_keys.specs.declared.keys.SiteKeys.{SiteKeys}
 use Rattle.loop_keys.specs.declared.rows.Place.{Place}
-use Rattle.loop_keys.specs.declared.rows.Place.TheVariants as stands
 use Rattle.loop_keys.specs.declared.rows.Row.{Row}
+use Rattle.loop_keys.specs.declared.rows.Place.TheVariants as stands
 use Rattle.loop_keys.proofs.KeptKeys.{kept_key}
-use Rattle.loop_keys.proofs.KeyLaws.{key_below}
-
--- ---- lists that are right at each place
-
-module _ {A : Type 0} (P : ℕ → A → Type 0) where
-  module _ (n : ℕ) (xs : List A) (all : AreEach P n xs) where
-    -- one more
-    pub more_each : (x : A) → P n x → AreEach P (n + 1) (xs ++ x ∷ [])
-    more_each x h = record {
-      many = (let e = length_push xs x in let m = all.many in omega (arith, e, m));
-      each = λ i y q. go i y (of_joined xs (x ∷ []) i y q);
-    }
-      where
-        last : (i k : ℕ) (y : A) → i ≡ length xs + k → slice_get (x ∷ []) k ≡ Some y → P i y
-        last i zero y e q = let a : x ≡ y = cc q in let m = all.many in let b : n ≡ i = omega (arith, m, e) in subst (λ (m : ℕ). P m y) b (subst (P n) a h)
-        last i (suc k) y e q = cc q
-
-        go : (i : ℕ) (y : A) → (slice_get xs i ≡ Some y) ⊎ ((k : ℕ) × (i ≡ length xs + k) × (slice_get (x ∷ []) k ≡ Some y)) → P i y
-        go i y (inl q) = all.each i y q
-        go i y (inr q) = last i q.0 y q.1 q.2
-
-    -- the element at a place
-    pub read_each : (i : ℕ) (d : A) → i < n → P i (get_or xs i d)
-    read_each i d lt = all.each i (get_or xs i d) (slice_get-get_or xs i d (let m = all.many in omega (arith, m, lt)))
+use Rattle.loop_keys.proofs.KeyLaws.{key_small}
 
 -- ---- keys
-
-pub key_small : (g : GraphView) (s : ℕ) (u : Option ℕ) → s < length (graph_sites g) → key g s u < key_count g
-key_small g s u inside =
-    let x = something_at (graph_sites g) s inside in
-    let b = key_below (graph_variations g) (graph_sites g) s (length (graph_sites g)) x.0 u x.1 inside in
-    let c : key g s u ≡ keys_before (graph_variations g) (graph_sites g) s + slot (graph_variations g) x.0 u = ap (λ o. keys_before (graph_variations g) (graph_sites g) s + slot_at (graph_variations g) o u) x.1 in
-    omega (arith, b, c)
 
 pub key_read : (g : GraphView) (u : Option ℕ) (r : Row) → IsRow g u r → (s : ℕ) → s < length (graph_sites g) → (d : ℕ) → get_or r.keys s d < key_count g
 key_read g u r row s inside d =
     let e : get_or r.keys s d ≡ key g s u = read_each (λ s k. k ≡ key g s u) (length (graph_sites g)) r.keys row.keys s d inside in
     let b = key_small g s u inside in omega (arith, e, b)
 
--- where something_at is no such site
+-- where there is no such site
 key_past : (g : GraphView) (s : ℕ) (u : Option ℕ) → length (graph_sites g) ≤ s → key g s u ≡ key_count g
 key_past g s u past = go (graph_sites g) s past
   where
@@ -67,17 +37,8 @@ key_past g s u past = go (graph_sites g) s past
 
 module _ (g : GraphView) (u : Option ℕ) (keys : List ℕ) (all : AreUnder g u keys) (count : ℕ) (is : count ≡ key_count g) where
   pub key_found : (s : ℕ) → key_or_count keys count s ≡ key g s u
-  key_found s = go (order s (length (graph_sites g)))
+  key_found s = go (cases_lt s (length (graph_sites g)))
     where
-      order : (m n : ℕ) → (m < n) ⊎ (n ≤ m)
-      order m zero = inr (omega arith)
-      order zero (suc n) = inl (omega arith)
-      order (suc m) (suc n) = step (order m n)
-        where
-          step : (m < n) ⊎ (n ≤ m) → (suc m < suc n) ⊎ (suc n ≤ suc m)
-          step (inl l) = inl (omega (arith, l))
-          step (inr l) = inr (omega (arith, l))
-
       go : (s < length (graph_sites g)) ⊎ (length (graph_sites g) ≤ s) → key_or_count keys count s ≡ key g s u
       go (inl lt) = read_each (λ s k. k ≡ key g s u) (length (graph_sites g)) keys all s count lt
       go (inr le) = get_or_past keys s count (let m = all.many in omega (arith, m, le)) ∙ is ∙ sym (key_past g s u le)
@@ -109,20 +70,15 @@ more_rows g v rs each r h qs q =
     subst (λ (m : ℕ). AreEach (λ i x. IsRow g (row_under i) x) m qs) n
     (subst (λ (xs : List Row). AreEach (λ i x. IsRow g (row_under i) x) (suc v + 1) xs) (sym q) (more_each (λ i x. IsRow g (row_under i) x) (suc v) rs each r h))
 
--- ---- a variation that isn't something_at
+-- ---- a variation that isn't there
 
 module _ (g : GraphView) (v : ℕ) (past : length (graph_variations g) ≤ v) where
-  none_at : {A : Type 0} (xs : List A) (i : ℕ) → length xs ≤ i → slice_get xs i ≡ None
-  none_at [] i le = refl
-  none_at (x ∷ xs) zero le = absurd (omega (arith, le))
-  none_at (x ∷ xs) (suc i) le = none_at xs i (omega (arith, le))
-
   as_nominal : (s : ℕ) → key g s None ≡ key g s (Some v)
   as_nominal s = ap (λ n. keys_before (graph_variations g) (graph_sites g) s + n) (go (slice_get (graph_sites g) s))
     where
       go : (o : Option SiteAt) → slot_at (graph_variations g) o None ≡ slot_at (graph_variations g) o (Some v)
       go None = refl
-      go (Some x) = sym (ap (λ (w : Option Variation). if holds_at (depends_on x) w then suc (count_by (depends_on x) (take v (graph_variations g))) else 0) (none_at (graph_variations g) v past))
+      go (Some x) = sym (ap (λ (w : Option Variation). if holds_at (depends_on x) w then suc (count_by (depends_on x) (take v (graph_variations g))) else 0) (slice_get_past (graph_variations g) v past))
 
   pub as_nominal_row : (r : Row) → IsRow g None r → IsRow g (Some v) r
   as_nominal_row r h = record {
@@ -139,7 +95,7 @@ module _ (g : GraphView) (v : ℕ) (past : length (graph_variations g) ≤ v) wh
       moved (from.Element s k tags) = ap (λ n. stands.Element n k tags) (as_nominal s)
 
       sources_same : graph_sources g None ≡ graph_sources g (Some v)
-      sources_same = ap (λ (w : Option Variation). sources g.header g.names w (booked_statements g)) (sym (none_at (graph_variations g) v past))
+      sources_same = ap (λ (w : Option Variation). sources g.header g.names w (booked_statements g)) (sym (slice_get_past (graph_variations g) v past))
 
 -- ---- the row of nominal or a variation
 
@@ -160,5 +116,3 @@ module _ (g : GraphView) (rows : List Row) (all : AreKeys g rows) (u : Option �
         let at : r ≡ get_or rows (suc v) r = is ∙ ap (λ m. get_or rows m r) n in
         subst (λ (w : Option ℕ). IsRow g w r) (sym e)
         (subst (λ (x : Row). IsRow g (Some v) x) (sym at) (read_each (λ i x. IsRow g (row_under i) x) (suc (length (graph_variations g))) rows all (suc v) r (let m = all.many in omega (arith, inside, m))))
-
--- ---- what is read something_at

@@ -1,10 +1,10 @@
 -- Values of the kinds that an action takes suit it.
 use Rattle.std.proofs.Common.{◌≡◌, true, List, [], ◌∷◌}
 use Rattle.rdf_values.specs.Verdict.{may_begin}
-use Rattle.rdf_values.specs.Tables.{FitsKind}
 use Rattle.rdf_values.specs.declared.value.ColType.{ColType}
-use Rattle.rdf_values.specs.declared.value.ColType.TheVariants as k
 use Rattle.rdf_values.specs.declared.value.Value.{Value}
+use Rattle.rdf_values.specs.Tables.{FitsKind}
+use Rattle.rdf_values.specs.declared.value.ColType.TheVariants as k
 use Rattle.rdf_values.specs.declared.value.Value.TheVariants as val
 use Rattle.rdf_model.specs.Laws.{FitKinds}
 use Rattle.actions.specs.Parts.{AreAlike, IsInteger, IsNumeric, IsSingle, WeightSuits}
@@ -25,34 +25,29 @@ triples = (k.Int ∷ k.Int ∷ k.Int ∷ []) ∷ (k.Vect ∷ k.Vect ∷ k.Int �
 
 int_numeric : (v : Value) → FitsKind k.Int v → IsNumeric v
 int_numeric (val.Int a) f = tt
-int_numeric (val.Bool a) f = elim f [ ]
-int_numeric (val.Vect a) f = elim f [ ]
+int_numeric v f = absurd (assumption f)
 
 vect_numeric : (v : Value) → FitsKind k.Vect v → IsNumeric v
-vect_numeric (val.Int a) f = elim f [ ]
-vect_numeric (val.Bool a) f = elim f [ ]
 vect_numeric (val.Vect a) f = f
+vect_numeric v f = absurd (assumption f)
 
 int_single : (v : Value) → FitsKind k.Int v → IsSingle v
 int_single (val.Int a) f = tt
-int_single (val.Bool a) f = elim f [ ]
-int_single (val.Vect a) f = elim f [ ]
+int_single v f = absurd (assumption f)
 
 truth_single : (v : Value) → FitsKind k.Bool v → IsSingle v
-truth_single (val.Int a) f = elim f [ ]
 truth_single (val.Bool a) f = tt
-truth_single (val.Vect a) f = elim f [ ]
+truth_single v f = absurd (assumption f)
 
 int_integer : (v : Value) → FitsKind k.Int v → IsInteger v
 int_integer (val.Int a) f = tt
-int_integer (val.Bool a) f = elim f [ ]
-int_integer (val.Vect a) f = elim f [ ]
+int_integer v f = absurd (assumption f)
 
 pub numeric_fits : (ts : List ColType) (v : Value) → may_begin numeric ts ≡ true → FitKinds ts (v ∷ []) → IsNumeric v
 numeric_fits [] v m f = elim f [ ]
 numeric_fits (k.Int ∷ []) v m f = int_numeric v f.0
-numeric_fits (k.Bool ∷ []) v m f = cc m
 numeric_fits (k.Vect ∷ []) v m f = vect_numeric v f.0
+numeric_fits (k.Bool ∷ []) v m f = cc m
 numeric_fits (a ∷ b ∷ ts) v m f = elim f.1 [ ]
 
 pub single_fits : (ts : List ColType) (v : Value) → may_begin ((k.Int ∷ []) ∷ (k.Bool ∷ []) ∷ []) ts ≡ true → FitKinds ts (v ∷ []) → IsSingle v
@@ -65,133 +60,68 @@ single_fits (a ∷ b ∷ ts) v m f = elim f.1 [ ]
 pub integer_fits : (ts : List ColType) (v : Value) → may_begin ((k.Int ∷ []) ∷ []) ts ≡ true → FitKinds ts (v ∷ []) → IsInteger v
 integer_fits [] v m f = elim f [ ]
 integer_fits (k.Int ∷ []) v m f = int_integer v f.0
-integer_fits (k.Bool ∷ []) v m f = cc m
-integer_fits (k.Vect ∷ []) v m f = cc m
+integer_fits (a ∷ []) v m f = cc m
 integer_fits (a ∷ b ∷ ts) v m f = elim f.1 [ ]
 
 -- ---- with a weight
 
 ints_weighted : (v w : Value) → FitsKind k.Int v → FitsKind k.Int w → IsNumeric v × WeightSuits v w
 ints_weighted (val.Int a) (val.Int b) f g = (tt, tt)
-ints_weighted (val.Int a) (val.Bool b) f g = elim g [ ]
-ints_weighted (val.Int a) (val.Vect b) f g = elim g [ ]
-ints_weighted (val.Bool a) w f g = elim f [ ]
-ints_weighted (val.Vect a) w f g = elim f [ ]
+ints_weighted v w f g = absurd (assumption (f, g))
 
 vect_weighted : (v w : Value) → FitsKind k.Vect v → FitsKind k.Int w → IsNumeric v × WeightSuits v w
-vect_weighted (val.Int a) w f g = elim f [ ]
-vect_weighted (val.Bool a) w f g = elim f [ ]
 vect_weighted (val.Vect a) (val.Int b) f g = (f, tt)
-vect_weighted (val.Vect a) (val.Bool b) f g = elim g [ ]
-vect_weighted (val.Vect a) (val.Vect b) f g = elim g [ ]
+vect_weighted v w f g = absurd (assumption (f, g))
 
 vects_weighted : (v w : Value) → FitsKind k.Vect v → FitsKind k.Vect w → IsNumeric v × WeightSuits v w
-vects_weighted (val.Int a) w f g = elim f [ ]
-vects_weighted (val.Bool a) w f g = elim f [ ]
-vects_weighted (val.Vect a) (val.Int b) f g = elim g [ ]
-vects_weighted (val.Vect a) (val.Bool b) f g = elim g [ ]
 vects_weighted (val.Vect a) (val.Vect b) f g = (f, g)
+vects_weighted v w f g = absurd (assumption (f, g))
 
 pub weighted_fits : (ts : List ColType) (v w : Value) → may_begin weighted ts ≡ true → FitKinds ts (v ∷ w ∷ []) → IsNumeric v × WeightSuits v w
 weighted_fits [] v w m f = elim f [ ]
 weighted_fits (r ∷ []) v w m f = elim f.1 [ ]
 weighted_fits (k.Int ∷ k.Int ∷ []) v w m f = ints_weighted v w f.0 f.1.0
-weighted_fits (k.Int ∷ k.Bool ∷ []) v w m f = cc m
-weighted_fits (k.Int ∷ k.Vect ∷ []) v w m f = cc m
-weighted_fits (k.Bool ∷ k.Int ∷ []) v w m f = cc m
-weighted_fits (k.Bool ∷ k.Bool ∷ []) v w m f = cc m
-weighted_fits (k.Bool ∷ k.Vect ∷ []) v w m f = cc m
 weighted_fits (k.Vect ∷ k.Int ∷ []) v w m f = vect_weighted v w f.0 f.1.0
-weighted_fits (k.Vect ∷ k.Bool ∷ []) v w m f = cc m
 weighted_fits (k.Vect ∷ k.Vect ∷ []) v w m f = vects_weighted v w f.0 f.1.0
+weighted_fits (a ∷ b ∷ []) v w m f = cc m
 weighted_fits (a ∷ b ∷ c ∷ ts) v w m f = elim f.1.1 [ ]
 
 -- ---- two coordinates
 
 ints_alike : (v w : Value) → FitsKind k.Int v → FitsKind k.Int w → IsNumeric v × IsNumeric w × AreAlike v w
 ints_alike (val.Int a) (val.Int b) f g = (tt, tt, tt)
-ints_alike (val.Int a) (val.Bool b) f g = elim g [ ]
-ints_alike (val.Int a) (val.Vect b) f g = elim g [ ]
-ints_alike (val.Bool a) w f g = elim f [ ]
-ints_alike (val.Vect a) w f g = elim f [ ]
+ints_alike v w f g = absurd (assumption (f, g))
 
 vects_alike : (v w : Value) → FitsKind k.Vect v → FitsKind k.Vect w → IsNumeric v × IsNumeric w × AreAlike v w
-vects_alike (val.Int a) w f g = elim f [ ]
-vects_alike (val.Bool a) w f g = elim f [ ]
-vects_alike (val.Vect a) (val.Int b) f g = elim g [ ]
-vects_alike (val.Vect a) (val.Bool b) f g = elim g [ ]
 vects_alike (val.Vect a) (val.Vect b) f g = (f, g, tt)
+vects_alike v w f g = absurd (assumption (f, g))
 
 pub pair_fits : (ts : List ColType) (v w : Value) → may_begin pairs ts ≡ true → FitKinds ts (v ∷ w ∷ []) → IsNumeric v × IsNumeric w × AreAlike v w
 pair_fits [] v w m f = elim f [ ]
 pair_fits (r ∷ []) v w m f = elim f.1 [ ]
 pair_fits (k.Int ∷ k.Int ∷ []) v w m f = ints_alike v w f.0 f.1.0
-pair_fits (k.Int ∷ k.Bool ∷ []) v w m f = cc m
-pair_fits (k.Int ∷ k.Vect ∷ []) v w m f = cc m
-pair_fits (k.Bool ∷ k.Int ∷ []) v w m f = cc m
-pair_fits (k.Bool ∷ k.Bool ∷ []) v w m f = cc m
-pair_fits (k.Bool ∷ k.Vect ∷ []) v w m f = cc m
-pair_fits (k.Vect ∷ k.Int ∷ []) v w m f = cc m
-pair_fits (k.Vect ∷ k.Bool ∷ []) v w m f = cc m
 pair_fits (k.Vect ∷ k.Vect ∷ []) v w m f = vects_alike v w f.0 f.1.0
+pair_fits (a ∷ b ∷ []) v w m f = cc m
 pair_fits (a ∷ b ∷ c ∷ ts) v w m f = elim f.1.1 [ ]
 
 three_ints : (v w x : Value) → FitsKind k.Int v → FitsKind k.Int w → FitsKind k.Int x → IsNumeric v × IsNumeric w × AreAlike v w × WeightSuits v x
 three_ints (val.Int a) (val.Int b) (val.Int c) f g h = (tt, tt, tt, tt)
-three_ints (val.Int a) (val.Int b) (val.Bool c) f g h = elim h [ ]
-three_ints (val.Int a) (val.Int b) (val.Vect c) f g h = elim h [ ]
-three_ints (val.Int a) (val.Bool b) x f g h = elim g [ ]
-three_ints (val.Int a) (val.Vect b) x f g h = elim g [ ]
-three_ints (val.Bool a) w x f g h = elim f [ ]
-three_ints (val.Vect a) w x f g h = elim f [ ]
+three_ints v w x f g h = absurd (assumption (f, g, h))
 
 vects_int : (v w x : Value) → FitsKind k.Vect v → FitsKind k.Vect w → FitsKind k.Int x → IsNumeric v × IsNumeric w × AreAlike v w × WeightSuits v x
-vects_int (val.Int a) w x f g h = elim f [ ]
-vects_int (val.Bool a) w x f g h = elim f [ ]
-vects_int (val.Vect a) (val.Int b) x f g h = elim g [ ]
-vects_int (val.Vect a) (val.Bool b) x f g h = elim g [ ]
 vects_int (val.Vect a) (val.Vect b) (val.Int c) f g h = (f, g, tt, tt)
-vects_int (val.Vect a) (val.Vect b) (val.Bool c) f g h = elim h [ ]
-vects_int (val.Vect a) (val.Vect b) (val.Vect c) f g h = elim h [ ]
+vects_int v w x f g h = absurd (assumption (f, g, h))
 
 three_vects : (v w x : Value) → FitsKind k.Vect v → FitsKind k.Vect w → FitsKind k.Vect x → IsNumeric v × IsNumeric w × AreAlike v w × WeightSuits v x
-three_vects (val.Int a) w x f g h = elim f [ ]
-three_vects (val.Bool a) w x f g h = elim f [ ]
-three_vects (val.Vect a) (val.Int b) x f g h = elim g [ ]
-three_vects (val.Vect a) (val.Bool b) x f g h = elim g [ ]
-three_vects (val.Vect a) (val.Vect b) (val.Int c) f g h = elim h [ ]
-three_vects (val.Vect a) (val.Vect b) (val.Bool c) f g h = elim h [ ]
 three_vects (val.Vect a) (val.Vect b) (val.Vect c) f g h = (f, g, tt, h)
+three_vects v w x f g h = absurd (assumption (f, g, h))
 
 pub triple_fits : (ts : List ColType) (v w x : Value) → may_begin triples ts ≡ true → FitKinds ts (v ∷ w ∷ x ∷ []) → IsNumeric v × IsNumeric w × AreAlike v w × WeightSuits v x
 triple_fits [] v w x m f = elim f [ ]
 triple_fits (r ∷ []) v w x m f = elim f.1 [ ]
 triple_fits (r ∷ s ∷ []) v w x m f = elim f.1.1 [ ]
 triple_fits (k.Int ∷ k.Int ∷ k.Int ∷ []) v w x m f = three_ints v w x f.0 f.1.0 f.1.1.0
-triple_fits (k.Int ∷ k.Int ∷ k.Bool ∷ []) v w x m f = cc m
-triple_fits (k.Int ∷ k.Int ∷ k.Vect ∷ []) v w x m f = cc m
-triple_fits (k.Int ∷ k.Bool ∷ k.Int ∷ []) v w x m f = cc m
-triple_fits (k.Int ∷ k.Bool ∷ k.Bool ∷ []) v w x m f = cc m
-triple_fits (k.Int ∷ k.Bool ∷ k.Vect ∷ []) v w x m f = cc m
-triple_fits (k.Int ∷ k.Vect ∷ k.Int ∷ []) v w x m f = cc m
-triple_fits (k.Int ∷ k.Vect ∷ k.Bool ∷ []) v w x m f = cc m
-triple_fits (k.Int ∷ k.Vect ∷ k.Vect ∷ []) v w x m f = cc m
-triple_fits (k.Bool ∷ k.Int ∷ k.Int ∷ []) v w x m f = cc m
-triple_fits (k.Bool ∷ k.Int ∷ k.Bool ∷ []) v w x m f = cc m
-triple_fits (k.Bool ∷ k.Int ∷ k.Vect ∷ []) v w x m f = cc m
-triple_fits (k.Bool ∷ k.Bool ∷ k.Int ∷ []) v w x m f = cc m
-triple_fits (k.Bool ∷ k.Bool ∷ k.Bool ∷ []) v w x m f = cc m
-triple_fits (k.Bool ∷ k.Bool ∷ k.Vect ∷ []) v w x m f = cc m
-triple_fits (k.Bool ∷ k.Vect ∷ k.Int ∷ []) v w x m f = cc m
-triple_fits (k.Bool ∷ k.Vect ∷ k.Bool ∷ []) v w x m f = cc m
-triple_fits (k.Bool ∷ k.Vect ∷ k.Vect ∷ []) v w x m f = cc m
-triple_fits (k.Vect ∷ k.Int ∷ k.Int ∷ []) v w x m f = cc m
-triple_fits (k.Vect ∷ k.Int ∷ k.Bool ∷ []) v w x m f = cc m
-triple_fits (k.Vect ∷ k.Int ∷ k.Vect ∷ []) v w x m f = cc m
-triple_fits (k.Vect ∷ k.Bool ∷ k.Int ∷ []) v w x m f = cc m
-triple_fits (k.Vect ∷ k.Bool ∷ k.Bool ∷ []) v w x m f = cc m
-triple_fits (k.Vect ∷ k.Bool ∷ k.Vect ∷ []) v w x m f = cc m
 triple_fits (k.Vect ∷ k.Vect ∷ k.Int ∷ []) v w x m f = vects_int v w x f.0 f.1.0 f.1.1.0
-triple_fits (k.Vect ∷ k.Vect ∷ k.Bool ∷ []) v w x m f = cc m
 triple_fits (k.Vect ∷ k.Vect ∷ k.Vect ∷ []) v w x m f = three_vects v w x f.0 f.1.0 f.1.1.0
+triple_fits (a ∷ b ∷ c ∷ []) v w x m f = cc m
 triple_fits (a ∷ b ∷ c ∷ d ∷ ts) v w x m f = elim f.1.1.1 [ ]

@@ -1,9 +1,9 @@
 -- The columns of a table.
 use Rattle.std.proofs.Common.{◌≡◌, ℕ, Some, slice_get, zero, suc, ◌<◌, List, [], ◌∷◌, ◌++◌, length, get_or, sym, ◌∙◌, ap, subst, arith}
 use Rattle.std.proofs.lemmas.Option.{slice_get-get_or}
+use Rattle.rdf_values.specs.declared.column.Column.{Column}
 use Rattle.rdf_values.specs.declared.value.Value.{Value}
 use Rattle.rdf_values.specs.Tables.{AreColumns, IsStored}
-use Rattle.rdf_values.specs.declared.column.Column.{Column}
 use Rattle.rdf_values.specs.declared.value.ColType.TheVariants as k
 
 stored : (seen cs : List Column) → AreColumns seen cs → (i : ℕ) → i < length cs → (d : Column) → IsStored (get_or cs i d).kind

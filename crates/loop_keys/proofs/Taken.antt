@@ -1,21 +1,20 @@
 -- What the next entry gives to a tally, by the passes of a job's loop.
-use Rattle.std.proofs.Common.{◌≡◌, ℕ, zero, suc, ◌+◌, true, false, List, [], ◌∷◌, ◌++◌, length, take, Some, sym, ◌∙◌, ap, arith, slice_get, if◌then◌else◌}
+use Rattle.std.proofs.Common.{◌≡◌, ℕ, zero, suc, ◌+◌, true, false, List, [], ◌∷◌, ◌++◌, length, take, Some, sym, ◌∙◌, ap, arith, slice_get, if◌then◌else◌, refl, length-append, zero-add}
+use Rattle.std.proofs.lemmas.List.{append-nil}
 use Rattle.lemmas.proofs.Places.{mapped_at}
 use Rattle.rdf_values.specs.Bookings.{ActionAt, Booking, Pass, ReportOn, named_before}
 use Rattle.rdf_values.specs.Path.{Path, history}
 use Rattle.rdf_values.specs.declared.action.ActionKind.{ActionKind}
 use Rattle.rdf_values.specs.declared.value.Value.{Value}
-use Rattle.rdf_model.specs.LoopFacts.{filter_reach, is_covered, kind_in, kinds_in, reaches_of, spread_in, spreads_of}
 use Rattle.rdf_model.specs.Results.{Dataset, items_of}
+use Rattle.rdf_model.specs.LoopFacts.{filter_reach, is_covered, kind_in, kinds_in, reaches_of, spread_in, spreads_of}
 use Rattle.rdf_model.specs.declared.loop_facts.Reach.{Reach}
 use Rattle.rdf_model.specs.declared.loop_facts.Reach.TheVariants.{Stopped}
 use Rattle.graph_numbers.specs.Graphs.{graph_filters}
 use Rattle.graph_numbers.specs.Results.{FilterAt}
+use Rattle.graph_numbers.proofs.Covering.{filters_are}
 use Rattle.loop_keys.specs.Jobs.{JobView, job_graph, passes_in}
 use Rattle.loop_keys.specs.Turns.{actions_before}
-use Rattle.loop_keys.proofs.Covered.{filters_are}
-
--- ---- rows of a range
 
 module _ (j : JobView) (entry : ℕ) (row : List Value) (here : slice_get j.dataset.rows entry ≡ Some row) where
   abbrev pub own_reaches : List Reach
@@ -26,17 +25,10 @@ module _ (j : JobView) (entry : ℕ) (row : List Value) (here : slice_get j.data
 actions_next : (n : ℕ) (ps : List Pass) (p : Pass) → slice_get ps n ≡ Some p → length (kinds_in (take (suc n) ps)) ≡ length (kinds_in (take n ps)) + length (kind_in p.result.booking)
 actions_next n [] p q = cc q
 actions_next zero (x ∷ ps) p q =
-    let e : x ≡ p = cc q in go x.result.booking (ap (λ (y : Pass). y.result.booking) e)
-  where
-    go : (b : Booking) → b ≡ p.result.booking → length (kind_in b ++ kinds_in (take 0 ps)) ≡ 0 + length (kind_in p.result.booking)
-    go (ActionAt k at) e = ap (λ (c : Booking). 0 + length (kind_in c)) e
-    go (ReportOn fs) e = ap (λ (c : Booking). 0 + length (kind_in c)) e
-actions_next (suc n) (x ∷ ps) p q = go x.result.booking (actions_next n ps p q)
-  where
-    go : (b : Booking) → length (kinds_in (take (suc n) ps)) ≡ length (kinds_in (take n ps)) + length (kind_in p.result.booking)
-        → length (kind_in b ++ kinds_in (take (suc n) ps)) ≡ length (kind_in b ++ kinds_in (take n ps)) + length (kind_in p.result.booking)
-    go (ActionAt k at) h = let e : suc (length (kinds_in (take n ps)) + length (kind_in p.result.booking)) ≡ suc (length (kinds_in (take n ps))) + length (kind_in p.result.booking) = omega arith in ap suc h ∙ e
-    go (ReportOn fs) h = h
+    let e : x ≡ p = cc q in ap length (append-nil (kind_in x.result.booking)) ∙ ap (λ (y : Pass). length (kind_in y.result.booking)) e ∙ sym (zero-add (length (kind_in p.result.booking)))
+actions_next (suc n) (x ∷ ps) p q =
+    let h = actions_next n ps p q in let l = length-append (kind_in x.result.booking) (kinds_in (take (suc n) ps)) in let m = length-append (kind_in x.result.booking) (kinds_in (take n ps)) in
+    omega (arith, h, l, m)
 
 -- after an action's pass there is one more, and after a report's none
 after_pass : (j : JobView) (n : ℕ) (p : Pass) (c : Booking) → slice_get (passes_in j) n ≡ Some p → p.result.booking ≡ c → actions_before j (n + 1) ≡ actions_before j n + length (kind_in c)
@@ -55,14 +47,8 @@ module _ (d : Dataset) (row : List Value) where
   pub at_place : (n : ℕ) (ps : List Pass) (p : Pass) (k : ActionKind) (at : Path) → slice_get ps n ≡ Some p → p.result.booking ≡ ActionAt k at
       → (slice_get (kinds_in ps) (length (kinds_in (take n ps))) ≡ Some k) × (slice_get (spreads_of d ps row) (length (kinds_in (take n ps))) ≡ Some (items_of d k at p.under row))
   at_place n [] p k at q b = cc q
-  at_place zero (x ∷ ps) p k at q b = let e : p ≡ x = sym (cc q) in go x.result.booking (ap (λ (y : Pass). y.result.booking) (sym e) ∙ b)
-    where
-      go : (c : Booking) → c ≡ ActionAt k at → (slice_get (kind_in c ++ kinds_in ps) 0 ≡ Some k) × (slice_get (spread_in d row x c ++ spreads_of d ps row) 0 ≡ Some (items_of d k at p.under row))
-      go c e =
-          let i : x ≡ p = cc q in (
-            ap (λ (y : Booking). slice_get (kind_in y ++ kinds_in ps) 0) e,
-            ap (λ (y : Booking). slice_get (spread_in d row x y ++ spreads_of d ps row) 0) e ∙ ap (λ (y : Pass). Some (items_of d k at y.under row)) i,
-          )
+  at_place zero (x ∷ ps) p k at q b =
+      let i : x ≡ p = cc q in let c : x.result.booking ≡ ActionAt k at = ap (λ (y : Pass). y.result.booking) i ∙ b in rw c (refl, ap (λ (y : Pass). Some (items_of d k at y.under row)) i)
   at_place (suc n) (x ∷ ps) p k at q b = go x.result.booking (at_place n ps p k at q b)
     where
       go : (c : Booking)
@@ -71,8 +57,6 @@ module _ (d : Dataset) (row : List Value) where
           × (slice_get (spread_in d row x c ++ spreads_of d ps row) (length (kind_in c ++ kinds_in (take n ps))) ≡ Some (items_of d k at p.under row))
       go (ActionAt l up) h = h
       go (ReportOn fs) h = h
-
--- ---- what is fed
 
 -- ---- what named filters do
 

@@ -1,12 +1,11 @@
 -- What a contract sees of the evaluations that the passes of an entry share.
 use Rattle.std.specs.Prelude.{◌≡◌, ⊤, ℕ, Bool, true, List, [], Option, Some, None, slice_get, All, Contains, unwrap_or, MatchOption}
-use Rattle.rdf_values.specs.Bookings.{Pass}
-use Rattle.rdf_values.specs.Bookings.{Booking, ActionAt, ReportOn}
+use Rattle.rdf_values.specs.Bookings.{Pass, Booking, ActionAt, ReportOn}
 use Rattle.rdf_values.specs.declared.value.Value.{Value}
 use Rattle.rdf_model.specs.Demanded.{Demand, pass_demands, filter_demands}
 use Rattle.rdf_model.specs.EntryOutcomes.{through}
-use Rattle.rdf_model.specs.LoopFacts.{filter_reach}
 use Rattle.rdf_model.specs.Results.{fault_in}
+use Rattle.rdf_model.specs.LoopFacts.{filter_reach}
 use Rattle.rdf_model.specs.declared.loop_facts.Reach.{Reach}
 use Rattle.graph_numbers.specs.Graphs.{graph_filters, graph_loops, graph_results}
 use Rattle.graph_numbers.specs.Results.{FilterAt, ResultAt}
@@ -14,8 +13,6 @@ use Rattle.graph_numbers.specs.declared.pass.Pass.{Pass as NumberedPass}
 use Rattle.loop_keys.specs.Jobs.{JobView, job_graph, passes_in}
 use Rattle.loop_keys.specs.Keys.{demand_key}
 use Rattle.loop_keys.specs.Plain.{ArePlain, IsPlainVersion}
-
--- ---- what is held
 
 -- ---- what is demanded
 
@@ -69,5 +66,3 @@ pub record IsCovered (j : JobView) (f : ℕ) : Type 0 where
   pub its_pass : numbered_in j pass ≡ Some numbered
   pub its_result : slice_get (graph_results (job_graph j)) numbered.result ≡ Some result
   pub covers : Contains result.covers f
-
--- ---- the core of a pass and of a named filter

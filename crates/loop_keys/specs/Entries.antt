@@ -1,12 +1,12 @@
 -- What an entry gives to a loop.
 use Rattle.std.specs.Prelude.{⊤, ℕ, List, length}
 use Rattle.rdf_values.specs.Bookings.{named_before}
-use Rattle.rdf_values.specs.Cuts.{cut}
 use Rattle.rdf_values.specs.Path.{history}
 use Rattle.rdf_values.specs.declared.action.ActionKind.{ActionKind}
+use Rattle.rdf_model.specs.Demanded.{demanded}
+use Rattle.rdf_values.specs.Cuts.{cut}
 use Rattle.rdf_values.specs.declared.action.ActionKind.TheVariants as kind
 use Rattle.rdf_values.specs.declared.span.Span.{Span}
-use Rattle.rdf_model.specs.Demanded.{demanded}
 use Rattle.rdf_model.specs.LoopFacts.{loop_facts}
 use Rattle.rdf_model.specs.declared.loop_facts.LoopFacts.{LoopFacts}
 use Rattle.loop_keys.specs.Jobs.{JobView, passes_in}

@@ -4,12 +4,12 @@ use Rattle.rdf_values.specs.Bookings.{Pass}
 use Rattle.rdf_values.specs.Functions.{fn_names}
 use Rattle.rdf_values.specs.Path.{history}
 use Rattle.rdf_values.specs.declared.script.Script.{Script}
-use Rattle.rdf_values.specs.Tables.{IsTable}
 use Rattle.rdf_values.specs.declared.value.Value.{Value}
-use Rattle.rdf_model.specs.Evaluation.{Outcome, Gives}
 use Rattle.rdf_model.specs.EntryOutcomes.{Entry, Skip, entry_outcome}
+use Rattle.rdf_model.specs.Evaluation.{Outcome, Gives}
 use Rattle.rdf_model.specs.Loops.{loop_results, loop_passes}
 use Rattle.rdf_model.specs.Results.{Dataset}
+use Rattle.rdf_values.specs.Tables.{IsTable}
 use Rattle.columns.specs.CutsView.{CutsView}
 use Rattle.entry_fns.specs.Lists.{functions_in}
 use Rattle.graph_numbers.specs.Graphs.{GraphView, IsGraph, graph_loops}

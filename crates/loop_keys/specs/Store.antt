@@ -1,12 +1,12 @@
 -- What is held of the sites of an entry, and what an evaluation is told of it.
 use Rattle.std.specs.Prelude.{if◌then◌else◌, ◌≡◌, ⊤, ◌≤◌, ◌<◌, ◌⊎◌, ℕ, zero, suc, ◌+◌, Bool, true, false, List, [], length, Option, Some, None, slice_get, slice_index_or, count_by, unwrap_or, MatchOption, All}
-use Rattle.rdf_values.specs.declared.value.Value.{Value}
-use Rattle.rdf_values.specs.declared.value.Value.TheVariants as val
-use Rattle.rdf_model.specs.Evaluation.{Outcome, Gives, Faults, Needs, ◌>>=◌}
-use Rattle.rdf_model.specs.Laws.{FitsOutcome}
 use Rattle.rdf_values.specs.declared.value.ColType.{ColType}
-use Rattle.expr_check.specs.NumKinds.{CheckedExpr}
+use Rattle.rdf_values.specs.declared.value.Value.{Value}
 use Rattle.rdf_model.specs.ColumnValues.{tag_element}
+use Rattle.rdf_model.specs.Evaluation.{Outcome, Gives, Faults, Needs, ◌>>=◌}
+use Rattle.rdf_values.specs.declared.value.Value.TheVariants as val
+use Rattle.rdf_model.specs.Laws.{FitsOutcome}
+use Rattle.expr_check.specs.NumKinds.{CheckedExpr}
 use Rattle.graph_numbers.specs.Graphs.{graph_sites, graph_under, graph_sources, graph_versions}
 use Rattle.graph_numbers.specs.Meets.{meets, HasFilters, HasInputs, IfPassed}
 use Rattle.graph_numbers.specs.Outcomes.{through_sites}

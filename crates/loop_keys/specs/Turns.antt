@@ -3,9 +3,9 @@ use Rattle.std.specs.Prelude.{◌≡◌, ℕ, Bool, List, [], Option, None, Some
 use Rattle.std.specs.List.{list_any}
 use Rattle.rdf_values.specs.Bookings.{ReportOn}
 use Rattle.rdf_values.specs.Path.{Path}
+use Rattle.rdf_model.specs.Results.{fault_in}
 use Rattle.rdf_values.specs.declared.fault.EntryFault.{EntryFault}
 use Rattle.rdf_model.specs.LoopFacts.{kinds_in}
-use Rattle.rdf_model.specs.Results.{fault_in}
 use Rattle.graph_numbers.specs.Graphs.{graph_loops, graph_results}
 use Rattle.graph_numbers.specs.Results.{ResultAt}
 use Rattle.graph_numbers.specs.declared.pass.Pass.{Pass as NumberedPass}

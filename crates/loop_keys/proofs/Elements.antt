@@ -1,0 +1,66 @@
+-- What stands in a list, and tests and facts of its elements; and from what an answer comes.
+use Rattle.std.proofs.Common.{◌≡◌, ℕ, zero, suc, Bool, true, ◌||◌, List, [], ◌∷◌, map, Option, Some, None, option_map, refl, sym, subst, ap, slice_get, unwrap_or, ◌+◌, ◌<◌, ◌++◌, length, arith, get_or}
+use Rattle.std.proofs.lemmas.List.{length_push}
+use Rattle.std.proofs.lemmas.Option.{slice_get-get_or}
+use Rattle.std.specs.Prelude.{flat_map}
+use Rattle.std.specs.List.{list_any, AllByRecursion}
+use Rattle.lemmas.proofs.Booleans.{or_right}
+use Rattle.graph_numbers.proofs.Listed.{by_test, joined, only_at}
+use Rattle.loop_keys.specs.Keys.{AreEach}
+use Rattle.graph_numbers.proofs.Meeting.{In, here, there, in_left, in_right}
+
+pub any_in : {A : Type 0} (test : A → Bool) (xs : List A) → list_any test xs ≡ true → (x : A) × In x xs × (test x ≡ true)
+any_in test [] h = cc h
+any_in test (x ∷ xs) h = by_test (test x) (λ e. (x, here, e)) (λ e. let w = any_in test xs (rw e at h) in (w.0, there w.1, w.2))
+
+pub in_any : {A : Type 0} (test : A → Bool) (x : A) (xs : List A) → In x xs → test x ≡ true → list_any test xs ≡ true
+in_any test x xs (here {xs = ys}) e = ap (λ b. b || list_any test ys) e
+in_any test x xs (there {y = y} {xs = ys} h) e = or_right (test y) (list_any test ys) (in_any test x ys h e)
+
+pub each_in : {A : Type 0} (P : A → Type 0) (xs : List A) → ((x : A) → In x xs → P x) → AllByRecursion P xs
+each_in P [] h = tt
+each_in P (x ∷ xs) h = (h x here, each_in P xs (λ y k. h y (there k)))
+
+pub at_in : {A : Type 0} (P : A → Type 0) (x : A) (xs : List A) → AllByRecursion P xs → In x xs → P x
+at_in P x xs h (here {xs = ys}) = h.0
+at_in P x xs h (there {xs = ys} k) = at_in P x ys h.1 k
+
+pub in_flat : {A B : Type 0} (f : A → List B) (xs : List A) (n : ℕ) (x : A) (y : B) → slice_get xs n ≡ Some x → In y (f x) → In y (flat_map f xs)
+in_flat f [] n x y h k = cc h
+in_flat f (z ∷ xs) zero x y h k = let e : z ≡ x = cc h in in_left (f z) (flat_map f xs) (subst (λ (w : _). In y (f w)) (sym e) k)
+in_flat f (z ∷ xs) (suc n) x y h k = in_right (f z) (flat_map f xs) (in_flat f xs n x y h k)
+
+pub of_mapped : {A B : Type 0} (f : A → B) (xs : List A) (n : ℕ) (y : B) → slice_get (map f xs) n ≡ Some y → (x : A) × (slice_get xs n ≡ Some x) × (f x ≡ y)
+of_mapped f [] n y h = cc h
+of_mapped f (x ∷ xs) zero y h = (x, refl, cc h)
+of_mapped f (x ∷ xs) (suc n) y h = of_mapped f xs n y h
+
+pub of_chosen : {A : Type 0} (o : Option (List A)) (n : ℕ) (x : A) → slice_get (unwrap_or o []) n ≡ Some x → (xs : List A) × (o ≡ Some xs) × (slice_get xs n ≡ Some x)
+of_chosen None n x h = cc h
+of_chosen (Some xs) n x h = (xs, refl, h)
+
+pub of_option : {A B : Type 0} (f : A → B) (o : Option A) (y : B) → option_map f o ≡ Some y → (x : A) × (o ≡ Some x) × (f x ≡ y)
+of_option f None y h = cc h
+of_option f (Some x) y h = (x, refl, cc h)
+
+-- ---- lists that are right at each place
+
+module _ {A : Type 0} (P : ℕ → A → Type 0) where
+  pub none_each : AreEach P 0 []
+  none_each = record { many = refl; each = λ i x h. cc h }
+
+  module _ (n : ℕ) (xs : List A) (all : AreEach P n xs) where
+    -- one more
+    pub more_each : (x : A) → P n x → AreEach P (n + 1) (xs ++ x ∷ [])
+    more_each x h = record {
+      many = (let e = length_push xs x in let m = all.many in omega (arith, e, m));
+      each = λ i y q. joined xs (x ∷ []) i y q (all.each i y) (λ k e r. let b : n ≡ i = last k e r in subst (λ (m : ℕ). P m y) b (subst (P n) (only_at x y k r) h));
+    }
+      where
+        last : {i : ℕ} {y : A} (k : ℕ) → i ≡ length xs + k → slice_get (x ∷ []) k ≡ Some y → n ≡ i
+        last zero e r = let m = all.many in omega (arith, m, e)
+        last (suc k) e r = cc r
+
+    -- the element at a place
+    pub read_each : (i : ℕ) (d : A) → i < n → P i (get_or xs i d)
+    read_each i d lt = all.each i (get_or xs i d) (slice_get-get_or xs i d (let m = all.many in omega (arith, m, lt)))
