@@ -1,5 +1,5 @@
 -- The sets after every so many clusters are a chain.
-use Rattle.std.proofs.Common.{◌≡◌, ℕ, zero, suc, ◌+◌, ◌*◌, ◌/◌, ◌<◌, ◌≤◌, List, [], ◌∷◌, ◌++◌, length, map, Some, sym, ap, ◌∙◌, subst, arith, mul-le-mul_right}
+use Rattle.std.proofs.Common.{◌≡◌, ℕ, zero, suc, ◌+◌, ◌-◌, ◌*◌, ◌/◌, ◌<◌, ◌≤◌, List, [], ◌∷◌, ◌++◌, length, map, Some, sym, ap, ◌∙◌, subst, arith, mul-le-mul_right}
 use Rattle.std.specs.Prelude.{slice_get, option_map, Contains}
 use Rattle.std.specs.List.{All}
 use Rattle.std.specs.List.Sorted.{IsStrictlyIncreasing}
@@ -71,6 +71,9 @@ module _ (facts : LoopFacts) (place : ℕ) where
       subst (λ (x : PartialLine). IsPartialLine facts place set x) line (subst (λ (x : List ℕ). IsPartialLine facts place x m) same h.0)
   line_in (s ∷ ss) (m ∷ ms) (suc j) set l h at there = line_in ss ms j set l h.1 at there
 
-  -- one of the lines so far
-  pub line_at : (f : ℕ → List ℕ) (n j : ℕ) (ls : List PartialLine) (l : PartialLine) → ArePartialLines facts place (map f (below n)) ls → j < n → slice_get ls j ≡ Some l → IsPartialLine facts place (f j) l
-  line_at f n j ls l h lt there = line_in (map f (below n)) ls j (f j) l h (slice_get-map f (below n) j ∙ ap (option_map f) (slice_get-below n j lt)) there
+  -- the last of the lines so far
+  pub last_line : (g : ℕ → List ℕ) (step n : ℕ) (ls : List PartialLine) (l : PartialLine) → ArePartialLines facts place (map (λ j. g ((j + 1) * step)) (below n)) ls → 0 < n → slice_get ls (n - 1) ≡ Some l → IsPartialLine facts place (g (n * step)) l
+  last_line g step n ls l h some there =
+      let f = λ (j : ℕ). g ((j + 1) * step) in
+      let same : n - 1 + 1 ≡ n = omega arith in
+      subst (λ (k : ℕ). IsPartialLine facts place (g (k * step)) l) same (line_in (map f (below n)) ls (n - 1) (f (n - 1)) l h (slice_get-map f (below n) (n - 1) ∙ ap (option_map f) (slice_get-below n (n - 1) (omega arith))) there)

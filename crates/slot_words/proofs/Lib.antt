@@ -1,10 +1,10 @@
 pub mod Alone
 pub mod Bars
 pub mod Chaining
+pub mod Chosen
 pub mod Draws
 pub mod Hands
 pub mod Joining
-pub mod Noted
 pub mod Notes
 pub mod Noting
 pub mod Places
@@ -13,5 +13,4 @@ pub mod Steps
 pub mod Stretches
 pub mod Taking
 pub mod Tokens
-pub mod Turns
 pub mod Watched

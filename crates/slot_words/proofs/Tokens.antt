@@ -1,14 +1,18 @@
 -- Seats and shares as they are made and as they are handed back, under a rule that says nothing of the hands' order.
-use Rattle.std.proofs.Common.{◌≡◌, ℕ, suc, ◌+◌, ◌<◌, List, [], ◌∷◌, ◌++◌, length, map, replicate, refl, sym, ap, ◌∙◌, subst, arith, append-nil}
-use Rattle.std.specs.Prelude.{IsPermutation}
+use Rattle.std.proofs.Common.{◌≡◌, ℕ, suc, ◌+◌, ◌-◌, ◌%◌, ◌^◌, ◌<◌, List, [], ◌∷◌, ◌++◌, length, map, replicate, refl, sym, ap, ◌∙◌, subst, arith, append-nil, Some}
+use Rattle.std.specs.Prelude.{IsPermutation, slice_index, slice_set}
 use Rattle.std.specs.List.{All, range_with_len}
-use Rattle.std.proofs.lemmas.List.{length-replicate, nil_from_length}
-use Rattle.std.proofs.lemmas.List.Elements.{All-nil, All-cons, All-head, All-tail, All-pop}
-use Rattle.std.proofs.Common.{Some}
+use Rattle.std.proofs.lemmas.List.{get_or-map, length-map, length-replicate, nil_from_length}
+use Rattle.std.proofs.lemmas.List.Elements.{All-pop}
+use Rattle.std.proofs.lemmas.List.Sorted.{IsPermutation-sym}
 use Rattle.atomic_table.specs.Seated.{TableId}
-use Rattle.atomic_table.specs.Table.{State, Me, Splits, Joins, Enters}
+use Rattle.atomic_table.specs.Table.{State, Me, Splits, Joins, Enters, Allows, keeps}
 use Rattle.slot_words.specs.Hands.{hands_in, others, first_alone}
-use Rattle.slot_words.proofs.Hands.{dealt, dealt_more, entered, first_replicate, others_replicate, taken, taken_next}
+use Rattle.slot_words.proofs.Hands.{among, dealt, dealt_more, entered, taken, taken_next}
+
+-- a word after one more draw
+abbrev pub bump : ℕ → ℕ
+bump n = (n + 1) % 2 ^ 64
 
 module _ {H : Type 0} (Rule : List ℕ → List H → Type 0) (again : (words : List ℕ) (hands now : List H) → IsPermutation hands now → Rule words hands → Rule words now) where
   abbrev Holds : State ℕ (List H) → Type 0
@@ -33,11 +37,23 @@ module _ {H : Type 0} (Rule : List ℕ → List H → Type 0) (again : (words : 
   pub enters : (slots i : ℕ) → Enters Holds slots i (λ n v. KnowsNone (v, []))
   enters slots i s rule len fits = ([], subst (Rule s.words) (sym (entered s.views)) rule, refl)
 
+  -- a seat's one hand is the first of those in the rule, and the word i becomes f of what it was
+  abbrev pub Keeps : H → ℕ → (ℕ → ℕ) → (ℕ → Me ℕ (List H) → Type 0) → List H → List ℕ → Type 0
+  Keeps h i f then rest words = (g : H) × Rule (slice_set words i (f (slice_index words i))) (g ∷ rest) × then (slice_index words i) (g ∷ [], [])
+
+  -- then so it is at the table
+  pub steps : (places id : ℕ) (me : Me ℕ (List H)) (h : H) (i : ℕ) (f : ℕ → ℕ) (then : ℕ → Me ℕ (List H) → Type 0) → me ≡ (h ∷ [], [])
+      → ((words : List ℕ) (rest : List H) → Rule words (h ∷ rest) → Keeps h i f then rest words) → Allows Holds places id me i f then
+  steps places id me h i f then is keep = subst (λ (m : Me ℕ (List H)). Allows Holds places id m i f then) (sym is)
+      (λ s rule len at fits.
+      let a = among s.views id (h ∷ []) at in
+      let now = keep s.words a.rest (again s.words _ _ a.are rule) in
+      (now.0 ∷ [], keeps, tt, again _ _ _ (IsPermutation-sym _ _ (a.changed (now.0 ∷ []))) now.1, now.2))
+
 module _ {S H : Type 0} where
   -- what holds of each one's hand
   pub all_seen : (hand : S → H) (P : H → Type 0) (tokens : List S) → All P (map hand tokens) → All (λ s. P (hand s)) tokens
-  all_seen hand P [] each = All-nil (λ s. P (hand s))
-  all_seen hand P (s ∷ ss) each = All-cons (λ t. P (hand t)) s ss (All-head P (hand s) (map hand ss) each) (all_seen hand P ss (All-tail P (hand s) (map hand ss) each))
+  all_seen hand P tokens each k d lt = subst P (get_or-map hand tokens k d (hand d) lt) (each k (hand d) (omega (arith, length-map tokens hand)))
 
   -- the first n were made, and so many hands are left
   pub record IsDealing (fresh : ℕ → S) (h : H) (table : TableId) (left n : ℕ) (made : List S) (at : TableId) (me : Me ℕ (List H)) : Type 0 where
@@ -50,12 +66,12 @@ module _ {S H : Type 0} where
     many_left = ap (λ m. length m.0) d.undealt ∙ length-replicate _ _
 
     pub one_dealt : 0 < left → first_alone me.0 ≡ h ∷ []
-    one_dealt some_hand = ap (λ m. first_alone m.0) d.undealt ∙ first_replicate left h some_hand
+    one_dealt some_hand = ap (λ m. first_alone m.0) d.undealt ∙ (let left_is : left ≡ suc (left - 1) = omega arith in ap (λ n. first_alone (replicate n h)) left_is)
 
     pub next_dealt : (fewer : ℕ) (now : List S) (s : S) (at' : TableId) (me' : Me ℕ (List H)) → left ≡ suc fewer → at' ≡ at → me' ≡ (others me.0, me.1) → now ≡ made ++ s ∷ [] → s ≡ fresh n → IsDealing fresh h table fewer (n + 1) now at' me'
     next_dealt fewer now s at' me' less same rest more is = record {
       of = same ∙ d.of;
-      undealt = rest ∙ ap (λ m. (others m.0, m.1)) d.undealt ∙ ap (λ v. (v, [])) (others_replicate left fewer h less);
+      undealt = rest ∙ ap (λ m. (others m.0, m.1)) d.undealt ∙ ap (λ n. (others (replicate n h), [])) less;
       dealt = more ∙ dealt_more fresh n made s d.dealt is;
     }
 

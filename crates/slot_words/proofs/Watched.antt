@@ -4,7 +4,7 @@ use Rattle.std.specs.Prelude.{slice_get}
 use Rattle.std.specs.List.{All}
 use Rattle.std.proofs.lemmas.Option.{slice_get-get_or, slice_get_within}
 use Rattle.lemmas.proofs.Answers.{same_some}
-use Rattle.lemmas.proofs.Places.{before_or_last, set_length}
+use Rattle.lemmas.proofs.Places.{before_or_last, set_length, something_at}
 use Rattle.rdf_values.specs.Cuts.{stride}
 use Rattle.rdf_model.specs.PartialResults.{IsChain}
 use Rattle.rdf_model.specs.declared.loop_facts.LoopFacts.{LoopFacts}
@@ -24,22 +24,18 @@ pub record AreAhead (w : ℕ) (old new : List LoopPiece) : Type 0 where
   pub trails : (k : ℕ) (p q : LoopPiece) → slice_get old k ≡ Some p → slice_get new k ≡ Some q
       → (length q.trails.items ≡ length p.trails.items) × ((i : ℕ) → w ≤ i → slice_get q.trails.items i ≡ slice_get p.trails.items i)
 
--- the piece between at a place
-between : (old mid : List LoopPiece) (k : ℕ) (p : LoopPiece) → length mid ≡ length old → slice_get old k ≡ Some p → (q : LoopPiece) × (slice_get mid k ≡ Some q)
-between old mid k p same at = let lt : k < length mid = omega (arith, slice_get_within old k p at) in (get_or mid k p, slice_get-get_or mid k p lt)
-
 pub next_ahead : (w : ℕ) (old mid new : List LoopPiece) → AreAhead w old mid → AreLeft w mid new → AreAhead (w + 1) old new
 next_ahead w old mid new h left = record {
   bodies = record {
     many = left.bodies.many ∙ h.bodies.many;
     each = λ k p r a b.
-        (let q = between old mid k p h.bodies.many a in
+        (let q = something_at mid k (omega (arith, slice_get_within old k p a, h.bodies.many)) in
         let x = h.bodies.each k p q.0 a q.1 in
         let y = left.bodies.each k q.0 r q.1 b in
         record { accs = y.accs ∙ x.accs; flow = y.flow ∙ x.flow });
   };
   trails = λ k p r a b.
-      (let q = between old mid k p h.bodies.many a in
+      (let q = something_at mid k (omega (arith, slice_get_within old k p a, h.bodies.many)) in
       let x = h.trails k p q.0 a q.1 in
       let y = left.trails k q.0 r q.1 b in
       (ap length y ∙ set_length q.0.trails.items w [] ∙ x.0, λ i le. ap (λ l. slice_get l i) y ∙ set_other q.0.trails.items w i [] (λ e. omega arith) ∙ x.1 i (omega arith)));
@@ -64,16 +60,12 @@ module _ (facts : LoopFacts) (places : List ℕ) (dones : List (List ℕ)) where
     many = taken.many ∙ h.bodies.many ∙ have.many;
     each = λ k done t a b.
         (let inside : k < length dones = slice_get_within dones k done a in
-        let first = some_piece old k (omega (arith, have.many)) in
-        let q = between old mid k first.0 h.bodies.many first.1 in
+        let first = something_at old k (omega (arith, have.many)) in
+        let q = something_at mid k (omega (arith, have.many, h.bodies.many)) in
         let there = taken.each k q.0 t q.1 b in
         let same = (h.trails k first.0 q.0 first.1 q.1).1 w (omega arith) in
         (have.each k done first.0 a first.1).each w place t at (sym same ∙ there));
   }
-    where
-      some_piece : (xs : List LoopPiece) (k : ℕ) → k < length xs → (p : LoopPiece) × (slice_get xs k ≡ Some p)
-      some_piece [] k lt = absurd (omega arith)
-      some_piece (x ∷ xs) k lt = (get_or (x ∷ xs) k x, slice_get-get_or (x ∷ xs) k x lt)
 
 -- the lines of the results before place w
 pub record AreLinesUpTo (facts : LoopFacts) (places : List ℕ) (sets : List (List ℕ)) (w : ℕ) (all : List (List PartialLine)) : Type 0 where

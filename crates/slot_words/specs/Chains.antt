@@ -5,22 +5,13 @@ use Rattle.rdf_values.specs.Cuts.{below, stride}
 use Rattle.rdf_values.specs.Draws.{DrawnBy, IsUnion}
 use Rattle.rdf_values.specs.Times.{times}
 use Rattle.rdf_model.specs.declared.loop_facts.LoopFacts.{LoopFacts}
-use Rattle.merge_core.specs.declared.noted.Noted.{Noted}
 use Rattle.loop_pieces.specs.PartialLines.{HavePartials}
 use Rattle.loop_pieces.specs.declared.filled_result.PartialLine.{PartialLine}
-use Rattle.slot_words.specs.Chosen.{chosen, cluster_in}
-
--- an entry of a cluster, without a piece
-abbrev pub bare_entry : ℕ → Noted (Unit {0})
-bare_entry cluster = record { cluster = cluster; piece = tt }
-
--- entries of these clusters
-abbrev pub bare_entries : List ℕ → List (Noted (Unit {0}))
-bare_entries clusters = map bare_entry clusters
+use Rattle.slot_words.specs.Chosen.{chosen}
 
 -- the clusters with a number less than a bound, where the slots finished these and drew those numbers for them
 abbrev pub noted_before : List (List ℕ) → List (List ℕ) → ℕ → List ℕ
-noted_before orders dones bound = map cluster_in (chosen orders bound (map bare_entries dones))
+noted_before orders dones bound = chosen orders bound dones
 
 -- they, rising, among so many clusters
 abbrev pub set_before : List (List ℕ) → List (List ℕ) → ℕ → ℕ → List ℕ

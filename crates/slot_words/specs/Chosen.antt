@@ -1,5 +1,6 @@
 -- The entries of trails by their numbers.
-use Rattle.std.specs.Prelude.{◌≡◌, ◌+◌, ◌<◌, ◌≤◌, ℕ, List, [], ◌∷◌, ◌++◌, ◌&&◌, length, map, Bool, true, false, nat_le, nat_lt, slice_index}
+use Rattle.std.specs.Prelude.{◌≡◌, ℕ, List, [], ◌∷◌, ◌++◌, ◌&&◌, length, map, Bool, nat_le, nat_lt}
+use Rattle.std.specs.List.{All, filter, zip}
 use Rattle.merge_core.specs.declared.noted.Noted.{Noted}
 
 -- the cluster of an entry
@@ -10,53 +11,39 @@ cluster_in n = n.cluster
 abbrev pub piece_in : {P : Type 0} → Noted P → P
 piece_in n = n.piece
 
--- the entry, where it is kept
-abbrev pub if_kept : {P : Type 0} → Bool → Noted P → List (Noted P)
-if_kept true n = n ∷ []
-if_kept false n = []
+-- as many lists of numbers as trails, each as long as its trail
+abbrev pub HaveNumbers : {A : Type 0} → List (List ℕ) → List (List A) → Type 0
+HaveNumbers orders trails = map length orders ≡ map length trails
 
--- the entries of a trail whose number is less than a bound
-abbrev pub chosen_in : {P : Type 0} → List ℕ → ℕ → List (Noted P) → List (Noted P)
-chosen_in [] bound trail = []
-chosen_in (n ∷ ns) bound [] = []
-chosen_in (n ∷ ns) bound (t ∷ ts) = if_kept (nat_lt n bound) t ++ chosen_in ns bound ts
+-- the entries of all trails, each beside its number
+abbrev pub numbered : {A : Type 0} → List (List ℕ) → List (List A) → List (ℕ × A)
+numbered [] trails = []
+numbered (o ∷ os) [] = []
+numbered (o ∷ os) (t ∷ ts) = zip o t ++ numbered os ts
 
--- of all trails
-abbrev pub chosen : {P : Type 0} → List (List ℕ) → ℕ → List (List (Noted P)) → List (Noted P)
-chosen [] bound trails = []
-chosen (o ∷ os) bound [] = []
-chosen (o ∷ os) bound (t ∷ ts) = chosen_in o bound t ++ chosen os bound ts
+-- the number is less than a bound, but not less than a lower one
+abbrev pub is_between : ℕ → ℕ → ℕ → Bool
+is_between low bound n = nat_le low n && nat_lt n bound
+
+-- the entries with such a number
+abbrev pub kept : {A : Type 0} → ℕ → ℕ → List (ℕ × A) → List A
+kept low bound entries = map (λ e. e.1) (filter (λ e. is_between low bound e.0) entries)
 
 -- the entries of a trail whose number is less than a bound, but not less than a lower one
-abbrev pub added_in : {P : Type 0} → List ℕ → ℕ → ℕ → List (Noted P) → List (Noted P)
-added_in [] low bound trail = []
-added_in (n ∷ ns) low bound [] = []
-added_in (n ∷ ns) low bound (t ∷ ts) = if_kept (nat_le low n && nat_lt n bound) t ++ added_in ns low bound ts
+abbrev pub added_in : {A : Type 0} → List ℕ → ℕ → ℕ → List A → List A
+added_in numbers low bound trail = kept low bound (zip numbers trail)
 
 -- of all trails
-abbrev pub added : {P : Type 0} → List (List ℕ) → ℕ → ℕ → List (List (Noted P)) → List (Noted P)
-added [] low bound trails = []
-added (o ∷ os) low bound [] = []
-added (o ∷ os) low bound (t ∷ ts) = added_in o low bound t ++ added os low bound ts
+abbrev pub added : {A : Type 0} → List (List ℕ) → ℕ → ℕ → List (List A) → List A
+added orders low bound trails = kept low bound (numbered orders trails)
 
--- of numbers, the m ones from place s on are those that are less than a bound, but not less than a lower one
-pub record IsStretch (ns : List ℕ) (low bound s m : ℕ) : Type 0 where
-  pub fits : s + m ≤ length ns
-  pub before : (k : ℕ) → k < s → slice_index ns k < low
-  pub from : (k : ℕ) → s ≤ k → k < length ns → low ≤ slice_index ns k
-  pub less : (k : ℕ) → k < s + m → slice_index ns k < bound
-  pub after : (k : ℕ) → s + m ≤ k → k < length ns → bound ≤ slice_index ns k
-
--- as many lists of numbers as trails, each as long as its trail
-abbrev pub HaveNumbers : {P : Type 0} → List (List ℕ) → List (List (Noted P)) → Type 0
-HaveNumbers [] [] = Unit {0}
-HaveNumbers (o ∷ os) (t ∷ ts) = (length o ≡ length t) × HaveNumbers os ts
-HaveNumbers os ts = ⊥
+-- the entries of all trails whose number is less than a bound
+abbrev pub chosen : {A : Type 0} → List (List ℕ) → ℕ → List (List A) → List A
+chosen orders bound trails = added orders 0 bound trails
 
 -- each piece stands for its cluster alone
 abbrev pub AreAlone : {P : Type 0} → (List ℕ → P → Type 0) → List (Noted P) → Type 0
-AreAlone stands [] = Unit {0}
-AreAlone stands (n ∷ ns) = stands (n.cluster ∷ []) n.piece × AreAlone stands ns
+AreAlone stands entries = All (λ n. stands (n.cluster ∷ []) n.piece) entries
 
 -- the clusters and the pieces of entries, in their order
 pub record AreOf {P : Type 0} (clusters : List ℕ) (pieces : List P) (entries : List (Noted P)) : Type 0 where

@@ -7,7 +7,7 @@ use Rattle.slot_words.specs.Chosen.{HaveNumbers, chosen, cluster_in}
 
 -- where the numbers below m were drawn, as many entries have a number less than a bound as the bound says
 abbrev pub AsManyAsTheBound : Type 0 → Type 0
-AsManyAsTheBound P = (orders : List (List ℕ)) (trails : List (List (Noted P))) (m bound : ℕ)
+AsManyAsTheBound A = (orders : List (List ℕ)) (trails : List (List A)) (m bound : ℕ)
     → DrawnBy orders m → HaveNumbers orders trails → bound ≤ m → length (chosen orders bound trails) ≡ bound
 
 -- a higher bound leaves no entry out

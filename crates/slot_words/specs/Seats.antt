@@ -45,18 +45,15 @@ empty_hand clusters = record { clusters = clusters; drawn = []; kept = None; loo
 
 -- the hand after a draw of n: what the bar was before it no longer counts
 abbrev pub draw : ClaimHand → ℕ → ClaimHand
-draw h n =
-    if nat_lt n h.clusters
-    then record { clusters = h.clusters; drawn = h.drawn ++ n ∷ []; kept = h.kept; looked = None; passed = h.passed; lowered = h.lowered }
-    else record { clusters = h.clusters; drawn = h.drawn; kept = Some n; looked = None; passed = h.passed; lowered = h.lowered }
+draw h n = if nat_lt n h.clusters then record h { drawn = h.drawn ++ n ∷ []; looked = None } else record h { kept = Some n; looked = None }
 
 -- after a look at the bar, which was at b: a last cluster that isn't below it is passed over
 abbrev pub look : ClaimHand → ℕ → ClaimHand
-look h b = record { clusters = h.clusters; drawn = h.drawn; kept = h.kept; looked = Some b; passed = if nat_lt (last_of h.drawn) b then h.passed else Some (last_of h.drawn); lowered = h.lowered }
+look h b = record h { looked = Some b; passed = if nat_lt (last_of h.drawn) b then h.passed else Some (last_of h.drawn) }
 
 -- after it lowered the bar to c
 abbrev pub lower : ClaimHand → ℕ → ClaimHand
-lower h c = record { clusters = h.clusters; drawn = h.drawn; kept = h.kept; looked = h.looked; passed = h.passed; lowered = Some c }
+lower h c = record h { lowered = Some c }
 
 -- a seat with that number, which did nothing
 abbrev pub fresh_seat : ClaimsSeen → ℕ → SeatSeen

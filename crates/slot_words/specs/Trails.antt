@@ -5,11 +5,20 @@ use Rattle.merge_core.specs.declared.noted.Noted.{Noted}
 use Rattle.loop_pieces.specs.Trails.{HaveTrails, IsTrail}
 use Rattle.loop_pieces.specs.declared.loop_piece.LoopPiece.{LoopPiece}
 use Rattle.loop_pieces.specs.declared.watch_piece.WatchPiece.{WatchPiece}
+use Rattle.slot_words.specs.Chains.{AreNoted}
 
 -- the trails of one watched place, slot by slot, over the clusters that the slots finished
 pub record AreTrails (facts : LoopFacts) (place : ℕ) (dones : List (List ℕ)) (trails : List (List (Noted WatchPiece))) : Type 0 where
   pub many : length trails ≡ length dones
   pub each : (k : ℕ) (done : List ℕ) (trail : List (Noted WatchPiece)) → slice_get dones k ≡ Some done → slice_get trails k ≡ Some trail → IsTrail facts place done trail
+
+-- a watched place of a loop: the slots finished and noted so many clusters, and these are their trails of it
+pub record WatchedPlace (orders : List (List ℕ)) (clusters : ℕ) (trails : List (List (Noted WatchPiece))) : Type 0 where
+  pub facts : LoopFacts
+  pub place : ℕ
+  pub dones : List (List ℕ)
+  pub noted : AreNoted orders dones clusters
+  pub are : AreTrails facts place dones trails
 
 -- the pieces have the trails of all watched places
 pub record HaveAllTrails (facts : LoopFacts) (places : List ℕ) (dones : List (List ℕ)) (pieces : List LoopPiece) : Type 0 where

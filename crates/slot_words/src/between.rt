@@ -1,29 +1,23 @@
 // Results over the clusters that were noted next.
-ghost use Rattle.std.specs.Prelude.{◌≡◌, ◌-◌, ◌≤◌, ◌<◌, ◌++◌, ℕ, List, IfOk, IsPermutation, length, map};
+ghost use Rattle.std.specs.Prelude.{◌≡◌, ◌≤◌, ◌<◌, ◌++◌, ℕ, List, IfOk, IsPermutation, length, map};
 ghost use Rattle.std.specs.List.{All};
 ghost use Rattle.std.specs.List.Sorted.{IsStrictlyIncreasing};
 ghost use Rattle.rdf_values.specs.Times.{times};
-ghost use Rattle.slot_words.specs.Chosen.{AreAlone, HaveNumbers, IsStretch, added, added_in, cluster_in, piece_in};
+ghost use Rattle.slot_words.specs.Chosen.{AreAlone, HaveNumbers, added, added_in, cluster_in, piece_in};
 
 use crate::orders::Orders;
-use crate::partials::{PartialPiece, append, joined};
-use merge_core::{Noted, Piece, TrailList};
-use rdf_values::Memory;
+use merge_core::{Noted, Piece, TrailList, merge_all};
+use rdf_values::{ListOf, Memory};
 use std::alloc::Global;
 
-// Where the numbers stand that are less than a bound, but not less than a lower one: from the first place to below the second.
-fn stretch(numbers: &[u64], low: u64, below: u64) -> (usize, usize)
-    requires rises { IsStrictlyIncreasing numbers.now }
-    requires bounds { low ≤ below }
-    ensures order { (result.0 ≤ result.1) × (result.1 ≤ length numbers.now) }
-    ensures stretch { IsStretch numbers.now low below result.0 (result.1 - result.0) }
-{
-    let start = numbers.partition_point(|n| *n < low);
-    let end = numbers.partition_point(|n| *n < below);
-    (start, end)
+/// What some clusters came to, which rise.
+#[derive(Drop)]
+pub struct PartialPiece<P> {
+    pub clusters: ListOf<u32>,
+    pub piece: P,
 }
 
-// Appends the entries of one trail whose number is less than a bound, but not less than a lower one.
+// Appends the clusters and the pieces of one trail's entries whose number is less than a bound, but not less than a lower one.
 fn choose_between<P: Copy>(
     clusters: &mut Vec<u32>,
     pieces: &mut Vec<P>,
@@ -38,8 +32,13 @@ fn choose_between<P: Copy>(
     ensures clusters { IfOk result (λ _. clusters.new.items ≡ clusters.old.items ++ map cluster_in (added_in numbers.now low below trail.now)) }
     ensures pieces { IfOk result (λ _. pieces.new.items ≡ pieces.old.items ++ map piece_in (added_in numbers.now low below trail.now)) }
 {
-    let (start, end) = stretch(numbers, low, below);
-    append(clusters, pieces, &trail[start..end])
+    let start = numbers.partition_point(|n| *n < low);
+    let end = numbers.partition_point(|n| *n < below);
+    for noted in &trail[start..end] {
+        clusters.push(noted.cluster)?;
+        pieces.push(noted.piece)?;
+    }
+    Ok(())
 }
 
 /// The clusters whose number is less than a bound, but not less than a lower one, rising, and the join of their pieces.
@@ -71,5 +70,10 @@ pub fn partial_between<P: Piece + Copy>(
             trails.at(i).as_slice(),
         )?;
     }
-    joined(clusters, pieces)
+    clusters.sort_unstable();
+    let piece = merge_all(ListOf::from_vec(pieces))?;
+    Ok(PartialPiece {
+        clusters: ListOf::from_vec(clusters),
+        piece,
+    })
 }

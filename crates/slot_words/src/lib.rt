@@ -3,7 +3,7 @@
 //! No clause says when a slot draws, nor which slots do.
 #![tactic(auto)]
 
-mod between;
+pub mod between;
 pub mod book;
 pub mod claims;
 pub mod drawn;
@@ -12,21 +12,19 @@ pub mod interval;
 pub mod laws;
 pub mod lines;
 pub mod orders;
-pub mod partials;
 mod rule;
 mod runs;
 pub mod seat;
 pub mod share;
 mod trails;
 
-pub use crate::between::partial_between;
+pub use crate::between::{PartialPiece, partial_between};
 pub use crate::book::Book;
 pub use crate::claims::Claims;
 pub use crate::drawn::Drawn;
 pub use crate::interval::stride;
 pub use crate::lines::partial_lines;
 pub use crate::orders::Orders;
-pub use crate::partials::PartialPiece;
 pub use crate::seat::{ClaimSeat, SeatList};
 pub use crate::share::{Share, ShareList};
 

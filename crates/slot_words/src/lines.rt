@@ -3,7 +3,7 @@ ghost use Rattle.std.specs.Prelude.{◌≡◌, ◌<◌, ◌≤◌, ℕ, List, If
 ghost use Rattle.rdf_model.specs.declared.loop_facts.LoopFacts.{LoopFacts};
 ghost use Rattle.loop_pieces.specs.PartialLines.{ArePartialLines, IsPartialLine};
 ghost use Rattle.slot_words.specs.Chains.{AreNoted, HavePartialsOver, IsBound, chain_of, noted_sets, set_before};
-ghost use Rattle.slot_words.specs.Trails.{AreTrails, HaveAllTrails, HaveSameBodies};
+ghost use Rattle.slot_words.specs.Trails.{HaveAllTrails, HaveSameBodies, WatchedPlace};
 
 use crate::between::partial_between;
 use crate::interval::stride;
@@ -22,9 +22,8 @@ fn first_line(
     trails: &TrailList<WatchPiece>,
     below: u32,
 ) -> Result<PartialLine, Memory>
-    requires noted { (facts : LoopFacts) × (place : ℕ) × (dones : List (List ℕ)) × (clusters : ℕ) × AreNoted orders.now.slots dones clusters × AreTrails facts place dones trails.now × IsBound below clusters }
-    ensures { (facts : LoopFacts) (place : ℕ) (dones : List (List ℕ)) (clusters : ℕ) → AreNoted orders.now.slots dones clusters → AreTrails facts place dones trails.now → IsBound below clusters
-        → IfOk result (IsPartialLine facts place (set_before orders.now.slots dones clusters below)) }
+    requires noted { (clusters : ℕ) × WatchedPlace orders.now.slots clusters trails.now × IsBound below clusters }
+    ensures { (clusters : ℕ) (w : WatchedPlace orders.now.slots clusters trails.now) → IsBound below clusters → IfOk result (IsPartialLine w.facts w.place (set_before orders.now.slots w.dones clusters below)) }
 {
     let chosen = partial_between(alloc, orders, 0, below as u64, trails)?;
     Ok(PartialLine {
@@ -43,10 +42,9 @@ fn next_line(
     below: u32,
 ) -> Result<PartialLine, Memory>
     requires bounds { low < below }
-    requires noted { (facts : LoopFacts) × (place : ℕ) × (dones : List (List ℕ)) × (clusters : ℕ) × AreNoted orders.now.slots dones clusters × AreTrails facts place dones trails.now × IsBound below clusters
-        × IsPartialLine facts place (set_before orders.now.slots dones clusters low) before.now }
-    ensures { (facts : LoopFacts) (place : ℕ) (dones : List (List ℕ)) (clusters : ℕ) → AreNoted orders.now.slots dones clusters → AreTrails facts place dones trails.now → IsBound below clusters
-        → IsPartialLine facts place (set_before orders.now.slots dones clusters low) before.now → IfOk result (IsPartialLine facts place (set_before orders.now.slots dones clusters below)) }
+    requires noted { (clusters : ℕ) × (w : WatchedPlace orders.now.slots clusters trails.now) × IsBound below clusters × IsPartialLine w.facts w.place (set_before orders.now.slots w.dones clusters low) before.now }
+    ensures { (clusters : ℕ) (w : WatchedPlace orders.now.slots clusters trails.now) → IsBound below clusters
+        → IsPartialLine w.facts w.place (set_before orders.now.slots w.dones clusters low) before.now → IfOk result (IsPartialLine w.facts w.place (set_before orders.now.slots w.dones clusters below)) }
 {
     let more = partial_between(alloc, orders, low as u64, below as u64, trails)?;
     let mut value = before.value;
@@ -65,9 +63,8 @@ fn lines_of(
 ) -> Result<ListOf<PartialLine>, Memory>
     requires few { clusters ≤ 1000000 }
     requires step { 0 < step }
-    requires noted { (facts : LoopFacts) × (place : ℕ) × (dones : List (List ℕ)) × AreNoted orders.now.slots dones clusters × AreTrails facts place dones trails.now }
-    ensures { (facts : LoopFacts) (place : ℕ) (dones : List (List ℕ)) → AreNoted orders.now.slots dones clusters → AreTrails facts place dones trails.now
-        → IfOk result (ArePartialLines facts place (chain_of orders.now.slots dones clusters step)) }
+    requires noted { WatchedPlace orders.now.slots clusters trails.now }
+    ensures { (w : WatchedPlace orders.now.slots clusters trails.now) → IfOk result (ArePartialLines w.facts w.place (chain_of orders.now.slots w.dones clusters step)) }
 {
     let mut lines = ListOf::new(alloc);
     let count = clusters / step;

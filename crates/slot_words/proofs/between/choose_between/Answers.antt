@@ -1,14 +1,50 @@
-use Rattle.std.proofs.Common.{◌≡◌, ◌-◌, ◌++◌, map, subst}
-use Rattle.std.specs.Prelude.{IfOk}
-use Rattle.slot_words.specs.Chosen.{cluster_in, piece_in}
-use Rattle.slot_words.proofs.Stretches.{stretch}
+use Rattle.std.proofs.Common.{◌≡◌, ◌≤◌, ◌++◌, ◌-◌, map, take, drop, ap, ◌∙◌, arith, rules}
+use Rattle.std.specs.Prelude.{nat_lt}
+use Rattle.std.proofs.lemmas.List.Sorted.{IsPartitionPoint-from_clause, IsPartitionedBy-ltb}
+use Rattle.lemmas.proofs.Parts.{take_all}
+use Rattle.slot_words.specs.Chosen.{added_in, cluster_in, piece_in}
+use Rattle.slot_words.proofs.Stretches.{IsStretch, entry_appended, is_stretch, no_fall, stretch}
 use Rattle.slot_words.proofs.between.choose_between.Goals as goal
+use Rattle.slot_words.proofs.between.choose_between.Goals.{After-partition_point-end}
+use Rattle.slot_words.proofs.between.choose_between.Given.{Over}
 
-pub returns : goal.returns
-returns g c =
-    let at = c.stretch-start in
-    let is = stretch c.args.numbers.now c.args.low c.args.below c.args.trail.now at.result.0 (at.result.1 - at.result.0) c.requires.same at.ensures.stretch in
+found : (g : Over) (c : After-partition_point-end g)
+    → IsStretch c.args.numbers.now c.args.low c.args.below c.partition_point-start.result (c.partition_point-end.result - c.partition_point-start.result) × (c.partition_point-start.result ≤ c.partition_point-end.result)
+found g c =
+    let ns = c.args.numbers.now in
+    let s = c.partition_point-start in
+    let e = c.partition_point-end in
+    let up = no_fall ns c.requires.rises in
+    is_stretch ns c.args.low c.args.below s.result e.result c.requires.bounds
+    (IsPartitionPoint-from_clause (λ x. nat_lt x c.args.low) ns s.result s.ensures.partitioned (IsPartitionedBy-ltb (λ x. x) ns c.args.low up) (λ a r q k. search rules))
+    (IsPartitionPoint-from_clause (λ x. nat_lt x c.args.below) ns e.result e.ensures.partitioned (IsPartitionedBy-ltb (λ x. x) ns c.args.below up) (λ a r q k. search rules))
+    s.ensures.bound e.ensures.bound
+
+pub slice_bounds-noted-items-count : goal.slice_bounds-noted-items-count
+slice_bounds-noted-items-count g c = (found g (goal.at.slice_bounds-noted-items-count g c).After-partition_point-end).1
+
+pub slice_bounds-noted-items-start : goal.slice_bounds-noted-items-start
+slice_bounds-noted-items-start g c = let order = (found g (goal.at.slice_bounds-noted-items-start g c).After-partition_point-end).1 in search rules
+
+pub loop-noted-preserved : goal.loop-noted-preserved
+loop-noted-preserved g c =
+    let e = c.noted-item.result in
     record {
-      clusters = subst (λ entries. IfOk c.append.result (λ _. c.append.new.clusters.items ≡ c.args.clusters.now.items ++ map cluster_in entries)) is c.append.ensures.clusters;
-      pieces = subst (λ entries. IfOk c.append.result (λ _. c.append.new.pieces.items ≡ c.args.pieces.now.items ++ map piece_in entries)) is c.append.ensures.pieces;
+      clusters = entry_appended cluster_in c.args.clusters.now.items c.push.new.self.items c.loop-noted.clusters.items _ c.loop-noted.noted-index e (omega arith) c.noted-item.is c.in_ok-push.ensures.items c.loop-noted.invariant.clusters;
+      pieces = entry_appended piece_in c.args.pieces.now.items c.push-in-loop-noted.new.self.items c.loop-noted.pieces.items _ c.loop-noted.noted-index e (omega arith) c.noted-item.is c.in_ok-push-2.ensures.items c.loop-noted.invariant.pieces;
     }
+
+-- all entries of the stretch were appended
+ended : (g : Over) (c : After-partition_point-end g)
+    → take (c.partition_point-end.result - c.partition_point-start.result) (drop c.partition_point-start.result c.args.trail.now) ≡ added_in c.args.numbers.now c.args.low c.args.below c.args.trail.now
+ended g c = stretch c.args.numbers.now c.args.low c.args.below c.args.trail.now c.partition_point-start.result _ c.requires.same (found g c).0
+
+pub returns-clause-clusters : goal.returns-clause-clusters
+returns-clause-clusters g c =
+    let all = take_all _ c.loop-noted.noted-index c.loop-noted-test.false ∙ ended g (goal.at.returns-clause-clusters g c).After-partition_point-end in
+    c.loop-noted.invariant.clusters ∙ ap (λ l. c.args.clusters.now.items ++ map cluster_in l) all
+
+pub returns-clause-pieces : goal.returns-clause-pieces
+returns-clause-pieces g c =
+    let all = take_all _ c.loop-noted.noted-index c.loop-noted-test.false ∙ ended g (goal.at.returns-clause-pieces g c).After-partition_point-end in
+    c.loop-noted.invariant.pieces ∙ ap (λ l. c.args.pieces.now.items ++ map piece_in l) all

@@ -1,64 +1,66 @@
-use Rattle.std.proofs.Common.{ℕ, List, ◌≤◌, drop, length, [], ◌++◌, ◌+◌, ap, sym, ◌∙◌, subst, arith}
-use Rattle.std.specs.Prelude.{IfOk, IsPermutation}
+use Rattle.std.proofs.Common.{map, length, [], ap, sym, ◌∙◌, refl, subst, arith}
+use Rattle.std.specs.Prelude.{IsPermutation}
 use Rattle.std.specs.List.Sorted.{IsStrictlyIncreasing}
-use Rattle.rdf_values.specs.Times.{times}
-use Rattle.slot_words.specs.Chosen.{cluster_in, piece_in, added_in, added}
-use Rattle.slot_words.proofs.Turns.{as_many, appended}
-use Rattle.slot_words.proofs.Stretches.{trail_next_between, all_added}
+use Rattle.std.proofs.lemmas.List.{length-map}
+use Rattle.std.proofs.lemmas.List.Sorted.{IsNonDecreasingBy-from_sort}
+use Rattle.std.proofs.lemmas.Option.{get_or_from_slice_get}
+use Rattle.rdf_values.specs.Draws.{IsUnion}
+use Rattle.slot_words.specs.Chosen.{AreOf, added, cluster_in, piece_in}
+use Rattle.slot_words.proofs.Alone.{single, stand_alone, unite}
+use Rattle.slot_words.proofs.Stretches.{all_added, as_long, as_many, trail_added}
 use Rattle.slot_words.proofs.between.partial_between.Goals as goal
+use Rattle.slot_words.proofs.between.partial_between.Goals.{After-sort_unstable}
+use Rattle.slot_words.proofs.between.partial_between.Given.{Over}
+
+pub loop-i-init : goal.loop-i-init
+loop-i-init g c = record { here = []; are = record { clusters_are = c.new-clusters.ensures.items; pieces_are = c.new-pieces.ensures.items }; whole = refl }
 
 pub at-requires-in-loop-i : goal.at-requires-in-loop-i
-at-requires-in-loop-i g c = as_many c.args.orders.now.slots c.args.trails.now c.loop-i.i c.loop-i.invariant.numbers (omega arith)
+at-requires-in-loop-i g c = omega (arith, as_many c.args.orders.now.slots c.args.trails.now c.requires.numbers)
 
 pub choose_between-requires : goal.choose_between-requires
 choose_between-requires g c =
     let os = c.args.orders.now.slots in
-    let ts = c.args.trails.now in
     let i = c.loop-i.i in
-    let within = as_many os ts i c.loop-i.invariant.numbers (omega arith) in
-    let n = trail_next_between os ts c.args.low c.args.below i c.at.result.now c.at-in-loop-i.result.now c.loop-i.invariant.numbers c.loop-i.invariant.rise c.at.ensures c.at-in-loop-i.ensures (omega arith) within in
+    let o = c.at.result.now in
     record {
-      same = ap length c.as_slice.ensures ∙ n.same ∙ ap length (sym c.as_slice-in-loop-i.ensures);
-      rises = subst IsStrictlyIncreasing (sym c.as_slice.ensures) n.rises;
+      same = ap length c.as_slice.ensures ∙ as_long os c.args.trails.now c.requires.numbers i o c.at-in-loop-i.result.now c.at.ensures c.at-in-loop-i.ensures ∙ ap length (sym c.as_slice-in-loop-i.ensures);
+      rises = subst IsStrictlyIncreasing (get_or_from_slice_get os i o [] c.at.ensures ∙ sym c.as_slice.ensures) (c.requires.rise i [] (omega arith));
       bounds = c.requires.bounds;
     }
 
 pub loop-i-preserved : goal.loop-i-preserved
 loop-i-preserved g c =
-    let os = c.args.orders.now.slots in
-    let ts = c.args.trails.now in
-    let a = c.args.low in
-    let b = c.args.below in
-    let i = c.loop-i.i in
-    let within = as_many os ts i c.loop-i.invariant.numbers (omega arith) in
-    let n = trail_next_between os ts a b i c.at.result.now c.at-in-loop-i.result.now c.loop-i.invariant.numbers c.loop-i.invariant.rise c.at.ensures c.at-in-loop-i.ensures (omega arith) within in
-    let here = added_in c.as_slice.result.now a b c.as_slice-in-loop-i.result.now in
-    let left = added (drop (i + 1) os) a b (drop (i + 1) ts) in
-    let whole = added (drop i os) a b (drop i ts) in
-    let split = n.split ∙ ap (λ x. added_in x a b c.at-in-loop-i.result.now ++ left) (sym c.as_slice.ensures) ∙ ap (λ x. added_in c.as_slice.result.now a b x ++ left) (sym c.as_slice-in-loop-i.ensures) in
-    record {
-      numbers = n.rest;
-      rise = n.rest_rise;
-      clusters = appended cluster_in c.loop-i.clusters.items c.choose_between.new.clusters.items [] _ here left whole c.in_ok-choose_between.ensures.clusters split c.loop-i.invariant.clusters;
-      pieces = appended piece_in c.loop-i.pieces.items c.choose_between.new.pieces.items [] _ here left whole c.in_ok-choose_between.ensures.pieces split c.loop-i.invariant.pieces;
-    }
+    let h = rw (c.as_slice.ensures, c.as_slice-in-loop-i.ensures) at c.in_ok-choose_between.ensures in
+    trail_added c.args.orders.now.slots c.args.trails.now c.args.low c.args.below c.loop-i.i c.at.result.now c.at-in-loop-i.result.now _ _ _ _ c.loop-i.invariant c.at.ensures c.at-in-loop-i.ensures h.clusters h.pieces
 
-pub joined-requires : goal.joined-requires
-joined-requires g c =
-    let os = c.args.orders.now.slots in
-    let ts = c.args.trails.now in
-    let i = c.loop-i.invariant in
-    let e = all_added os ts c.args.low c.args.below c.loop-i.i c.loop-i.clusters.items c.loop-i.pieces.items (omega arith) i.clusters i.pieces in
+-- all trails are gone through
+gone : (g : Over) (c : After-sort_unstable g) → AreOf c.loop-i.clusters.items c.loop-i.pieces.items (added c.args.orders.now.slots c.args.low c.args.below c.args.trails.now)
+gone g c = all_added c.args.orders.now.slots c.args.trails.now c.args.low c.args.below c.loop-i.i _ _ (omega arith) c.loop-i.invariant
+
+united : (g : Over) (c : After-sort_unstable g) → IsUnion (map single (added c.args.orders.now.slots c.args.low c.args.below c.args.trails.now)) c.sort_unstable.new.self.items
+united g c =
+    let sorted = c.sort_unstable.new.self.items in
+    unite _ _ _ (gone g c) sorted (IsNonDecreasingBy-from_sort (λ x. x) sorted c.sort_unstable.ensures.sorted) c.sort_unstable.ensures.permutation c.requires.apart.2
+
+pub merge_all-requires : goal.merge_all-requires
+merge_all-requires g c =
+    let e = added c.args.orders.now.slots c.args.low c.args.below c.args.trails.now in
+    let k = (goal.at.merge_all-requires g c).After-sort_unstable in
     let apart = c.requires.apart in
-    record { entries = (apart.0, added os c.args.low c.args.below ts, e, c.requires.some, apart.1, λ x. subst (λ (l : List ℕ). times x l ≤ 1) (sym e.clusters_are) (apart.2 x)) }
+    record {
+      some = omega (arith, c.requires.some, ap length (c.from_vec.ensures ∙ (gone g k).pieces_are), length-map e piece_in);
+      apart = (apart.0, map single e, c.sort_unstable.new.self.items, stand_alone _ _ e (gone g k) (g.P.Piece.stands apart.0) _ c.from_vec.ensures apart.1, united g k);
+    }
 
 pub returns : goal.returns
 returns g c =
-    let os = c.args.orders.now.slots in
-    let ts = c.args.trails.now in
-    let i = c.loop-i.invariant in
-    let e = all_added os ts c.args.low c.args.below c.loop-i.i c.loop-i.clusters.items c.loop-i.pieces.items (omega arith) i.clusters i.pieces in
+    let e = added c.args.orders.now.slots c.args.low c.args.below c.args.trails.now in
+    let k = (goal.at.returns g c).After-sort_unstable in
+    let same = sym c.from_vec-2.ensures in
     record {
-      named = subst (λ (l : List ℕ). IfOk c.joined.result (λ p. IsStrictlyIncreasing p.clusters × IsPermutation l p.clusters)) e.clusters_are c.joined.ensures.named;
-      stands = λ job alone. c.joined.ensures.stands job (added os c.args.low c.args.below ts) e alone;
+      named = (subst IsStrictlyIncreasing same (united g k).rising, subst (IsPermutation (map cluster_in e)) same (subst (λ l. IsPermutation l c.sort_unstable.new.self.items) (gone g k).clusters_are c.sort_unstable.ensures.permutation));
+      stands = λ job h.
+          (let stands = g.P.Piece.stands job in
+          subst (λ l. stands l c.in_ok-piece.piece) same (c.in_ok-piece.ensures job (map single e) c.sort_unstable.new.self.items (stand_alone _ _ e (gone g k) stands _ c.from_vec.ensures h) (united g k)));
     }

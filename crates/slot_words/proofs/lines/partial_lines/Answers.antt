@@ -1,12 +1,8 @@
-use Rattle.std.proofs.Common.{◌≡◌, ◌<◌, ℕ, List, length, get_or, Some, arith}
-use Rattle.std.specs.Prelude.{slice_get}
+use Rattle.std.proofs.Common.{get_or, arith}
 use Rattle.std.proofs.lemmas.Option.{slice_get-get_or}
 use Rattle.slot_words.specs.Chains.{chain_of}
 use Rattle.slot_words.proofs.Watched.{next_ahead, trails_there, taken_are, more_lines, have_partials}
 use Rattle.slot_words.proofs.lines.partial_lines.Goals as goal
-
-place_at : (places : List ℕ) (w : ℕ) → w < length places → slice_get places w ≡ Some (get_or places w 0)
-place_at places w lt = slice_get-get_or places w 0 lt
 
 pub taken_trails-requires : goal.taken_trails-requires
 taken_trails-requires c =
@@ -16,22 +12,23 @@ taken_trails-requires c =
 pub lines_of-requires-clause-noted : goal.lines_of-requires-clause-noted
 lines_of-requires-clause-noted c =
     let n = c.requires.noted in
-    let w = c.loop-w.w in (
-      n.0,
-      get_or n.1 w 0,
-      n.2,
-      n.3,
-      taken_are n.0 n.1 n.2 w (get_or n.1 w 0) c.args.pieces.now c.loop-w.pieces c.in_ok-trails.trails n.4 c.loop-w.invariant.ahead c.in_ok-trails.ensures.taken (place_at n.1 w (omega (arith, n.5))),
-    )
+    let w = c.loop-w.w in
+    record {
+      facts = n.0;
+      place = get_or n.1 w 0;
+      dones = n.2;
+      noted = n.3;
+      are = taken_are n.0 n.1 n.2 w (get_or n.1 w 0) c.args.pieces.now c.loop-w.pieces c.in_ok-trails.trails n.4 c.loop-w.invariant.ahead c.in_ok-trails.ensures.taken (slice_get-get_or n.1 w 0 (omega (arith, n.5)));
+    }
 
 pub loop-w-preserved : goal.loop-w-preserved
 loop-w-preserved c = record {
   ahead = next_ahead c.loop-w.w c.args.pieces.now c.loop-w.pieces c.taken_trails.new.pieces c.loop-w.invariant.ahead c.in_ok-trails.ensures.left;
   lines = λ facts places dones noted have many.
       (let w = c.loop-w.w in
-      let at = place_at places w (omega (arith, many)) in
+      let at = slice_get-get_or places w 0 (omega (arith, many)) in
       let trails = taken_are facts places dones w (get_or places w 0) c.args.pieces.now c.loop-w.pieces c.in_ok-trails.trails have c.loop-w.invariant.ahead c.in_ok-trails.ensures.taken at in
-      more_lines facts places (chain_of c.args.orders.now.slots dones c.args.clusters c.stride-step.result) w (get_or places w 0) c.loop-w.all _ _ (c.loop-w.invariant.lines facts places dones noted have many) at (c.in_ok-lines_of.ensures facts (get_or places w 0) dones noted trails) c.in_ok-push.ensures.ok);
+      more_lines facts places (chain_of c.args.orders.now.slots dones c.args.clusters c.stride-step.result) w (get_or places w 0) c.loop-w.all _ _ (c.loop-w.invariant.lines facts places dones noted have many) at (c.in_ok-lines_of.ensures record { facts = facts; place = get_or places w 0; dones = dones; noted = noted; are = trails }) c.in_ok-push.ensures.ok);
 }
 
 pub returns-clause-partials : goal.returns-clause-partials
