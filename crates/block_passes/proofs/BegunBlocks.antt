@@ -1,47 +1,90 @@
--- A block that begins with what a slot reserves.
-use Rattle.std.proofs.Common.{if◌then◌else◌, ◌≡◌, ℕ, ◌+◌, ◌<◌, ◌≤◌, true, false, List, [], ◌∷◌, length, All, Option, Some, None, refl, sym, ◌∙◌, ap, subst, arith, slice_get}
-use Rattle.std.proofs.lemmas.List.{length-map}
-use Rattle.std.proofs.lemmas.List.Elements.{All-weaker}
-use Rattle.std.proofs.lemmas.Option.{get_or_from_slice_get, slice_get_within}
+-- What a slot reserves stays what it was while a block is tried.
+use Rattle.std.proofs.Common.{◌≡◌, ℕ, List, [], ◌∷◌, length, sym, ◌∙◌, ap, subst, ℤ, if◌then◌else◌, ◌+◌, ◌<◌, ◌≤◌, true, false, All, Option, Some, None, refl, arith, slice_get, ◌⊎◌, inl, inr, zero, suc, ◌-◌, ◌*◌, Bool, map, take, unwrap_or, slice_index_or, count_by, slice_range}
 use Rattle.std.specs.List.{AllByRecursion}
+use Rattle.std.proofs.lemmas.List.{length-map, length-take}
+use Rattle.std.proofs.lemmas.List.Elements.{All-from_recursion, recursion_from_All, All-weaker}
+use Rattle.rdf_values.specs.declared.value.ColType.{ColType}
+use Rattle.block_cache.specs.Lanes.{HaveRoom, LaneView, kinds_of, room_of, rooms_of, AreUnknown, IsUnknown, is_tried, value_of, tried_count}
+use Rattle.loop_keys.specs.Jobs.{JobView, job_graph, IsJob, passes_in}
+use Rattle.graph_numbers.specs.Graphs.{graph_sites, GraphView, graph_under}
+use Rattle.block_passes.specs.States.{AreDeepEnough, HaveKinds, IsStateOf, StateView, HaveCells, AreLoaded, IsBegunBlock}
+use Rattle.block_passes.specs.declared.found.Found.{Found}
+use Rattle.block_passes.specs.declared.kept.Kept.{Kept}
+use Rattle.std.proofs.lemmas.Option.{get_or_from_slice_get, slice_get_within}
 use Rattle.rdf_values.specs.EachColumn.{EachColumn}
 use Rattle.rdf_values.specs.Path.{history}
-use Rattle.rdf_values.specs.declared.value.ColType.{ColType}
 use Rattle.rdf_model.proofs.KnownColumns.{each_weaker}
-use Rattle.block_cache.specs.Lanes.{AreUnknown, HaveRoom, IsUnknown, LaneView, is_tried, kinds_of, value_of}
 use Rattle.block_cache.specs.Sizes.{size_for}
 use Rattle.expr_lanes.specs.declared.TheConstants.{MAX_PLACES}
-use Rattle.graph_numbers.specs.Graphs.{GraphView, graph_sites, graph_under}
 use Rattle.graph_numbers.specs.Sites.{SiteAt}
 use Rattle.graph_numbers.specs.Sources.{IsBelow}
 use Rattle.graph_numbers.specs.Versions.{version_count}
 use Rattle.graph_numbers.specs.declared.source.Source.{Source}
 use Rattle.graph_numbers.specs.declared.source.Source.TheVariants as from
 use Rattle.graph_numbers.proofs.Equations.{columns_below}
-use Rattle.loop_keys.specs.Jobs.{IsJob, JobView, job_graph}
 use Rattle.loop_keys.specs.Keys.{AreKeys, key, key_count}
 use Rattle.loop_keys.specs.Passes.{AreReadable}
-use Rattle.loop_keys.specs.Store.{IsRight, site_in, source_at}
+use Rattle.loop_keys.specs.Store.{IsRight, site_in, source_at, keys_in, row_of}
 use Rattle.loop_keys.specs.declared.held.Held.{Held}
 use Rattle.loop_keys.specs.declared.held.Held.TheVariants as held
 use Rattle.loop_keys.proofs.EvaluateLaws.{accepted_of}
 use Rattle.block_cache.specs.Blocks.{AreReady, held_value}
-use Rattle.block_cache.specs.Fills.{CanFill, IsLoaded, holds_at, lane_begun}
+use Rattle.block_cache.specs.Fills.{CanFill, IsLoaded, holds_at, lane_begun, begun_at, begun_count}
 use Rattle.block_cache.proofs.BlockLaws.{held_of_lane, lane_held}
 use Rattle.block_cache.proofs.CanFills.{can_fill_site}
 use Rattle.block_passes.specs.Inputs.{CanServe, IsServable}
-use Rattle.block_passes.specs.Plans.{IsPlan}
-use Rattle.block_passes.specs.Selections.{CanSelect, IsReadyBelow}
-use Rattle.block_passes.specs.Spends.{IsSettledAt}
-use Rattle.block_passes.specs.States.{AreDeepEnough, AreLoaded, HaveCells, HaveKinds, IsBegunBlock, IsStateOf, StateView}
-use Rattle.block_passes.specs.Steps.{IsFilterStep, longer}
-use Rattle.block_passes.specs.declared.kept.Kept.{Kept}
+use Rattle.block_passes.specs.Plans.{IsPlan, IsFilterStep, longer}
+use Rattle.block_passes.specs.Tries.{CanSelect, IsReadyBelow, CanServeAll}
+use Rattle.block_passes.specs.Spends.{IsSettledAt, Spends}
 use Rattle.block_passes.specs.declared.steps.Step.TheVariants as step
-use Rattle.block_passes.proofs.FilterKinds.{filter_kind}
-use Rattle.block_passes.specs.Tries.{CanServeAll}
-use Rattle.block_passes.proofs.ReadInputs.{inputs_readable}
-use Rattle.block_passes.proofs.KeyKinds.{site_kinds}
-use Rattle.block_passes.proofs.SitesThere.{site_there}
+use Rattle.block_passes.proofs.SiteKinds.{filter_kind, site_kinds}
+use Rattle.block_passes.proofs.Demanding.{inputs_readable, site_there}
+use Rattle.std.proofs.lemmas.List.Sums.{sum_by-cons}
+use Rattle.lemmas.proofs.Parts.{range_length}
+use Rattle.rdf_values.specs.declared.value.Value.{Value}
+use Rattle.expr_lanes.specs.Places.{is_marked}
+use Rattle.block_laws.specs.Counts.{marked_at, marked_in, row_demands}
+use Rattle.block_laws.proofs.Lanes.{marked_within}
+use Rattle.loop_keys.specs.Entries.{entry_demands}
+use Rattle.loop_keys.proofs.DemandCounts.{few_keys, has_all, keys_of_all}
+use Rattle.block_passes.specs.Clusters.{block_demands, entries_from}
+use Rattle.block_passes.proofs.Searching.{row_in_block}
+
+same_rooms : (n : ℕ) (before after : List LaneView) → rooms_of after ≡ rooms_of before → AllByRecursion (λ (l : LaneView). room_of l ≡ n) before → AllByRecursion (λ (l : LaneView). room_of l ≡ n) after
+same_rooms n [] [] e h = tt
+same_rooms n [] (m ∷ ms) e h = cc e
+same_rooms n (l ∷ ls) [] e h = cc e
+same_rooms n (l ∷ ls) (m ∷ ms) e h =
+    let a : room_of m ≡ room_of l = cc e in
+    let b : rooms_of ms ≡ rooms_of ls = cc e in (a ∙ h.0, same_rooms n ls ms b h.1)
+
+have_room : (n : ℕ) (before after : List LaneView) → rooms_of after ≡ rooms_of before → HaveRoom n before → HaveRoom n after
+have_room n before after e h = All-from_recursion (λ (l : LaneView). room_of l ≡ n) after (same_rooms n before after e (recursion_from_All (λ (l : LaneView). room_of l ≡ n) before h))
+
+same_many : (before after : List LaneView) → kinds_of after ≡ kinds_of before → length after ≡ length before
+same_many before after e = sym (length-map after (λ (l : LaneView). l.kind)) ∙ ap length e ∙ length-map before (λ (l : LaneView). l.kind)
+
+-- lanes of the same kinds with as much room, and as many numbers, levels and selections
+pub state_stays : (j : JobView) (old : StateView) (cells : List (List ℤ)) (lanes : List LaneView) (scratch levels : ℕ) (found : Found) (kept : List Kept) → IsStateOf j old → length cells ≡ length old.cells → HaveCells old.size cells
+    → kinds_of lanes ≡ kinds_of old.lanes → rooms_of lanes ≡ rooms_of old.lanes → scratch ≡ old.scratch → levels ≡ old.levels → length kept ≡ length old.kept
+    → IsStateOf j (record { size = old.size; plan = old.plan; rows = old.rows; cells = cells; lanes = lanes; scratch = scratch; levels = levels; found = found; kept = kept })
+state_stays j old cells lanes scratch levels found kept h columns room kinds rooms deep high many = record {
+  size = h.size;
+  least = h.least;
+  most = h.most;
+  plan = h.plan;
+  rows = h.rows;
+  cells = columns ∙ h.cells;
+  cell_room = room;
+  lanes = same_many old.lanes lanes kinds ∙ h.lanes;
+  kinds = subst (λ (ks : List ColType). HaveKinds (job_graph j) (length (graph_sites (job_graph j))) ks) (sym kinds) h.kinds;
+  lane_room = have_room old.size old.lanes lanes rooms h.lane_room;
+  scratch = subst (λ (n : ℕ). AreDeepEnough (job_graph j) n) (sym deep) h.scratch;
+  levels = high ∙ h.levels;
+  kept = many ∙ h.kept;
+}
+
+-- ---- A block that begins with what a slot reserves.
 
 -- ---- lists of lanes
 
@@ -158,3 +201,122 @@ module _ (j : JobView) (job : IsJob j) (first count : ℕ) (s : StateView) (stat
 
   pub is_begun : s.found ≡ record { limit = count; best = None } → IsBegunBlock j first count s
   is_begun found = record { found = found; unknown = unknown; unmade = unmade; ready = ready; loaded = loaded; select = select; serve = serve }
+
+-- ---- Over a block of which nothing was known no more evaluations are begun than its entries demand.
+
+-- ---- the marks of a lane
+
+abbrev mark : Bool → ℕ
+mark b = if b then 1 else 0
+
+abbrev own : List Bool → ℕ
+own l = count_by (λ b. b) l
+
+own_more : (b : Bool) (bs : List Bool) → own (b ∷ bs) ≡ mark b + own bs
+own_more b bs = sum_by-cons mark b bs
+
+mark_none : (b : Bool) → (b ≡ true → ⊥) → mark b ≡ 0
+mark_none true h = absurd (h refl)
+mark_none false h = refl
+
+no_mark : (p : ℕ) → is_marked [] p ≡ true → ⊥
+no_mark zero e = cc e
+no_mark (suc p) e = cc e
+
+none_marked : (bs : List Bool) → ((p : ℕ) → is_marked bs p ≡ true → ⊥) → own bs ≡ 0
+none_marked [] h = refl
+none_marked (b ∷ bs) h = let a = own_more b bs in let c = none_marked bs (λ p e. h (suc p) e) in let d = mark_none b (h 0) in omega (arith, a, c, d)
+
+-- all that are marked are among the first
+front_counts : (bs : List Bool) (n : ℕ) → ((p : ℕ) → is_marked bs p ≡ true → p < n) → own bs ≤ own (take n bs)
+front_counts [] n h = let e : own [] ≡ 0 = refl in omega (arith, e)
+front_counts (b ∷ bs) zero h = let e = none_marked (b ∷ bs) (λ p q. absurd (let l = h p q in omega (arith, l))) in omega (arith, e)
+front_counts (b ∷ bs) (suc n) h =
+    let a = own_more b bs in let c = own_more b (take n bs) in let r = front_counts bs n (λ p q. (let l = h (suc p) q in omega (arith, l))) in omega (arith, a, c, r)
+
+taken_mark : (bs : List Bool) (n p : ℕ) → is_marked (take n bs) p ≡ true → is_marked bs p ≡ true
+taken_mark [] zero p e = e
+taken_mark [] (suc n) p e = e
+taken_mark (b ∷ bs) zero p e = absurd (no_mark p e)
+taken_mark (b ∷ bs) (suc n) zero e = e
+taken_mark (b ∷ bs) (suc n) (suc p) e = taken_mark bs n p e
+
+taken_short : (bs : List Bool) (n : ℕ) → length (take n bs) ≤ n
+taken_short bs n = let e = length-take n bs in omega (arith, e)
+
+-- ---- of all lanes the places of a block
+
+module _ (count : ℕ) where
+  abbrev front : LaneView → List Bool
+  front l = take count l.tried
+
+  fronts : (lanes : List LaneView) → ((k p : ℕ) → begun_at lanes k p ≡ true → p < count) → begun_count lanes ≤ marked_in (map front lanes)
+  fronts [] h = let e : begun_count [] ≡ 0 = refl in omega (arith, e)
+  fronts (l ∷ ls) h =
+      let a : begun_count (l ∷ ls) ≡ own l.tried + begun_count ls = sum_by-cons tried_count l ls in
+      let b : marked_in (front l ∷ map front ls) ≡ own (front l) + marked_in (map front ls) = sum_by-cons own (front l) (map front ls) in
+      let c = front_counts l.tried count (h 0) in
+      let r = fronts ls (λ k p e. h (suc k) p e) in omega (arith, a, b, c, r)
+
+  short : (n : ℕ) → count ≤ n → (lanes : List LaneView) → AllByRecursion (λ (l : List Bool). length l ≤ n) (map front lanes)
+  short n le [] = tt
+  short n le (l ∷ ls) = ((let t = taken_short l.tried count in omega (arith, t, le)), short n le ls)
+
+  one : (b d : Bool) → (b ≡ true → d ≡ true) → mark b ≤ mark d
+  one true true f = omega arith
+  one true false f = absurd (cc (f refl))
+  one false true f = omega arith
+  one false false f = omega arith
+
+  -- the keys that were begun at a place are within a set
+  few_at : (T : ℕ → Bool) (i base : ℕ) (lanes : List LaneView) → ((k : ℕ) → begun_at lanes k i ≡ true → T (base + k) ≡ true) → marked_at (map front lanes) i ≤ keys_in T base (length lanes)
+  few_at T i base [] h = let e : marked_at [] i ≡ 0 = refl in omega (arith, e)
+  few_at T i base (l ∷ ls) h =
+      let a : marked_at (front l ∷ map front ls) i ≡ mark (is_marked (front l) i) + marked_at (map front ls) i = sum_by-cons (λ (x : List Bool). mark (slice_index_or x i false)) (front l) (map front ls) in
+      let b = few_at T i (suc base) ls (λ k q. (let e : suc base + k ≡ base + suc k = omega arith in ap T e ∙ h (suc k) q)) in
+      let c : mark (is_marked (front l) i) ≤ (if T base then 1 else 0) = one (is_marked (front l) i) (T base) (λ q. (let e : base ≡ base + 0 = omega arith in ap T e ∙ h 0 (taken_mark l.tried count i q))) in
+      omega (arith, a, b, c)
+
+-- ---- what the entries demand
+
+not_begun : (count : ℕ) (lanes : List LaneView) (k p : ℕ) → AllByRecursion (IsUnknown count) lanes → begun_at lanes k p ≡ true → ⊥
+not_begun count [] k p h e = cc e
+not_begun count (l ∷ ls) zero p h e = let f : false ≡ true = sym (h.0.tried p) ∙ e in cc f
+not_begun count (l ∷ ls) (suc k) p h e = not_begun count ls k p h.1 e
+
+module _ (j : JobView) (first count : ℕ) (before after : List LaneView) (start end : ℕ) (within : first + count ≤ length j.dataset.rows) (unknown : AreUnknown count before) (spends : Spends j first count before after start end) where
+  newly : (k p : ℕ) → begun_at after k p ≡ true → (p < count) × (keys_of_all j (first + p) k ≡ true)
+  newly k p e = go (spends.only (λ q. keys_of_all j (first + q)) (λ q lt. has_all j (first + q)) k p e)
+    where
+      go : (begun_at before k p ≡ true) ⊎ ((p < count) × (keys_of_all j (first + p) k ≡ true)) → (p < count) × (keys_of_all j (first + p) k ≡ true)
+      go (inl h) = absurd (not_begun count before k p (recursion_from_All (IsUnknown count) before unknown) h)
+      go (inr h) = h
+
+  abbrev rows : List (List Value)
+  rows = slice_range j.dataset.rows first (first + count)
+
+  long : length rows ≡ count
+  long = range_length j.dataset.rows first (first + count) (omega arith) within ∙ (let e : first + count - first ≡ count = omega arith in e)
+
+  row_few : (i : ℕ) (row : List Value) → slice_get rows i ≡ Some row → marked_at (map (front count) after) i ≤ row_demands j.dataset (passes_in j) row
+  row_few i row here =
+      let low = slice_get_within rows i row here in
+      let l = long in
+      let same : row_of j (first + i) ≡ row = ap (λ o. unwrap_or o []) (sym (row_in_block j.dataset.rows first (first + count) i (omega (arith, low, l))) ∙ here) in
+      let a = few_at count (keys_of_all j (first + i)) i 0 after (λ k q. (let e : 0 + k ≡ k = omega arith in ap (keys_of_all j (first + i)) e ∙ (newly k i q).1)) in
+      let b = few_keys j (first + i) (length after) in
+      let c : entry_demands j (first + i) ≡ row_demands j.dataset (passes_in j) row = ap (row_demands j.dataset (passes_in j)) same in
+      omega (arith, a, b, c)
+
+  few_begun : begun_count after ≤ block_demands j (entries_from first count)
+  few_begun =
+      let a = fronts count after (λ k p e. (newly k p e).0) in
+      let l = long in
+      let b : marked_in (map (front count) after) ≤ block_demands j (entries_from first count) =
+      marked_within (map (front count) after) rows (row_demands j.dataset (passes_in j))
+      (All-from_recursion (λ (x : List Bool). length x ≤ length rows) (map (front count) after) (short count (length rows) (omega (arith, l)) after)) row_few in
+      omega (arith, a, b)
+
+  -- at most two evaluations were made for each pair that is demanded
+  pub spent_few : end ≤ start + 2 * block_demands j (entries_from first count)
+  spent_few = let c = spends.cost in let f = few_begun in omega (arith, c, f)

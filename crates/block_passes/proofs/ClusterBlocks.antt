@@ -1,20 +1,34 @@
--- The blocks of a cluster, one after the other.
-use Rattle.std.proofs.Common.{◌≡◌, ℕ, ◌+◌, ◌-◌, ◌*◌, ◌<◌, ◌≤◌, List, length, map, Option, None, Some, refl, sym, ap, ◌∙◌, subst, arith, slice_get}
-use Rattle.std.specs.Prelude.{Err, slice_range}
+-- A block that was searched without a fault is clear, and is taken in.
+use Rattle.std.proofs.Common.{◌≡◌, ℕ, ◌+◌, ◌-◌, ◌*◌, ◌≤◌, List, length, None, Some, Ok, Err, refl, ◌∙◌, ap, subst, arith, slice_get, ◌<◌, map, Option, sym, Result, slice_range}
+use Rattle.std.proofs.lemmas.Option.{slice_get_within}
+use Rattle.lemmas.proofs.Places.{something_at}
+use Rattle.rdf_model.specs.LoopFacts.{kinds_in, spreads_of}
+use Rattle.rdf_model.specs.Results.{first_fault_from, first_of}
+use Rattle.graph_numbers.specs.Graphs.{graph_filters}
+use Rattle.block_cache.specs.Lanes.{LaneView}
+use Rattle.cluster_tally.specs.Blocks.{BlockStage, HoldsIn, block_begin}
+use Rattle.cluster_tally.specs.Stages.{Stage, at_begin}
+use Rattle.cluster_tally.specs.Tallies.{Holds, TallyView}
+use Rattle.cluster_tally.proofs.BlockFeeds.{begins_block, ends_block}
+use Rattle.loop_keys.specs.Jobs.{JobView, job_graph, passes_in, IsJob}
+use Rattle.loop_keys.proofs.PassTies.{pass_of}
+use Rattle.loop_keys.specs.Entries.{facts_in, job_spans}
+use Rattle.block_passes.specs.Clusters.{IsBefore, IsBlockAnswer, IsBlockTried, after_block, block_demands, block_rows, entries_from, IsBlockOf, IsClusterAnswer, at_end, at_entry, demands_in, span_demands}
+use Rattle.block_passes.specs.Fed.{IsClear, IsAmid, IsOverAll, at_filter, at_pass}
+use Rattle.block_passes.specs.Plans.{IsPlan, PlanView}
+use Rattle.block_passes.specs.Tries.{IsMadeAt, IsReadyBelow, IsPlanMade, IsSearchedTo}
+use Rattle.block_passes.specs.declared.found.Found.{Found}
+use Rattle.block_passes.specs.declared.kept.Kept.{Kept}
+use Rattle.block_passes.specs.declared.stop.BlockStop.{BlockStop}
+use Rattle.block_passes.proofs.Feeding.{filters_many}
 use Rattle.std.proofs.lemmas.List.{length-map}
 use Rattle.lemmas.proofs.Appended.{map_length}
 use Rattle.lemmas.proofs.Parts.{range_length}
 use Rattle.rdf_values.proofs.Leading.{cuts_lead}
 use Rattle.rdf_values.specs.declared.fault.Fault.{Fault}
 use Rattle.rdf_values.specs.declared.span.Span.{Span}
-use Rattle.rdf_model.specs.LoopFacts.{spreads_of}
 use Rattle.rdf_model.specs.PartialResults.{span_rows}
-use Rattle.rdf_model.specs.Results.{first_fault_from, first_of}
 use Rattle.columns.proofs.Joining.{span_within}
-use Rattle.loop_keys.specs.Jobs.{IsJob, JobView, passes_in}
-use Rattle.loop_keys.specs.Entries.{facts_in, job_spans}
-use Rattle.cluster_tally.specs.Stages.{at_begin}
-use Rattle.cluster_tally.specs.Tallies.{Holds, TallyView}
 use Rattle.loop_pieces.specs.Whole.{begin_of, cluster_fault}
 use Rattle.loop_pieces.proofs.Places.{range_none}
 use Rattle.block_laws.specs.Blocks.{IsFirst, first_length, row_elements}
@@ -22,10 +36,86 @@ use Rattle.block_laws.specs.Counts.{cluster_demands}
 use Rattle.block_laws.proofs.BlockCuts.{first_is}
 use Rattle.block_laws.proofs.BlockFaults.{block_then_rest, is_first_fault}
 use Rattle.block_laws.proofs.Costs.{count_goes_on}
-use Rattle.block_passes.specs.Blocks.{IsBefore, IsBlockAnswer, IsBlockOf, after_block, block_demands, block_rows}
-use Rattle.block_passes.specs.Clusters.{IsClusterAnswer, at_end, at_entry, demands_in, span_demands}
-use Rattle.block_passes.specs.declared.stop.BlockStop.{BlockStop}
 use Rattle.block_passes.specs.declared.stop.BlockStop.TheVariants as stop
+use Rattle.rdf_values.specs.declared.value.Value.{Value}
+
+-- ---- the search
+
+module _ (j : JobView) (first count : ℕ) (plan : PlanView) (p : IsPlan j plan) (lanes : List LaneView) (kept : List Kept) (s : Found)
+    (h : IsSearchedTo j first count p.chains (length (passes_in j)) lanes kept s) (made : IsPlanMade j count plan kept) (none : s.best ≡ None) where
+  whole : s.limit ≡ count
+  whole = h.searched.whole none
+
+  ready : IsReadyBelow j first count p.chains count lanes kept
+  ready = subst (λ (n : ℕ). IsReadyBelow j first count p.chains n lanes kept) whole h.ready
+
+  -- what was made is over all of the block
+  over : (k : ℕ) → IsMadeAt count kept k → IsOverAll count kept k
+  over k is m at =
+      let w = is m at in
+      let low = slice_get_within kept k m at in
+      let many = ready.kept_are.many in
+      let c = something_at p.chains k (omega (arith, low, many)) in
+      let under = (ready.kept_are.each k w.0 c.0 m c.1 at w.1).under in
+      let le = w.2 in
+      let same : w.0 ≡ count = omega (arith, under, le) in w.1 ∙ ap Some same
+
+  pub searched_clear : IsClear j first count p.chains plan lanes kept
+  searched_clear = record {
+    ready = ready.ready;
+    countable = record {
+      kept_are = ready.kept_are;
+      above = λ f x named its at. over named.above (made.filters f x its named at).0;
+      own = λ f x named its at. over named.own (made.filters f x its named at).1;
+    };
+    clear = λ n q inside lt. (let w = whole in h.searched.clear q n (omega (arith, lt, w)) inside);
+    read = λ n m r k of q lt passed. (let w = whole in h.read n (slice_get_within (passes_in j) n _ (pass_of j n m of.its_pass r of.its_result)) m r k of q (omega (arith, lt, w)) passed);
+    over = λ n k inputs u own last its. over last (made.actions n k inputs u own last its);
+  }
+
+-- ---- the stages of a tally
+
+module _ (j : JobView) (first count cluster : ℕ) (watched : List ℕ) (s : Stage) (old : TallyView) (before : IsBefore j watched s cluster (entries_from first count) old) where
+  abbrev pub begun : BlockStage
+  begun = block_begin s count
+
+  pub begun_amid : IsAmid j first count begun
+  begun_amid = (let n = before.next in record {
+    in_cluster = record {
+      span = n.span;
+      its_span = ap (slice_get (job_spans j)) before.its_cluster ∙ n.its_span;
+      within = (let w = n.within in let b = n.is in omega (arith, w, b));
+      inside = n.inside;
+    };
+    begins = n.is;
+    block = refl;
+  })
+
+  pub begun_holds : HoldsIn (facts_in j) watched begun old
+  begun_holds = begins_block (facts_in j) watched s old count before.no_pass before.no_filter before.holds
+
+  -- all passes were fed, and all filters counted
+  abbrev pub all_fed : BlockStage
+  all_fed = at_pass begun (length (kinds_in (passes_in j)))
+
+  pub all_taken : (now : TallyView) → HoldsIn (facts_in j) watched (at_filter all_fed (length (graph_filters (job_graph j)))) now → Holds (facts_in j) watched (after_block s (entries_from first count)) now
+  all_taken now h =
+      let e : count ≡ first + count - first = omega arith in
+      subst (λ (n : ℕ). Holds (facts_in j) watched (at_entry s.done s.cluster (s.entries + n)) now) e
+      (ends_block (facts_in j) watched (at_filter all_fed (length (graph_filters (job_graph j)))) now refl (filters_many j first count) h)
+
+-- ---- the answer
+
+module _ (j : JobView) (first count cluster : ℕ) (before after : TallyView) (start end : ℕ) (bound : end ≤ start + 2 * block_demands j (entries_from first count)) where
+  pub tried_stopped : (why : BlockStop) → IsBlockAnswer j (entries_from first count) (Err why) → IsBlockTried j cluster (entries_from first count) before after start end (Err why)
+  tried_stopped why answer = record { answer = answer; holds = λ watched s h. tt; bound = bound }
+
+  pub tried_clear : first_fault_from j.dataset first (block_rows j (entries_from first count)) (passes_in j) ≡ None
+      → ((watched : List ℕ) (s : Stage) → IsBefore j watched s cluster (entries_from first count) before → Holds (facts_in j) watched (after_block s (entries_from first count)) after)
+      → IsBlockTried j cluster (entries_from first count) before after start end (Ok tt)
+  tried_clear none holds = record { answer = none; holds = holds; bound = bound }
+
+-- ---- The blocks of a cluster, one after the other.
 
 -- what is known before the block from an entry on: of the tally, of the faults and of the evaluations so far
 pub record IsAtBlock (j : JobView) (cluster size keys : ℕ) (span : Span) (first : TallyView) (start lo : ℕ) (tally : TallyView) (steps : ℕ) : Type 0 where
@@ -145,3 +235,16 @@ module _ (j : JobView) (job : IsJob j) (cluster size keys : ℕ) (some : 1 ≤ s
 
     pub holds_all : (watched done : List ℕ) → Holds (facts_in j) watched (at_begin done cluster) first → Holds (facts_in j) watched (at_end (facts_in j) done cluster) tally
     holds_all watched done h = subst (λ (n : ℕ). Holds (facts_in j) watched (at_entry done cluster n) tally) all_rows (at.holds watched done h)
+
+-- ---- A block of a cluster, by the entries that it has.
+
+-- the block begins at an entry, and has so many
+pub as_entries : (b : Span) → b.lo < b.hi → entries_from b.lo (b.hi - b.lo) ≡ b
+as_entries b lt = let e : b.lo + (b.hi - b.lo) ≡ b.hi = omega (arith, lt) in λ i. record { lo = b.lo; hi = e i }
+
+pub tried_as : (j : JobView) (cluster : ℕ) (a b : Span) (before after : TallyView) (first last : ℕ) (result : Result (Unit {0}) BlockStop) → a ≡ b → IsBlockTried j cluster a before after first last result → IsBlockTried j cluster b before after first last result
+tried_as j cluster a b before after first last result e h = subst (λ (x : Span). IsBlockTried j cluster x before after first last result) e h
+
+-- the end of a block, by the size that the slot has
+pub end_as : (rows : List (List Value)) (lo hi keys now size end : ℕ) → now ≡ size → end ≡ lo + first_length now 4194304 (map (row_elements keys) (slice_range rows lo hi)) → end ≡ lo + first_length size 4194304 (map (row_elements keys) (slice_range rows lo hi))
+end_as rows lo hi keys now size end same e = e ∙ ap (λ n. lo + first_length n 4194304 (map (row_elements keys) (slice_range rows lo hi))) same

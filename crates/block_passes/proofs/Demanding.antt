@@ -1,35 +1,87 @@
--- What is evaluated for a pass at a place, the loop demands there.
-use Rattle.std.proofs.Common.{◌≡◌, inl, inr, ℕ, Bool, true, false, List, [], ◌∷◌, ◌++◌, Option, None, Some, sym, ◌∙◌, ap, subst, slice_get, unwrap_or, append_assoc, if◌then◌else◌}
-use Rattle.std.specs.Prelude.{All}
-use Rattle.rdf_values.specs.Bookings.{ActionAt, Booking}
+-- The sites that a loop tries are there.
+use Rattle.std.proofs.Common.{◌≡◌, inl, inr, ℕ, ◌<◌, true, List, [], ◌∷◌, ◌++◌, length, sym, ◌∙◌, ap, subst, append_assoc, Option, Bool, false, None, Some, slice_get, unwrap_or, if◌then◌else◌, All}
+use Rattle.std.specs.List.{AllByRecursion}
+use Rattle.rdf_values.specs.Bookings.{Booking, ActionAt}
+use Rattle.rdf_values.specs.Functions.{fn_names}
 use Rattle.rdf_values.specs.Path.{history}
+use Rattle.graph_numbers.specs.Graphs.{graph_sites, graph_under, graph_filters}
+use Rattle.graph_numbers.proofs.Extending.{itself, versions_count}
+use Rattle.graph_numbers.proofs.Ranges.{filters_below}
+use Rattle.std.proofs.lemmas.List.Elements.{recursion_from_All}
+use Rattle.loop_keys.specs.Caches.{IsPlainLoop, IsCovered}
+use Rattle.loop_keys.specs.Jobs.{IsJob, JobView, job_graph}
+use Rattle.loop_keys.proofs.ActionNumbers.{IsSoundBooking, result_sound, IsGivenBelow, IsSoundAction}
+use Rattle.loop_keys.proofs.EvaluateLaws.{accepted_of}
+use Rattle.block_passes.specs.Plans.{IsTried, IsActionOf, Chain}
 use Rattle.rdf_values.specs.declared.action.ActionKind.{ActionKind}
+use Rattle.loop_keys.specs.Passes.{AreReadable}
+use Rattle.block_passes.specs.Tries.{IsReadOf}
 use Rattle.rdf_values.specs.declared.value.Value.{Value}
 use Rattle.rdf_model.specs.Demanded.{Demand, booking_demands, filter_demands}
 use Rattle.rdf_model.specs.Evaluation.{Outcome, Gives, Faults, Needs, ◌>>=◌}
 use Rattle.rdf_model.specs.EntryOutcomes.{truth_of}
 use Rattle.rdf_model.specs.Results.{is_true}
-use Rattle.graph_numbers.specs.Graphs.{graph_filters, graph_under}
 use Rattle.graph_numbers.specs.Meets.{HasFilters, IfPassed}
 use Rattle.graph_numbers.specs.Outcomes.{through_sites}
 use Rattle.graph_numbers.specs.Results.{FilterAt, ResultAt}
 use Rattle.graph_numbers.specs.declared.pass.Pass.{Pass as NumberedPass}
 use Rattle.graph_numbers.proofs.Closing.{IsDemanded, then_wider, wider_filters, wider_inputs}
-use Rattle.graph_numbers.proofs.Extending.{itself}
 use Rattle.graph_numbers.proofs.Reporting.{IsActionDemanded, IsFilterDemanded, filter_demanded, result_demanded}
-use Rattle.loop_keys.specs.Caches.{IsCovered}
-use Rattle.loop_keys.specs.Jobs.{IsJob, JobView, job_graph}
 use Rattle.loop_keys.specs.Keys.{demand_key}
 use Rattle.loop_keys.specs.Store.{HasPassed, HasTried, row_of, site_in}
 use Rattle.loop_keys.proofs.DemandSets.{demanded_in, demands_closed, demands_keys, in_demands}
-use Rattle.loop_keys.proofs.EvaluateLaws.{accepted_of}
 use Rattle.loop_keys.proofs.PassTies.{pass_of}
 use Rattle.loop_keys.specs.Turns.{HasAllDemands}
 use Rattle.loop_keys.proofs.ReportTies.{has_filter}
-use Rattle.block_passes.specs.Demands.{Demands, IsDemandedAt}
-use Rattle.block_passes.specs.Plans.{IsActionOf, IsTried}
-use Rattle.block_passes.specs.Steps.{Chain}
-use Rattle.block_passes.proofs.SitesThere.{not_empty}
+use Rattle.block_passes.specs.Spends.{Demands, IsDemandedAt}
+
+pub all_at : (P : ℕ → Type 0) (up rest : List ℕ) (s : ℕ) → AllByRecursion P (up ++ s ∷ rest) → P s
+all_at P [] rest s h = h.0
+all_at P (t ∷ up) rest s h = all_at P up rest s h.1
+
+pub not_empty : (up : List ℕ) (s : ℕ) → up ++ s ∷ [] ≡ [] → ⊥
+not_empty [] s q = cc q
+not_empty (x ∷ xs) s q = cc q
+
+module _ (j : JobView) (job : IsJob j) (c : Chain) (up : List ℕ) (s : ℕ) (e : c.sites ≡ up ++ s ∷ []) where
+  pub in_list : (P : ℕ → Type 0) (path rest : List ℕ) → path ≡ c.sites ++ rest → AllByRecursion P path → P s
+  in_list P path rest h all = all_at P up rest s (subst (λ (p : List ℕ). AllByRecursion P p) (h ∙ ap (λ l. l ++ rest) e ∙ append_assoc up (s ∷ []) rest) all)
+
+  -- the last filter of a chain that is tried is a site of the graph
+  pub site_there : IsTried j c → s < length (graph_sites (job_graph j))
+  site_there (inl q) = absurd (not_empty up s (sym e ∙ q))
+  site_there (inr (inl p)) =
+      let u = graph_under (job_graph j) p.numbered.variation in
+      let sound = subst (λ (b : Booking). IsSoundBooking j.dataset u (history j.script) p.result b) p.action.booking
+      (result_sound j.dataset u (history j.script) (history j.script) (accepted_of j job) itself p.numbered.result p.result p.action.its_result) in
+      in_list (λ t. t < length (graph_sites (job_graph j))) p.result.filters p.begins.rest p.begins.begins sound.filters
+  site_there (inr (inr f)) = in_list (λ t. t < length (graph_sites (job_graph j))) f.named.sites f.begins.rest f.begins.begins (filters_below j.dataset.columns (fn_names j.dataset.fns) (history j.script) f.filter f.named f.its_filter)
+
+  -- and of a loop without vectors it is one of the sites without vectors
+  pub site_used : (loop : IsPlainLoop j) → IsTried j c → loop.used s ≡ true
+  site_used loop (inl q) = absurd (not_empty up s (sym e ∙ q))
+  site_used loop (inr (inl p)) =
+      in_list (λ t. loop.used t ≡ true) p.result.filters p.begins.rest p.begins.begins (recursion_from_All (λ t. loop.used t ≡ true) p.result.filters (loop.filters p.pass p.numbered p.result p.action.its_pass p.action.its_result))
+  site_used loop (inr (inr f)) =
+      let v = f.covered in
+      in_list (λ t. loop.used t ≡ true) f.named.sites f.begins.rest f.begins.begins (recursion_from_All (λ t. loop.used t ≡ true) f.named.sites (loop.covers v.pass f.filter v.numbered v.result f.named v.its_pass v.its_result v.covers f.its_filter))
+
+-- ---- What the actions of a loop read is there.
+
+-- each version that an action reads is there, and is given by a column of the table or by a site
+pub inputs_readable : (j : JobView) (job : IsJob j) (n : ℕ) (k : ActionKind) (inputs : List ℕ) (u : Option ℕ) → IsReadOf j n k inputs u → AreReadable j u inputs
+inputs_readable j job n k inputs u read = subst (AreReadable j u) read.inputs_are (readable read.result.inputs sound.inputs)
+  where
+    sound : IsSoundAction j.dataset (graph_under (job_graph j) u) (history j.script) read.result k
+    sound =
+        subst (λ (b : Booking). IsSoundBooking j.dataset (graph_under (job_graph j) u) (history j.script) read.result b) read.action.booking
+        (result_sound j.dataset (graph_under (job_graph j) u) (history j.script) (history j.script) (accepted_of j job) itself read.numbered.result read.result read.action.its_result)
+
+    readable : (cs : List ℕ) → AllByRecursion (IsGivenBelow j.dataset (graph_under (job_graph j) u) (history j.script)) cs → AreReadable j u cs
+    readable [] h = tt
+    readable (c ∷ cs) h = ((subst (λ (m : ℕ). c < m) (sym (versions_count j.dataset.columns (fn_names j.dataset.fns) (history j.script))) h.0.0, h.0.1), readable cs h.1)
+
+-- ---- What is evaluated for a pass at a place, the loop demands there.
 
 module _ (j : JobView) (job : IsJob j) (entry : ℕ) (row : List Value) (here : slice_get j.dataset.rows entry ≡ Some row) (T : ℕ → Bool) (all : HasAllDemands j entry T) where
   same_row : row ≡ row_of j entry

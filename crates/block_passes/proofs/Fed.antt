@@ -1,56 +1,164 @@
--- A block's batch is what its places feed to an action's pass.
-use Rattle.std.proofs.Common.{◌≡◌, ◌<◌, ◌+◌, ℕ, Bool, true, List, length, Option, Some, None, refl, sym, ◌∙◌, ap, subst, arith, get_or, slice_get}
-use Rattle.std.specs.Prelude.{All, OnErr, Result, flat_map}
-use Rattle.std.specs.List.{filter, range_with_len}
+-- The first place at which an action can't be fed what it reads.
+use Rattle.std.proofs.Common.{◌≡◌, inl, inr, ℕ, ◌<◌, ◌||◌, List, [], ◌∷◌, length, Option, None, Some, refl, sym, ◌∙◌, ap, subst, arith, nat_eq, nat_lt, ◌+◌, Bool, true, get_or, slice_get, All, OnErr, Result, flat_map, MatchOption, filter}
+use Rattle.std.specs.List.{range_with_len}
+use Rattle.std.proofs.lemmas.Bool.Decides.{Decides-eqb, Decides-ltb}
+use Rattle.std.proofs.lemmas.List.Elements.{All-cons, All-nil, All-get_or}
 use Rattle.std.proofs.lemmas.List.FromFn.{length-range_with_len}
-use Rattle.std.proofs.lemmas.Option.{slice_get-get_or, slice_get_within}
 use Rattle.rdf_values.specs.Spread.{feed_fault, spread}
 use Rattle.rdf_values.specs.declared.action.ActionKind.{ActionKind}
+use Rattle.rdf_values.specs.declared.action.ActionKind.TheVariants as kind
+use Rattle.rdf_values.specs.declared.fault.EntryFault.{EntryFault}
+use Rattle.rdf_values.specs.declared.value.Value.{Value}
+use Rattle.rdf_model.specs.Evaluation.{Outcome, Gives, Faults, Needs, ◌>>=◌, for_all}
+use Rattle.actions.specs.Batches.{HasValues, SuitsAt, fault_or_later, first_fault_in, values_at, batch_items, places_of}
+use Rattle.actions.specs.declared.batch.PlaceFault.{PlaceFault as BatchFault}
+use Rattle.actions.specs.declared.batch.Sources.{Sources}
+use Rattle.expr_lanes.specs.Places.{AreRising, EachPlace, is_in}
+use Rattle.block_cache.specs.Lanes.{LaneView}
+use Rattle.loop_keys.specs.Jobs.{JobView, IsJob, passes_in}
+use Rattle.block_cache.specs.Blocks.{AreReady}
+use Rattle.block_cache.specs.Fills.{fault_before, fault_over}
+use Rattle.block_cache.specs.declared.faults.PlaceFault.{PlaceFault}
+use Rattle.block_passes.specs.Feeds.{AreLanesOf, of_batch}
+use Rattle.block_passes.specs.Inputs.{IsServedTo, AreAtHand}
+use Rattle.block_passes.specs.Searches.{feeding_fault, Lowers, noted, where_in}
+use Rattle.block_passes.specs.Tries.{IsNarrowed, AreKept, IsReadOf}
+use Rattle.block_passes.specs.Spends.{IsSettledAt}
+use Rattle.block_passes.specs.declared.found.Found.{Found}
+use Rattle.block_passes.specs.declared.kept.Kept.{Kept}
+use Rattle.block_passes.proofs.Places.{over_lowers, chosen_below, in_chosen}
+use Rattle.lemmas.proofs.Booleans.{or_true}
+use Rattle.block_cache.proofs.LaneSteps.{filter_all}
+use Rattle.std.proofs.lemmas.Option.{slice_get-get_or, slice_get_within}
 use Rattle.rdf_values.specs.declared.memory.Memory.{Memory}
-use Rattle.rdf_model.specs.Evaluation.{Gives, for_all}
 use Rattle.rdf_model.specs.Results.{is_true}
-use Rattle.actions.specs.Batches.{HasValues, SuitsAt, batch_items, places_of, values_at}
 use Rattle.actions.specs.Holding.{IsTake}
 use Rattle.actions.specs.declared.batch.Batch.{Batch}
-use Rattle.expr_lanes.specs.Places.{EachPlace, is_in}
 use Rattle.graph_numbers.specs.Outcomes.{through_sites}
-use Rattle.block_cache.specs.Lanes.{LaneView}
-use Rattle.cluster_tally.specs.Blocks.{BlockStage, CanFeedBatch, HoldsIn, block_items}
+use Rattle.cluster_tally.specs.Blocks.{BlockStage, CanFeedBatch, HoldsIn, block_items, pass_done}
 use Rattle.cluster_tally.specs.Tallies.{TallyView}
-use Rattle.loop_keys.specs.Jobs.{IsJob, JobView}
 use Rattle.loop_keys.specs.Store.{site_in, version_in}
-use Rattle.loop_keys.specs.Entries.{facts_in}
+use Rattle.loop_keys.specs.Entries.{facts_in, IsNoTake}
 use Rattle.loop_keys.specs.Turns.{actions_before}
 use Rattle.block_cache.proofs.Members.{filter_short}
-use Rattle.block_passes.specs.Counting.{IsAmid}
-use Rattle.block_passes.specs.Fed.{CanFeedAny, IsFeedable}
-use Rattle.block_passes.specs.Feeds.{AreLanesOf}
-use Rattle.block_passes.specs.Inputs.{AreAtHand}
-use Rattle.block_passes.specs.Parts.{feeding_fault}
+use Rattle.block_passes.specs.Fed.{IsAmid, at_pass, CanFeedAny, IsFeedable, IsClear}
 use Rattle.block_passes.specs.Plans.{IsLast, IsPlan, PlanView}
-use Rattle.block_passes.specs.Selections.{AreKept}
-use Rattle.block_passes.specs.Tries.{IsReadOf}
-use Rattle.block_passes.specs.declared.kept.Kept.{Kept}
-use Rattle.block_passes.proofs.Counting.{block_within, its_places}
-use Rattle.block_passes.proofs.FaultsOver.{chosen_below, in_chosen}
-use Rattle.block_passes.proofs.Feeding.{block_kind, feeds}
-use Rattle.block_passes.proofs.Unfed.{all_places}
+use Rattle.block_passes.proofs.Feeding.{block_within, its_places, block_kind, feeds}
+use Rattle.rdf_values.specs.Bookings.{Pass}
+use Rattle.rdf_model.specs.LoopFacts.{kinds_in}
+use Rattle.loop_keys.specs.Caches.{IsActionBooking, IsActionPass}
+use Rattle.loop_keys.proofs.PassNumbers.{some_same}
+use Rattle.loop_keys.proofs.PassTies.{pass_of}
+use Rattle.loop_keys.proofs.EntryLaws.{all_actions}
+use Rattle.loop_keys.proofs.Taken.{at_place}
+use Rattle.block_passes.proofs.Trying.{read_inside, placed, unfed_none}
+
+-- ---- places
+
+-- the first places of a block, by their number
+pub dense_places : (sel : List ℕ) (n m : ℕ) → sel ≡ range_with_len 0 m → n ≡ length sel → range_with_len 0 n ≡ sel
+dense_places sel n m e h = ap (range_with_len 0) (h ∙ ap length e ∙ length-range_with_len 0 m) ∙ sym e
+
+pub all_places : (P : ℕ → Type 0) (sel : List ℕ) → EachPlace sel P → All P sel
+all_places P [] h = All-nil P
+all_places P (p ∷ sel) h =
+    All-cons P p sel (h p (ap (λ b. b || is_in p sel) ((Decides-eqb p p).1 refl)))
+    (all_places P sel (λ q i. h q (ap (λ b. nat_eq q p || b) i ∙ or_true (nat_eq q p))))
+
+-- ---- the first fault
+
+before_later : (p : ℕ) (o : Option EntryFault) (r : Option BatchFault) → of_batch (fault_or_later p o r) ≡ fault_before p o (of_batch r)
+before_later p (Some k) r = refl
+before_later p None r = refl
+
+pub unfed_over : (k : ActionKind) (s : Sources) (f : ℕ → Option EntryFault) (sel : List ℕ) → EachPlace sel (λ p. feed_fault k (values_at s p) ≡ f p) → of_batch (first_fault_in k s sel) ≡ fault_over f sel
+unfed_over k s f [] h = refl
+unfed_over k s f (p ∷ sel) h =
+    before_later p (feed_fault k (values_at s p)) (first_fault_in k s sel)
+    ∙ ap (λ o. fault_before p o (of_batch (first_fault_in k s sel))) (h p (ap (λ b. b || is_in p sel) ((Decides-eqb p p).1 refl)))
+    ∙ ap (fault_before p (f p)) (unfed_over k s f sel (λ q i. h q (ap (λ b. nat_eq q p || b) i ∙ or_true (nat_eq q p))))
+
+-- ---- it lowers the limit
+
+module _ (j : JobView) (first count : ℕ) (f : ℕ → Option EntryFault) (pass : ℕ) (to now : Kept) (lanes : List LaneView) (old new : Found) (o : Option PlaceFault)
+    (ready : AreReady j first count lanes) (settled : (p : ℕ) → p < old.limit → IsSettledAt lanes p) (rising : AreRising to.places) (inside : EachPlace to.places (λ p. p < old.limit))
+    (is : o ≡ fault_over f to.places) (noted_is : new ≡ noted first pass old o) where
+  lowered : Lowers (where_in f to.places) first pass old new
+  lowered = subst (λ (x : Found). Lowers (where_in f to.places) first pass old x) (sym noted_is) (over_lowers f to.places first pass old o rising inside is)
+
+  left_of : to.limit ≡ Some old.limit → IsNarrowed new.limit old.limit to now → (now.limit ≡ Some new.limit) × (now.places ≡ filter (λ p. nat_lt p new.limit) to.places)
+  left_of made (inl n) =
+      let le = n.0 in
+      let falls = lowered.falls in
+      let same : old.limit ≡ new.limit = omega (arith, le, falls) in (
+        ap (λ (x : Kept). x.limit) n.1 ∙ made ∙ ap Some same,
+        ap (λ (x : Kept). x.places) n.1 ∙ sym (filter_all (λ p. nat_lt p new.limit) to.places (λ p i. (Decides-ltb p new.limit).1 (let l = inside p i in omega (arith, l, same)))),
+      )
+  left_of made (inr n) = (n.1, n.2)
+
+  pub part_served : to.limit ≡ Some old.limit → IsNarrowed new.limit old.limit to now → IsServedTo j first count f pass to.places now lanes old new
+  part_served made narrowed = record {
+    ready = ready;
+    settled = λ p lt. (let falls = lowered.falls in settled p (omega (arith, lt, falls)));
+    lowers = lowered;
+    its_limit = (left_of made narrowed).0;
+    left = (left_of made narrowed).1;
+  }
+
+-- ---- a batch
+
+module _ (k : ActionKind) (s : Sources) (o : ℕ → Outcome ⊥ (List Value)) (sel ps : List ℕ) (e : ps ≡ sel) (are : EachPlace sel (λ p. AreLanesOf (o p) k s p)) where
+  pub lanes_there : All (HasValues s) ps
+  lanes_there = subst (λ (l : List ℕ). All (HasValues s) l) (sym e) (all_places (HasValues s) sel (λ p i. (are p i).there))
+
+  pub lanes_suit : All (SuitsAt k s) ps
+  lanes_suit = subst (λ (l : List ℕ). All (SuitsAt k s) l) (sym e) (all_places (SuitsAt k s) sel (λ p i. (are p i).suits))
+
+  pub first_is : (r : Option BatchFault) → r ≡ first_fault_in k s ps → of_batch r ≡ fault_over (λ p. feeding_fault k (o p)) sel
+  first_is r h = ap of_batch (h ∙ ap (first_fault_in k s) e) ∙ unfed_over k s (λ p. feeding_fault k (o p)) sel (λ p i. sym (ap (feeding_fault k) (are p i).values))
+
+-- ---- an action that reads fewer than two columns
+
+nothing_weighed : (k : ActionKind) (v : Value) → feed_fault k (v ∷ []) ≡ None
+nothing_weighed kind.Count v = refl
+nothing_weighed (kind.Sum c) v = refl
+nothing_weighed (kind.Min c) v = refl
+nothing_weighed (kind.Max c) v = refl
+nothing_weighed (kind.Take c) v = refl
+nothing_weighed (kind.Reduce o c) v = refl
+nothing_weighed (kind.Histo1D edges x w) v = refl
+nothing_weighed (kind.Histo2D xs ys x y w) v = refl
+
+nothing_fed : (k : ActionKind) → feed_fault k [] ≡ None
+nothing_fed kind.Count = refl
+nothing_fed (kind.Sum c) = refl
+nothing_fed (kind.Min c) = refl
+nothing_fed (kind.Max c) = refl
+nothing_fed (kind.Take c) = refl
+nothing_fed (kind.Reduce o c) = refl
+nothing_fed (kind.Histo1D edges x w) = refl
+nothing_fed (kind.Histo2D xs ys x y w) = refl
+
+-- one value that is there can be fed
+pub few_fed : (k : ActionKind) (f : ℕ → Outcome ⊥ Value) (cs : List ℕ) → length cs < 2 → feeding_fault k (for_all f cs) ≡ None
+few_fed k f [] h = nothing_fed k
+few_fed k f (c ∷ []) h = one (f c)
+  where
+    one : (o : Outcome ⊥ Value) → feeding_fault k (o >>= λ y. (for_all f [] >>= λ ys. Gives (y ∷ ys))) ≡ None
+    one (Gives v) = nothing_weighed k v
+    one (Faults e) = refl
+    one (Needs m) = elim m [ ]
+few_fed k f (c ∷ d ∷ cs) h = absurd (omega (arith, h))
+
+-- ---- A block's batch is what its places feed to an action's pass.
 
 module _ (j : JobView) (job : IsJob j) (first count : ℕ) (pass : ℕ) (k : ActionKind) (inputs : List ℕ) (u : Option ℕ) (own : IsReadOf j pass k inputs u) where
   -- ---- by the plan
 
   module _ (plan : PlanView) (p : IsPlan j plan) where
-    abbrev pub led : (last : ℕ) × (slice_get plan.passes pass ≡ Some last) × IsLast p.chains own.result.filters own.numbered.variation last
-    led = p.passes pass own.numbered own.result k own.action
-
-    pub pass_there : pass < length plan.passes
-    pass_there = slice_get_within plan.passes pass led.0 led.1
-
     module _ (last : ℕ) (at : slice_get plan.passes pass ≡ Some last) (kept : List Kept) (are : AreKept j first p.chains count kept) where
       pub last_led : IsLast p.chains own.result.filters u last
-      last_led =
-          let same : led.0 ≡ last = (let e : ◌≡◌ {A = Option ℕ} (Some led.0) (Some last) = sym led.1 ∙ at in cc e) in
-          subst (λ (v : Option ℕ). IsLast p.chains own.result.filters v last) own.its_under (subst (λ (n : ℕ). IsLast p.chains own.result.filters own.numbered.variation n) same led.2)
+      last_led = subst (λ (v : Option ℕ). IsLast p.chains own.result.filters v last) own.its_under (p.passes pass last at own.numbered own.result k own.action)
 
       pub last_there : last < length kept
       last_there = let low = slice_get_within p.chains last last_led.chain last_led.its in let many = are.many in omega (arith, low, many)
@@ -64,7 +172,7 @@ module _ (j : JobView) (job : IsJob j) (first count : ℕ) (pass : ℕ) (k : Act
         pub fed_low : (s : BlockStage) → IsAmid j first count s → EachPlace (get_or kept last d).places (λ q. q < count)
         fed_low s amid q i =
             let is = its_places j first count s amid u p.chains kept are own.result.filters last last_led (get_or kept last d) got (feedable.over_all (get_or kept last d) got) in
-            subst (λ (n : ℕ). q < n) amid.block (chosen_below (λ x. is_true (through_sites (site_in j (amid.lo + s.entries + x) u) own.result.filters)) q s.block (subst (λ (l : List ℕ). is_in q l ≡ true) is i))
+            subst (λ (n : ℕ). q < n) amid.block (chosen_below (λ x. is_true (through_sites (site_in j (amid.in_cluster.span.lo + s.entries + x) u) own.result.filters)) q s.block (subst (λ (l : List ℕ). is_in q l ≡ true) is i))
 
         pub fed_hand : EachPlace (get_or kept last d).places (AreAtHand j lanes u inputs)
         fed_hand q i = (feedable.each (get_or kept last d) got q i).hand
@@ -81,7 +189,7 @@ module _ (j : JobView) (job : IsJob j) (first count : ℕ) (pass : ℕ) (k : Act
 
         module _ (s : BlockStage) (amid : IsAmid j first count s) where
           abbrev entry : ℕ → ℕ
-          entry q = amid.lo + s.entries + q
+          entry q = amid.in_cluster.span.lo + s.entries + q
 
           abbrev passes : ℕ → Bool
           passes q = is_true (through_sites (site_in j (entry q) u) own.result.filters)
@@ -112,7 +220,7 @@ module _ (j : JobView) (job : IsJob j) (first count : ℕ) (pass : ℕ) (k : Act
           its_items =
               ap (flat_map (λ q. spread k (values_at batch.sources q))) (places ∙ sel_is)
               ∙ (λ i. flat_map (λ q. spread k (values_at batch.sources q)) (filter (λ q. is_true (through_sites (site_in j (entry q) (sym own.its_under i)) own.result.filters)) (range_with_len 0 s.block)))
-              ∙ feeds j s amid.lo pass own.numbered own.result k (λ q. values_at batch.sources q) job amid.in_cluster own.action
+              ∙ feeds j s pass own.numbered own.result k (λ q. values_at batch.sources q) job amid.in_cluster own.action
               (λ q low through. fed_at q (in_sel q low (ap (λ (v : Option ℕ). is_true (through_sites (site_in j (entry q) v) own.result.filters)) (sym own.its_under) ∙ through)))
             where
               fed_at : (q : ℕ) → is_in q sel.places ≡ true
@@ -120,7 +228,7 @@ module _ (j : JobView) (job : IsJob j) (first count : ℕ) (pass : ℕ) (k : Act
               fed_at q i = ((λ t. for_all (version_in {M = ⊥} j (sym (same_place q) t) (own.its_under t)) (own.inputs_are t)) ∙ (lanes_at q i).values, clear_at q i)
 
           kind_here : slice_get (facts_in j).kinds (actions_before j pass) ≡ Some k
-          kind_here = let c = amid.in_cluster in block_kind j s c.span c.its_span (let b = c.begins in let w = c.within in omega (arith, b, w)) c.inside job pass own.numbered own.result k own.action
+          kind_here = let c = amid.in_cluster in block_kind j s c.span c.its_span c.within c.inside job pass own.numbered own.result k own.action
 
           pub can_feed : (watched : List ℕ) (place cluster : ℕ) (t : TallyView) → place ≡ actions_before j pass → s.cluster ≡ cluster → s.passes ≡ place → HoldsIn (facts_in j) watched s t → CanFeedBatch (facts_in j) watched s t place cluster batch
           can_feed watched place cluster t is its at_pass holds = record {
@@ -148,3 +256,63 @@ module _ (j : JobView) (job : IsJob j) (first count : ℕ) (pass : ℕ) (k : Act
 -- only a Take wants memory
 pub only_takes : (k kind : ActionKind) → kind ≡ k → (r : Result (Unit {0}) Memory) → OnErr r (IsTake kind) → OnErr r (IsTake k)
 only_takes k kind is r h = subst (λ (x : ActionKind). OnErr r (IsTake x)) is h
+
+-- ---- All action passes of a block are fed, one after the other.
+
+-- a pass that reads what an action reads is an action's
+pub read_action : (j : JobView) (n : ℕ) (k : ActionKind) (inputs : List ℕ) (u : Option ℕ) → IsReadOf j n k inputs u → IsActionPass j n
+read_action j n k inputs u own =
+    subst (λ (o : Option Pass). MatchOption o ⊥ (λ (p : Pass). IsActionBooking p.result.booking)) (sym (pass_of j n own.numbered own.action.its_pass own.result own.action.its_result)) (subst IsActionBooking (sym own.action.booking) tt)
+
+no_take : (k : ActionKind) → IsNoTake k → IsTake k → ⊥
+no_take (kind.Take c) h take = h
+no_take kind.Count h take = take
+no_take (kind.Sum c) h take = take
+no_take (kind.Min c) h take = take
+no_take (kind.Max c) h take = take
+no_take (kind.Reduce o c) h take = take
+no_take (kind.Histo1D edges c w) h take = take
+no_take (kind.Histo2D xs ys c d w) h take = take
+
+-- no pass of a loop without Takes takes
+pub takes_none : (j : JobView) (n : ℕ) (k : ActionKind) (inputs : List ℕ) (u : Option ℕ) → IsReadOf j n k inputs u → All IsNoTake (kinds_in (passes_in j)) → IsTake k → ⊥
+takes_none j n k inputs u own none take = no_take k (subst IsNoTake same (All-get_or IsNoTake ks i k low none)) take
+  where
+    ks : List ActionKind
+    ks = kinds_in (passes_in j)
+
+    i : ℕ
+    i = actions_before j n
+
+    here : slice_get ks i ≡ Some k
+    here = (at_place j.dataset [] n (passes_in j) _ k own.action.at (pass_of j n own.numbered own.action.its_pass own.result own.action.its_result) own.action.booking).0
+
+    low : i < length ks
+    low = slice_get_within ks i k here
+
+    same : get_or ks i k ≡ k
+    same = some_same (get_or ks i k) k (sym (slice_get-get_or ks i k low) ∙ here)
+
+module _ (j : JobView) (job : IsJob j) (first count : ℕ) (plan : PlanView) (p : IsPlan j plan) (lanes : List LaneView) (kept : List Kept) (h : IsClear j first count p.chains plan lanes kept) where
+  pub can_be_fed : (n : ℕ) (k : ActionKind) (inputs : List ℕ) (u : Option ℕ) (own : IsReadOf j n k inputs u) (last : ℕ) → slice_get plan.passes n ≡ Some last → IsFeedable j first count lanes kept last k inputs u
+  can_be_fed n k inputs u own last its = record {
+    over_all = h.over n k inputs u own last its;
+    each = λ s at q i.
+        let low = placed j job first count n plan p h.ready.within k inputs u own last its kept h.countable.kept_are s at (h.over n k inputs u own last its s at) q i in
+        record {
+          hand = subst (λ (v : Option ℕ). AreAtHand j lanes v inputs q) own.its_under (subst (λ (cs : List ℕ). AreAtHand j lanes own.numbered.variation cs q) own.inputs_are (h.read n own.numbered own.result k own.action q low.0 low.1));
+          clear = unfed_none j job first count n plan p h.ready.within k inputs u own last its q low.0 low.1 (h.clear n q (read_inside j n k inputs u own) low.0);
+        };
+  }
+
+module _ (j : JobView) (first count cluster : ℕ) where
+  -- what a tally that begins at the first pass holds after so many of the loop's actions
+  abbrev pub IsFedTo : TallyView → ℕ → TallyView → Type 0
+  IsFedTo old n now = (watched : List ℕ) (s : BlockStage) → IsAmid j first count s → s.cluster ≡ cluster → s.passes ≡ 0 → HoldsIn (facts_in j) watched s old → HoldsIn (facts_in j) watched (at_pass s n) now
+
+  pub fed_all : (old now : TallyView) (n pass : ℕ) → pass ≡ length (passes_in j) → n ≡ actions_before j pass → IsFedTo old n now → IsFedTo old (length (kinds_in (passes_in j))) now
+  fed_all old now n pass e place h watched s amid its none holds = subst (λ (m : ℕ). HoldsIn (facts_in j) watched (at_pass s m) now) (place ∙ all_actions j pass e) (h watched s amid its none holds)
+
+  -- one pass further
+  pub one_further : (watched : List ℕ) (s : BlockStage) (t : TallyView) (place : ℕ) → s.passes ≡ place → HoldsIn (facts_in j) watched (pass_done s) t → HoldsIn (facts_in j) watched (at_pass s (place + 1)) t
+  one_further watched s t place at h = subst (λ (n : ℕ). HoldsIn (facts_in j) watched (at_pass s (n + 1)) t) at h

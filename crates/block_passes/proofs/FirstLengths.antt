@@ -1,10 +1,8 @@
 -- How many entries the next block has, entry by entry.
-use Rattle.std.proofs.Common.{◌≡◌, ◌⊎◌, inl, inr, ℕ, ℤ, zero, suc, ◌+◌, ◌-◌, ◌*◌, ◌<◌, ◌≤◌, Bool, true, false, ◌&&◌, List, [], ◌∷◌, length, map, min, take, drop, Some, refl, sym, ◌∙◌, ap, subst, arith, slice_get, if◌then◌else◌}
-use Rattle.std.specs.Prelude.{nat_le, option_and_then, option_map, slice_range}
-use Rattle.std.specs.List.{sum_by}
+use Rattle.std.proofs.Common.{◌≡◌, ◌⊎◌, inl, inr, ℕ, ℤ, zero, suc, ◌+◌, ◌-◌, ◌*◌, ◌<◌, ◌≤◌, Bool, true, false, ◌&&◌, List, [], ◌∷◌, length, map, min, take, drop, Some, refl, sym, ◌∙◌, ap, subst, arith, slice_get, if◌then◌else◌, nat_le, option_and_then, option_map, slice_range, sum_by, unwrap_or, drop-cons}
 use Rattle.std.proofs.lemmas.Bool.{le-leb, le-ltb, lt-leb, lt-ltb}
-use Rattle.std.proofs.lemmas.List.Sums.{sum_by-cons}
-use Rattle.lemmas.proofs.Parts.{range_length}
+use Rattle.std.proofs.lemmas.List.Sums.{sum_by-cons, sum_by-append}
+use Rattle.lemmas.proofs.Parts.{range_length, take_next}
 use Rattle.lemmas.proofs.Places.{something_at}
 use Rattle.rdf_values.specs.Tables.{FitsColumn, FitsKind, FitRows, FitsRow, IsTable, TableView, cell, kind_at}
 use Rattle.rdf_values.specs.declared.column.Column.{Column}
@@ -18,13 +16,13 @@ use Rattle.block_laws.proofs.BlockCuts.{plain_first}
 use Rattle.std.proofs.lemmas.List.{take_all}
 use Rattle.rdf_values.proofs.Rows.{fits_length}
 use Rattle.loop_keys.proofs.PassNumbers.{some_same}
+use Rattle.loop_keys.proofs.ColumnLaws.{fits_at as fits_rows}
+use Rattle.std.proofs.lemmas.Option.{slice_get_within, get_or_from_slice_get}
 
 -- ---- the cells of an entry
 
 row_fits : (cols : List Column) (rows : List (List Value)) (e : ℕ) (row : List Value) → FitRows cols rows → slice_get rows e ≡ Some row → FitsRow cols row
-row_fits cols [] e row h at = cc at
-row_fits cols (r ∷ rs) zero row h at = let s : r ≡ row = cc at in subst (FitsRow cols) s h.0
-row_fits cols (r ∷ rs) (suc e) row h at = row_fits cols rs e row h.1 at
+row_fits cols rows e row h at = subst (FitsRow cols) (ap (λ o. unwrap_or o []) at) (fits_rows cols rows e h (slice_get_within rows e row at))
 
 pub fits_at : (cols : List Column) (row : List Value) (i : ℕ) → FitsRow cols row → i < length cols → (c : Column) × (v : Value) × (slice_get cols i ≡ Some c) × (slice_get row i ≡ Some v) × FitsColumn c.kind v
 fits_at [] [] i h lt = absurd (omega (arith, lt))
@@ -42,23 +40,6 @@ no_truths : (v : Value) → FitsKind kind.Bool v → elements_in v ≡ 0
 no_truths (val.Int z) h = refl
 no_truths (val.Bool b) h = refl
 no_truths (val.Vect zs) h = elim h [ ]
-
-none_taken : (row : List Value) → sum_by elements_in (take 0 row) ≡ 0
-none_taken [] = refl
-none_taken (v ∷ vs) = refl
-
-take_next : (row : List Value) (i : ℕ) (v : Value) → slice_get row i ≡ Some v → sum_by elements_in (take (suc i) row) ≡ sum_by elements_in (take i row) + elements_in v
-take_next [] i v at = cc at
-take_next (x ∷ xs) zero v at =
-    let s : x ≡ v = cc at in
-    let a = sum_by-cons elements_in x (take 0 xs) in
-    let b = none_taken xs in
-    let c : elements_in x ≡ elements_in v = ap elements_in s in
-    let d : sum_by elements_in (take 0 (x ∷ xs)) ≡ 0 = refl in omega (arith, a, b, c, d)
-take_next (x ∷ xs) (suc i) v at =
-    let a = sum_by-cons elements_in x (take (suc i) xs) in
-    let b = sum_by-cons elements_in x (take i xs) in
-    let c = take_next xs i v at in omega (arith, a, b, c)
 
 module _ (t : TableView) (table : IsTable t) (e i : ℕ) (inside : i < length t.columns) where
   -- a cell of another column than one of vectors has no elements
@@ -89,26 +70,20 @@ module _ (t : TableView) (table : IsTable t) (e i : ℕ) (inside : i < length t.
       → ((r : List Value) (v : Value) → slice_get t.rows e ≡ Some r → slice_get r i ≡ Some v → m ≡ elements_in v) → n + m ≡ sum_by elements_in (take (i + 1) row)
   next_cells row here n m so_far cell_is =
       let w = fits_at t.columns row i (row_fits t.columns t.rows e row table.fit here) inside in
-      let a = take_next row i w.1 w.3 in
+      let a = ap (sum_by elements_in) (take_next row i w.1 w.3) ∙ sum_by-append elements_in (take i row) (w.1 ∷ []) ∙ ap (λ k. sum_by elements_in (take i row) + k) (sum_by-cons elements_in w.1 []) in
       let b = cell_is row w.1 here w.3 in
-      let s : suc i ≡ i + 1 = omega arith in
-      let d : sum_by elements_in (take (suc i) row) ≡ sum_by elements_in (take (i + 1) row) = ap (λ k. sum_by elements_in (take k row)) s in
-      omega (arith, so_far, a, b, d)
+      let none : sum_by elements_in [] ≡ 0 = refl in
+      omega (arith, so_far, a, b, none)
 
 pub all_cells : (t : TableView) → IsTable t → (e : ℕ) (row : List Value) → slice_get t.rows e ≡ Some row → (i : ℕ) → length t.columns ≤ i → sum_by elements_in (take i row) ≡ sum_by elements_in row
 all_cells t table e row here i le = let m = fits_length t.columns row (row_fits t.columns t.rows e row table.fit here) in ap (sum_by elements_in) (take_all i row (omega (arith, m, le)))
 
 -- ---- the entries of a block
 
-drop_head : (rows : List (List Value)) (e : ℕ) (row : List Value) → slice_get rows e ≡ Some row → drop e rows ≡ row ∷ drop (suc e) rows
-drop_head [] e row h = cc h
-drop_head (r ∷ rs) zero row h = let s : r ≡ row = cc h in ap (λ x. x ∷ rs) s
-drop_head (r ∷ rs) (suc e) row h = drop_head rs e row h
-
 range_head : (rows : List (List Value)) (e hi : ℕ) (row : List Value) → slice_get rows e ≡ Some row → e < hi → slice_range rows e hi ≡ row ∷ slice_range rows (suc e) hi
 range_head rows e hi row h lt =
     let m : hi - e ≡ suc (hi - suc e) = omega (arith, lt) in
-    ap (λ k. take k (drop e rows)) m ∙ ap (λ l. take (suc (hi - suc e)) l) (drop_head rows e row h)
+    ap (λ k. take k (drop e rows)) m ∙ ap (λ l. take (suc (hi - suc e)) l) (drop-cons rows e row (slice_get_within rows e row h) ∙ ap (λ r. r ∷ drop (suc e) rows) (get_or_from_slice_get rows e row row h))
 
 module _ (rows : List (List Value)) (keys size most hi : ℕ) where
   abbrev pub costs_from : ℕ → List ℕ

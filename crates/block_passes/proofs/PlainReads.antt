@@ -1,6 +1,5 @@
 -- What the actions of a loop without vectors read.
-use Rattle.std.proofs.Common.{◌≡◌, ◌⊎◌, inl, inr, ℕ, Bool, zero, suc, ◌+◌, ◌<◌, true, false, List, [], ◌∷◌, length, map, option_map, Option, Some, refl, sym, ◌∙◌, ap, subst, slice_get}
-use Rattle.std.specs.Prelude.{get_or, unwrap_or}
+use Rattle.std.proofs.Common.{◌≡◌, ◌⊎◌, inl, inr, ℕ, Bool, zero, suc, ◌+◌, ◌<◌, true, false, List, [], ◌∷◌, length, map, option_map, Option, Some, refl, sym, ◌∙◌, ap, subst, slice_get, get_or, unwrap_or}
 use Rattle.std.specs.List.{AllByRecursion}
 use Rattle.std.proofs.lemmas.List.Elements.{recursion_from_All}
 use Rattle.std.proofs.lemmas.Option.{get_or_from_slice_get}
@@ -29,9 +28,9 @@ use Rattle.graph_numbers.specs.Sources.{cell_value, source_value}
 use Rattle.graph_numbers.specs.Versions.{version_at}
 use Rattle.graph_numbers.specs.declared.source.Source.{Source}
 use Rattle.graph_numbers.specs.declared.source.Source.TheVariants as from
-use Rattle.graph_numbers.proofs.Extending.{Extends, itself}
+use Rattle.graph_numbers.proofs.Extending.{Extends, itself, shorter}
 use Rattle.graph_numbers.proofs.Listed.{of_joined}
-use Rattle.graph_numbers.proofs.Passing.{AreVisible, action_visible, shorter}
+use Rattle.graph_numbers.proofs.Passing.{AreVisible, action_visible}
 use Rattle.graph_numbers.proofs.VersionKinds.{FitsVersion, visible_fits}
 use Rattle.loop_keys.specs.Caches.{IsPlainLoop}
 use Rattle.loop_keys.specs.Jobs.{IsJob, JobView, job_graph}

@@ -1,26 +1,123 @@
--- One pass after another over a block.
-use Rattle.std.proofs.Common.{◌∙◌, length, slice_get, ◌-◌, ◌≡◌, ◌⊎◌, inl, inr, ℕ, ◌+◌, ◌<◌, ◌≤◌, List, [], ◌∷◌, Option, None, Some, refl, sym, ap, subst, arith}
-use Rattle.std.specs.Prelude.{slice_range}
+-- Selections that were made stay made.
+use Rattle.std.proofs.Common.{◌≡◌, ◌⊎◌, inl, inr, ℕ, ◌<◌, List, [], ◌∷◌, ◌++◌, Option, Some, sym, ◌∙◌, ap, subst, slice_get, length, zero, suc, true, refl, arith, ◌-◌, ◌+◌, ◌≤◌, None, slice_set, slice_range}
+use Rattle.std.specs.List.{AllByRecursion, list_any}
+use Rattle.lemmas.proofs.Places.{set_at}
+use Rattle.block_cache.specs.Lanes.{LaneView}
+use Rattle.loop_keys.specs.Jobs.{JobView, IsJob, job_graph, passes_in, outcome_of}
+use Rattle.block_passes.specs.Tries.{AreRemade, IsMadeAt, IsMadeBelow, IsSelectedTo, IsNamedMade, IsPassMade, IsPlanMade, IsPassTried, IsReadBelow, IsSearchedTo}
+use Rattle.block_passes.specs.Plans.{PlanView, IsPlan, Chain}
+use Rattle.block_passes.specs.declared.found.Found.{Found}
+use Rattle.block_passes.specs.declared.kept.Kept.{Kept}
+use Rattle.block_passes.specs.declared.plan.NamedSteps.{NamedSteps}
+use Rattle.block_passes.proofs.Selecting.{set_behind, set_other}
+use Rattle.loop_keys.proofs.PassNumbers.{some_same}
+use Rattle.std.proofs.lemmas.Option.{slice_get_within}
+use Rattle.graph_numbers.specs.Graphs.{graph_filters, graph_results}
+use Rattle.graph_numbers.specs.Results.{FilterAt}
+use Rattle.loop_keys.specs.Caches.{IsCovered}
+use Rattle.loop_keys.specs.Turns.{IsReportPass, is_covering, numbered_passes, pass_fault}
+use Rattle.loop_keys.proofs.Covered.{covered_there, passes_count}
+use Rattle.loop_keys.proofs.ReportTies.{contained_at, of_report}
+use Rattle.block_passes.proofs.PlanSteps.{covered_is}
 use Rattle.lemmas.proofs.Orders.{lt_or_last}
 use Rattle.lemmas.proofs.Parts.{range_length}
 use Rattle.rdf_values.specs.Bookings.{Pass}
 use Rattle.rdf_values.specs.declared.fault.EntryFault.{EntryFault}
 use Rattle.rdf_values.specs.declared.value.Value.{Value}
 use Rattle.rdf_model.specs.Results.{fault_in, first_fault_from}
-use Rattle.block_cache.specs.Lanes.{LaneView}
-use Rattle.loop_keys.specs.Jobs.{JobView, outcome_of, passes_in}
 use Rattle.loop_keys.specs.Store.{source_at}
-use Rattle.loop_keys.specs.Turns.{pass_fault}
 use Rattle.block_passes.specs.Inputs.{AreAtHand}
 use Rattle.block_passes.specs.Spends.{Spends}
-use Rattle.block_passes.specs.Steps.{Chain}
-use Rattle.block_passes.specs.Tries.{IsPassTried, IsReadBelow, IsSearchedTo}
-use Rattle.block_passes.specs.declared.found.Found.{Found}
-use Rattle.block_passes.specs.declared.kept.Kept.{Kept}
 use Rattle.block_passes.specs.Searches.{IsSearched, fault_of}
-use Rattle.block_passes.proofs.FirstFaults.{row_in_block, searched, searched_as}
-use Rattle.block_passes.proofs.Searching.{or_else, part_tried, pass_begins, pass_ends}
-use Rattle.block_passes.proofs.ServingInputs.{still_at_hand}
+use Rattle.block_passes.proofs.Searching.{row_in_block, searched, searched_as, or_else, part_tried, pass_begins, pass_ends}
+use Rattle.block_passes.proofs.Serving.{still_at_hand}
+
+module _ (count : ℕ) where
+  pub remade_then : (a b c : List Kept) → AreRemade count a b → AreRemade count b c → AreRemade count a c
+  remade_then a b c h k i m e = go (k i m e)
+    where
+      go : (slice_get b i ≡ Some m) ⊎ IsMadeBelow count m → (slice_get a i ≡ Some m) ⊎ IsMadeBelow count m
+      go (inl q) = h i m q
+      go (inr q) = inr q
+
+  -- one was made
+  pub remade_set : (kept : List Kept) (k : ℕ) (x : Kept) (now : List Kept) → now ≡ slice_set kept k x → IsMadeBelow count x → AreRemade count kept now
+  remade_set kept k x now written made i m e = go (set_other kept k x i m (ap (λ ks. slice_get ks i) (sym written) ∙ e))
+    where
+      go : (slice_get kept i ≡ Some m) ⊎ ((i ≡ k) × (m ≡ x)) → (slice_get kept i ≡ Some m) ⊎ IsMadeBelow count m
+      go (inl q) = inl q
+      go (inr q) = inr (subst (λ (y : Kept). IsMadeBelow count y) (sym q.1) made)
+
+  -- the first behind others was made
+  pub remade_behind : (above own : List Kept) (x : Kept) (now : List Kept) → now ≡ slice_set own 0 x → IsMadeBelow count x → AreRemade count (above ++ own) (above ++ now)
+  remade_behind above own x now written made i m e = go (set_behind above own x i m (ap (λ ks. slice_get (above ++ ks) i) (sym written) ∙ e))
+    where
+      go : (slice_get (above ++ own) i ≡ Some m) ⊎ ((i ≡ length above) × (m ≡ x)) → (slice_get (above ++ own) i ≡ Some m) ⊎ IsMadeBelow count m
+      go (inl q) = inl q
+      go (inr q) = inr (subst (λ (y : Kept). IsMadeBelow count y) (sym q.1) made)
+
+  -- what was made stays so
+  pub made_stays : (a b : List Kept) (k : ℕ) → AreRemade count a b → IsMadeAt count a k → IsMadeAt count b k
+  made_stays a b k h made m e = go (h k m e)
+    where
+      go : (slice_get a k ≡ Some m) ⊎ IsMadeBelow count m → IsMadeBelow count m
+      go (inl q) = made m q
+      go (inr q) = q
+
+  pub made_set : (kept : List Kept) (k : ℕ) (x : Kept) → k < length kept → IsMadeBelow count x → IsMadeAt count (slice_set kept k x) k
+  made_set kept k x lt made m e = subst (λ (y : Kept). IsMadeBelow count y) (some_same x m (sym (set_at kept k x lt) ∙ e)) made
+
+  -- a step that was selected
+  pub made_selected : (j : JobView) (first : ℕ) (chains : List Chain) (pass k : ℕ) (lanes : List LaneView) (kept : List Kept) (old new : Found) → IsSelectedTo j first count chains pass k lanes kept old new → IsMadeAt count kept k
+  made_selected j first chains pass k lanes kept old new h m e = (new.limit, h.made m e, h.ready.within)
+
+  pub named_stays : (plan : PlanView) (a b : List Kept) (f : ℕ) → AreRemade count a b → IsNamedMade count plan a f → IsNamedMade count plan b f
+  named_stays plan a b f h made s its = let w = made s its in (made_stays a b s.above h w.0, made_stays a b s.own h w.1)
+
+-- what a pass takes stays so
+pub pass_stays : (j : JobView) (count : ℕ) (plan : PlanView) (a b : List Kept) (n : ℕ) → AreRemade count a b → IsPassMade j count plan a n → IsPassMade j count plan b n
+pass_stays j count plan a b n h made = record {
+  action = λ k inputs u own last its. made_stays count a b last h (made.action k inputs u own last its);
+  report = λ own rep. all rep.result.covers (made.report own rep);
+}
+  where
+    all : (fs : List ℕ) → AllByRecursion (IsNamedMade count plan a) fs → AllByRecursion (IsNamedMade count plan b) fs
+    all [] m = tt
+    all (f ∷ fs) m = (named_stays count plan a b f h m.0, all fs m.1)
+
+-- ---- After all passes the selections that they take were made.
+
+all_at : (P : ℕ → Type 0) (xs : List ℕ) (k x : ℕ) → AllByRecursion P xs → slice_get xs k ≡ Some x → P x
+all_at P [] k x h e = cc e
+all_at P (y ∷ xs) zero x h e = let same : y ≡ x = cc e in subst P same h.0
+all_at P (y ∷ xs) (suc k) x h e = all_at P xs k x h.1 e
+
+module _ (j : JobView) (job : IsJob j) (count : ℕ) (plan : PlanView) (p : IsPlan j plan) (kept : List Kept) (made : (n : ℕ) → n < length (passes_in j) → IsPassMade j count plan kept n) where
+  named_made : (f : ℕ) → IsCovered j f → IsNamedMade count plan kept f
+  named_made f c =
+      let r = of_report j job f c in
+      let rep : IsReportPass j c.pass c.numbered.result = record { numbered = c.numbered; its_pass = c.its_pass; its_result = refl; result = c.result; there_is = c.its_result; filters = r.filters; report = r.booking } in
+      let lt = slice_get_within (numbered_passes j) c.pass c.numbered c.its_pass in
+      let many = passes_count j in
+      let at = contained_at c.result.covers f c.covers in
+      all_at (IsNamedMade count plan kept) c.result.covers at.0 f ((made c.pass (omega (arith, lt, many))).report c.numbered.result rep) at.1
+
+  covered_of : (f : ℕ) (x : FilterAt) → slice_get (graph_filters (job_graph j)) f ≡ Some x → (s : NamedSteps) → slice_get plan.filters f ≡ Some (Some s) → IsCovered j f
+  covered_of f x its s named =
+      let planned = p.filters f (Some s) named x its in
+      let is = covered_is j job f (slice_get_within (graph_filters (job_graph j)) f x its) (list_any (is_covering (graph_results (job_graph j)) f) (numbered_passes j)) refl in
+      covered_there j f (some_same (list_any (is_covering (graph_results (job_graph j)) f) (numbered_passes j)) true (sym is ∙ planned.0))
+
+  pub plan_made : IsPlanMade j count plan kept
+  plan_made = record {
+    actions = λ n k inputs u own last its. (
+        let lt = slice_get_within (numbered_passes j) n own.numbered own.action.its_pass in
+        let many = passes_count j in
+        (made n (omega (arith, lt, many))).action k inputs u own last its);
+    filters = λ f x its s named. named_made f (covered_of f x its s named) s named;
+  }
+
+-- ---- One pass after another over a block.
 
 or_none : (o : Option EntryFault) → o ≡ or_else o None
 or_none None = refl

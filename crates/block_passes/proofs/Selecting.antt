@@ -1,22 +1,320 @@
--- How selections are made.
-use Rattle.std.proofs.Common.{◌≡◌, ℕ, ◌+◌, ◌<◌, ◌≤◌, List, [], length, Option, Some, sym, ◌∙◌, ap, arith}
-use Rattle.std.specs.List.{filter}
+-- A step's selection from that of the step above it.
+use Rattle.std.proofs.Common.{◌≡◌, ◌⊎◌, inl, inr, ℕ, ◌+◌, ◌≤◌, Bool, true, ◌&&◌, List, [], length, Option, None, Some, refl, sym, ◌∙◌, ap, subst, arith, nat_lt, if◌then◌else◌, zero, suc, ◌<◌, false, ◌∷◌, slice_get, get_or, ◌++◌, length-append, filter, slice_set}
+use Rattle.std.specs.List.{range_with_len}
+use Rattle.rdf_model.specs.Evaluation.{Outcome}
 use Rattle.rdf_model.specs.Results.{fault_in, is_true}
-use Rattle.expr_lanes.specs.Places.{AreRising, EachPlace, IsSelected}
-use Rattle.expr_lanes.specs.declared.TheConstants.{MAX_PLACES}
+use Rattle.graph_numbers.specs.Outcomes.{through_sites}
+use Rattle.expr_lanes.specs.Places.{is_in, EachPlace, AreRising, IsSelected}
 use Rattle.block_cache.specs.Lanes.{LaneView}
-use Rattle.loop_keys.specs.Jobs.{JobView}
+use Rattle.loop_keys.specs.Jobs.{IsJob, JobView}
 use Rattle.loop_keys.specs.Known.{truth_in}
 use Rattle.loop_keys.specs.Store.{site_in}
-use Rattle.block_cache.specs.Fills.{IsPassedOver, IsSpentOver, fault_over}
-use Rattle.block_cache.specs.declared.faults.PlaceFault.{PlaceFault}
-use Rattle.block_passes.specs.Searches.{noted}
-use Rattle.block_passes.specs.Selections.{IsFilteredTo}
-use Rattle.block_passes.specs.Spends.{IsSettledAt}
+use Rattle.loop_keys.proofs.TableLaws.{row_there}
+use Rattle.loop_keys.specs.Turns.{HasAllDemands}
+use Rattle.block_cache.specs.Fills.{IsSpentOver, IsPassedOver, fault_over}
+use Rattle.block_passes.specs.Spends.{Demands, Spends, IsSettledAt}
+use Rattle.block_passes.specs.Searches.{where_passed, Lowers, where_in, noted}
+use Rattle.block_passes.specs.Plans.{IsTried, through_chain, IsPlan, PlanView, Chain, longer, AreSteps, IsFilterStep}
+use Rattle.block_passes.specs.Tries.{AreKept, IsFilteredTo, IsMade, IsNarrowed, chosen, IsNextSelected, IsReadyBelow, IsSelectedTo}
 use Rattle.block_passes.specs.declared.found.Found.{Found}
 use Rattle.block_passes.specs.declared.kept.Kept.{Kept}
-use Rattle.block_passes.proofs.Parts.{truth_fault}
+use Rattle.block_passes.proofs.Demanding.{step_demanded}
+use Rattle.block_passes.proofs.Places.{chosen_below, in_chosen, all_pass, filter_twice, narrowed}
+use Rattle.block_passes.proofs.Searching.{step_fault, step_true, truth_fault, chain_through, both_lower, lowers_as, or_else, none_lowers}
+use Rattle.block_passes.proofs.Spending.{spends_filled}
+use Rattle.std.proofs.lemmas.Option.{slice_get_within, slice_get-get_or}
+use Rattle.lemmas.proofs.Places.{set_at, set_length, kept_at}
+use Rattle.block_passes.specs.declared.steps.Step.{Step}
+use Rattle.loop_keys.proofs.PassNumbers.{some_same}
+use Rattle.block_passes.specs.declared.steps.Step.TheVariants as step
+use Rattle.expr_lanes.specs.declared.TheConstants.{MAX_PLACES}
+use Rattle.block_cache.specs.declared.faults.PlaceFault.{PlaceFault}
 use Rattle.block_passes.proofs.Serving.{filled_over}
+
+module _ (j : JobView) (first : ℕ) (up : Chain) (site : ℕ) (u : Option ℕ) (alike : (up.sites ≡ []) ⊎ (up.under ≡ u)) where
+  -- the filters above come to the same under the step's own variation
+  up_alike : (p : ℕ) → through_chain j (first + p) up ≡ through_sites (site_in j (first + p) u) up.sites
+  up_alike p = chain_through j up u alike (first + p)
+
+  pub own_fault : (p : ℕ) → or_else (fault_in (through_chain j (first + p) up)) (where_passed (through_chain j (first + p) up) (fault_in (truth_in j (first + p) u site))) ≡ fault_in (through_chain j (first + p) (longer up site u))
+  own_fault p =
+      (λ i. or_else (fault_in (up_alike p i)) (where_passed (up_alike p i) (truth_fault (site_in j (first + p) u site) i)))
+      ∙ sym (step_fault (site_in j (first + p) u) up.sites site)
+
+  own_true : (p : ℕ) → (is_true (through_chain j (first + p) up) && is_true (truth_in j (first + p) u site)) ≡ is_true (through_chain j (first + p) (longer up site u))
+  own_true p = ap (λ (o : Outcome ⊥ Bool). is_true o && is_true (truth_in j (first + p) u site)) (up_alike p) ∙ sym (step_true (site_in j (first + p) u) up.sites site)
+
+  module _ (count pass : ℕ) (to : Kept) (lanes : List LaneView) (f0 f1 f2 : Found) (above : Lowers (λ p. fault_in (through_chain j (first + p) up)) first pass f0 f1)
+      (h : IsFilteredTo j first count u site pass (chosen j first up f1.limit) to lanes f1 f2) where
+    own_part : Lowers (λ p. where_passed (through_chain j (first + p) up) (fault_in (truth_in j (first + p) u site))) first pass f1 f2
+    own_part =
+        lowers_as (where_in (λ p. fault_in (truth_in j (first + p) u site)) (chosen j first up f1.limit)) (λ p. where_passed (through_chain j (first + p) up) (fault_in (truth_in j (first + p) u site))) first pass f1 f2
+        (λ p lt. ap (λ b. if b then fault_in (truth_in j (first + p) u site) else None) (in_chosen (λ q. is_true (through_chain j (first + q) up)) p f1.limit lt)) h.lowers
+
+    -- the step's filters lower the limit
+    pub step_lowers : Lowers (λ p. fault_in (through_chain j (first + p) (longer up site u))) first pass f0 f2
+    step_lowers =
+        lowers_as (λ p. or_else (fault_in (through_chain j (first + p) up)) (where_passed (through_chain j (first + p) up) (fault_in (truth_in j (first + p) u site)))) (λ p. fault_in (through_chain j (first + p) (longer up site u))) first pass f0 f2
+        (λ p lt. own_fault p)
+        (both_lower (λ p. fault_in (through_chain j (first + p) up)) (λ p. where_passed (through_chain j (first + p) up) (fault_in (truth_in j (first + p) u site))) first pass f0 f1 f2 above own_part)
+
+    -- and its selection is right below it
+    pub step_made : IsMade j first (longer up site u) f2.limit f2.limit to.places
+    step_made = record {
+      under = omega arith;
+      is = (
+          let f = h.lowers.falls in
+          h.left
+          ∙ ap (filter (λ p. is_true (truth_in j (first + p) u site))) (narrowed (λ p. is_true (through_chain j (first + p) up)) f2.limit f1.limit f)
+          ∙ filter_twice (λ p. is_true (through_chain j (first + p) up)) (λ p. is_true (truth_in j (first + p) u site)) (range_with_len 0 f2.limit)
+          ∙ (λ i. filter (λ p. own_true p i) (range_with_len 0 f2.limit)));
+      clear = step_lowers.clear;
+    }
+
+  -- what is filled for it, the loop demands
+  pub step_spends : (job : IsJob j) (count limit : ℕ) → first + count ≤ length j.dataset.rows → limit ≤ count → IsTried j (longer up site u) → (before after : List LaneView) (start end : ℕ)
+      → IsSpentOver j first u site (chosen j first up limit) before after start end → Spends j first count before after start end
+  step_spends job count limit within le tried before after start end spent =
+      spends_filled j first count u site (chosen j first up limit) before after start end spent
+      (λ p i. (let l = chosen_below (λ q. is_true (through_chain j (first + q) up)) p limit i in omega (arith, l, le)))
+      (λ p T i all. demanded p T i all)
+    where
+      demanded : (p : ℕ) (T : ℕ → Bool) → is_in p (chosen j first up limit) ≡ true → HasAllDemands j (first + p) T → Demands j (first + p) u T site
+      demanded p T i all =
+          let l = chosen_below (λ q. is_true (through_chain j (first + q) up)) p limit i in
+          let passed : is_true (through_chain j (first + p) up) ≡ true = sym (in_chosen (λ q. is_true (through_chain j (first + q) up)) p limit l) ∙ i in
+          let row = row_there j.dataset.rows (first + p) (omega (arith, l, le, within)) in
+          step_demanded j job (first + p) row.0 row.1 T all (longer up site u) tried up.sites site refl (ap is_true (sym (up_alike p)) ∙ passed)
+
+-- ---- the selections
+
+module _ (j : JobView) (first : ℕ) (c : Chain) (limit made : ℕ) where
+  -- a selection that is there, narrowed
+  pub narrowed_made : (old new : Kept) → old.limit ≡ Some made → IsMade j first c limit made old.places → IsNarrowed limit made old new → (new.limit ≡ Some limit) × IsMade j first c limit limit new.places
+  narrowed_made old new l h (inl n) =
+      let le = n.0 in
+      let under = h.under in
+      let same : made ≡ limit = omega (arith, le, under) in (
+        ap (λ (k : Kept). k.limit) n.1 ∙ l ∙ ap Some same,
+        record { under = omega arith; is = ap (λ (k : Kept). k.places) n.1 ∙ h.is ∙ ap (chosen j first c) same; clear = h.clear },
+      )
+  narrowed_made old new l h (inr n) = (
+    n.1,
+    record {
+      under = omega arith;
+      is = n.2 ∙ ap (filter (λ p. nat_lt p limit)) h.is ∙ narrowed (λ p. is_true (through_chain j (first + p) c)) limit made h.under;
+      clear = h.clear;
+    },
+  )
+
+-- all places are selected
+pub whole_made : (j : JobView) (first limit : ℕ) (c : Chain) (places : List ℕ) → c ≡ record { sites = []; under = None } → places ≡ range_with_len 0 limit → IsMade j first c limit limit places
+whole_made j first limit c places e is =
+    subst (λ (x : Chain). IsMade j first x limit limit places) (sym e)
+    (record { under = omega arith; is = is ∙ all_pass limit 0; clear = λ p lt. refl })
+
+-- where the limit falls, those made before are as right
+pub kept_lower : (j : JobView) (first : ℕ) (chains : List Chain) (limit lower : ℕ) (kept : List Kept) → lower ≤ limit → AreKept j first chains limit kept → AreKept j first chains lower kept
+kept_lower j first chains limit lower kept le h = record {
+  many = h.many;
+  each = λ k made c s q r l. (
+      let m = h.each k made c s q r l in
+      let u = m.under in
+      record { under = omega (arith, u, le); is = m.is; clear = λ p lt. m.clear p (omega (arith, lt, le)) });
+}
+
+-- ---- A step's selection: one that is there, all places, or one more filter.
+
+-- ---- a selection that is written
+
+pub set_other : {A : Type 0} (xs : List A) (k : ℕ) (y : A) (i : ℕ) (x : A) → slice_get (slice_set xs k y) i ≡ Some x → (slice_get xs i ≡ Some x) ⊎ ((i ≡ k) × (x ≡ y))
+set_other [] k y i x h = inl h
+set_other (z ∷ xs) zero y zero x h = inr (refl, cc h)
+set_other (z ∷ xs) zero y (suc i) x h = inl h
+set_other (z ∷ xs) (suc k) y zero x h = inl h
+set_other (z ∷ xs) (suc k) y (suc i) x h = go (set_other xs k y i x h)
+  where
+    go : (slice_get xs i ≡ Some x) ⊎ ((i ≡ k) × (x ≡ y)) → (slice_get xs i ≡ Some x) ⊎ ((suc i ≡ suc k) × (x ≡ y))
+    go (inl q) = inl q
+    go (inr q) = inr (ap (λ n. suc n) q.0, q.1)
+
+module _ (j : JobView) (first count : ℕ) (chains : List Chain) (pass k : ℕ) (c : Chain) (its : slice_get chains k ≡ Some c) (lanes : List LaneView) (kept now : List Kept) (s : Found)
+    (ready : IsReadyBelow j first count chains s.limit lanes kept) (x : Kept) (limit : x.limit ≡ Some s.limit) (made : IsMade j first c s.limit s.limit x.places) (written : now ≡ slice_set kept k x) where
+  inside : k < length kept
+  inside = let l = slice_get_within chains k c its in let m = ready.kept_are.many in omega (arith, l, m)
+
+  -- right where it was written, and nothing is lowered
+  pub written_selected : IsSelectedTo j first count chains pass k lanes now s s
+  written_selected = record {
+    ready = record {
+      ready = ready.ready;
+      settled = ready.settled;
+      kept_are = record {
+        many = ap length written ∙ set_length kept k x ∙ ready.kept_are.many;
+        each = λ i m d y q r l. one i m d y q l (set_other kept k x i y (ap (λ ks. slice_get ks i) (sym written) ∙ r));
+      };
+      within = ready.within;
+    };
+    lowers = λ d q. none_lowers (λ p. fault_in (through_chain j (first + p) d)) first pass s (λ p lt. ap (λ (y : Chain). fault_in (through_chain j (first + p) y)) (some_same d c (sym q ∙ its)) ∙ made.clear p lt);
+    made = λ y q. (let e : x ≡ y = some_same x y (sym (set_at kept k x inside) ∙ ap (λ ks. slice_get ks k) (sym written) ∙ q) in ap (λ (z : Kept). z.limit) (sym e) ∙ limit);
+  }
+    where
+      one : (i m : ℕ) (d : Chain) (y : Kept) → slice_get chains i ≡ Some d → y.limit ≡ Some m → (slice_get kept i ≡ Some y) ⊎ ((i ≡ k) × (y ≡ x)) → IsMade j first d s.limit m y.places
+      one i m d y q l (inl r) = ready.kept_are.each i m d y q r l
+      one i m d y q l (inr r) =
+          let chain : c ≡ d = some_same c d (sym its ∙ ap (slice_get chains) (sym r.0) ∙ q) in
+          let same : s.limit ≡ m = some_same s.limit m (sym limit ∙ ap (λ (z : Kept). z.limit) (sym r.1) ∙ l) in
+          subst (λ (a : Chain). IsMade j first a s.limit m y.places) chain
+          (subst (λ (n : ℕ). IsMade j first c s.limit n y.places) same (subst (λ (z : Kept). IsMade j first c s.limit s.limit z.places) (sym r.1) made))
+
+-- one that was there, narrowed
+pub narrowed_selected : (j : JobView) (first count : ℕ) (chains : List Chain) (pass k : ℕ) (c : Chain) → slice_get chains k ≡ Some c → (lanes : List LaneView) (kept now : List Kept) (s : Found) → IsReadyBelow j first count chains s.limit lanes kept
+    → (old new : Kept) (made : ℕ) → slice_get kept k ≡ Some old → old.limit ≡ Some made → IsNarrowed s.limit made old new → now ≡ slice_set kept k new → IsSelectedTo j first count chains pass k lanes now s s
+narrowed_selected j first count chains pass k c its lanes kept now s ready old new made there limit narrowed written =
+    let w = narrowed_made j first c s.limit made old new limit (ready.kept_are.each k made c old its there limit) narrowed in
+    written_selected j first count chains pass k c its lanes kept now s ready new w.0 w.1 written
+
+-- all places
+pub whole_selected : (j : JobView) (first count : ℕ) (chains : List Chain) (pass k : ℕ) → slice_get chains k ≡ Some (record { sites = []; under = None }) → (lanes : List LaneView) (kept now : List Kept) (s : Found) → IsReadyBelow j first count chains s.limit lanes kept
+    → (new : Kept) → new.limit ≡ Some s.limit → new.places ≡ range_with_len 0 s.limit → now ≡ slice_set kept k new → IsSelectedTo j first count chains pass k lanes now s s
+whole_selected j first count chains pass k its lanes kept now s ready new limit places written =
+    written_selected j first count chains pass k _ its lanes kept now s ready new limit (whole_made j first s.limit _ new.places refl places) written
+
+-- one more filter
+pub filter_selected : (j : JobView) (first count : ℕ) (chains : List Chain) (pass k parent site : ℕ) (u : Option ℕ) → (step : IsFilterStep chains k parent site u) → (mid after : List LaneView) (between now : List Kept) (a b c : Found)
+    → IsSelectedTo j first count chains pass parent mid between a b → IsNextSelected j first count chains pass k parent site u after now b c → IsSelectedTo j first count chains pass k after now a c
+filter_selected j first count chains pass k parent site u step mid after between now a b c h n = record {
+  ready = n.ready;
+  lowers = λ d q.
+      subst (λ (x : Chain). Lowers (λ p. fault_in (through_chain j (first + p) x)) first pass a c) (some_same (longer step.up site u) d (sym step.own ∙ q))
+      (lowers_as (λ p. or_else (fault_in (through_chain j (first + p) step.up)) (where_passed (through_chain j (first + p) step.up) (fault_in (truth_in j (first + p) u site)))) (λ p. fault_in (through_chain j (first + p) (longer step.up site u))) first pass a c
+      (λ p lt. own_fault j first step.up site u step.alike p)
+      (both_lower (λ p. fault_in (through_chain j (first + p) step.up)) (λ p. where_passed (through_chain j (first + p) step.up) (fault_in (truth_in j (first + p) u site))) first pass a b c (h.lowers step.up step.its_up) (n.lowers step.up step.its_up)));
+  made = n.made;
+}
+
+-- ---- whether it was there
+
+pub chain_at : (chains : List Chain) (steps : List Step) (k : ℕ) → AreSteps chains steps → k < length steps → (c : Chain) × (slice_get chains k ≡ Some c)
+chain_at chains steps k are lt =
+    let none : Chain = record { sites = []; under = None } in
+    (get_or chains k none, slice_get-get_or chains k none (let m = are.many in omega (arith, m, lt)))
+
+pub kept_inside : (j : JobView) (first limit : ℕ) (chains : List Chain) (steps : List Step) (kept : List Kept) (k : ℕ) → AreSteps chains steps → AreKept j first chains limit kept → k < length steps → k < length kept
+kept_inside j first limit chains steps kept k are h lt = let a = are.many in let b = h.many in omega (arith, a, b, lt)
+
+pub set_same : {A : Type 0} (xs : List A) (k : ℕ) (x : A) → slice_get xs k ≡ Some x → slice_set xs k x ≡ xs
+set_same [] k x h = cc h
+set_same (y ∷ xs) zero x h = let e : x ≡ y = sym (cc h) in ap (λ z. z ∷ xs) e
+set_same (y ∷ xs) (suc k) x h = ap (λ l. y ∷ l) (set_same xs k x h)
+
+module _ (old new : Kept) (limit : ℕ) (b : Bool) (none : old.limit ≡ None → (b ≡ false) × (new ≡ old)) (some : (made : ℕ) → old.limit ≡ Some made → (b ≡ true) × IsNarrowed limit made old new) where
+  pub was_made : b ≡ true → (made : ℕ) × (old.limit ≡ Some made) × IsNarrowed limit made old new
+  was_made e = go old.limit refl
+    where
+      go : (o : Option ℕ) → old.limit ≡ o → (made : ℕ) × (old.limit ≡ Some made) × IsNarrowed limit made old new
+      go None q = let w = none q in absurd (let f : true ≡ false = sym e ∙ w.0 in cc f)
+      go (Some made) q = (made, q, (some made q).1)
+
+  pub was_not : b ≡ false → new ≡ old
+  was_not e = go old.limit refl
+    where
+      go : (o : Option ℕ) → old.limit ≡ o → new ≡ old
+      go None q = (none q).1
+      go (Some made) q = absurd (let w = some made q in let f : true ≡ false = sym w.0 ∙ e in cc f)
+
+-- ---- One more filter of a step, over the selections of all steps.
+
+-- ---- lists in two parts
+
+-- an element of two lists, of which the first of the latter was written
+pub set_behind : {A : Type 0} (xs ys : List A) (y : A) (k : ℕ) (x : A) → slice_get (xs ++ slice_set ys 0 y) k ≡ Some x → (slice_get (xs ++ ys) k ≡ Some x) ⊎ ((k ≡ length xs) × (x ≡ y))
+set_behind [] [] y k x h = inl h
+set_behind [] (z ∷ ys) y zero x h = inr (refl, cc h)
+set_behind [] (z ∷ ys) y (suc k) x h = inl h
+set_behind (w ∷ xs) ys y zero x h = inl h
+set_behind (w ∷ xs) ys y (suc k) x h = go (set_behind xs ys y k x h)
+  where
+    go : (slice_get (xs ++ ys) k ≡ Some x) ⊎ ((k ≡ length xs) × (x ≡ y)) → (slice_get (xs ++ ys) k ≡ Some x) ⊎ ((suc k ≡ suc (length xs)) × (x ≡ y))
+    go (inl q) = inl q
+    go (inr q) = inr (ap (λ n. suc n) q.0, q.1)
+
+set_there : {A : Type 0} (xs ys : List A) (y : A) → 0 < length ys → slice_get (xs ++ slice_set ys 0 y) (length xs) ≡ Some y
+set_there [] [] y h = absurd (omega (arith, h))
+set_there [] (z ∷ ys) y h = refl
+set_there (w ∷ xs) ys y h = set_there xs ys y h
+
+-- ---- the step
+
+module _ (j : JobView) (job : IsJob j) (first count pass : ℕ) (plan : PlanView) (p : IsPlan j plan) (k parent site : ℕ) (u : Option ℕ) (its : slice_get plan.steps k ≡ Some (step.Filter parent site u))
+    (within : first + count ≤ length j.dataset.rows) (above own : List Kept) (from : Kept) (here : slice_get above parent ≡ Some from) (many : length above ≡ k)
+    (before : List LaneView) (f1 : Found) (ready : IsReadyBelow j first count p.chains f1.limit before (above ++ own)) (made : from.limit ≡ Some f1.limit) where
+  abbrev s : IsFilterStep p.chains k parent site u
+  s = p.steps.each k (step.Filter parent site u) its
+
+  tried : IsTried j (longer s.up site u)
+  tried = p.tried k (longer s.up site u) s.own
+
+  -- the selection of the parent
+  from_is : from.places ≡ chosen j first s.up f1.limit
+  from_is = (ready.kept_are.each parent f1.limit s.up from s.its_up (kept_at above own parent from here) made).is
+
+  pub from_inside : EachPlace from.places (λ q. q < f1.limit)
+  from_inside q i = chosen_below (λ n. is_true (through_chain j (first + n) s.up)) q f1.limit (sym (ap (is_in q) from_is) ∙ i)
+
+  pub next_spends : (after : List LaneView) (start end : ℕ) → IsSpentOver j first u site from.places before after start end → Spends j first count before after start end
+  next_spends after start end spent =
+      step_spends j first s.up site u s.alike job count f1.limit within ready.within tried before after start end (subst (λ (l : List ℕ). IsSpentOver j first u site l before after start end) from_is spent)
+
+  module _ (to : Kept) (now : List Kept) (after : List LaneView) (f2 : Found) (h : IsFilteredTo j first count u site pass from.places to after f1 f2) (written : now ≡ slice_set own 0 to) where
+    done : IsFilteredTo j first count u site pass (chosen j first s.up f1.limit) to after f1 f2
+    done = subst (λ (l : List ℕ). IsFilteredTo j first count u site pass l to after f1 f2) from_is h
+
+    part : Lowers (λ q. where_passed (through_chain j (first + q) s.up) (fault_in (truth_in j (first + q) u site))) first pass f1 f2
+    part =
+        lowers_as (where_in (λ q. fault_in (truth_in j (first + q) u site)) (chosen j first s.up f1.limit)) (λ q. where_passed (through_chain j (first + q) s.up) (fault_in (truth_in j (first + q) u site))) first pass f1 f2
+        (λ q lt. ap (λ b. if b then fault_in (truth_in j (first + q) u site) else None) (in_chosen (λ n. is_true (through_chain j (first + n) s.up)) q f1.limit lt)) done.lowers
+
+    own_made : IsMade j first (longer s.up site u) f2.limit f2.limit to.places
+    own_made =
+        step_made j first s.up site u s.alike count pass to after f1 f1 f2
+        (none_lowers (λ q. fault_in (through_chain j (first + q) s.up)) first pass f1 (ready.kept_are.each parent f1.limit s.up from s.its_up (kept_at above own parent from here) made).clear)
+        done
+
+    falls : f2.limit ≤ f1.limit
+    falls = part.falls
+
+    kept_now : AreKept j first p.chains f2.limit (above ++ now)
+    kept_now = record {
+      many = (
+          let a = length-append above now in
+          let b = length-append above own in
+          let c = ap length written ∙ set_length own 0 to in
+          let m = ready.kept_are.many in
+          omega (arith, a, b, c, m));
+      each = λ i made c x q r l. one i made c x q l (set_behind above own to i x (ap (λ ks. slice_get (above ++ ks) i) (sym written) ∙ r));
+    }
+      where
+        one : (i made : ℕ) (c : Chain) (x : Kept) → slice_get p.chains i ≡ Some c → x.limit ≡ Some made → (slice_get (above ++ own) i ≡ Some x) ⊎ ((i ≡ length above) × (x ≡ to)) → IsMade j first c f2.limit made x.places
+        one i made c x q l (inl r) = (kept_lower j first p.chains f1.limit f2.limit (above ++ own) falls ready.kept_are).each i made c x q r l
+        one i made c x q l (inr r) =
+            let at : i ≡ k = r.0 ∙ many in
+            let chain : longer s.up site u ≡ c = some_same (longer s.up site u) c (sym s.own ∙ ap (slice_get p.chains) (sym at) ∙ q) in
+            let limit : f2.limit ≡ made = some_same f2.limit made (sym h.its_limit ∙ ap (λ (y : Kept). y.limit) (sym r.1) ∙ l) in
+            subst (λ (y : Chain). IsMade j first y f2.limit made x.places) chain
+            (subst (λ (n : ℕ). IsMade j first (longer s.up site u) f2.limit n x.places) limit
+            (subst (λ (y : Kept). IsMade j first (longer s.up site u) f2.limit f2.limit y.places) (sym r.1) own_made))
+
+    pub next_selected : 0 < length own → IsNextSelected j first count p.chains pass k parent site u after (above ++ now) f1 f2
+    next_selected some = record {
+      ready = record { ready = h.ready; settled = h.settled; kept_are = kept_now; within = (let a = falls in let b = ready.within in omega (arith, a, b)) };
+      lowers = λ c q. subst (λ (y : Chain). Lowers (λ n. where_passed (through_chain j (first + n) y) (fault_in (truth_in j (first + n) u site))) first pass f1 f2) (some_same s.up c (sym s.its_up ∙ q)) part;
+      made = λ x q. (
+          let e : to ≡ x = some_same to x (sym (set_there above own to some) ∙ ap (λ ks. slice_get (above ++ ks) (length above)) (sym written) ∙ ap (slice_get (above ++ now)) many ∙ q) in
+          ap (λ (y : Kept). y.limit) (sym e) ∙ h.its_limit);
+    }
+
+-- ---- How selections are made.
 
 -- a selection of places of a block
 pub selected : (count : ℕ) (sel : List ℕ) (limit n : ℕ) → count ≤ MAX_PLACES → limit ≤ count → EachPlace sel (λ p. p < limit) → n ≡ length sel → n ≤ MAX_PLACES → IsSelected count sel []

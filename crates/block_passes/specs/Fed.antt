@@ -1,20 +1,68 @@
--- What stands before the action passes of a block are fed.
-use Rattle.std.specs.Prelude.{◌≡◌, ◌<◌, ◌+◌, ℕ, true, List, Option, None, Some, slice_get}
+-- What a block comes to at the named filters.
+use Rattle.std.specs.Prelude.{◌≡◌, ◌+◌, ℕ, List, Some, slice_get, ◌<◌, Option, None, length, true}
+use Rattle.graph_numbers.specs.Graphs.{graph_filters}
+use Rattle.graph_numbers.specs.Results.{FilterAt}
+use Rattle.cluster_tally.specs.Blocks.{BlockStage, CanFeedBatch}
+use Rattle.loop_keys.specs.Jobs.{JobView, job_graph, passes_in}
+use Rattle.block_passes.specs.Laws.{IsInCluster}
+use Rattle.block_passes.specs.Plans.{PlanView, Chain}
+use Rattle.block_passes.specs.Tries.{AreKept, IsReadBelow, IsReadOf}
+use Rattle.block_passes.specs.declared.kept.Kept.{Kept}
+use Rattle.block_passes.specs.declared.plan.NamedSteps.{NamedSteps}
 use Rattle.rdf_values.specs.declared.action.ActionKind.{ActionKind}
+use Rattle.block_cache.specs.Lanes.{LaneView}
+use Rattle.loop_keys.specs.Turns.{pass_fault}
+use Rattle.block_cache.specs.Blocks.{AreReady}
 use Rattle.rdf_model.specs.Evaluation.{for_all}
 use Rattle.rdf_model.specs.declared.loop_facts.LoopFacts.{LoopFacts}
 use Rattle.actions.specs.Batches.{places_of}
 use Rattle.actions.specs.declared.batch.Batch.{Batch}
 use Rattle.expr_lanes.specs.Places.{EachPlace, is_in}
-use Rattle.block_cache.specs.Lanes.{LaneView}
-use Rattle.cluster_tally.specs.Blocks.{BlockStage, CanFeedBatch}
 use Rattle.cluster_tally.specs.Tallies.{TallyView}
-use Rattle.loop_keys.specs.Jobs.{JobView}
 use Rattle.loop_keys.specs.Store.{version_in}
-use Rattle.block_passes.specs.Counting.{IsOverAll}
 use Rattle.block_passes.specs.Feeds.{AreLanesOf, unfed}
 use Rattle.block_passes.specs.Inputs.{AreAtHand}
-use Rattle.block_passes.specs.declared.kept.Kept.{Kept}
+
+-- at that place of a cluster, where a block has so many entries, begins the block at this entry, which has as many
+pub record IsAmidOf (j : JobView) (first count cluster place many : ℕ) : Type 0 where
+  pub in_cluster : IsInCluster j cluster place many
+  pub begins : first ≡ in_cluster.span.lo + place
+  pub block : many ≡ count
+
+-- the stage is amid that block
+abbrev pub IsAmid : JobView → ℕ → ℕ → BlockStage → Type 0
+IsAmid j first count s = IsAmidOf j first count s.cluster s.entries s.block
+
+-- so many named filters have taken the block in
+abbrev pub at_filter : BlockStage → ℕ → BlockStage
+at_filter s n = record { done = s.done; cluster = s.cluster; entries = s.entries; block = s.block; passes = s.passes; filters = n }
+
+-- the selection of a step was made over all of a block
+abbrev pub IsOverAll : ℕ → List Kept → ℕ → Type 0
+IsOverAll count kept k = (m : Kept) → slice_get kept k ≡ Some m → m.limit ≡ Some count
+
+-- so were those of each named filter that is covered, and none of the filters faults in the block
+pub record AreCountable (j : JobView) (first count : ℕ) (chains : List Chain) (p : PlanView) (kept : List Kept) : Type 0 where
+  pub kept_are : AreKept j first chains count kept
+  pub above : (f : ℕ) (x : FilterAt) (s : NamedSteps) → slice_get (graph_filters (job_graph j)) f ≡ Some x → slice_get p.filters f ≡ Some (Some s) → IsOverAll count kept s.above
+  pub own : (f : ℕ) (x : FilterAt) (s : NamedSteps) → slice_get (graph_filters (job_graph j)) f ≡ Some x → slice_get p.filters f ≡ Some (Some s) → IsOverAll count kept s.own
+
+-- so many action passes have taken it in
+abbrev pub at_pass : BlockStage → ℕ → BlockStage
+at_pass s n = record { done = s.done; cluster = s.cluster; entries = s.entries; block = s.block; passes = n; filters = s.filters }
+
+-- ---- What stands after a search over a block in which no pass faults.
+
+-- no pass faults at any place; the selections of all steps that are fed or counted were made over all of the block; and what the
+-- actions read is at hand where their filters are passed
+pub record IsClear (j : JobView) (first count : ℕ) (chains : List Chain) (p : PlanView) (lanes : List LaneView) (kept : List Kept) : Type 0 where
+  pub ready : AreReady j first count lanes
+  pub countable : AreCountable j first count chains p kept
+  pub clear : (n q : ℕ) → n < length (passes_in j) → q < count → pass_fault j (first + q) n ≡ None
+  pub read : (n : ℕ) → IsReadBelow j first lanes count n
+  pub over : (n : ℕ) (k : ActionKind) (inputs : List ℕ) (u : Option ℕ) → IsReadOf j n k inputs u → (last : ℕ) → slice_get p.passes n ≡ Some last → IsOverAll count kept last
+
+-- ---- What stands before the action passes of a block are fed.
 
 -- all that an action reads is at hand at a place, and it can be fed with that
 pub record IsFeedableAt (j : JobView) (first : ℕ) (lanes : List LaneView) (k : ActionKind) (inputs : List ℕ) (u : Option ℕ) (p : ℕ) : Type 0 where

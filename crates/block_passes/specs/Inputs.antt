@@ -19,9 +19,8 @@ use Rattle.loop_keys.specs.Keys.{key, key_count}
 use Rattle.loop_keys.specs.Store.{IsSourceIn, held_element, held_in, row_of, site_in, source_at, version_in}
 use Rattle.block_cache.specs.Blocks.{AreReady, HasColumn, cells_at}
 use Rattle.block_cache.specs.Fills.{CanFill, holds_at}
-use Rattle.block_passes.specs.Demands.{IsDemandedAt}
+use Rattle.block_passes.specs.Spends.{IsDemandedAt, IsSettledAt}
 use Rattle.block_passes.specs.Searches.{Lowers, where_in}
-use Rattle.block_passes.specs.Spends.{IsSettledAt}
 use Rattle.block_passes.specs.declared.found.Found.{Found}
 use Rattle.block_passes.specs.declared.kept.Kept.{Kept}
 

@@ -19,10 +19,9 @@ use Rattle.loop_keys.specs.Store.{site_in, version_in}
 use Rattle.loop_keys.specs.Entries.{facts_in, job_spans}
 use Rattle.loop_keys.specs.Plans.{covered_in}
 use Rattle.loop_keys.specs.Turns.{HasAllDemands, actions_before}
-use Rattle.block_passes.specs.Demands.{Demands}
-use Rattle.block_passes.specs.Plans.{IsActionOf, IsTried}
+use Rattle.block_passes.specs.Spends.{Demands}
+use Rattle.block_passes.specs.Plans.{IsActionOf, IsTried, Chain}
 use Rattle.block_passes.specs.Searches.{IsSearched, fault_of}
-use Rattle.block_passes.specs.Steps.{Chain}
 use Rattle.block_passes.specs.declared.found.Found.{Found}
 
 -- where all passes were tried over the rows of a block, the best fault is the first one
@@ -38,22 +37,21 @@ StepIsDemanded =
     → IsJob j → slice_get j.dataset.rows entry ≡ Some row → HasAllDemands j entry T → IsTried j c → c.sites ≡ up ++ s ∷ []
     → is_true (through_sites (site_in j entry c.under) up) ≡ true → Demands j entry c.under T s
 
--- the block of a stage stands in its cluster, which begins at that entry
-pub record IsInCluster (j : JobView) (s : BlockStage) (lo : ℕ) : Type 0 where
+-- a block of so many entries stands at that place of a cluster
+pub record IsInCluster (j : JobView) (cluster place count : ℕ) : Type 0 where
   pub span : Span
-  pub its_span : slice_get (job_spans j) s.cluster ≡ Some span
-  pub begins : span.lo ≡ lo
-  pub within : lo + s.entries + s.block ≤ span.hi
+  pub its_span : slice_get (job_spans j) cluster ≡ Some span
+  pub within : span.lo + place + count ≤ span.hi
   pub inside : span.hi ≤ length j.dataset.rows
 
 -- a block feeds to a pass what the values of the places that pass its filters give
 abbrev pub BlockFeeds : Type 0
 BlockFeeds =
-    (j : JobView) (s : BlockStage) (lo n : ℕ) (m : NumberedPass) (r : ResultAt) (k : ActionKind) (values : ℕ → List Value)
-    → IsJob j → IsInCluster j s lo → IsActionOf j n m r k
-    → ((q : ℕ) → q < s.block → is_true (through_sites (site_in j (lo + s.entries + q) m.variation) r.filters) ≡ true
-    → (for_all (version_in {M = ⊥} j (lo + s.entries + q) m.variation) r.inputs ≡ Gives (values q)) × (feed_fault k (values q) ≡ None))
-    → flat_map (λ q. spread k (values q)) (filter (λ q. is_true (through_sites (site_in j (lo + s.entries + q) m.variation) r.filters)) (range_with_len 0 s.block))
+    (j : JobView) (s : BlockStage) (n : ℕ) (m : NumberedPass) (r : ResultAt) (k : ActionKind) (values : ℕ → List Value)
+    → IsJob j → (at : IsInCluster j s.cluster s.entries s.block) → IsActionOf j n m r k
+    → ((q : ℕ) → q < s.block → is_true (through_sites (site_in j (at.span.lo + s.entries + q) m.variation) r.filters) ≡ true
+    → (for_all (version_in {M = ⊥} j (at.span.lo + s.entries + q) m.variation) r.inputs ≡ Gives (values q)) × (feed_fault k (values q) ≡ None))
+    → flat_map (λ q. spread k (values q)) (filter (λ q. is_true (through_sites (site_in j (at.span.lo + s.entries + q) m.variation) r.filters)) (range_with_len 0 s.block))
     ≡ block_items (facts_in j) s (actions_before j n)
 
 -- the places of a block that pass filters under nominal
@@ -63,8 +61,8 @@ places_through j first count sites = filter (λ q. is_true (through_sites (site_
 -- the counts of a named filter that is covered are the sizes of two selections, where it faults at no place
 abbrev pub FilterCounts : Type 0
 FilterCounts =
-    (j : JobView) (s : BlockStage) (lo f : ℕ) (x : FilterAt) (up : List ℕ) (own : ℕ)
-    → IsJob j → IsInCluster j s lo → slice_get (graph_filters (job_graph j)) f ≡ Some x → slice_get (covered_in j) f ≡ Some true → x.sites ≡ up ++ own ∷ []
-    → ((q : ℕ) → q < s.block → fault_in (through_sites (site_in j (lo + s.entries + q) None) (up ++ own ∷ [])) ≡ None)
+    (j : JobView) (s : BlockStage) (f : ℕ) (x : FilterAt) (up : List ℕ) (own : ℕ)
+    → IsJob j → (at : IsInCluster j s.cluster s.entries s.block) → slice_get (graph_filters (job_graph j)) f ≡ Some x → slice_get (covered_in j) f ≡ Some true → x.sites ≡ up ++ own ∷ []
+    → ((q : ℕ) → q < s.block → fault_in (through_sites (site_in j (at.span.lo + s.entries + q) None) (up ++ own ∷ [])) ≡ None)
     → counted (block_reaches (facts_in j) s f)
-    ≡ record { all = length (places_through j (lo + s.entries) s.block up); pass = length (places_through j (lo + s.entries) s.block (up ++ own ∷ [])) }
+    ≡ record { all = length (places_through j (at.span.lo + s.entries) s.block up); pass = length (places_through j (at.span.lo + s.entries) s.block (up ++ own ∷ [])) }

@@ -1,5 +1,7 @@
--- What is the same for each block of a loop.
-use Rattle.std.specs.Prelude.{◌≡◌, ◌⊎◌, ◌<◌, ℕ, Bool, true, false, List, [], ◌∷◌, ◌++◌, Option, None, Some, length, slice_get}
+-- The selections that the passes of a loop share, each made from the one above it.
+use Rattle.std.specs.Prelude.{◌≡◌, ◌⊎◌, ◌<◌, ℕ, List, [], ◌∷◌, ◌++◌, Option, None, Some, length, slice_get, Bool, true, false}
+use Rattle.block_passes.specs.declared.steps.Step.{Step}
+use Rattle.block_passes.specs.declared.steps.Step.TheVariants as step
 use Rattle.rdf_values.specs.Bookings.{ActionAt}
 use Rattle.rdf_values.specs.Path.{Path}
 use Rattle.rdf_values.specs.declared.action.ActionKind.{ActionKind}
@@ -9,12 +11,62 @@ use Rattle.graph_numbers.specs.Outcomes.{through_sites}
 use Rattle.graph_numbers.specs.Results.{FilterAt, ResultAt}
 use Rattle.graph_numbers.specs.declared.pass.Pass.{Pass as NumberedPass}
 use Rattle.loop_keys.specs.Caches.{IsCovered, numbered_in}
-use Rattle.loop_keys.specs.Jobs.{JobView, job_graph}
+use Rattle.loop_keys.specs.Jobs.{JobView, job_graph, passes_in}
 use Rattle.loop_keys.specs.Store.{site_in}
 use Rattle.loop_keys.specs.Plans.{covered_in}
-use Rattle.block_passes.specs.Steps.{AreSteps, Chain, IsBegin}
 use Rattle.block_passes.specs.declared.plan.NamedSteps.{NamedSteps}
-use Rattle.block_passes.specs.declared.steps.Step.{Step}
+
+-- filters by their sites, head first, under nominal or a variation
+pub record Chain : Type 0 where
+  pub sites : List ℕ
+  pub under : Option ℕ
+
+-- the chain with one more filter
+abbrev pub longer : Chain → ℕ → Option ℕ → Chain
+longer up site u = record { sites = up.sites ++ site ∷ []; under = u }
+
+-- the step of that number has one filter more than that of the parent, which is under the same variation or without filters
+pub record IsFilterStep (chains : List Chain) (k parent site : ℕ) (u : Option ℕ) : Type 0 where
+  pub before : parent < k
+  pub up : Chain
+  pub its_up : slice_get chains parent ≡ Some up
+  pub alike : (up.sites ≡ []) ⊎ (up.under ≡ u)
+  pub own : slice_get chains k ≡ Some (longer up site u)
+
+abbrev pub IsStep : List Chain → ℕ → Step → Type 0
+IsStep chains k step.Block = slice_get chains k ≡ Some (record { sites = []; under = None })
+IsStep chains k (step.Filter parent site u) = IsFilterStep chains k parent site u
+
+-- these are the filters of each step, and the first step has none
+pub record AreSteps (chains : List Chain) (steps : List Step) : Type 0 where
+  pub many : length chains ≡ length steps
+  pub whole : slice_get steps 0 ≡ Some step.Block
+  pub each : (k : ℕ) (x : Step) → slice_get steps k ≡ Some x → IsStep chains k x
+
+-- the step of that number has these filters; no other was added
+pub record IsStepped (chains : List Chain) (c : Chain) (steps : List Step) (k : ℕ) : Type 0 where
+  pub more : List Chain
+  pub are : AreSteps (chains ++ more) steps
+  pub its : slice_get (chains ++ more) k ≡ Some c
+  pub only : (i : ℕ) (d : Chain) → slice_get more i ≡ Some d → d ≡ c
+
+-- the path begins with the filters of the chain
+pub record IsBegin (path : List ℕ) (u : Option ℕ) (c : Chain) : Type 0 where
+  pub its_under : c.under ≡ u
+  pub rest : List ℕ
+  pub begins : path ≡ c.sites ++ rest
+
+-- the step of that number has the filters of a path; only steps with filters with which it begins were added
+pub record IsLed (chains : List Chain) (path : List ℕ) (u : Option ℕ) (steps : List Step) (k : ℕ) : Type 0 where
+  pub more : List Chain
+  pub are : AreSteps (chains ++ more) steps
+  pub last : Chain
+  pub its : slice_get (chains ++ more) k ≡ Some last
+  pub sites : last.sites ≡ path
+  pub alike : (last.sites ≡ []) ⊎ (last.under ≡ u)
+  pub only : (i : ℕ) (d : Chain) → slice_get more i ≡ Some d → IsBegin path u d
+
+-- ---- What is the same for each block of a loop.
 
 -- an entry passes the filters of a chain
 abbrev pub through_chain : JobView → ℕ → Chain → Outcome ⊥ Bool
@@ -65,10 +117,9 @@ pub record IsLast (chains : List Chain) (path : List ℕ) (u : Option ℕ) (k : 
   pub sites : chain.sites ≡ path
   pub alike : (chain.sites ≡ []) ⊎ (chain.under ≡ u)
 
--- the last step of a pass has the filters of its action
-abbrev pub IsPlannedPass : JobView → List Chain → List ℕ → ℕ → Type 0
-IsPlannedPass j chains passes n =
-    (m : NumberedPass) (r : ResultAt) (k : ActionKind) → IsActionOf j n m r k → (last : ℕ) × (slice_get passes n ≡ Some last) × IsLast chains r.filters m.variation last
+-- the step of that number has the filters of a pass, if it is of an action
+abbrev pub IsPassLast : JobView → List Chain → ℕ → ℕ → Type 0
+IsPassLast j chains n last = (m : NumberedPass) (r : ResultAt) (k : ActionKind) → IsActionOf j n m r k → IsLast chains r.filters m.variation last
 
 -- the steps of a named filter: the last of the filters above it, and its own
 pub record IsNamed (chains : List Chain) (x : FilterAt) (s : NamedSteps) : Type 0 where
@@ -83,13 +134,19 @@ abbrev pub IsPlannedFilter : JobView → List Chain → ℕ → FilterAt → Opt
 IsPlannedFilter j chains f x None = slice_get (covered_in j) f ≡ Some false
 IsPlannedFilter j chains f x (Some s) = (slice_get (covered_in j) f ≡ Some true) × IsNamed chains x s
 
--- the plan of a job's loop
+-- the named filter of that number has these steps
+abbrev pub IsFilterPlanned : JobView → List Chain → ℕ → Option NamedSteps → Type 0
+IsFilterPlanned j chains f o = (x : FilterAt) → slice_get (graph_filters (job_graph j)) f ≡ Some x → IsPlannedFilter j chains f x o
+
+-- the plan of a job's loop: of each of its passes, and of each named filter
 pub record IsPlan (j : JobView) (p : PlanView) : Type 0 where
   pub chains : List Chain
   pub steps : AreSteps chains p.steps
   pub tried : (k : ℕ) (c : Chain) → slice_get chains k ≡ Some c → IsTried j c
-  pub passes : (n : ℕ) → IsPlannedPass j chains p.passes n
-  pub filters : (f : ℕ) (x : FilterAt) → slice_get (graph_filters (job_graph j)) f ≡ Some x → (o : Option NamedSteps) × (slice_get p.filters f ≡ Some o) × IsPlannedFilter j chains f x o
+  pub many_passes : length p.passes ≡ length (passes_in j)
+  pub passes : (n last : ℕ) → slice_get p.passes n ≡ Some last → IsPassLast j chains n last
+  pub many_filters : length p.filters ≡ length (graph_filters (job_graph j))
+  pub filters : (f : ℕ) (o : Option NamedSteps) → slice_get p.filters f ≡ Some o → IsFilterPlanned j chains f o
 
 -- ---- how it is made
 
@@ -98,34 +155,15 @@ pub record AreStepsOf (j : JobView) (chains more : List Chain) (steps : List Ste
   pub are : AreSteps (chains ++ more) steps
   pub tried : (i : ℕ) (c : Chain) → slice_get more i ≡ Some c → IsTried j c
 
--- the first so many passes have their last steps
-pub record ArePassesPlanned (j : JobView) (chains : List Chain) (steps : List Step) (count : ℕ) (passes : List ℕ) : Type 0 where
+-- a piece of the plan is right by these chains and more
+pub record IsPlanned {A : Type 0} (j : JobView) (P : List Chain → A → Type 0) (chains : List Chain) (steps : List Step) (piece : A) : Type 0 where
   pub more : List Chain
   pub steps_of : AreStepsOf j chains more steps
-  pub many : length passes ≡ count
-  pub each : (n : ℕ) → n < count → IsPlannedPass j (chains ++ more) passes n
+  pub right : P (chains ++ more) piece
 
--- the first so many named filters have their steps
-pub record AreFiltersPlanned (j : JobView) (chains : List Chain) (steps : List Step) (count : ℕ) (filters : List (Option NamedSteps)) : Type 0 where
+-- so are the first so many pieces, each by its number
+pub record ArePlanned {A : Type 0} (j : JobView) (P : List Chain → ℕ → A → Type 0) (chains : List Chain) (steps : List Step) (count : ℕ) (pieces : List A) : Type 0 where
   pub more : List Chain
   pub steps_of : AreStepsOf j chains more steps
-  pub many : length filters ≡ count
-  pub each : (f : ℕ) (x : FilterAt) → f < count → slice_get (graph_filters (job_graph j)) f ≡ Some x → (o : Option NamedSteps) × (slice_get filters f ≡ Some o) × IsPlannedFilter j (chains ++ more) f x o
-
--- the last step of a pass, if it is an action's
-pub record IsPassLed (j : JobView) (chains : List Chain) (steps : List Step) (pass last : ℕ) : Type 0 where
-  pub more : List Chain
-  pub steps_of : AreStepsOf j chains more steps
-  pub each : (m : NumberedPass) (r : ResultAt) (k : ActionKind) → IsActionOf j pass m r k → IsLast (chains ++ more) r.filters m.variation last
-
--- the steps of a named filter that is covered
-pub record IsFilterLed (j : JobView) (chains : List Chain) (steps : List Step) (filter : ℕ) (s : NamedSteps) : Type 0 where
-  pub more : List Chain
-  pub steps_of : AreStepsOf j chains more steps
-  pub each : (x : FilterAt) → slice_get (graph_filters (job_graph j)) filter ≡ Some x → IsNamed (chains ++ more) x s
-
--- the steps of a named filter, where it is covered
-pub record IsFilterStepped (j : JobView) (chains : List Chain) (steps : List Step) (filter : ℕ) (o : Option NamedSteps) : Type 0 where
-  pub more : List Chain
-  pub steps_of : AreStepsOf j chains more steps
-  pub each : (x : FilterAt) → slice_get (graph_filters (job_graph j)) filter ≡ Some x → IsPlannedFilter j (chains ++ more) filter x o
+  pub many : length pieces ≡ count
+  pub each : (n : ℕ) (piece : A) → slice_get pieces n ≡ Some piece → P (chains ++ more) n piece

@@ -1,13 +1,16 @@
 -- The search for the first fault of a block: pass after pass over the places below a limit, which falls to each place that faults.
-use Rattle.std.specs.Prelude.{◌≡◌, ◌<◌, ◌≤◌, ◌+◌, ℕ, List, Option, None, Some, if◌then◌else◌}
+use Rattle.std.specs.Prelude.{◌≡◌, ◌<◌, ◌≤◌, ◌+◌, ℕ, List, Option, None, Some, if◌then◌else◌, Bool}
 use Rattle.rdf_values.specs.Bookings.{Pass}
 use Rattle.rdf_values.specs.declared.fault.EntryFault.{EntryFault}
 use Rattle.rdf_values.specs.declared.fault.Fault.{Fault}
 use Rattle.rdf_values.specs.declared.value.Value.{Value}
-use Rattle.rdf_model.specs.Results.{Dataset, fault_at as fault_in_pass}
+use Rattle.rdf_model.specs.Results.{Dataset, fault_at as fault_in_pass, is_true}
 use Rattle.expr_lanes.specs.Places.{is_in}
 use Rattle.block_cache.specs.declared.faults.PlaceFault.{PlaceFault}
 use Rattle.block_passes.specs.declared.found.Found.{Found}
+use Rattle.rdf_values.specs.Spread.{feed_fault}
+use Rattle.rdf_values.specs.declared.action.ActionKind.{ActionKind}
+use Rattle.rdf_model.specs.Evaluation.{Outcome, Gives, Faults, Needs}
 
 -- the search with a fault of a pass at a place of a block that begins at this entry
 abbrev pub fault_at : ℕ → ℕ → ℕ → EntryFault → Found
@@ -53,3 +56,15 @@ noted first pass s (Some f) = fault_at first pass f.place f.kind
 -- the fault of a place, where it is selected
 abbrev pub where_in : (ℕ → Option EntryFault) → List ℕ → ℕ → Option EntryFault
 where_in f sel p = if is_in p sel then f p else None
+
+-- ---- The parts of a pass by numbers.
+
+-- a fault, where the filters are passed
+abbrev pub where_passed : Outcome ⊥ Bool → Option EntryFault → Option EntryFault
+where_passed o fault = if is_true o then fault else None
+
+-- why values can't be fed, where all of them are there
+abbrev pub feeding_fault : ActionKind → Outcome ⊥ (List Value) → Option EntryFault
+feeding_fault k (Gives vs) = feed_fault k vs
+feeding_fault k (Faults e) = None
+feeding_fault k (Needs m) = elim m [ ]

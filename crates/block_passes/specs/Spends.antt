@@ -1,9 +1,9 @@
 -- What evaluations over a block do to what is known of it.
-use Rattle.std.specs.Prelude.{◌≡◌, ◌⊎◌, ◌<◌, ◌≤◌, ◌+◌, ◌*◌, ℕ, Bool, true, List}
+use Rattle.std.specs.Prelude.{◌≡◌, ◌⊎◌, ◌<◌, ◌≤◌, ◌+◌, ◌*◌, ℕ, Bool, true, List, Option}
 use Rattle.block_cache.specs.Lanes.{LaneView, kinds_of, rooms_of}
 use Rattle.loop_keys.specs.Jobs.{JobView, job_graph}
 use Rattle.loop_keys.specs.Keys.{key_count}
-use Rattle.loop_keys.specs.Store.{Grows}
+use Rattle.loop_keys.specs.Store.{Grows, HasAllKeys, IsClosed}
 use Rattle.loop_keys.specs.Turns.{HasAllDemands}
 use Rattle.block_cache.specs.Blocks.{cells_at}
 use Rattle.block_cache.specs.Fills.{begun_at, begun_count, holds_at}
@@ -21,3 +21,15 @@ pub record Spends (j : JobView) (first count : ℕ) (before after : List LaneVie
 -- all that was begun at the place holds its value
 abbrev pub IsSettledAt : List LaneView → ℕ → Type 0
 IsSettledAt lanes p = (k : ℕ) → begun_at lanes k p ≡ true → holds_at lanes k p ≡ true
+
+-- ---- What the passes of a loop demand at the places of a block.
+
+-- a set of sites that has with each those that its evaluation meets in the entry, as the loop demands them: their keys are in a set that
+-- has all that its passes demand
+pub record IsDemandedAt (j : JobView) (entry : ℕ) (u : Option ℕ) (T D : ℕ → Bool) : Type 0 where
+  pub closed : IsClosed j entry u D
+  pub keys : HasAllKeys j u D T
+
+-- the loop demands the site in the entry
+abbrev pub Demands : JobView → ℕ → Option ℕ → (ℕ → Bool) → ℕ → Type 0
+Demands j entry u T s = (D : ℕ → Bool) × IsDemandedAt j entry u T D × (D s ≡ true)

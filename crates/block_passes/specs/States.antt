@@ -15,8 +15,7 @@ use Rattle.loop_keys.specs.Keys.{AreKeys, key, key_count}
 use Rattle.loop_keys.specs.declared.rows.Row.{Row}
 use Rattle.block_cache.specs.Blocks.{HasColumn}
 use Rattle.block_passes.specs.Plans.{IsPlan, PlanView}
-use Rattle.block_passes.specs.Selections.{CanSelect, IsReadyBelow}
-use Rattle.block_passes.specs.Tries.{CanServeAll}
+use Rattle.block_passes.specs.Tries.{CanSelect, IsReadyBelow, CanServeAll}
 use Rattle.block_passes.specs.declared.found.Found.{Found}
 use Rattle.block_passes.specs.declared.kept.Kept.{Kept}
 

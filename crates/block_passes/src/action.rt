@@ -1,9 +1,8 @@
 // Trying an action's pass over a block.
 ghost use Rattle.std.specs.Prelude.{◌≡◌, ◌<◌, ℕ, OnOk, Some, slice_get, OnErr};
 ghost use Rattle.std.specs.List.{AllByRecursion};
-ghost use Rattle.block_passes.specs.Selections.{AreRemade, IsMadeAt};
-ghost use Rattle.block_passes.specs.Turns.{IsTurn, Leaves};
-ghost use Rattle.block_passes.specs.InTurn.{CanSelectInTurn, CanServeInTurn, IsPassTriedInTurn, IsPlainTurn, IsPlanOfTurn, IsReadInTurn, IsReadyInTurn};
+ghost use Rattle.block_passes.specs.Tries.{AreRemade, IsMadeAt};
+ghost use Rattle.block_passes.specs.InTurn.{IsTurn, Leaves, CanSelectInTurn, CanServeInTurn, IsPassTriedInTurn, IsPlainTurn, IsPlanOfTurn, IsReadInTurn, IsReadyInTurn};
 
 use crate::inputs::serve_inputs;
 use crate::kept::Kept;
@@ -35,17 +34,8 @@ pub(crate) fn try_action<L: Ledger>(
     ensures plain { IsPlainTurn at.now → OnErr result ⊥ }
 {
     let last = at.plan.last_step(at.pass);
-    match select_again(at, work, kept, last, steps) {
-        Ok(()) => {}
-        Err(Memory) => return Err(Memory),
-    }
+    select_again(at, work, kept, last, steps)?;
     let to = &mut kept[last as usize];
-    match serve_inputs(at, work, to, own.inputs, own.under, steps) {
-        Ok(()) => {}
-        Err(Memory) => return Err(Memory),
-    }
-    match test_feeding(at, work, to, own) {
-        Ok(()) => Ok(()),
-        Err(Memory) => Err(Memory),
-    }
+    serve_inputs(at, work, to, own.inputs, own.under, steps)?;
+    test_feeding(at, work, to, own)
 }

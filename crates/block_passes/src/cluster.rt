@@ -6,8 +6,7 @@ ghost use Rattle.cluster_tally.specs.Tallies.{Holds};
 ghost use Rattle.loop_keys.specs.Caches.{IsPlainLoop};
 ghost use Rattle.loop_keys.specs.Jobs.{Fits, job_of, passes_in};
 ghost use Rattle.loop_keys.specs.Entries.{IsNoTake, facts_in, job_spans};
-ghost use Rattle.block_passes.specs.Blocks.{IsBefore, IsBlockTried};
-ghost use Rattle.block_passes.specs.Clusters.{IsClusterAnswer, at_end, span_demands};
+ghost use Rattle.block_passes.specs.Clusters.{IsBefore, IsBlockTried, IsClusterAnswer, at_end, span_demands};
 ghost use Rattle.block_passes.specs.States.{IsStateOf};
 
 use crate::block_ends::block_end;

@@ -15,10 +15,9 @@ ghost use Rattle.loop_keys.specs.Keys.{key as key_of};
 ghost use Rattle.loop_keys.specs.Store.{row_of, site_in};
 ghost use Rattle.graph_numbers.specs.declared.source.Source.TheVariants as source;
 ghost use Rattle.block_cache.specs.Fills.{holds_at};
-ghost use Rattle.block_passes.specs.Copying.{GivesNumber, GivesVector, HasVector};
+ghost use Rattle.block_passes.specs.Feeds.{GivesNumber, GivesVector, HasVector};
 ghost use Rattle.block_passes.specs.Inputs.{IsAtHand, IsPlainSource, IsWhole};
-ghost use Rattle.block_passes.specs.Turns.{IsOver, IsTurn};
-ghost use Rattle.block_passes.specs.InTurn.{AreCopiedInTurn, AreHeldInTurn, ArePlainInTurn, AreWholeInTurn, CanServeWith, IsCopyInTurn, source_in_turn, turn_job};
+ghost use Rattle.block_passes.specs.InTurn.{IsOver, IsTurn, AreCopiedInTurn, AreHeldInTurn, ArePlainInTurn, AreWholeInTurn, CanServeWith, IsCopyInTurn, source_in_turn, turn_job};
 
 use crate::elements::{SiteElement, element_at};
 use crate::inputs::source_under;
@@ -193,27 +192,6 @@ fn site_kind(at: &Turn<'_>, site: u32) -> ColType
     at.job.graph.site(site).kind()
 }
 
-/// Copies the elements of a site's vector likewise, where its values are vectors.
-fn copy_tagged(
-    at: &Turn<'_>,
-    lanes: &[Lane],
-    selection: &Selection,
-    of: &SiteElement,
-) -> Result<Vec<i64>, Memory>
-    requires over { IsOver at.now lanes.now }
-    requires site { of.now.site < length (graph_sites (job_graph (turn_job at.now))) }
-    requires vectors { (e : CheckedExpr) → IsSiteExpr (job_graph (turn_job at.now)) of.now.site e → e.kind ≡ kind.Vect }
-    requires inside { EachPlace selection.now (λ p. p < at.now.count) }
-    requires hand { EachPlace selection.now (λ p. IsAtHand (turn_job at.now) lanes.now of.now.under p (source.Element of.now.site of.now.nth of.now.tags)) }
-    ensures copied { IfOk result (λ v. EachPlace selection.now (λ p. GivesNumber v.items p (source_value {M = ⊥} (row_of (turn_job at.now) (at.now.first + p)) (site_in (turn_job at.now) (at.now.first + p) of.now.under) (source.Element of.now.site of.now.nth of.now.tags)))) }
-    ensures plain { (used : ℕ → Bool) → ArePlain (turn_job at.now) used → used of.now.site ≡ true → OnErr result ⊥ }
-{
-    match site_kind(at, of.site) {
-        ColType::Vect => copy_elements(at, lanes, selection, of),
-        ColType::Int | ColType::Bool => unreachable!(),
-    }
-}
-
 /// Copies a version at the selected places, where it is at hand, unless it is read in place.
 fn copy_version(
     at: &Turn<'_>,
@@ -243,7 +221,8 @@ fn copy_version(
                 nth: place,
                 tags,
             };
-            Ok(Copied::Numbers(copy_tagged(at, lanes, selection, &of)?))
+            let _kind = site_kind(at, site);
+            Ok(Copied::Numbers(copy_elements(at, lanes, selection, &of)?))
         }
     }
 }

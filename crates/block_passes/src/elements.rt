@@ -10,9 +10,8 @@ ghost use Rattle.loop_keys.specs.Jobs.{job_graph};
 ghost use Rattle.loop_keys.specs.Keys.{key as key_of};
 ghost use Rattle.loop_keys.specs.Store.{row_of, site_in};
 ghost use Rattle.block_cache.specs.Fills.{fault_over, holds_at};
-ghost use Rattle.block_passes.specs.Copying.{IsNumberOf};
-ghost use Rattle.block_passes.specs.Turns.{IsKnown, IsOver, IsSelected, KeepsRoom};
-ghost use Rattle.block_passes.specs.InTurn.{IsServedInTurn, element_fault_in_turn, turn_job};
+ghost use Rattle.block_passes.specs.Feeds.{IsNumberOf};
+ghost use Rattle.block_passes.specs.InTurn.{IsKnown, IsOver, IsSelected, KeepsRoom, IsServedInTurn, element_fault_in_turn, turn_job};
 
 use crate::kept::Kept;
 use crate::turn::{Turn, Work};

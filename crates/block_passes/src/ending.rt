@@ -6,9 +6,8 @@ ghost use Rattle.cluster_tally.specs.Stages.{Stage};
 ghost use Rattle.cluster_tally.specs.Tallies.{Holds};
 ghost use Rattle.loop_keys.specs.Jobs.{passes_in};
 ghost use Rattle.loop_keys.specs.Entries.{IsNoTake, facts_in};
-ghost use Rattle.block_passes.specs.Blocks.{IsBefore, IsBlockTried, after_block, entries_from};
-ghost use Rattle.block_passes.specs.Turns.{IsTurn, KeepsRoom};
-ghost use Rattle.block_passes.specs.InTurn.{CanSelectInTurn, CanServeAllInTurn, CanServeAllWith, IsClearInTurn, IsPlainTurn, IsPlanOfTurn, IsReadyInTurn, turn_job};
+ghost use Rattle.block_passes.specs.Clusters.{IsBefore, IsBlockTried, after_block, entries_from};
+ghost use Rattle.block_passes.specs.InTurn.{IsTurn, KeepsRoom, CanSelectInTurn, CanServeAllInTurn, CanServeAllWith, IsClearInTurn, IsPlainTurn, IsPlanOfTurn, IsReadyInTurn, turn_job};
 
 use crate::feed::feed_passes;
 use crate::kept::Kept;

@@ -11,11 +11,9 @@ ghost use Rattle.loop_keys.specs.Plain.{ArePlain};
 ghost use Rattle.loop_keys.specs.Jobs.{passes_in};
 ghost use Rattle.loop_keys.specs.Entries.{IsNoTake, facts_in};
 ghost use Rattle.loop_keys.specs.Turns.{actions_before};
-ghost use Rattle.block_passes.specs.Counting.{at_pass};
-ghost use Rattle.block_passes.specs.Selections.{AreKept};
-ghost use Rattle.block_passes.specs.Tries.{AreAllWhole};
-ghost use Rattle.block_passes.specs.Turns.{IsOver, IsTurn};
-ghost use Rattle.block_passes.specs.InTurn.{AreHeldInTurn, ArePlainInTurn, AreWholeInTurn, CanFeedInTurn, CanGatherInTurn, CanServeAllWith, IsAmidTurn, IsClearInTurn, IsFeedableInTurn, IsPlainTurn, IsPlanOfTurn, IsReadInTurn, turn_job};
+ghost use Rattle.block_passes.specs.Fed.{at_pass};
+ghost use Rattle.block_passes.specs.Tries.{AreKept, AreAllWhole};
+ghost use Rattle.block_passes.specs.InTurn.{IsOver, IsTurn, AreHeldInTurn, ArePlainInTurn, AreWholeInTurn, CanFeedInTurn, CanGatherInTurn, CanServeAllWith, IsAmidTurn, IsClearInTurn, IsFeedableInTurn, IsPlainTurn, IsPlanOfTurn, IsReadInTurn, turn_job};
 
 use crate::copies::copy_inputs;
 use crate::in_place::lanes_in_place;
@@ -150,10 +148,7 @@ pub(crate) fn feed_passes(
     let mut turn = *at;
     for (pass, own) in passes.iter().enumerate() {
         turn.go_to(at, pass as u32);
-        match feed_pass(&turn, lanes, kept, tally, *own, FedPass { place, cluster }) {
-            Ok(next) => place = next,
-            Err(Memory) => return Err(Memory),
-        }
+        place = feed_pass(&turn, lanes, kept, tally, *own, FedPass { place, cluster })?;
     }
     Ok(())
 }

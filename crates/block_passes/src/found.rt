@@ -1,10 +1,10 @@
 // How far the search for a block's first fault has come.
 ghost use Rattle.std.specs.Prelude.{◌≡◌, ◌<◌, ◌+◌, ◌^◌, None, Some};
 ghost use Rattle.block_cache.specs.declared.faults.PlaceFault.{PlaceFault as FaultAt};
-ghost use Rattle.block_passes.specs.Searches.{fault_at, noted};
+ghost use Rattle.block_passes.specs.Searches.{noted};
 
 use block_cache::faults::PlaceFault;
-use rdf_values::{EntryFault, Fault};
+use rdf_values::Fault;
 
 /// The first fault so far of the passes of a loop over a block, if one faults, and the places that are still tried: those below the limit.
 #[derive(Clone, Copy, Debug)]
@@ -24,20 +24,7 @@ impl Found {
         }
     }
 
-    /// A fault below the limit becomes the first one, and its place the limit. The block begins at entry `first`.
-    pub fn lower(&mut self, first: u32, pass: u32, place: u32, kind: EntryFault)
-        requires { first + place < 2 ^ 32 }
-        ensures { self.new ≡ fault_at first pass place kind }
-    {
-        self.limit = place;
-        self.best = Some(Fault {
-            entry: first + place,
-            pass,
-            kind,
-        });
-    }
-
-    /// A fault that was found at a place, if one was, lowers the limit.
+    /// A fault that was found at a place, if one was, lowers the limit. The block begins at entry `first`.
     pub fn note(&mut self, first: u32, pass: u32, fault: Option<PlaceFault>)
         requires { (f : FaultAt) → fault ≡ Some f → first + f.place < 2 ^ 32 }
         ensures { self.new ≡ noted first pass self.old fault }
@@ -45,6 +32,12 @@ impl Found {
         let Some(found) = fault else {
             return;
         };
-        self.lower(first, pass, found.place, found.kind);
+        let place = found.place;
+        self.limit = place;
+        self.best = Some(Fault {
+            entry: first + place,
+            pass,
+            kind: found.kind,
+        });
     }
 }

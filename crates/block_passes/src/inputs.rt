@@ -13,8 +13,7 @@ ghost use Rattle.loop_keys.specs.Turns.{HasAllDemands};
 ghost use Rattle.block_cache.specs.Blocks.{AreReady};
 ghost use Rattle.block_cache.specs.Fills.{CanFill, holds_at, site_fault};
 ghost use Rattle.block_passes.specs.Inputs.{AreAtHand, DemandsInputs, DemandsSource, IsAtHand};
-ghost use Rattle.block_passes.specs.Turns.{IsKnown, IsOver, IsSelected, IsTurn, KeepsRoom, Leaves};
-ghost use Rattle.block_passes.specs.InTurn.{CanServeInTurn, CanServeWith, IsServedInTurn, IsSpentInTurn, element_fault_in_turn, inputs_fault_in_turn, source_fault_in_turn, source_in_turn, turn_job};
+ghost use Rattle.block_passes.specs.InTurn.{IsKnown, IsOver, IsSelected, IsTurn, KeepsRoom, Leaves, CanServeInTurn, CanServeWith, IsServedInTurn, IsSpentInTurn, element_fault_in_turn, inputs_fault_in_turn, source_fault_in_turn, source_in_turn, turn_job};
 
 use crate::elements::{SiteElement, test_elements};
 use crate::kept::Kept;
@@ -129,21 +128,17 @@ fn serve_site<L: Ledger>(
         block: &block,
         site,
     };
-    match fill_led(
+    let fault = fill_led(
         &wanted,
         &mut work.lanes,
         &mut to.places,
         &mut work.levels,
         &mut work.scratch,
         steps,
-    ) {
-        Ok(fault) => {
-            work.found.note(at.first, at.pass, fault);
-            to.limit = Some(work.found.limit);
-            Ok(())
-        }
-        Err(Memory) => Err(Memory),
-    }
+    )?;
+    work.found.note(at.first, at.pass, fault);
+    to.limit = Some(work.found.limit);
+    Ok(())
 }
 
 /// What gives a version its value, under nominal or a variation.
@@ -174,13 +169,9 @@ fn serve_element<L: Ledger>(
     ensures room { KeepsRoom work.old work.new }
     ensures plain { (used : ℕ → Bool) → ArePlain (turn_job at.now) used → used of.now.site ≡ true → OnErr result ⊥ }
 {
-    match serve_site(at, work, to, of.site, of.under, steps) {
-        Ok(()) => {
-            test_elements(at, work, to, of);
-            Ok(())
-        }
-        Err(Memory) => Err(Memory),
-    }
+    serve_site(at, work, to, of.site, of.under, steps)?;
+    test_elements(at, work, to, of);
+    Ok(())
 }
 
 /// Fills what gives a version its value, likewise.

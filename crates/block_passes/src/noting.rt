@@ -5,9 +5,8 @@ ghost use Rattle.cluster_tally.specs.Blocks.{BlockStage, HoldsIn, block_reaches}
 ghost use Rattle.cluster_tally.specs.Stages.{counted};
 ghost use Rattle.loop_keys.specs.Jobs.{job_graph};
 ghost use Rattle.loop_keys.specs.Entries.{facts_in};
-ghost use Rattle.block_passes.specs.Counting.{AreCountable, at_filter};
-ghost use Rattle.block_passes.specs.Turns.{IsTurn};
-ghost use Rattle.block_passes.specs.InTurn.{IsAmidTurn, IsPlanOfTurn, turn_job};
+ghost use Rattle.block_passes.specs.Fed.{AreCountable, at_filter};
+ghost use Rattle.block_passes.specs.InTurn.{IsTurn, IsAmidTurn, IsPlanOfTurn, turn_job};
 
 use crate::kept::Kept;
 use crate::turn::Turn;

@@ -4,10 +4,8 @@ ghost use Rattle.rdf_model.specs.Results.{first_fault_from};
 ghost use Rattle.loop_keys.specs.Caches.{numbered_in};
 ghost use Rattle.loop_keys.specs.Jobs.{Fits, job_of, passes_in};
 ghost use Rattle.loop_keys.specs.Turns.{IsReportPass};
-ghost use Rattle.block_passes.specs.Selections.{AreRemade};
-ghost use Rattle.block_passes.specs.Tries.{IsPassMade, IsPlanMade, IsReadOf, IsSearchedTo};
-ghost use Rattle.block_passes.specs.Turns.{IsTurn, Leaves};
-ghost use Rattle.block_passes.specs.InTurn.{CanSelectInTurn, CanServeAllInTurn, IsPassTriedInTurn, IsPlainTurn, IsPlanOfTurn, IsReadyInTurn, turn_job};
+ghost use Rattle.block_passes.specs.Tries.{AreRemade, IsPassMade, IsPlanMade, IsReadOf, IsSearchedTo};
+ghost use Rattle.block_passes.specs.InTurn.{IsTurn, Leaves, CanSelectInTurn, CanServeAllInTurn, IsPassTriedInTurn, IsPlainTurn, IsPlanOfTurn, IsReadyInTurn, turn_job};
 
 use crate::action::try_action;
 use crate::kept::Kept;
@@ -86,10 +84,7 @@ pub(crate) fn try_passes<L: Ledger>(
     let mut turn = *at;
     for (pass, own) in passes.iter().enumerate() {
         turn.go_to(at, pass as u32);
-        match try_pass(&turn, work, kept, *own, steps) {
-            Ok(()) => {}
-            Err(Memory) => return Err(Memory),
-        }
+        try_pass(&turn, work, kept, *own, steps)?;
     }
     Ok(())
 }

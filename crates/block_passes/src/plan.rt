@@ -6,8 +6,7 @@ ghost use Rattle.loop_keys.specs.Caches.{numbered_in};
 ghost use Rattle.loop_keys.specs.Jobs.{Fits, job_graph, job_of, passes_in};
 ghost use Rattle.loop_keys.specs.Plans.{covered_in};
 ghost use Rattle.loop_keys.specs.Turns.{numbered_passes};
-ghost use Rattle.block_passes.specs.Plans.{AreFiltersPlanned, ArePassesPlanned, IsFilterLed, IsFilterStepped, IsPassLed, IsPlan};
-ghost use Rattle.block_passes.specs.Steps.{AreSteps, Chain};
+ghost use Rattle.block_passes.specs.Plans.{ArePlanned, IsFilterPlanned, IsPassLast, IsPlan, IsPlanned, AreSteps, Chain};
 
 use crate::steps::{Step, next_step, path_steps};
 use graph_numbers::{Pass, ResultKind};
@@ -84,7 +83,7 @@ fn pass_step(job: &Job<'_>, _pass: u32, own: Pass, steps: &mut ListOf<Step>) -> 
     requires job { Fits job.now }
     requires own { numbered_in (job_of job.now) _pass ≡ Some own }
     requires steps { (chains : List Chain) × AreSteps chains steps.old }
-    ensures { (chains : List Chain) → AreSteps chains steps.old → IfOk result (IsPassLed (job_of job.now) chains steps.new _pass) }
+    ensures { (chains : List Chain) → AreSteps chains steps.old → IfOk result (IsPlanned (job_of job.now) (λ cs. IsPassLast (job_of job.now) cs _pass) chains steps.new) }
 {
     match job.graph.kind(own.result) {
         ResultKind::Action(_) => path_steps(steps, job.graph.path(own.result), own.variation),
@@ -96,7 +95,7 @@ fn pass_step(job: &Job<'_>, _pass: u32, own: Pass, steps: &mut ListOf<Step>) -> 
 fn pass_steps(alloc: Global, job: &Job<'_>, steps: &mut ListOf<Step>) -> Result<ListOf<u32>, Memory>
     requires job { Fits job.now }
     requires steps { (chains : List Chain) × AreSteps chains steps.old }
-    ensures { (chains : List Chain) → AreSteps chains steps.old → IfOk result (ArePassesPlanned (job_of job.now) chains steps.new (length (passes_in (job_of job.now)))) }
+    ensures { (chains : List Chain) → AreSteps chains steps.old → IfOk result (ArePlanned (job_of job.now) (IsPassLast (job_of job.now)) chains steps.new (length (passes_in (job_of job.now)))) }
 {
     let mut last_steps = ListOf::new(alloc);
     let passes = loop_passes(job);
@@ -113,7 +112,7 @@ fn named_steps(job: &Job<'_>, filter: u32, steps: &mut ListOf<Step>) -> Result<N
     requires filter { filter < length (graph_filters (job_graph (job_of job.now))) }
     requires covered { slice_get (covered_in (job_of job.now)) filter ≡ Some true }
     requires steps { (chains : List Chain) × AreSteps chains steps.old }
-    ensures { (chains : List Chain) → AreSteps chains steps.old → IfOk result (IsFilterLed (job_of job.now) chains steps.new filter) }
+    ensures { (chains : List Chain) → AreSteps chains steps.old → IfOk result (λ s. IsPlanned (job_of job.now) (λ cs. IsFilterPlanned (job_of job.now) cs filter) chains steps.new (Some s)) }
 {
     let Some((site, up)) = job.graph.filter_path(filter).split_last() else {
         return Err(Memory);
@@ -132,7 +131,7 @@ fn filter_step(
     requires job { Fits job.now }
     requires filter { filter < length (graph_filters (job_graph (job_of job.now))) }
     requires steps { (chains : List Chain) × AreSteps chains steps.old }
-    ensures { (chains : List Chain) → AreSteps chains steps.old → IfOk result (IsFilterStepped (job_of job.now) chains steps.new filter) }
+    ensures { (chains : List Chain) → AreSteps chains steps.old → IfOk result (IsPlanned (job_of job.now) (λ cs. IsFilterPlanned (job_of job.now) cs filter) chains steps.new) }
 {
     if is_covered(job, filter) {
         let named = named_steps(job, filter, steps)?;
@@ -149,7 +148,7 @@ fn filter_steps(
 ) -> Result<ListOf<Option<NamedSteps>>, Memory>
     requires job { Fits job.now }
     requires steps { (chains : List Chain) × AreSteps chains steps.old }
-    ensures { (chains : List Chain) → AreSteps chains steps.old → IfOk result (AreFiltersPlanned (job_of job.now) chains steps.new (length (graph_filters (job_graph (job_of job.now))))) }
+    ensures { (chains : List Chain) → AreSteps chains steps.old → IfOk result (ArePlanned (job_of job.now) (IsFilterPlanned (job_of job.now)) chains steps.new (length (graph_filters (job_graph (job_of job.now))))) }
 {
     let mut named = ListOf::new(alloc);
     for filter in 0..job.graph.filters() {

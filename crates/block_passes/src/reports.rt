@@ -2,10 +2,8 @@
 ghost use Rattle.std.specs.Prelude.{◌<◌, OnOk, Some, OnErr};
 ghost use Rattle.std.specs.List.{AllByRecursion};
 ghost use Rattle.loop_keys.specs.Caches.{IsCovered};
-ghost use Rattle.block_passes.specs.Selections.{AreRemade};
-ghost use Rattle.block_passes.specs.Tries.{IsNamedMade, filter_fault, filters_fault};
-ghost use Rattle.block_passes.specs.Turns.{IsTurn, Leaves};
-ghost use Rattle.block_passes.specs.InTurn.{CanSelectInTurn, IsPlainTurn, IsPlanOfTurn, IsReadyInTurn, IsTriedInTurn, turn_job};
+ghost use Rattle.block_passes.specs.Tries.{AreRemade, IsNamedMade, filter_fault, filters_fault};
+ghost use Rattle.block_passes.specs.InTurn.{IsTurn, Leaves, CanSelectInTurn, IsPlainTurn, IsPlanOfTurn, IsReadyInTurn, IsTriedInTurn, turn_job};
 
 use crate::kept::Kept;
 use crate::select::select_again;
@@ -64,8 +62,6 @@ pub(crate) fn try_filters<L: Ledger>(
     let Some((filter, rest)) = filters.split_first() else {
         return Ok(());
     };
-    match try_filter(at, work, kept, *filter, steps) {
-        Ok(()) => try_filters(at, work, kept, rest, steps),
-        Err(Memory) => Err(Memory),
-    }
+    try_filter(at, work, kept, *filter, steps)?;
+    try_filters(at, work, kept, rest, steps)
 }

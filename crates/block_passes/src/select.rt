@@ -8,10 +8,9 @@ ghost use Rattle.loop_keys.specs.Plain.{ArePlain};
 ghost use Rattle.loop_keys.specs.Jobs.{job_graph};
 ghost use Rattle.loop_keys.specs.Keys.{key};
 ghost use Rattle.block_cache.specs.Fills.{CanFill};
-ghost use Rattle.block_passes.specs.Selections.{AreRemade};
+ghost use Rattle.block_passes.specs.Tries.{AreRemade};
 ghost use Rattle.block_passes.specs.declared.kept.Kept.{Kept as KeptView};
-ghost use Rattle.block_passes.specs.Turns.{IsKnown, IsTurn, KeepsRoom, Leaves};
-ghost use Rattle.block_passes.specs.InTurn.{CanSelectInTurn, IsFilteredInTurn, IsNextSelectedInTurn, IsPlainTurn, IsPlanOfTurn, IsReadyInTurn, IsSelectedInTurn, IsSpentInTurn, turn_job};
+ghost use Rattle.block_passes.specs.InTurn.{IsKnown, IsTurn, KeepsRoom, Leaves, CanSelectInTurn, IsFilteredInTurn, IsNextSelectedInTurn, IsPlainTurn, IsPlanOfTurn, IsReadyInTurn, IsSelectedInTurn, IsSpentInTurn, turn_job};
 
 use crate::kept::Kept;
 use crate::steps::Step;
@@ -62,21 +61,17 @@ pub(crate) fn filter_places<L: Ledger>(
         block: &block,
         site: filter.site,
     };
-    match pass_filter(
+    let fault = pass_filter(
         &wanted,
         &mut work.lanes,
         &mut to.places,
         &mut work.levels,
         &mut work.scratch,
         steps,
-    ) {
-        Ok(fault) => {
-            work.found.note(at.first, at.pass, fault);
-            to.limit = Some(work.found.limit);
-            Ok(())
-        }
-        Err(Memory) => Err(Memory),
-    }
+    )?;
+    work.found.note(at.first, at.pass, fault);
+    to.limit = Some(work.found.limit);
+    Ok(())
 }
 
 /// Selects the places of a step with one more filter than the step of the parent, which is selected.
@@ -143,10 +138,7 @@ pub(crate) fn select_step<L: Ledger>(
             site,
             under,
         } => {
-            match select_step(at, work, kept, parent, steps) {
-                Ok(()) => {}
-                Err(Memory) => return Err(Memory),
-            }
+            select_step(at, work, kept, parent, steps)?;
             let (above, own) = kept.split_at_mut(step as usize);
             let next = NextStep {
                 step,

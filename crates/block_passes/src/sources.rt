@@ -11,8 +11,7 @@ ghost use Rattle.loop_keys.specs.Store.{row_of, site_in, version_in};
 ghost use Rattle.block_cache.specs.Blocks.{HasColumn};
 ghost use Rattle.block_passes.specs.Feeds.{AreLanesOf, HasHeld, IsLaneOf};
 ghost use Rattle.block_passes.specs.Inputs.{IsAtHand, IsWhole};
-ghost use Rattle.block_passes.specs.Turns.{IsOver, IsTurn};
-ghost use Rattle.block_passes.specs.InTurn.{AreCopiedInTurn, AreHeldInTurn, CanGatherInTurn, CanServeWith, IsCopyInTurn, source_in_turn, turn_job};
+ghost use Rattle.block_passes.specs.InTurn.{IsOver, IsTurn, AreCopiedInTurn, AreHeldInTurn, CanGatherInTurn, CanServeWith, IsCopyInTurn, source_in_turn, turn_job};
 
 use crate::copies::{Copied, Copies};
 use crate::turn::{ActionRead, Turn};
@@ -53,7 +52,10 @@ fn version_lane<'a: 's, 's>(
         → IsLaneOf (version_in {M = ⊥} (turn_job at.now) (at.now.first + p) under version) result p }
 {
     match copied {
-        Copied::Whole => whole_lane(at, lanes, version, under),
+        Copied::Whole => match lane_in_place(at, lanes, version, under) {
+            Some(lane) => lane,
+            None => unreachable!(),
+        },
         Copied::Numbers(numbers) => FedLane::Int(numbers.as_slice()),
         Copied::Vectors(vectors) => FedLane::Vects {
             elements: vectors.elements.as_slice(),
@@ -104,25 +106,6 @@ pub(crate) fn lane_in_place<'a: 's, 's>(
         Place::Cell { col } => Some(cell_lane(at, col, under)),
         Place::Key { key } => key_lane(lanes, key),
         Place::Element { .. } => None,
-    }
-}
-
-/// The lane of a version that is read in place.
-fn whole_lane<'a: 's, 's>(
-    at: &Turn<'a>,
-    lanes: &'s [Lane],
-    version: u32,
-    under: Option<u32>,
-) -> FedLane<'s>
-    requires over { IsOver at.now lanes.now }
-    requires can { (scratch levels : ℕ) × CanServeWith at.now under lanes.now scratch levels version }
-    requires whole { IsWhole (turn_job at.now) under (kinds_of lanes.now) (source_in_turn at.now under version) }
-    ensures { (p : ℕ) → p < at.now.count → IsAtHand (turn_job at.now) lanes.now under p (source_in_turn at.now under version)
-        → IsLaneOf (version_in {M = ⊥} (turn_job at.now) (at.now.first + p) under version) result p }
-{
-    match lane_in_place(at, lanes, version, under) {
-        Some(lane) => lane,
-        None => unreachable!(),
     }
 }
 

@@ -1,6 +1,6 @@
 // The selections that the passes of a loop share.
 ghost use Rattle.std.specs.Prelude.{◌≡◌, ◌⊎◌, ◌<◌, ◌^◌, [], ◌++◌, ◌∷◌, List, IfOk, IfSome, Some, length, slice_get, true};
-ghost use Rattle.block_passes.specs.Steps.{AreSteps, Chain, IsLed, IsStepped};
+ghost use Rattle.block_passes.specs.Plans.{AreSteps, Chain, IsLed, IsStepped};
 
 use rdf_values::{ListOf, Memory};
 
@@ -72,14 +72,12 @@ pub(crate) fn next_step(
     if let Some(step) = find(steps.as_slice(), parent, site, under) {
         return Ok(step);
     }
-    match steps.push(Step::Filter {
+    steps.push(Step::Filter {
         parent,
         site,
         under,
-    }) {
-        Ok(()) => Ok(count as u32),
-        Err(Memory) => Err(Memory),
-    }
+    })?;
+    Ok(count as u32)
 }
 
 /// The last of the steps with the filters of these sites, head first, which are added unless they are there.

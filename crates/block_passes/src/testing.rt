@@ -5,8 +5,7 @@ ghost use Rattle.actions.specs.Batches.{places_of};
 ghost use Rattle.loop_keys.specs.Plain.{ArePlain};
 ghost use Rattle.block_cache.specs.Fills.{fault_over};
 ghost use Rattle.block_passes.specs.Feeds.{of_batch};
-ghost use Rattle.block_passes.specs.Turns.{IsKnown, IsOver, IsSelected, KeepsRoom};
-ghost use Rattle.block_passes.specs.InTurn.{AreHeldInTurn, ArePlainInTurn, CanGatherInTurn, IsServedInTurn, turn_job, unfed_in_turn};
+ghost use Rattle.block_passes.specs.InTurn.{IsKnown, IsOver, IsSelected, KeepsRoom, AreHeldInTurn, ArePlainInTurn, CanGatherInTurn, IsServedInTurn, turn_job, unfed_in_turn};
 
 use crate::copies::copy_inputs;
 use crate::in_place::lanes_in_place;

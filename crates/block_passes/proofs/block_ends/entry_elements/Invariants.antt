@@ -1,5 +1,4 @@
-use Rattle.std.proofs.Common.{◌≡◌, ◌*◌, ◌≤◌, List, Some, slice_get, take}
-use Rattle.std.specs.List.{sum_by}
+use Rattle.std.proofs.Common.{◌≡◌, ◌*◌, ◌≤◌, List, Some, slice_get, take, sum_by}
 use Rattle.rdf_values.specs.declared.value.Value.{Value}
 use Rattle.block_laws.specs.Blocks.{elements_in}
 use Rattle.block_passes.proofs.block_ends.entry_elements.Given as goal

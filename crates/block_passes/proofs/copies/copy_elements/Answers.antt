@@ -6,8 +6,8 @@ use Rattle.graph_numbers.specs.Sources.{source_value}
 use Rattle.graph_numbers.specs.declared.source.Source.TheVariants as from
 use Rattle.loop_keys.specs.Jobs.{job_of}
 use Rattle.loop_keys.specs.Store.{row_of, site_in}
-use Rattle.block_passes.specs.Copying.{GivesNumber}
-use Rattle.block_passes.proofs.PlaceWalks.{each_at, numbers_more}
+use Rattle.block_passes.specs.Feeds.{GivesNumber}
+use Rattle.block_passes.proofs.Places.{each_at, numbers_more}
 use Rattle.block_passes.proofs.copies.copy_elements.Goals as goal
 
 pub given_at-requires-clause-inside : goal.given_at-requires-clause-inside

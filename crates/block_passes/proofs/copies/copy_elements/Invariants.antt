@@ -3,7 +3,7 @@ use Rattle.graph_numbers.specs.Sources.{source_value}
 use Rattle.graph_numbers.specs.declared.source.Source.TheVariants as from
 use Rattle.loop_keys.specs.Jobs.{job_of}
 use Rattle.loop_keys.specs.Store.{row_of, site_in}
-use Rattle.block_passes.specs.Copying.{GivesNumber}
+use Rattle.block_passes.specs.Feeds.{GivesNumber}
 use Rattle.block_passes.proofs.copies.copy_elements.Given as goal
 
 abbrev pub invariant-loop-i : goal.invariant-loop-i

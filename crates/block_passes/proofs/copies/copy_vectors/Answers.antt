@@ -3,8 +3,8 @@ use Rattle.expr_lanes.specs.Places.{is_in}
 use Rattle.expr_lanes.proofs.Selected.{is_in_at}
 use Rattle.loop_keys.specs.Jobs.{job_of}
 use Rattle.loop_keys.specs.Store.{site_in}
-use Rattle.block_passes.specs.Copying.{GivesVector}
-use Rattle.block_passes.proofs.PlaceWalks.{each_at, vectors_more}
+use Rattle.block_passes.specs.Feeds.{GivesVector}
+use Rattle.block_passes.proofs.Places.{each_at, vectors_more}
 use Rattle.block_passes.proofs.copies.copy_vectors.Goals as goal
 
 pub site_vector-requires-clause-inside : goal.site_vector-requires-clause-inside

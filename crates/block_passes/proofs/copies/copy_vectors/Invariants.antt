@@ -1,7 +1,7 @@
 use Rattle.std.proofs.Common.{◌≡◌, ◌+◌, ◌<◌, ℕ, get_or, length}
 use Rattle.loop_keys.specs.Jobs.{job_of}
 use Rattle.loop_keys.specs.Store.{site_in}
-use Rattle.block_passes.specs.Copying.{GivesVector}
+use Rattle.block_passes.specs.Feeds.{GivesVector}
 use Rattle.block_passes.proofs.copies.copy_vectors.Given as goal
 
 abbrev pub invariant-loop-i : goal.invariant-loop-i

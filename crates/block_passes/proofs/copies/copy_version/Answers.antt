@@ -4,8 +4,8 @@ use Rattle.graph_numbers.specs.declared.source.Source.{Source}
 use Rattle.block_cache.specs.Lanes.{kinds_of}
 use Rattle.loop_keys.specs.Jobs.{job_of}
 use Rattle.block_passes.specs.Inputs.{IsPlainSource, IsServable, IsWhole}
-use Rattle.block_passes.proofs.ElementsHeld.{lane_of_kind}
-use Rattle.block_passes.proofs.ElementKinds.{element_kind}
+use Rattle.block_passes.proofs.Serving.{lane_of_kind}
+use Rattle.block_passes.proofs.SiteKinds.{element_kind}
 use Rattle.block_passes.proofs.PlainReads.{no_vector}
 use Rattle.block_passes.proofs.copies.copy_version.Goals as goal
 
@@ -55,10 +55,9 @@ returns-in_err-copy_vectors-in-Vect-clause-plain g c = λ used p source.
     let e = c.source_under.ensures ∙ c.in-Site.is in
     absurd (c.site_kind.ensures.plain used p (subst (IsPlainSource (job_of c.args.at.now.job.now) used) e source) c.in-Vect.is)
 
-pub copy_tagged-requires-clause-vectors : goal.copy_tagged-requires-clause-vectors
-copy_tagged-requires-clause-vectors g c = λ e its.
-    element_kind (job_of c.args.at.now.job.now) c.requires.over.turn.fits.job c.args.under c.args.version c.in-Element.site c.in-Element.place c.in-Element.tags (c.source_under.ensures ∙ c.in-Element.is) e its
-
-pub returns-in_err-copy_tagged-in-Element-clause-plain : goal.returns-in_err-copy_tagged-in-Element-clause-plain
-returns-in_err-copy_tagged-in-Element-clause-plain g c = λ used p source.
-    absurd (c.in_err-copy_tagged-in-Element.ensures.plain used p (subst (IsPlainSource (job_of c.args.at.now.job.now) used) (c.source_under.ensures ∙ c.in-Element.is) source))
+pub returns-in_err-copy_elements-in-Element-clause-plain : goal.returns-in_err-copy_elements-in-Element-clause-plain
+returns-in_err-copy_elements-in-Element-clause-plain g c = λ used p source.
+    let e = c.source_under.ensures ∙ c.in-Element.is in
+    let w = c.site_kind-kind.ensures.expr in
+    let vectors = element_kind (job_of c.args.at.now.job.now) c.requires.over.turn.fits.job c.args.under c.args.version c.in-Element.site c.in-Element.place c.in-Element.tags e w.0 w.1 in
+    absurd (c.site_kind-kind.ensures.plain used p (subst (IsPlainSource (job_of c.args.at.now.job.now) used) e source) (w.2 ∙ vectors))

@@ -1,5 +1,5 @@
 use Rattle.loop_keys.specs.Jobs.{job_of}
-use Rattle.block_passes.proofs.ElementsHeld.{hand_holds, hand_value, no_number}
+use Rattle.block_passes.proofs.Serving.{hand_holds, hand_value, no_number}
 use Rattle.block_passes.proofs.copies.given_at.Goals as goal
 
 pub element_at-requires-clause-held : goal.element_at-requires-clause-held

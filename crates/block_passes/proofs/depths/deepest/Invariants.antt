@@ -1,5 +1,9 @@
-use Rattle.block_passes.proofs.DeepSites.{AreDeepTo}
+use Rattle.std.proofs.Common.{◌≡◌, ℕ, ◌<◌, ◌≤◌, Some, slice_get}
+use Rattle.expr_lanes.specs.Depths.{depth}
+use Rattle.graph_numbers.specs.Graphs.{graph_sites}
+use Rattle.graph_numbers.specs.Sites.{SiteAt}
 use Rattle.block_passes.proofs.depths.deepest.Given as goal
 
+-- so many levels are enough for the first so many sites
 abbrev pub invariant-loop-site : goal.invariant-loop-site
-invariant-loop-site l = AreDeepTo l.graph l.site l.deepest
+invariant-loop-site l = (t : ℕ) (x : SiteAt) → t < l.site → slice_get (graph_sites l.graph) t ≡ Some x → depth x.tree ≤ l.deepest

@@ -1,11 +1,12 @@
-use Rattle.std.proofs.Common.{◌≡◌, ◌∙◌, ◌<◌, ◌≤◌, ℕ, List, Some, true, ap, arith, get_or, length, subst, sym}
+use Rattle.std.proofs.Common.{◌≡◌, ◌∙◌, ◌<◌, ◌≤◌, ℕ, List, Some, true, ap, arith, get_or, length, subst, sym, None}
 use Rattle.expr_lanes.specs.Places.{is_in}
 use Rattle.expr_lanes.proofs.Selected.{is_in_at}
 use Rattle.loop_keys.specs.Jobs.{job_of}
 use Rattle.block_cache.specs.Faults.{fault_at}
 use Rattle.block_passes.specs.Inputs.{element_fault}
-use Rattle.block_passes.proofs.ElementsHeld.{fault_is}
-use Rattle.block_passes.proofs.PlaceWalks.{first_at, none_at}
+use Rattle.block_passes.proofs.Serving.{fault_is}
+use Rattle.block_passes.proofs.Places.{first_at, each_at}
+use Rattle.block_cache.proofs.Members.{no_fault_over}
 use Rattle.block_passes.proofs.elements.first_without.Goals as goal
 
 pub element_at-requires-clause-inside : goal.element_at-requires-clause-inside
@@ -24,7 +25,8 @@ pub returns : goal.returns
 returns g c =
     let long : length c.as_slice-places.result.now ≤ c.loop-i.i = omega arith in
     let e = ap (λ (l : List ℕ). length l) c.as_slice-places.ensures.value in
-    sym (none_at c.args.selection.now (element_fault (job_of c.args.at.now.job.now) c.args.at.now.first c.args.of.now.under c.args.of.now.site c.args.of.now.nth c.args.of.now.tags) (λ m lt. c.loop-i.invariant m (omega (arith, lt, long, e))))
+    let fault = element_fault (job_of c.args.at.now.job.now) c.args.at.now.first c.args.of.now.under c.args.of.now.site c.args.of.now.nth c.args.of.now.tags in
+    sym (no_fault_over c.args.selection.now fault (each_at c.args.selection.now (λ p. fault p ≡ None) (λ m lt. c.loop-i.invariant m (omega (arith, lt, long, e)))))
 
 pub returns-in-Err : goal.returns-in-Err
 returns-in-Err g c =

@@ -1,8 +1,8 @@
 use Rattle.std.proofs.Common.{arith}
 use Rattle.loop_keys.specs.Jobs.{job_of}
 use Rattle.block_passes.specs.Inputs.{element_fault}
-use Rattle.block_passes.proofs.FaultsOver.{fault_selected}
-use Rattle.block_passes.proofs.Unfed.{part_served}
+use Rattle.block_passes.proofs.Places.{fault_selected}
+use Rattle.block_passes.proofs.Fed.{part_served}
 use Rattle.block_passes.proofs.elements.test_elements.Goals as goal
 
 pub note-requires : goal.note-requires

@@ -2,9 +2,8 @@ use Rattle.std.proofs.Common.{length, refl}
 use Rattle.rdf_model.specs.LoopFacts.{kinds_in}
 use Rattle.cluster_tally.specs.Blocks.{block_begin}
 use Rattle.loop_keys.specs.Jobs.{job_of, passes_in}
-use Rattle.block_passes.specs.Counting.{at_pass}
-use Rattle.block_passes.proofs.ClearBlocks.{all_taken, begun_amid, begun_holds}
-use Rattle.block_passes.proofs.FedPasses.{amid_pass}
+use Rattle.block_passes.specs.Fed.{at_pass}
+use Rattle.block_passes.proofs.ClusterBlocks.{all_taken, begun_amid, begun_holds}
 use Rattle.block_passes.proofs.ending.take_in.Goals as goal
 
 pub feed_passes-requires-clause-begin : goal.feed_passes-requires-clause-begin
@@ -29,7 +28,7 @@ note_filters-requires-clause-begin g c =
     let amid = begun_amid j c.args.at.now.first c.args.at.now.count c.args.cluster b.0 b.1 c.args.tally.now b.2 in (
       b.0,
       at_pass (block_begin b.1 c.args.at.now.count) (length (kinds_in (passes_in j))),
-      amid_pass j c.args.at.now.first c.args.at.now.count c.args.cluster (block_begin b.1 c.args.at.now.count) (length (kinds_in (passes_in j))) amid,
+      amid,
       refl,
       c.in_ok-feed_passes.ensures.holds b.0 (block_begin b.1 c.args.at.now.count) amid b.2.its_cluster refl (begun_holds j c.args.at.now.first c.args.at.now.count c.args.cluster b.0 b.1 c.args.tally.now b.2),
     )
@@ -40,5 +39,5 @@ returns-clause-holds g c = λ watched s before.
     let amid = begun_amid j c.args.at.now.first c.args.at.now.count c.args.cluster watched s c.args.tally.now before in
     all_taken j c.args.at.now.first c.args.at.now.count c.args.cluster watched s c.args.tally.now before c.note_filters.new.tally
     (c.note_filters.ensures watched (at_pass (block_begin s c.args.at.now.count) (length (kinds_in (passes_in j))))
-    (amid_pass j c.args.at.now.first c.args.at.now.count c.args.cluster (block_begin s c.args.at.now.count) (length (kinds_in (passes_in j))) amid) refl
+    amid refl
     (c.in_ok-feed_passes.ensures.holds watched (block_begin s c.args.at.now.count) amid before.its_cluster refl (begun_holds j c.args.at.now.first c.args.at.now.count c.args.cluster watched s c.args.tally.now before)))

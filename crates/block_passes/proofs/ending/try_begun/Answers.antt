@@ -2,11 +2,11 @@ use Rattle.std.proofs.Common.{◌∙◌, length, subst, sym, List}
 use Rattle.rdf_values.specs.declared.value.ColType.{ColType}
 use Rattle.block_cache.specs.Lanes.{LaneView, kinds_of}
 use Rattle.loop_keys.specs.Jobs.{job_of}
-use Rattle.block_passes.specs.Clear.{IsClear}
+use Rattle.block_passes.specs.Fed.{IsClear}
 use Rattle.block_passes.specs.Tries.{CanServeAll}
 use Rattle.block_passes.specs.declared.stop.BlockStop.TheVariants as stop
-use Rattle.block_passes.proofs.BegunFew.{spent_few}
-use Rattle.block_passes.proofs.ClearBlocks.{searched_clear, tried_clear, tried_stopped}
+use Rattle.block_passes.proofs.BegunBlocks.{spent_few}
+use Rattle.block_passes.proofs.ClusterBlocks.{searched_clear, tried_clear, tried_stopped}
 use Rattle.block_passes.proofs.ending.try_begun.Goals as goal
 
 pub returns-in-Err-clause-tried : goal.returns-in-Err-clause-tried

@@ -1,10 +1,11 @@
 use Rattle.loop_keys.specs.Jobs.{job_of}
 use Rattle.loop_keys.specs.Entries.{facts_in}
-use Rattle.block_passes.proofs.Fed.{fed_hand, fed_low, feeds_any, last_there, only_takes, pass_there}
+use Rattle.block_passes.proofs.Fed.{fed_hand, fed_low, feeds_any, last_there, only_takes}
+use Rattle.block_passes.proofs.Trying.{has_step}
 use Rattle.block_passes.proofs.feed.feed_action.Goals as goal
 
 pub last_step-last-requires : goal.last_step-last-requires
-last_step-last-requires g c = pass_there (job_of c.args.at.now.job.now) c.requires.over.turn.fits.job c.args.at.now.first c.args.at.now.count c.args.at.now.pass c.args.own.now.kind.now c.args.own.now.inputs.now c.args.own.now.under c.requires.own c.args.at.now.plan.now c.requires.over.turn.plan
+last_step-last-requires g c = has_step (job_of c.args.at.now.job.now) c.requires.over.turn.fits.job c.args.at.now.first c.args.at.now.count c.args.at.now.pass c.args.at.now.plan.now c.requires.over.turn.plan c.requires.over.turn.within c.args.own.now.kind.now c.args.own.now.inputs.now c.args.own.now.under c.requires.own
 
 pub bounds-kept-last : goal.bounds-kept-last
 bounds-kept-last g c = last_there (job_of c.args.at.now.job.now) c.requires.over.turn.fits.job c.args.at.now.first c.args.at.now.count c.args.at.now.pass c.args.own.now.kind.now c.args.own.now.inputs.now c.args.own.now.under c.requires.own c.args.at.now.plan.now c.requires.over.turn.plan c.last_step-last.result c.last_step-last.ensures c.args.kept.now (c.requires.kept c.requires.over.turn.plan)

@@ -1,8 +1,8 @@
 use Rattle.std.proofs.Common.{◌≡◌, None, arith, length, refl}
 use Rattle.loop_keys.specs.Jobs.{job_of, passes_in}
 use Rattle.loop_keys.proofs.EntryLaws.{read_pass}
-use Rattle.block_passes.specs.Counting.{at_pass}
-use Rattle.block_passes.proofs.FedPasses.{amid_pass, fed_all}
+use Rattle.block_passes.specs.Fed.{at_pass}
+use Rattle.block_passes.proofs.Fed.{fed_all}
 use Rattle.block_passes.proofs.feed.feed_passes.Goals as goal
 
 pub feed_pass-requires-clause-turn : goal.feed_pass-requires-clause-turn
@@ -29,23 +29,23 @@ pub feed_pass-requires-clause-begin : goal.feed_pass-requires-clause-begin
 feed_pass-requires-clause-begin g c =
     let b = c.requires.begin in
     rw c.go_to.ensures
-    (b.0, at_pass b.1 c.loop-pass.place, amid_pass (job_of c.args.at.now.job.now) c.args.at.now.first c.args.at.now.count c.args.cluster b.1 c.loop-pass.place b.2, b.3, refl, c.loop-pass.invariant.taken b.0 b.1 b.2 b.3 b.4 b.5)
+    (b.0, at_pass b.1 c.loop-pass.place, b.2, b.3, refl, c.loop-pass.invariant.taken b.0 b.1 b.2 b.3 b.4 b.5)
 
 pub loop-pass-preserved : goal.loop-pass-preserved
 loop-pass-preserved g c =
-    let holds = rw c.go_to.ensures at c.in-Ok.ensures.holds in
+    let holds = rw c.go_to.ensures at c.in_ok-place.ensures.holds in
     record {
       same = rw c.go_to.ensures refl;
-      place = rw c.go_to.ensures at c.in-Ok.ensures.place;
+      place = rw c.go_to.ensures at c.in_ok-place.ensures.place;
       taken = λ watched s amid its none before.
-          holds watched (at_pass s c.loop-pass.place) (amid_pass (job_of c.args.at.now.job.now) c.args.at.now.first c.args.at.now.count c.args.cluster s c.loop-pass.place amid) its refl (c.loop-pass.invariant.taken watched s amid its none before);
+          holds watched (at_pass s c.loop-pass.place) amid its refl (c.loop-pass.invariant.taken watched s amid its none before);
     }
 
-pub returns-in-Err-clause-memory : goal.returns-in-Err-clause-memory
-returns-in-Err-clause-memory g c = rw c.go_to.ensures at c.in-Err.ensures.memory
+pub returns-in_err-place-clause-memory : goal.returns-in_err-place-clause-memory
+returns-in_err-place-clause-memory g c = λ loop none. absurd ((rw c.go_to.ensures at c.in_err-place.ensures.memory) loop none)
 
-pub returns-in-Err-clause-plain : goal.returns-in-Err-clause-plain
-returns-in-Err-clause-plain g c = rw c.go_to.ensures at c.in-Err.ensures.plain
+pub returns-in_err-place-clause-plain : goal.returns-in_err-place-clause-plain
+returns-in_err-place-clause-plain g c = λ loop none. absurd ((rw c.go_to.ensures at c.in_err-place.ensures.plain) loop none)
 
 pub returns-clause-holds : goal.returns-clause-holds
 returns-clause-holds g c =

@@ -1,7 +1,7 @@
 use Rattle.std.proofs.Common.{◌≡◌}
 use Rattle.loop_keys.specs.Jobs.{job_of}
 use Rattle.loop_keys.specs.Turns.{actions_before}
-use Rattle.block_passes.proofs.FedPasses.{IsFedTo}
+use Rattle.block_passes.proofs.Fed.{IsFedTo}
 use Rattle.block_passes.proofs.feed.feed_passes.Given as goal
 
 abbrev pub invariant-loop-pass : goal.invariant-loop-pass

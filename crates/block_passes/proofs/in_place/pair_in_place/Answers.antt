@@ -2,7 +2,7 @@ use Rattle.std.proofs.Common.{◌+◌}
 use Rattle.loop_keys.specs.Jobs.{job_of}
 use Rattle.loop_keys.specs.Store.{source_at, version_in}
 use Rattle.block_passes.specs.Inputs.{IsAtHand}
-use Rattle.block_passes.proofs.GatheredLanes.{lanes_pair}
+use Rattle.block_passes.proofs.Lanes.{lanes_pair}
 use Rattle.block_passes.proofs.in_place.pair_in_place.Goals as goal
 
 pub returns : goal.returns

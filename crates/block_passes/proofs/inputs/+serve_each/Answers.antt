@@ -5,11 +5,9 @@ use Rattle.expr_lanes.specs.Places.{EachPlace}
 use Rattle.block_cache.specs.Lanes.{kinds_of}
 use Rattle.loop_keys.specs.Jobs.{job_of}
 use Rattle.block_passes.specs.Inputs.{AreAtHand, IsServedTo, inputs_fault}
-use Rattle.block_passes.proofs.ServingInputs.{first_demanded, first_plain, inputs_held, inputs_served, none_clear, none_held, rest_can, rest_demanded, rest_inside}
-use Rattle.block_passes.proofs.Leaving.{leaves_then}
-use Rattle.block_passes.proofs.Spending.{spends_none}
+use Rattle.block_passes.proofs.Serving.{first_demanded, first_plain, inputs_held, inputs_served, none_clear, none_held, rest_can, rest_demanded, served_inside, none_served}
+use Rattle.block_passes.proofs.Spending.{leaves_then, spends_none}
 use Rattle.block_passes.proofs.inputs.+serve_each.Goals as goal
-use Rattle.block_passes.proofs.Serving.{none_served}
 use Rattle.std.proofs.lemmas.List.{nil_from_length}
 
 pub returns-in_default-clause-served : goal.returns-in_default-clause-served
@@ -30,7 +28,7 @@ serve_each-requires g t c κs within =
     let limit = c.requires.known.limit in
     let can = rest_can j c.args.at.now.first c.args.under c.args.inputs.now c.in-Some.rest.now c.in-Some.version.now c.in-Some.ensures.cases.0 c.args.at.now.count (kinds_of c.args.work.now.lanes.items) (kinds_of c.serve_version.new.work.lanes.items) c.args.at.now.cells.now
     (length c.args.work.now.scratch.items) (length c.args.work.now.levels.items) (length c.serve_version.new.work.scratch.items) (length c.serve_version.new.work.levels.items) c.serve_version.ensures.leaves.spends.kinds c.serve_version.ensures.leaves.scratch c.serve_version.ensures.leaves.levels c.requires.can in
-    let inside = rest_inside j c.args.at.now.first c.args.under c.args.inputs.now c.in-Some.rest.now c.in-Some.version.now c.in-Some.ensures.cases.0 c.args.at.now.count c.args.at.now.pass c.args.to.now.places c.serve_version.new.to c.args.work.now.lanes.items c.serve_version.new.work.lanes.items c.args.work.now.found c.serve_version.new.work.found h in
+    let inside = served_inside j c.args.at.now.first c.args.at.now.count _ c.args.at.now.pass c.args.to.now.places c.serve_version.new.to c.serve_version.new.work.lanes.items c.args.work.now.found c.serve_version.new.work.found h in
     let demanded = rest_demanded j c.args.at.now.first c.args.under c.args.inputs.now c.in-Some.rest.now c.in-Some.version.now c.in-Some.ensures.cases.0 c.args.at.now.count c.args.at.now.pass c.args.to.now.places c.serve_version.new.to c.args.work.now.lanes.items c.serve_version.new.work.lanes.items c.args.work.now.found c.serve_version.new.work.found h c.requires.demanded in
     (search rules, (search rules, (record { turn = c.requires.known.turn; ready = h.ready; limit = omega (arith, falls, limit); settled = h.settled }, (can, (record { made = h.its_limit; inside = inside }, demanded)))))
 
@@ -41,7 +39,7 @@ returns-in-Ok-clause-served g t c =
     let empty = nil_from_length c.in-Some.rest.now (let yes = c.if-is_empty.true in let is = c.is_empty.ensures in grind (arith, nat_tests, yes, is)) in
     let none =
     none_served j c.args.at.now.first c.args.at.now.count (inputs_fault j c.args.at.now.first c.args.under c.in-Some.rest.now) c.args.at.now.pass c.serve_version.new.to c.serve_version.new.work.lanes.items c.serve_version.new.work.found
-    h.ready h.its_limit (rest_inside j c.args.at.now.first c.args.under c.args.inputs.now c.in-Some.rest.now c.in-Some.version.now c.in-Some.ensures.cases.0 c.args.at.now.count c.args.at.now.pass c.args.to.now.places c.serve_version.new.to c.args.work.now.lanes.items c.serve_version.new.work.lanes.items c.args.work.now.found c.serve_version.new.work.found c.in-Ok.ensures.served) h.settled
+    h.ready h.its_limit (served_inside j c.args.at.now.first c.args.at.now.count _ c.args.at.now.pass c.args.to.now.places c.serve_version.new.to c.serve_version.new.work.lanes.items c.args.work.now.found c.serve_version.new.work.found c.in-Ok.ensures.served) h.settled
     (none_clear j c.args.at.now.first c.args.under c.in-Some.rest.now empty c.serve_version.new.to.places) in
     inputs_served j c.args.at.now.first c.args.under c.args.inputs.now c.in-Some.rest.now c.in-Some.version.now c.in-Some.ensures.cases.0 c.args.at.now.count c.args.at.now.pass c.args.to.now.places c.serve_version.new.to c.args.work.now.lanes.items c.serve_version.new.work.lanes.items c.args.work.now.found c.serve_version.new.work.found c.in-Ok.ensures.served c.serve_version.new.to c.serve_version.new.work.lanes.items c.serve_version.new.work.found none
 
@@ -52,7 +50,7 @@ returns-in-Ok-clause-held g t c =
     let empty = nil_from_length c.in-Some.rest.now (let yes = c.if-is_empty.true in let is = c.is_empty.ensures in grind (arith, nat_tests, yes, is)) in
     let none =
     none_served j c.args.at.now.first c.args.at.now.count (inputs_fault j c.args.at.now.first c.args.under c.in-Some.rest.now) c.args.at.now.pass c.serve_version.new.to c.serve_version.new.work.lanes.items c.serve_version.new.work.found
-    h.ready h.its_limit (rest_inside j c.args.at.now.first c.args.under c.args.inputs.now c.in-Some.rest.now c.in-Some.version.now c.in-Some.ensures.cases.0 c.args.at.now.count c.args.at.now.pass c.args.to.now.places c.serve_version.new.to c.args.work.now.lanes.items c.serve_version.new.work.lanes.items c.args.work.now.found c.serve_version.new.work.found c.in-Ok.ensures.served) h.settled
+    h.ready h.its_limit (served_inside j c.args.at.now.first c.args.at.now.count _ c.args.at.now.pass c.args.to.now.places c.serve_version.new.to c.serve_version.new.work.lanes.items c.args.work.now.found c.serve_version.new.work.found c.in-Ok.ensures.served) h.settled
     (none_clear j c.args.at.now.first c.args.under c.in-Some.rest.now empty c.serve_version.new.to.places) in
     inputs_held j c.args.at.now.first c.args.under c.args.inputs.now c.in-Some.rest.now c.in-Some.version.now c.in-Some.ensures.cases.0 c.args.at.now.count c.args.at.now.pass c.args.to.now.places c.serve_version.new.to c.args.work.now.lanes.items c.serve_version.new.work.lanes.items c.args.work.now.found c.serve_version.new.work.found c.in-Ok.ensures.served c.serve_version.new.to c.serve_version.new.work.lanes.items c.serve_version.new.work.found none c.serve_version.new.steps c.serve_version.new.steps
     (spends_none j c.args.at.now.first c.args.at.now.count c.serve_version.new.work.lanes.items c.serve_version.new.steps) c.in-Ok.ensures.held (none_held j c.serve_version.new.work.lanes.items c.args.under c.in-Some.rest.now empty c.serve_version.new.to.places)

@@ -5,37 +5,39 @@ use Rattle.block_cache.specs.Lanes.{LaneView}
 use Rattle.loop_keys.specs.Jobs.{job_of}
 use Rattle.block_cache.specs.Fills.{IsSpentOver}
 use Rattle.block_passes.specs.Inputs.{IsAtHand, IsServedTo, element_fault}
-use Rattle.block_passes.proofs.ElementsHeld.{element_held, element_served}
-use Rattle.block_passes.proofs.ServingInputs.{served_inside}
+use Rattle.block_passes.proofs.Serving.{element_held, element_served, served_inside}
 use Rattle.block_passes.proofs.inputs.serve_element.Goals as goal
 
 pub test_elements-requires-clause-known : goal.test_elements-requires-clause-known
 test_elements-requires-clause-known g c =
-    let served = c.in-Ok.ensures.served in
+    let served = c.in_ok-serve_site.ensures.served in
     let f = served.lowers.falls in
     let l = c.requires.known.limit in
     record { turn = c.requires.known.turn; ready = served.ready; limit = omega (arith, f, l); settled = served.settled }
 
 pub test_elements-requires-clause-selected : goal.test_elements-requires-clause-selected
 test_elements-requires-clause-selected g c =
-    record { made = c.in-Ok.ensures.served.its_limit; inside = served_inside (job_of c.args.at.now.job.now) c.args.at.now.first c.args.at.now.count _ c.args.at.now.pass _ c.serve_site.new.to c.serve_site.new.work.lanes.items c.args.work.now.found c.serve_site.new.work.found c.in-Ok.ensures.served }
+    record { made = c.in_ok-serve_site.ensures.served.its_limit; inside = served_inside (job_of c.args.at.now.job.now) c.args.at.now.first c.args.at.now.count _ c.args.at.now.pass _ c.serve_site.new.to c.serve_site.new.work.lanes.items c.args.work.now.found c.serve_site.new.work.found c.in_ok-serve_site.ensures.served }
 
-pub returns-in-Ok-clause-spent : goal.returns-in-Ok-clause-spent
-returns-in-Ok-clause-spent g c =
+pub returns-clause-spent : goal.returns-clause-spent
+returns-clause-spent g c =
     let j = job_of c.args.at.now.job.now in
     subst (λ (ls : List LaneView). IsSpentOver j c.args.at.now.first c.args.of.now.under c.args.of.now.site c.args.to.now.places c.args.work.now.lanes.items ls c.args.steps.now c.serve_site.new.steps) (sym c.test_elements.ensures.lanes) c.serve_site.ensures.spent
 
-pub returns-in-Ok-clause-served : goal.returns-in-Ok-clause-served
-returns-in-Ok-clause-served g c =
+pub returns-clause-served : goal.returns-clause-served
+returns-clause-served g c =
     let j = job_of c.args.at.now.job.now in
     subst (λ (ls : List LaneView). IsServedTo j c.args.at.now.first c.args.at.now.count (element_fault j c.args.at.now.first c.args.of.now.under c.args.of.now.site c.args.of.now.nth c.args.of.now.tags) c.args.at.now.pass c.args.to.now.places c.test_elements.new.to ls c.args.work.now.found c.test_elements.new.work.found) (sym c.test_elements.ensures.lanes)
-    (element_served j c.args.at.now.first c.args.at.now.count c.args.of.now.under c.args.of.now.site c.args.of.now.nth c.args.of.now.tags c.args.at.now.pass c.args.to.now.places c.serve_site.new.to c.test_elements.new.to c.serve_site.new.work.lanes.items c.serve_site.new.work.lanes.items c.args.work.now.found c.serve_site.new.work.found c.test_elements.new.work.found c.in-Ok.ensures.served c.test_elements.ensures.tested)
+    (element_served j c.args.at.now.first c.args.at.now.count c.args.of.now.under c.args.of.now.site c.args.of.now.nth c.args.of.now.tags c.args.at.now.pass c.args.to.now.places c.serve_site.new.to c.test_elements.new.to c.serve_site.new.work.lanes.items c.serve_site.new.work.lanes.items c.args.work.now.found c.serve_site.new.work.found c.test_elements.new.work.found c.in_ok-serve_site.ensures.served c.test_elements.ensures.tested)
 
-pub returns-in-Ok-clause-held : goal.returns-in-Ok-clause-held
-returns-in-Ok-clause-held g c =
+pub returns-clause-held : goal.returns-clause-held
+returns-clause-held g c =
     let j = job_of c.args.at.now.job.now in
-    let a = c.in-Ok.ensures.served.lowers.falls in
+    let a = c.in_ok-serve_site.ensures.served.lowers.falls in
     let b = c.test_elements.ensures.tested.lowers.falls in
     let l = c.requires.known.limit in
     subst (λ (ls : List LaneView). EachPlace c.test_elements.new.to.places (λ p. IsAtHand j ls c.args.of.now.under p (from.Element c.args.of.now.site c.args.of.now.nth c.args.of.now.tags))) (sym c.test_elements.ensures.lanes)
-    (element_held j c.args.at.now.first c.args.at.now.count c.args.of.now.under c.args.of.now.site c.args.of.now.nth c.args.of.now.tags c.args.at.now.pass c.args.to.now.places c.serve_site.new.to c.test_elements.new.to c.serve_site.new.work.lanes.items c.serve_site.new.work.lanes.items c.args.work.now.found c.serve_site.new.work.found c.test_elements.new.work.found c.in-Ok.ensures.served c.test_elements.ensures.tested c.requires.site (omega (arith, a, b, l)) c.in-Ok.ensures.held)
+    (element_held j c.args.at.now.first c.args.at.now.count c.args.of.now.under c.args.of.now.site c.args.of.now.nth c.args.of.now.tags c.args.at.now.pass c.args.to.now.places c.serve_site.new.to c.test_elements.new.to c.serve_site.new.work.lanes.items c.serve_site.new.work.lanes.items c.args.work.now.found c.serve_site.new.work.found c.test_elements.new.work.found c.in_ok-serve_site.ensures.served c.test_elements.ensures.tested c.requires.site (omega (arith, a, b, l)) c.in_ok-serve_site.ensures.held)
+
+pub returns-in_err-serve_site-clause-plain : goal.returns-in_err-serve_site-clause-plain
+returns-in_err-serve_site-clause-plain g c = λ used p u. absurd (c.in_err-serve_site.ensures.plain used p u)

@@ -1,5 +1,4 @@
-use Rattle.std.proofs.Common.{◌∙◌, ap}
-use Rattle.std.specs.Prelude.{count_by}
+use Rattle.std.proofs.Common.{◌∙◌, ap, count_by}
 use Rattle.std.proofs.lemmas.List.{take_all}
 use Rattle.expr_check.specs.NumKinds.{is_vector}
 use Rattle.block_passes.proofs.kinds.vector_keys.Goals as goal

@@ -1,5 +1,4 @@
-use Rattle.std.proofs.Common.{◌≡◌, take}
-use Rattle.std.specs.Prelude.{count_by}
+use Rattle.std.proofs.Common.{◌≡◌, take, count_by}
 use Rattle.expr_check.specs.NumKinds.{is_vector}
 use Rattle.block_passes.proofs.kinds.vector_keys.Given as goal
 

@@ -1,5 +1,5 @@
 use Rattle.loop_keys.specs.Jobs.{job_of}
-use Rattle.block_passes.proofs.Counting.{above_there, no_counts, own_there, planned_there, sizes_counted}
+use Rattle.block_passes.proofs.Feeding.{above_there, no_counts, own_there, planned_there, sizes_counted}
 use Rattle.block_passes.proofs.noting.counts_of.Goals as goal
 
 pub named-requires : goal.named-requires

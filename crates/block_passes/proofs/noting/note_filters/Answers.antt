@@ -3,8 +3,8 @@ use Rattle.graph_numbers.specs.Graphs.{GraphView, graph_filters}
 use Rattle.loop_keys.specs.Jobs.{job_graph, job_of}
 use Rattle.cluster_tally.specs.Blocks.{HoldsIn}
 use Rattle.loop_keys.specs.Entries.{facts_in}
-use Rattle.block_passes.specs.Counting.{at_filter}
-use Rattle.block_passes.proofs.Counting.{can_note}
+use Rattle.block_passes.specs.Fed.{at_filter}
+use Rattle.block_passes.proofs.Feeding.{can_note}
 use Rattle.block_passes.proofs.PlanSteps.{filter_in}
 use Rattle.block_passes.proofs.noting.note_filters.Goals as goal
 

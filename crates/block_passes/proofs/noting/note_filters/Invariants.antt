@@ -1,5 +1,5 @@
 use Rattle.loop_keys.specs.Jobs.{job_of}
-use Rattle.block_passes.proofs.Counting.{IsNotedTo}
+use Rattle.block_passes.proofs.Feeding.{IsNotedTo}
 use Rattle.block_passes.proofs.noting.note_filters.Given as goal
 
 abbrev pub invariant-loop-filter : goal.invariant-loop-filter

@@ -5,9 +5,8 @@ use Rattle.graph_numbers.specs.Graphs.{GraphView, graph_results}
 use Rattle.graph_numbers.specs.Results.{ResultAt}
 use Rattle.loop_keys.specs.Jobs.{job_of}
 use Rattle.loop_keys.proofs.EntryLaws.{own_covers}
-use Rattle.block_passes.specs.Selections.{IsMadeAt}
-use Rattle.block_passes.specs.Tries.{IsNamedMade, IsTriedTo, filters_fault}
-use Rattle.block_passes.proofs.TriedFilters.{no_action, report_tried, same_report}
+use Rattle.block_passes.specs.Tries.{IsMadeAt, IsNamedMade, IsTriedTo, filters_fault}
+use Rattle.block_passes.proofs.Trying.{no_action, report_tried, same_report}
 use Rattle.block_passes.proofs.passes.try_pass.Goals as goal
 
 pub returns-in-None-clause-tried : goal.returns-in-None-clause-tried

@@ -5,13 +5,10 @@ use Rattle.loop_keys.specs.Jobs.{job_of, passes_in}
 use Rattle.loop_keys.specs.Turns.{pass_fault}
 use Rattle.block_passes.specs.Searches.{IsSearched}
 use Rattle.loop_keys.proofs.EntryLaws.{read_pass}
-use Rattle.block_passes.specs.Selections.{CanSelect}
-use Rattle.block_passes.specs.Tries.{CanServeAll, IsPassMade}
-use Rattle.block_passes.specs.Turns.{Leaves}
-use Rattle.block_passes.proofs.Leaving.{leaves_then}
-use Rattle.block_passes.proofs.PlanMade.{plan_made}
-use Rattle.block_passes.proofs.Remaking.{pass_stays}
-use Rattle.block_passes.proofs.SearchedPasses.{first_searched, next_searched}
+use Rattle.block_passes.specs.Tries.{CanSelect, CanServeAll, IsPassMade}
+use Rattle.block_passes.specs.InTurn.{Leaves}
+use Rattle.block_passes.proofs.Spending.{leaves_then}
+use Rattle.block_passes.proofs.SearchedPasses.{plan_made, pass_stays, first_searched, next_searched}
 use Rattle.block_passes.proofs.passes.try_passes.Goals as goal
 
 pub try_pass-requires-clause-turn : goal.try_pass-requires-clause-turn
@@ -39,23 +36,23 @@ try_pass-requires-clause-own g c =
 pub try_pass-requires-clause-ready : goal.try_pass-requires-clause-ready
 try_pass-requires-clause-ready g c = rw c.go_to.ensures (λ p. (c.loop-pass.invariant.searched p).ready)
 
-pub returns-in-Err-clause-leaves : goal.returns-in-Err-clause-leaves
-returns-in-Err-clause-leaves g c =
+pub returns-in_err-try_pass-clause-leaves : goal.returns-in_err-try_pass-clause-leaves
+returns-in_err-try_pass-clause-leaves g c =
     let left = rw c.go_to.ensures at c.try_pass.ensures.leaves in
     let leaves : Leaves c.args.at.now c.loop-pass.work c.try_pass.new.work c.loop-pass.steps c.try_pass.new.steps = record { spends = left.spends; scratch = left.scratch; levels = left.levels } in
     leaves_then _ _ _ _ _ _ _ c.loop-pass.invariant.leaves leaves
 
-pub returns-in-Err-clause-plain : goal.returns-in-Err-clause-plain
-returns-in-Err-clause-plain g c = rw c.go_to.ensures at c.in-Err.ensures.plain
+pub returns-in_err-try_pass-clause-plain : goal.returns-in_err-try_pass-clause-plain
+returns-in_err-try_pass-clause-plain g c = λ loop. absurd ((rw c.go_to.ensures at c.in_err-try_pass.ensures.plain) loop)
 
 pub loop-pass-preserved : goal.loop-pass-preserved
 loop-pass-preserved g c =
     let left = rw c.go_to.ensures at c.try_pass.ensures.leaves in
     let spends = left.spends in
     let leaves : Leaves c.args.at.now c.loop-pass.work c.try_pass.new.work c.loop-pass.steps c.try_pass.new.steps = record { spends = spends; scratch = left.scratch; levels = left.levels } in
-    let tried = rw c.go_to.ensures at c.in-Ok.ensures.tried in
-    let made = rw c.go_to.ensures at c.in-Ok.ensures.made in
-    let remade = rw c.go_to.ensures at c.in-Ok.ensures.remade in
+    let tried = rw c.go_to.ensures at c.in_ok-try_pass.ensures.tried in
+    let made = rw c.go_to.ensures at c.in_ok-try_pass.ensures.made in
+    let remade = rw c.go_to.ensures at c.in_ok-try_pass.ensures.remade in
     record {
       same = rw c.go_to.ensures refl;
       leaves = leaves_then _ _ _ _ _ _ _ c.loop-pass.invariant.leaves leaves;

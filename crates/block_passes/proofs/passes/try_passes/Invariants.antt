@@ -2,7 +2,7 @@ use Rattle.std.proofs.Common.{◌≡◌, ◌<◌, ℕ}
 use Rattle.loop_keys.specs.Jobs.{job_of}
 use Rattle.block_passes.specs.Plans.{IsPlan}
 use Rattle.block_passes.specs.Tries.{IsPassMade, IsSearchedTo}
-use Rattle.block_passes.specs.Turns.{Leaves}
+use Rattle.block_passes.specs.InTurn.{Leaves}
 use Rattle.block_passes.proofs.passes.try_passes.Given as goal
 
 abbrev pub invariant-loop-pass : goal.invariant-loop-pass

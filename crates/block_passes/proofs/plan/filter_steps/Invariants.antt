@@ -1,9 +1,8 @@
 use Rattle.std.proofs.Common.{List}
 use Rattle.loop_keys.specs.Jobs.{job_of}
-use Rattle.block_passes.specs.Plans.{AreFiltersPlanned}
-use Rattle.block_passes.specs.Steps.{AreSteps, Chain}
+use Rattle.block_passes.specs.Plans.{ArePlanned, IsFilterPlanned, AreSteps, Chain}
 use Rattle.block_passes.proofs.plan.filter_steps.Given as goal
 
 -- the filters so far have their steps
 abbrev pub invariant-loop-filter : goal.invariant-loop-filter
-invariant-loop-filter g l = (chains : List Chain) → AreSteps chains l.fn.steps → AreFiltersPlanned (job_of l.job) chains l.steps l.filter l.named
+invariant-loop-filter g l = (chains : List Chain) → AreSteps chains l.fn.steps → ArePlanned (job_of l.job) (IsFilterPlanned (job_of l.job)) chains l.steps l.filter l.named

@@ -1,10 +1,10 @@
-use Rattle.std.proofs.Common.{◌<◌, length, subst, sym}
+use Rattle.std.proofs.Common.{◌<◌, List, length, subst, sym}
 use Rattle.graph_numbers.specs.Graphs.{GraphView, graph_results}
 use Rattle.loop_keys.specs.Jobs.{job_of}
 use Rattle.loop_keys.proofs.PassNumbers.{result_inside}
-use Rattle.block_passes.specs.Plans.{IsPassLed}
-use Rattle.block_passes.specs.Steps.{IsLed}
-use Rattle.block_passes.proofs.PlanSteps.{if_ok, pass_led, report_led}
+use Rattle.block_passes.specs.Plans.{IsPassLast, IsPlanned, Chain, IsLed}
+use Rattle.block_passes.proofs.PlanSteps.{pass_led, report_led}
+use Rattle.std.proofs.lemmas.Result.{IfOk-weaker}
 use Rattle.block_passes.proofs.plan.pass_step.Goals as goal
 
 pub kind-requires : goal.kind-requires
@@ -15,9 +15,9 @@ path-requires g c = subst (λ (v : GraphView). c.args.own.result < length (graph
 
 pub returns-in-Action : goal.returns-in-Action
 returns-in-Action g c = λ chains are.
-    if_ok (IsLed chains c.path.result.now c.args.own.variation c.path_steps.new.steps) (IsPassLed (job_of c.args.job.now) chains c.path_steps.new.steps c.args._pass)
+    IfOk-weaker c.path_steps.result (IsLed chains c.path.result.now c.args.own.variation c.path_steps.new.steps) (IsPlanned (job_of c.args.job.now) (λ (cs : List Chain). IsPassLast (job_of c.args.job.now) cs c.args._pass) chains c.path_steps.new.steps)
     (λ k led. pass_led (job_of c.args.job.now) c.args._pass c.args.own c.requires.own c.args.job.now.graph.now c.requires.job.graph c.kind.result.now c.kind.ensures c.in-Action.field-0 c.in-Action.is c.path.result.now c.path.ensures chains c.path_steps.new.steps k led)
-    c.path_steps.result (c.path_steps.ensures chains are)
+    (c.path_steps.ensures chains are)
 
 pub returns-in-Report : goal.returns-in-Report
 returns-in-Report g c = λ chains are.

@@ -1,9 +1,8 @@
 use Rattle.std.proofs.Common.{List}
 use Rattle.loop_keys.specs.Jobs.{job_of}
-use Rattle.block_passes.specs.Plans.{ArePassesPlanned}
-use Rattle.block_passes.specs.Steps.{AreSteps, Chain}
+use Rattle.block_passes.specs.Plans.{ArePlanned, IsPassLast, AreSteps, Chain}
 use Rattle.block_passes.proofs.plan.pass_steps.Given as goal
 
 -- the passes so far have their last steps
 abbrev pub invariant-loop-pass : goal.invariant-loop-pass
-invariant-loop-pass g l = (chains : List Chain) → AreSteps chains l.fn.steps → ArePassesPlanned (job_of l.job) chains l.steps l.pass l.last_steps
+invariant-loop-pass g l = (chains : List Chain) → AreSteps chains l.fn.steps → ArePlanned (job_of l.job) (IsPassLast (job_of l.job)) chains l.steps l.pass l.last_steps

@@ -2,35 +2,38 @@ use Rattle.std.proofs.Common.{List, subst, sym, ℕ}
 use Rattle.std.specs.List.{AllByRecursion}
 use Rattle.std.proofs.lemmas.Result.{on_ok_weaker}
 use Rattle.loop_keys.specs.Jobs.{job_of}
-use Rattle.block_passes.specs.Selections.{AreRemade}
-use Rattle.block_passes.specs.Tries.{IsNamedMade, IsTriedTo, filters_fault}
-use Rattle.block_passes.proofs.Remaking.{both_ok, named_stays, remade_then}
-use Rattle.block_passes.proofs.Leaving.{leaves_then}
-use Rattle.block_passes.proofs.TriedFilters.{filters_tried}
+use Rattle.block_passes.specs.Tries.{AreRemade, IsNamedMade, IsTriedTo, filters_fault}
+use Rattle.block_passes.proofs.SearchedPasses.{named_stays, remade_then}
+use Rattle.block_passes.proofs.Spending.{leaves_then}
+use Rattle.block_passes.proofs.Trying.{filters_tried}
+use Rattle.cluster_tally.proofs.Closing.{on_both_ok}
 use Rattle.block_passes.proofs.reports.+try_filters.Goals as goal
 
-pub returns-in-Ok-clause-leaves : goal.returns-in-Ok-clause-leaves
-returns-in-Ok-clause-leaves g t c = leaves_then _ _ _ _ _ _ _ c.try_filter.ensures.leaves c.try_filters.ensures.leaves
+pub returns-clause-leaves : goal.returns-clause-leaves
+returns-clause-leaves g t c = leaves_then _ _ _ _ _ _ _ c.try_filter.ensures.leaves c.try_filters.ensures.leaves
 
-pub returns-in-Ok-clause-tried : goal.returns-in-Ok-clause-tried
-returns-in-Ok-clause-tried g t c = λ p.
+pub returns-clause-tried : goal.returns-clause-tried
+returns-clause-tried g t c = λ p.
     let j = job_of c.args.at.now.job.now in
     on_ok_weaker c.try_filters.result
     (λ (k : IsTriedTo j c.args.at.now.first c.args.at.now.count p.chains (filters_fault j c.args.at.now.first c.in-Some.rest.now) c.args.at.now.pass c.try_filters.new.work.lanes.items c.try_filters.new.kept c.try_filter.new.work.found c.try_filters.new.work.found).
     filters_tried j c.args.at.now.first c.args.at.now.count p.chains c.args.at.now.pass c.args.filters.now c.in-Some.rest.now c.in-Some.filter.now c.in-Some.ensures.cases.0 c.try_filter.new.work.lanes.items c.try_filters.new.work.lanes.items c.try_filter.new.kept c.try_filters.new.kept c.args.work.now.found c.try_filter.new.work.found c.try_filters.new.work.found
-    (c.in-Ok.ensures.tried p) k)
+    (c.in_ok-try_filter.ensures.tried p) k)
     (c.try_filters.ensures.tried p)
 
-pub returns-in-Ok-clause-remade : goal.returns-in-Ok-clause-remade
-returns-in-Ok-clause-remade g t c =
+pub returns-clause-remade : goal.returns-clause-remade
+returns-clause-remade g t c =
     on_ok_weaker c.try_filters.result
-    (λ (k : AreRemade c.args.at.now.count c.try_filter.new.kept c.try_filters.new.kept). remade_then c.args.at.now.count c.args.kept.now c.try_filter.new.kept c.try_filters.new.kept c.in-Ok.ensures.remade k)
+    (λ (k : AreRemade c.args.at.now.count c.try_filter.new.kept c.try_filters.new.kept). remade_then c.args.at.now.count c.args.kept.now c.try_filter.new.kept c.try_filters.new.kept c.in_ok-try_filter.ensures.remade k)
     c.try_filters.ensures.remade
 
-pub returns-in-Ok-clause-made : goal.returns-in-Ok-clause-made
-returns-in-Ok-clause-made g t c =
-    on_ok_weaker c.try_filters.result
-    (λ (w : AllByRecursion (IsNamedMade c.args.at.now.count c.args.at.now.plan.now c.try_filters.new.kept) c.in-Some.rest.now × AreRemade c.args.at.now.count c.try_filter.new.kept c.try_filters.new.kept).
+pub returns-clause-made : goal.returns-clause-made
+returns-clause-made g t c =
+    on_both_ok c.try_filters.result
+    (λ (rest : AllByRecursion (IsNamedMade c.args.at.now.count c.args.at.now.plan.now c.try_filters.new.kept) c.in-Some.rest.now) (remade : AreRemade c.args.at.now.count c.try_filter.new.kept c.try_filters.new.kept).
     subst (λ (l : List ℕ). AllByRecursion (IsNamedMade c.args.at.now.count c.args.at.now.plan.now c.try_filters.new.kept) l) (sym c.in-Some.ensures.cases.0)
-    (named_stays c.args.at.now.count c.args.at.now.plan.now c.try_filter.new.kept c.try_filters.new.kept c.in-Some.filter.now w.1 c.in-Ok.ensures.made, w.0))
-    (both_ok _ _ c.try_filters.result c.try_filters.ensures.made c.try_filters.ensures.remade)
+    (named_stays c.args.at.now.count c.args.at.now.plan.now c.try_filter.new.kept c.try_filters.new.kept c.in-Some.filter.now remade c.in_ok-try_filter.ensures.made, rest))
+    c.try_filters.ensures.made c.try_filters.ensures.remade
+
+pub returns-in_err-try_filter-clause-plain : goal.returns-in_err-try_filter-clause-plain
+returns-in_err-try_filter-clause-plain g t c = λ loop. absurd (c.in_err-try_filter.ensures.plain loop)

@@ -1,11 +1,13 @@
 use Rattle.std.proofs.Common.{◌≡◌, ◌∙◌, Some, ap, subst, sym}
 use Rattle.std.proofs.lemmas.Result.{on_ok_weaker}
 use Rattle.loop_keys.specs.Jobs.{job_of}
-use Rattle.block_passes.specs.Selections.{AreRemade, IsMadeAt, IsSelectedTo}
+use Rattle.block_passes.specs.Tries.{AreRemade, IsMadeAt, IsSelectedTo}
 use Rattle.block_passes.specs.declared.plan.NamedSteps.{NamedSteps}
-use Rattle.block_passes.proofs.Remaking.{both_ok, made_selected, made_stays, remade_then, some_named}
-use Rattle.block_passes.proofs.Leaving.{leaves_then}
-use Rattle.block_passes.proofs.TriedFilters.{above_there, filter_tried, has_named, never_none, own_there}
+use Rattle.block_passes.proofs.SearchedPasses.{made_selected, made_stays, remade_then}
+use Rattle.block_passes.proofs.Spending.{leaves_then}
+use Rattle.block_passes.proofs.Trying.{above_there, filter_tried, has_named, never_none, own_there}
+use Rattle.cluster_tally.proofs.Closing.{on_both_ok}
+use Rattle.loop_keys.proofs.PassNumbers.{some_same}
 use Rattle.block_passes.proofs.reports.try_filter.Goals as goal
 
 pub named-requires : goal.named-requires
@@ -42,13 +44,13 @@ returns-in-Ok-clause-made g c =
     let p = c.requires.turn.plan in
     let j = job_of c.args.at.now.job.now in
     let above = made_selected c.args.at.now.count j c.args.at.now.first p.chains c.args.at.now.pass c.in-Some.named.above c.select_again.new.work.lanes.items c.select_again.new.kept c.args.work.now.found c.select_again.new.work.found (c.in-Ok.ensures.selected p) in
-    on_ok_weaker c.select_again-in-Ok.result
-    (λ (w : IsSelectedTo j c.args.at.now.first c.args.at.now.count p.chains c.args.at.now.pass c.in-Some.named.own c.select_again-in-Ok.new.work.lanes.items c.select_again-in-Ok.new.kept c.select_again.new.work.found c.select_again-in-Ok.new.work.found
-    × AreRemade c.args.at.now.count c.select_again.new.kept c.select_again-in-Ok.new.kept).
+    on_both_ok c.select_again-in-Ok.result
+    (λ (selected : IsSelectedTo j c.args.at.now.first c.args.at.now.count p.chains c.args.at.now.pass c.in-Some.named.own c.select_again-in-Ok.new.work.lanes.items c.select_again-in-Ok.new.kept c.select_again.new.work.found c.select_again-in-Ok.new.work.found)
+    (remade : AreRemade c.args.at.now.count c.select_again.new.kept c.select_again-in-Ok.new.kept).
     λ s its.
-    let same : c.in-Some.named ≡ s = some_named c.in-Some.named s (sym (c.named.ensures ∙ ap Some c.in-Some.is) ∙ its) in
+    let same : c.in-Some.named ≡ s = some_same c.in-Some.named s (some_same (Some c.in-Some.named) (Some s) (sym (c.named.ensures ∙ ap Some c.in-Some.is) ∙ its)) in
     subst (λ (n : NamedSteps). IsMadeAt c.args.at.now.count c.select_again-in-Ok.new.kept n.above × IsMadeAt c.args.at.now.count c.select_again-in-Ok.new.kept n.own) same (
-      made_stays c.args.at.now.count c.select_again.new.kept c.select_again-in-Ok.new.kept c.in-Some.named.above w.1 above,
-      made_selected c.args.at.now.count j c.args.at.now.first p.chains c.args.at.now.pass c.in-Some.named.own c.select_again-in-Ok.new.work.lanes.items c.select_again-in-Ok.new.kept c.select_again.new.work.found c.select_again-in-Ok.new.work.found w.0,
+      made_stays c.args.at.now.count c.select_again.new.kept c.select_again-in-Ok.new.kept c.in-Some.named.above remade above,
+      made_selected c.args.at.now.count j c.args.at.now.first p.chains c.args.at.now.pass c.in-Some.named.own c.select_again-in-Ok.new.work.lanes.items c.select_again-in-Ok.new.kept c.select_again.new.work.found c.select_again-in-Ok.new.work.found selected,
     ))
-    (both_ok _ _ c.select_again-in-Ok.result (c.select_again-in-Ok.ensures.selected p) c.select_again-in-Ok.ensures.remade)
+    (c.select_again-in-Ok.ensures.selected p) c.select_again-in-Ok.ensures.remade

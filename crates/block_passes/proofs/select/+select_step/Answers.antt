@@ -1,15 +1,13 @@
-use Rattle.std.proofs.Common.{◌≡◌, ◌∙◌, ◌++◌, List, Some, ap, arith, get_or, refl, rules, subst, sym}
-use Rattle.std.specs.Prelude.{slice_set}
+use Rattle.std.proofs.Common.{◌≡◌, ◌∙◌, ◌++◌, List, Some, ap, arith, get_or, refl, rules, subst, sym, slice_set}
 use Rattle.std.proofs.lemmas.Option.{slice_get-get_or}
 use Rattle.std.proofs.lemmas.Result.{on_ok_weaker}
 use Rattle.loop_keys.specs.Jobs.{job_of}
-use Rattle.block_passes.specs.Selections.{AreRemade, IsNextSelected, IsReadyBelow}
+use Rattle.block_passes.specs.Tries.{AreRemade, IsNextSelected, IsReadyBelow}
 use Rattle.block_passes.specs.declared.kept.Kept.{Kept as KeptView}
 use Rattle.block_passes.specs.declared.steps.Step.TheVariants as step
-use Rattle.block_passes.proofs.Remaking.{remade_set, remade_then}
-use Rattle.block_passes.proofs.Leaving.{leaves_then}
-use Rattle.block_passes.proofs.StepCases.{chain_at, filter_selected, kept_inside, narrowed_selected, set_same, was_made, was_not, whole_selected}
-use Rattle.block_passes.proofs.StepSelecting.{narrowed_made}
+use Rattle.block_passes.proofs.SearchedPasses.{remade_set, remade_then}
+use Rattle.block_passes.proofs.Spending.{leaves_then}
+use Rattle.block_passes.proofs.Selecting.{chain_at, filter_selected, kept_inside, narrowed_selected, set_same, was_made, was_not, whole_selected, narrowed_made}
 use Rattle.block_passes.proofs.select.+select_step.Goals as goal
 
 pub returns-then-narrow-clause-selected : goal.returns-then-narrow-clause-selected
@@ -52,18 +50,18 @@ returns-in-Block-clause-selected g t c = λ p.
     (slice_set (slice_set c.args.kept.now c.args.step c.narrow.new.self) c.args.step c.select_first.new.self) c.args.work.now.found ready
     c.select_first.new.self c.select_first.ensures.limit c.select_first.ensures.places (ap (λ (ks : List KeptView). slice_set ks c.args.step c.select_first.new.self) same)
 
-pub returns-in-Ok-clause-leaves : goal.returns-in-Ok-clause-leaves
-returns-in-Ok-clause-leaves g t c = leaves_then _ _ _ _ _ _ _ c.select_step.ensures.leaves c.next_places.ensures.leaves
+pub returns-in_ok-select_step-in-Filter-clause-leaves : goal.returns-in_ok-select_step-in-Filter-clause-leaves
+returns-in_ok-select_step-in-Filter-clause-leaves g t c = leaves_then _ _ _ _ _ _ _ c.select_step.ensures.leaves c.next_places.ensures.leaves
 
-pub returns-in-Ok-clause-selected : goal.returns-in-Ok-clause-selected
-returns-in-Ok-clause-selected g t c = λ p.
+pub returns-in_ok-select_step-in-Filter-clause-selected : goal.returns-in_ok-select_step-in-Filter-clause-selected
+returns-in_ok-select_step-in-Filter-clause-selected g t c = λ p.
     let j = job_of c.args.at.now.job.now in
     let filter = p.steps.each c.args.step (step.Filter c.in-Filter.parent c.in-Filter.site c.in-Filter.under) (c.step.ensures ∙ ap Some c.in-Filter.is) in
     on_ok_weaker c.next_places.result
     (λ (h : IsNextSelected j c.args.at.now.first c.args.at.now.count p.chains c.args.at.now.pass c.args.step c.in-Filter.parent c.in-Filter.site c.in-Filter.under c.next_places.new.work.lanes.items (c.split_at_mut-above.result.0.now ++ c.next_places.new.own) c.select_step.new.work.found c.next_places.new.work.found).
     filter_selected j c.args.at.now.first c.args.at.now.count p.chains c.args.at.now.pass c.args.step c.in-Filter.parent c.in-Filter.site c.in-Filter.under filter c.select_step.new.work.lanes.items c.next_places.new.work.lanes.items
     c.select_step.new.kept (c.split_at_mut-above.result.0.now ++ c.next_places.new.own) c.args.work.now.found c.select_step.new.work.found c.next_places.new.work.found
-    (c.in-Ok.ensures.selected p) h)
+    (c.in_ok-select_step-in-Filter.ensures.selected p) h)
     (c.next_places.ensures.selected p)
 
 pub returns-then-narrow-clause-remade : goal.returns-then-narrow-clause-remade
@@ -94,8 +92,8 @@ returns-in-Block-clause-remade g t c =
     remade_set c.args.at.now.count c.args.kept.now c.args.step c.select_first.new.self (slice_set (slice_set c.args.kept.now c.args.step c.narrow.new.self) c.args.step c.select_first.new.self) (ap (λ (ks : List KeptView). slice_set ks c.args.step c.select_first.new.self) same)
     (c.args.work.now.found.limit, c.select_first.ensures.limit, within)
 
-pub returns-in-Ok-clause-remade : goal.returns-in-Ok-clause-remade
-returns-in-Ok-clause-remade g t c =
+pub returns-in_ok-select_step-in-Filter-clause-remade : goal.returns-in_ok-select_step-in-Filter-clause-remade
+returns-in_ok-select_step-in-Filter-clause-remade g t c =
     let j = job_of c.args.at.now.job.now in
     let plan = c.requires.turn.plan in
     let ready = c.requires.ready plan in
@@ -108,6 +106,9 @@ returns-in-Ok-clause-remade g t c =
     on_ok_weaker c.next_places.result
     (λ (h : AreRemade c.args.at.now.count (c.split_at_mut-above.result.0.now ++ c.split_at_mut-above.result.1.now) (c.split_at_mut-above.result.0.now ++ c.next_places.new.own)).
     remade_then c.args.at.now.count c.args.kept.now c.select_step.new.kept (c.split_at_mut-above.result.0.now ++ c.next_places.new.own)
-    (subst (λ (ks : List KeptView). AreRemade c.args.at.now.count ks c.select_step.new.kept) same c.in-Ok.ensures.remade)
+    (subst (λ (ks : List KeptView). AreRemade c.args.at.now.count ks c.select_step.new.kept) same c.in_ok-select_step-in-Filter.ensures.remade)
     (subst (λ (ks : List KeptView). AreRemade c.args.at.now.count ks (c.split_at_mut-above.result.0.now ++ c.next_places.new.own)) (sym c.split_at_mut-above.ensures.value) h))
     c.next_places.ensures.remade
+
+pub returns-in_err-select_step-in-Filter-clause-plain : goal.returns-in_err-select_step-in-Filter-clause-plain
+returns-in_err-select_step-in-Filter-clause-plain g t c = λ loop. absurd (c.in_err-select_step-in-Filter.ensures.plain loop)

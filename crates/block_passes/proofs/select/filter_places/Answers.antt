@@ -4,15 +4,15 @@ use Rattle.expr_lanes.specs.Places.{is_in}
 use Rattle.block_cache.specs.Lanes.{LaneView}
 use Rattle.loop_keys.specs.Jobs.{job_of}
 use Rattle.block_cache.specs.Fills.{site_fault}
-use Rattle.block_passes.specs.Selections.{IsFilteredTo}
+use Rattle.block_passes.specs.Tries.{IsFilteredTo}
 use Rattle.block_passes.specs.Spends.{IsSettledAt}
-use Rattle.block_passes.proofs.FaultsOver.{fault_selected}
+use Rattle.block_passes.proofs.Places.{fault_selected}
 use Rattle.block_passes.proofs.Selecting.{filtered_to, selected}
 use Rattle.block_passes.proofs.select.filter_places.Goals as goal
 
 pub note-requires : goal.note-requires
 note-requires g c = λ x q.
-    let i = fault_selected (site_fault (job_of c.args.at.now.job.now) c.args.at.now.first c.args.filter.under c.args.filter.site) c.copy_from.new.self c.as_slice-rising.ensures.rising c.in-Ok.fault c.in-Ok.ensures.passed.fault x q in
+    let i = fault_selected (site_fault (job_of c.args.at.now.job.now) c.args.at.now.first c.args.filter.under c.args.filter.site) c.copy_from.new.self c.as_slice-rising.ensures.rising c.in_ok-fault.fault c.in_ok-fault.ensures.passed.fault x q in
     let l = c.requires.inside x.place (sym (ap (is_in x.place) c.copy_from.ensures) ∙ i) in
     let le = c.requires.known.limit in
     let few = c.requires.known.turn.few in
@@ -22,16 +22,19 @@ pub pass_filter-requires-clause-selected : goal.pass_filter-requires-clause-sele
 pass_filter-requires-clause-selected g c =
     selected c.args.at.now.count c.copy_from.new.self c.args.work.now.found.limit c.len-few.result c.requires.known.turn.small c.requires.known.limit (λ p i. c.requires.inside p (sym (ap (is_in p) c.copy_from.ensures) ∙ i)) c.len-few.ensures.count c.len-few.ensures.few
 
-pub returns-in-Ok-clause-filtered : goal.returns-in-Ok-clause-filtered
-returns-in-Ok-clause-filtered g c =
+pub returns-clause-filtered : goal.returns-clause-filtered
+returns-clause-filtered g c =
     let j = job_of c.args.at.now.job.now in
     let auto = c.pass_filter.auto.lanes in
     let len = c.deref_mut.ensures.len in
     let lanes = with_items_is c.args.work.now.lanes c.pass_filter.new.lanes (omega (arith, auto, len)) in
     let done =
-    filtered_to j c.args.at.now.first c.args.at.now.count c.args.filter.under c.args.filter.site c.args.at.now.pass c.copy_from.new.self c.pass_filter.new.selection c.deref_mut.result.now c.pass_filter.new.lanes _ _ c.args.work.now.found c.note.new.self c.in-Ok.fault
-    c.in-Ok.ensures.spent c.in-Ok.ensures.passed c.as_slice-rising.ensures.rising (λ p i. c.requires.inside p (sym (ap (is_in p) c.copy_from.ensures) ∙ i))
+    filtered_to j c.args.at.now.first c.args.at.now.count c.args.filter.under c.args.filter.site c.args.at.now.pass c.copy_from.new.self c.pass_filter.new.selection c.deref_mut.result.now c.pass_filter.new.lanes _ _ c.args.work.now.found c.note.new.self c.in_ok-fault.fault
+    c.in_ok-fault.ensures.spent c.in_ok-fault.ensures.passed c.as_slice-rising.ensures.rising (λ p i. c.requires.inside p (sym (ap (is_in p) c.copy_from.ensures) ∙ i))
     (λ p lt. subst (λ (ls : List LaneView). IsSettledAt ls p) (sym c.deref_mut.ensures.value) (c.requires.known.settled p lt)) c.note.ensures
     (record { limit = Some c.note.new.self.limit; places = c.pass_filter.new.selection }) refl refl in
     subst (λ (ls : List LaneView). IsFilteredTo j c.args.at.now.first c.args.at.now.count c.args.filter.under c.args.filter.site c.args.at.now.pass c.args.from.now.places (record { limit = Some c.note.new.self.limit; places = c.pass_filter.new.selection }) ls c.args.work.now.found c.note.new.self) (sym lanes)
     (subst (λ (sel : List ℕ). IsFilteredTo j c.args.at.now.first c.args.at.now.count c.args.filter.under c.args.filter.site c.args.at.now.pass sel (record { limit = Some c.note.new.self.limit; places = c.pass_filter.new.selection }) c.pass_filter.new.lanes c.args.work.now.found c.note.new.self) c.copy_from.ensures done)
+
+pub returns-in_err-fault-clause-plain : goal.returns-in_err-fault-clause-plain
+returns-in_err-fault-clause-plain g c = λ used p u. absurd (c.in_err-fault.ensures.plain used p u)

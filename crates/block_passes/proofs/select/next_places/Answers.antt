@@ -3,12 +3,12 @@ use Rattle.std.proofs.lemmas.Option.{slice_get_read}
 use Rattle.std.proofs.lemmas.Result.{on_ok_weaker}
 use Rattle.lemmas.proofs.Places.{kept_at}
 use Rattle.loop_keys.specs.Jobs.{job_of}
-use Rattle.block_passes.specs.Selections.{IsFilteredTo}
-use Rattle.block_passes.specs.Steps.{longer}
+use Rattle.block_passes.specs.Tries.{IsFilteredTo}
+use Rattle.block_passes.specs.Plans.{longer}
 use Rattle.block_passes.specs.declared.steps.Step.TheVariants as step
-use Rattle.block_passes.proofs.NextPlaces.{from_inside, next_selected, next_spends}
-use Rattle.block_passes.proofs.Remaking.{remade_behind}
-use Rattle.block_passes.proofs.SitesThere.{site_there, site_used}
+use Rattle.block_passes.proofs.Selecting.{from_inside, next_selected, next_spends}
+use Rattle.block_passes.proofs.SearchedPasses.{remade_behind}
+use Rattle.block_passes.proofs.Demanding.{site_there, site_used}
 use Rattle.block_passes.proofs.select.next_places.Goals as goal
 
 pub filter_places-requires-clause-site : goal.filter_places-requires-clause-site

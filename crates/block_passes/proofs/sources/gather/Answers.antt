@@ -3,7 +3,7 @@ use Rattle.rdf_values.specs.declared.action.ActionKind.TheVariants as action
 use Rattle.loop_keys.specs.Jobs.{job_of}
 use Rattle.loop_keys.specs.Store.{source_at, version_in}
 use Rattle.block_passes.specs.Inputs.{IsAtHand}
-use Rattle.block_passes.proofs.GatheredLanes.{lanes_one, lanes_pair, lanes_triple, lanes_weighted}
+use Rattle.block_passes.proofs.Lanes.{lanes_one, lanes_pair, lanes_triple, lanes_weighted}
 use Rattle.block_passes.proofs.sources.gather.Goals as goal
 use Rattle.block_passes.proofs.sources.gather.Goals.{in-Sum-1, in-Min-1, in-Max-1, in-Take-1, in-Reduce-1, in-Histo1D+in-None-1}
 

@@ -7,7 +7,7 @@ use Rattle.loop_keys.specs.Keys.{key_under}
 use Rattle.loop_keys.specs.Store.{row_of, site_in}
 use Rattle.block_passes.specs.Feeds.{IsLaneOf}
 use Rattle.block_passes.specs.Inputs.{IsServable, IsWhole}
-use Rattle.block_passes.proofs.SiteLanes.{cell_source, element_source, key_inside, lanes_give, no_vectors}
+use Rattle.block_passes.proofs.Lanes.{cell_source, element_source, key_inside, lanes_give, no_vectors}
 use Rattle.block_passes.proofs.sources.lane_in_place.Goals as goal
 
 pub cell_lane-requires-clause-there : goal.cell_lane-requires-clause-there

@@ -1,4 +1,4 @@
-use Rattle.block_passes.proofs.Unfed.{dense_places}
+use Rattle.block_passes.proofs.Fed.{dense_places}
 use Rattle.block_passes.proofs.testing.batch_places.Goals as goal
 
 pub returns-in-Some : goal.returns-in-Some

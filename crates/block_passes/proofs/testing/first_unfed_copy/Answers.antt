@@ -3,7 +3,7 @@ use Rattle.rdf_model.specs.Evaluation.{for_all}
 use Rattle.actions.specs.Batches.{places_of}
 use Rattle.loop_keys.specs.Jobs.{job_of}
 use Rattle.loop_keys.specs.Store.{version_in}
-use Rattle.block_passes.proofs.Unfed.{first_is, lanes_suit, lanes_there}
+use Rattle.block_passes.proofs.Fed.{first_is, lanes_suit, lanes_there}
 use Rattle.block_passes.proofs.testing.first_unfed_copy.Goals as goal
 
 pub first_fault-requires-clause-there : goal.first_fault-requires-clause-there

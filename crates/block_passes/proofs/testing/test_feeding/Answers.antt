@@ -1,9 +1,10 @@
-use Rattle.std.proofs.Common.{◌+◌, None, arith, inl, refl}
+use Rattle.std.proofs.Common.{◌+◌, None, arith, inl, refl, sym}
 use Rattle.loop_keys.specs.Jobs.{job_of}
 use Rattle.loop_keys.specs.Store.{version_in}
 use Rattle.block_passes.specs.Feeds.{unfed}
-use Rattle.block_passes.proofs.FaultsOver.{fault_selected}
-use Rattle.block_passes.proofs.Unfed.{few_fed, none_over, part_served}
+use Rattle.block_passes.proofs.Places.{fault_selected}
+use Rattle.block_passes.proofs.Fed.{few_fed, part_served}
+use Rattle.block_cache.proofs.Members.{no_fault_over}
 use Rattle.block_passes.proofs.testing.test_feeding.Goals as goal
 
 pub note-requires : goal.note-requires
@@ -27,6 +28,6 @@ pub returns-then-own-lt2-clause-tested : goal.returns-then-own-lt2-clause-tested
 returns-then-own-lt2-clause-tested g c =
     part_served (job_of c.args.at.now.job.now) c.args.at.now.first c.args.at.now.count (unfed (job_of c.args.at.now.job.now) c.args.at.now.first c.args.own.now.kind.now c.args.own.now.inputs.now c.args.own.now.under) c.args.at.now.pass c.args.to.now c.args.to.now c.args.work.now.lanes.items c.args.work.now.found c.args.work.now.found
     None c.requires.known.ready c.requires.known.settled c.as_slice-rising.ensures.rising c.requires.selected.inside
-    (none_over (unfed (job_of c.args.at.now.job.now) c.args.at.now.first c.args.own.now.kind.now c.args.own.now.inputs.now c.args.own.now.under) c.args.to.now.places
-    (λ p. few_fed c.args.own.now.kind.now (version_in {M = ⊥} (job_of c.args.at.now.job.now) (c.args.at.now.first + p) c.args.own.now.under) c.args.own.now.inputs.now (omega arith)))
+    (sym (no_fault_over c.args.to.now.places (unfed (job_of c.args.at.now.job.now) c.args.at.now.first c.args.own.now.kind.now c.args.own.now.inputs.now c.args.own.now.under)
+    (λ p i. few_fed c.args.own.now.kind.now (version_in {M = ⊥} (job_of c.args.at.now.job.now) (c.args.at.now.first + p) c.args.own.now.under) c.args.own.now.inputs.now (omega arith))))
     refl c.requires.selected.made (inl (omega arith, refl))

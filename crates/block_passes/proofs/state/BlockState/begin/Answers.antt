@@ -4,9 +4,8 @@ use Rattle.block_cache.specs.Lanes.{kinds_of, rooms_of}
 use Rattle.loop_keys.specs.Jobs.{job_of}
 use Rattle.block_passes.specs.States.{IsStateOf, StateView}
 use Rattle.block_passes.specs.contracts.state.BlockState.{the_view}
-use Rattle.block_passes.proofs.BegunBlocks.{is_begun}
+use Rattle.block_passes.proofs.BegunBlocks.{is_begun, state_stays}
 use Rattle.block_passes.proofs.state.BlockState.begin.Goals as goal
-use Rattle.block_passes.proofs.StateStays.{state_stays}
 
 pub returns-clause-state : goal.returns-clause-state
 returns-clause-state g c =

@@ -3,15 +3,14 @@ use Rattle.std.specs.Vec.{with_items}
 use Rattle.std.proofs.lemmas.List.{with_items_is}
 use Rattle.block_cache.specs.Lanes.{kinds_of}
 use Rattle.loop_keys.specs.Jobs.{job_of}
-use Rattle.block_passes.specs.Blocks.{entries_from}
+use Rattle.block_passes.specs.Clusters.{entries_from}
 use Rattle.block_passes.specs.Plans.{IsPlan}
-use Rattle.block_passes.specs.Selections.{IsReadyBelow}
+use Rattle.block_passes.specs.Tries.{IsReadyBelow, CanServeAll}
 use Rattle.block_passes.specs.States.{IsStateOf, StateView}
-use Rattle.block_passes.specs.Tries.{CanServeAll}
 use Rattle.block_passes.specs.contracts.state.BlockState.{the_view}
 use Rattle.block_passes.specs.declared.kept.Kept.{Kept}
-use Rattle.block_passes.proofs.BlockTurns.{as_entries, tried_as}
-use Rattle.block_passes.proofs.StateStays.{state_stays}
+use Rattle.block_passes.proofs.ClusterBlocks.{as_entries, tried_as}
+use Rattle.block_passes.proofs.BegunBlocks.{state_stays}
 use Rattle.block_passes.proofs.state.BlockState.try_block.Goals as goal
 
 pub try_begun-requires-clause-serve : goal.try_begun-requires-clause-serve

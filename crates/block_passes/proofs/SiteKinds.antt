@@ -1,47 +1,62 @@
 -- The sites of filters come to truth values.
-use Rattle.std.proofs.Common.{◌≡◌, ◌⊎◌, inl, inr, ℕ, zero, suc, ◌+◌, Bool, true, false, List, [], ◌∷◌, ◌++◌, map, length, All, Option, Some, None, Result, Ok, Err, refl, sym, ◌∙◌, ap, subst, arith, nat_eq, option_map, slice_get, if◌then◌else◌}
-use Rattle.std.specs.Prelude.{IsOk}
+use Rattle.std.proofs.Common.{◌≡◌, ◌⊎◌, inl, inr, ℕ, zero, suc, ◌+◌, Bool, true, false, List, [], ◌∷◌, ◌++◌, map, length, All, Option, Some, None, Result, Ok, Err, refl, sym, ◌∙◌, ap, subst, arith, nat_eq, option_map, slice_get, if◌then◌else◌, ◌<◌, ◌≤◌, length-append, replicate, IsOk, count_by}
 use Rattle.std.specs.List.{AllByRecursion}
 use Rattle.std.proofs.lemmas.Bool.Decides.{Decides-eqb}
-use Rattle.std.proofs.lemmas.List.{append-nil}
+use Rattle.std.proofs.lemmas.List.{append-nil, length-replicate, get_or-replicate}
 use Rattle.std.proofs.lemmas.List.Elements.{recursion_from_All}
-use Rattle.lemmas.proofs.Places.{kept_at}
+use Rattle.lemmas.proofs.Places.{kept_at, something_at}
 use Rattle.rdf_values.specs.Depends.{columns_in}
 use Rattle.rdf_values.specs.Kinds.{FunctionNames, column_kind, kind_by, kind_of, scope_of, shape_of}
 use Rattle.rdf_values.specs.Numbered.{callee, renamed}
 use Rattle.rdf_values.specs.Bookings.{ActionAt, ReportOn, columns_of, covered}
 use Rattle.rdf_values.specs.Functions.{fn_names}
-use Rattle.rdf_values.specs.Path.{history, makes, parent_of, path}
-use Rattle.rdf_values.specs.Verdict.{AreAccepted, check_node, expect_kind, scope_at}
+use Rattle.rdf_values.specs.Path.{history, makes, parent_of, path, Under}
+use Rattle.rdf_values.specs.Verdict.{AreAccepted, check_node, expect_kind, scope_at, check_vector_column, refuse_unless}
 use Rattle.rdf_values.specs.declared.column.Column.{Column}
 use Rattle.rdf_values.specs.declared.graph_cause.GraphCause.{GraphCause}
 use Rattle.rdf_values.specs.declared.graph_cause.GraphCause.TheVariants as cause
 use Rattle.rdf_values.specs.declared.statement.Statement.{Statement}
-use Rattle.rdf_values.specs.declared.statement.Statement.TheVariants.{Action, Filter, Report}
+use Rattle.rdf_values.specs.declared.statement.Statement.TheVariants.{Action, Filter, Report, Define, Redefine, Vary}
 use Rattle.rdf_values.specs.declared.value.ColType.{ColType}
 use Rattle.rdf_values.specs.declared.value.ColType.TheVariants as kind
 use Rattle.rdf_model.specs.Demanded.{site_at, Site}
-use Rattle.rdf_model.proofs.Accepted.{both_none, kind_expected}
-use Rattle.expr_check.specs.NumKinds.{CheckedExpr, IsWellTyped, callee_shape, number_kind}
+use Rattle.rdf_model.proofs.Accepted.{both_none, kind_expected, checked_of}
+use Rattle.expr_check.specs.NumKinds.{CheckedExpr, IsWellTyped, callee_shape, number_kind, distinct, num_kind}
 use Rattle.expr_check.proofs.Callees.{callee_shape-callee}
 use Rattle.expr_check.proofs.Distinct.{each_from_distinct}
 use Rattle.expr_check.proofs.Typed.{columns_known, kind_by-renamed, kind_by-same}
-use Rattle.graph_numbers.specs.Graphs.{IsSiteExpr}
+use Rattle.graph_numbers.specs.Graphs.{IsSiteExpr, graph_under, GraphView, graph_kinds, graph_sites, graph_variations, holds_at, site_depends_at}
 use Rattle.graph_numbers.specs.Kinds.{version_kinds}
 use Rattle.graph_numbers.specs.Results.{FilterAt, ResultAt, covered_at, filters, own_filters, own_results, results}
-use Rattle.graph_numbers.specs.Sites.{SiteAt, filter_sites, own_filter_site, own_sites, site_count, site_in, sites}
-use Rattle.graph_numbers.specs.Versions.{version_at}
+use Rattle.graph_numbers.specs.Sites.{SiteAt, filter_sites, own_filter_site, own_sites, site_count, site_in, sites, depends_on}
+use Rattle.graph_numbers.specs.Versions.{version_at, named_version}
 use Rattle.graph_numbers.proofs.Extending.{further, itself}
 use Rattle.graph_numbers.proofs.Listed.{next_at, of_joined}
 use Rattle.graph_numbers.proofs.Placing.{IsPlaced}
 use Rattle.graph_numbers.proofs.VersionKinds.{kind_later, visible_kind}
 use Rattle.loop_keys.specs.Jobs.{IsJob, JobView, job_graph}
 use Rattle.loop_keys.proofs.EvaluateLaws.{accepted_of}
-use Rattle.block_passes.specs.Plans.{IsTried}
-use Rattle.block_passes.specs.Steps.{Chain}
-use Rattle.block_passes.proofs.SitesThere.{in_list, not_empty}
-use Rattle.rdf_values.specs.Tree.{NamedTree}
+use Rattle.block_passes.specs.Plans.{IsTried, Chain}
+use Rattle.block_passes.proofs.Demanding.{in_list, not_empty}
+use Rattle.rdf_values.specs.Tree.{NamedTree, NumTree}
 use Rattle.loop_keys.proofs.PassNumbers.{some_same}
+use Rattle.rdf_values.specs.declared.vary_values.VaryValues.{VaryValues}
+use Rattle.rdf_values.specs.declared.vary_values.VaryValues.TheVariants.{Lists, Vector}
+use Rattle.rdf_model.specs.ColumnValues.{own_place}
+use Rattle.graph_numbers.specs.Sources.{cell_sources, own_source, own_sources, source_in, sources, varied_sources}
+use Rattle.graph_numbers.specs.declared.source.Source.{Source}
+use Rattle.graph_numbers.specs.declared.source.Source.TheVariants as from
+use Rattle.loop_keys.specs.Store.{source_at}
+use Rattle.std.proofs.lemmas.Bool.{cases_eq}
+use Rattle.std.proofs.lemmas.Option.{slice_get_within, slice_get-get_or}
+use Rattle.graph.specs.Sets.{has, members_below}
+use Rattle.graph.specs.declared.var_set.VarSet.{VarSet}
+use Rattle.loop_keys.specs.Keys.{key, keys_before, own_keys, slot, slot_at}
+use Rattle.loop_keys.proofs.KeptKeys.{members_all}
+use Rattle.loop_keys.proofs.KeyLaws.{keys_next, slot_small}
+use Rattle.block_cache.specs.Fills.{AreSiteKinds}
+use Rattle.block_passes.specs.States.{HaveKinds}
+use Rattle.block_cache.proofs.CanTries.{site_tree}
 
 -- ---- the kinds of versions, as an expression lists them
 
@@ -154,8 +169,8 @@ module _ (header : List Column) (names : FunctionNames) where
   one_more P [] s h p = (p, tt)
   one_more P (t ∷ ss) s h p = (h.0, one_more P ss s h.1 p)
 
-  own_site : (before : List Statement) (node parent : List ℕ) (expr : _) (label : _) → AreAccepted names (scope_of header) (Filter node parent expr label ∷ before) → IsFilterSite (Filter node parent expr label ∷ before) (site_count header names before)
-  own_site before node parent expr label good =
+  filter_own : (before : List Statement) (node parent : List ℕ) (expr : _) (label : _) → AreAccepted names (scope_of header) (Filter node parent expr label ∷ before) → IsFilterSite (Filter node parent expr label ∷ before) (site_count header names before)
+  filter_own before node parent expr label good =
       let p = both_none (check_node before node parent) (expect_kind kind.Bool (kind_of (scope_at names (scope_of header) before parent) names expr) ∷ []) good.0 in
       let q = both_none (expect_kind kind.Bool (kind_of (scope_at names (scope_of header) before parent) names expr)) [] p.1 in
       first_site kind.Bool before (Filter node parent expr label) parent (site_at node) expr refl good.1 q.0
@@ -164,7 +179,7 @@ module _ (header : List Column) (names : FunctionNames) where
   with_own : (before : List Statement) (s : Statement) (ss : List ℕ) → AreAccepted names (scope_of header) (s ∷ before) → AllByRecursion (IsFilterSite before) ss
       → AllByRecursion (IsFilterSite (s ∷ before)) (ss ++ own_filter_site s (site_count header names before))
   with_own before (Filter node parent expr label) ss good h =
-      one_more (IsFilterSite (Filter node parent expr label ∷ before)) ss (site_count header names before) (further_sites before (Filter node parent expr label) ss h) (own_site before node parent expr label good)
+      one_more (IsFilterSite (Filter node parent expr label ∷ before)) ss (site_count header names before) (further_sites before (Filter node parent expr label) ss h) (filter_own before node parent expr label good)
   with_own before s ss good h = subst (λ (l : List ℕ). AllByRecursion (IsFilterSite (s ∷ before)) l) (sym (append-nil ss)) (further_sites before s ss h)
 
   pub path_filters : (before : List Statement) → AreAccepted names (scope_of header) before → (node : List ℕ) → AllByRecursion (IsFilterSite before) (filter_sites header names before node)
@@ -245,3 +260,173 @@ module _ (j : JobView) (job : IsJob j) (c : Chain) (up : List ℕ) (s : ℕ) (e 
   -- comes to truth values
   pub filter_kind : IsTried j c → (x : CheckedExpr) → IsSiteExpr (job_graph j) s x → x.kind ≡ kind.Bool
   filter_kind tried x its = kind_of_site j kind.Bool s (filter_site tried) x its
+
+-- ---- The site of an element is one of vectors.
+
+of_some : (xs : List Source) (c t k tags : ℕ) → source_in xs c ≡ from.Element t k tags → slice_get xs c ≡ Some (from.Element t k tags)
+of_some [] c t k tags h = cc h
+of_some (x ∷ xs) zero t k tags h = ap Some h
+of_some (x ∷ xs) (suc c) t k tags h = of_some xs c t k tags h
+
+module _ (header : List Column) (names : FunctionNames) where
+  -- the site is there, of an expression that was accepted as one of vectors
+  abbrev IsVectorSite : List Statement → ℕ → Type 0
+  IsVectorSite before s = IsSiteOf header names kind.Vect before s
+
+  vector_own : (before : List Statement) (node parent : List ℕ) (columns : List (List ℕ)) (expr : _) (tags : _) (vary : _) → AreAccepted names (scope_of header) (Vary node parent columns (Vector expr) tags vary ∷ before)
+      → IsVectorSite (Vary node parent columns (Vector expr) tags vary ∷ before) (site_count header names before)
+  vector_own before node parent columns expr tags vary good =
+      let c = checked_of names (scope_of header) before (Vary node parent columns (Vector expr) tags vary) good.0 in
+      let p = both_none (refuse_unless (nat_eq (length columns) 1) cause.WrongCount)
+      (expect_kind kind.Vect (kind_of (scope_at names (scope_of header) before parent) names expr) ∷ check_vector_column (scope_at names (scope_of header) before parent) columns ∷ []) c.1 in
+      let q = both_none (expect_kind kind.Vect (kind_of (scope_at names (scope_of header) before parent) names expr)) (check_vector_column (scope_at names (scope_of header) before parent) columns ∷ []) p.1 in
+      first_site header names kind.Vect before (Vary node parent columns (Vector expr) tags vary) parent (site_at node) expr refl good.1 q.0
+
+  module _ (u : Under) where
+    no_cell : (n : ℕ) (cs : List Column) (c t k tags : ℕ) → slice_get (cell_sources n cs) c ≡ Some (from.Element t k tags) → ⊥
+    no_cell n [] c t k tags h = cc h
+    no_cell n (d ∷ cs) zero t k tags h = cc h
+    no_cell n (d ∷ cs) (suc c) t k tags h = no_cell (suc n) cs c t k tags h
+
+    abbrev OfVectors : List Statement → List Statement → Type 0
+    OfVectors before after = (c t k tags : ℕ) → slice_get (sources header names u before) c ≡ Some (from.Element t k tags) → IsVectorSite after t
+
+    from_own : (before after : List Statement) (values : VaryValues) → OfVectors before after → ((e : _) → values ≡ Vector e → IsVectorSite after (site_count header names before))
+        → (i n : ℕ) (o : Option ℕ) (v t k tags : ℕ) → own_source values (site_count header names before) i n o (source_in (sources header names u before) v) ≡ from.Element t k tags → IsVectorSite after t
+    from_own before after (Lists lists) old own i n None v t k tags h = old v t k tags (of_some (sources header names u before) v t k tags h)
+    from_own before after (Vector e) old own i n None v t k tags h = old v t k tags (of_some (sources header names u before) v t k tags h)
+    from_own before after (Lists lists) old own i n (Some m) v t k tags h = cc h
+    from_own before after (Vector e) old own i n (Some m) v t k tags h =
+        let is : site_count header names before ≡ t = cc h in
+        subst (IsVectorSite after) is (own e refl)
+
+    from_varied : (before after : List Statement) (parent : List ℕ) (values : VaryValues) (names_of : List (List ℕ)) (vary : _) → OfVectors before after → ((e : _) → values ≡ Vector e → IsVectorSite after (site_count header names before))
+        → (i : ℕ) (columns : List (List ℕ)) (c t k tags : ℕ) → slice_get (varied_sources header names u before (sources header names u before) parent values names_of vary i columns) c ≡ Some (from.Element t k tags) → IsVectorSite after t
+    from_varied before after parent values names_of vary old own i [] c t k tags h = cc h
+    from_varied before after parent values names_of vary old own i (name ∷ columns) zero t k tags h =
+        from_own before after values old own i (length names_of) (own_place u vary names_of) (named_version header before parent name) t k tags (cc h)
+    from_varied before after parent values names_of vary old own i (name ∷ columns) (suc c) t k tags h = from_varied before after parent values names_of vary old own (suc i) columns c t k tags h
+
+    from_statement : (before : List Statement) (s : Statement) → AreAccepted names (scope_of header) (s ∷ before) → OfVectors before (s ∷ before)
+        → (c t k tags : ℕ) → slice_get (own_sources header names u before (sources header names u before) s) c ≡ Some (from.Element t k tags) → IsVectorSite (s ∷ before) t
+    from_statement before (Define node parent column expr) good old zero t k tags h = cc h
+    from_statement before (Define node parent column expr) good old (suc c) t k tags h = cc h
+    from_statement before (Redefine node parent column expr) good old zero t k tags h = cc h
+    from_statement before (Redefine node parent column expr) good old (suc c) t k tags h = cc h
+    from_statement before (Vary node parent columns values tag_names vary) good old c t k tags h =
+        from_varied before (Vary node parent columns values tag_names vary ∷ before) parent values tag_names vary old own 0 columns c t k tags h
+      where
+        own : (e : _) → values ≡ Vector e → IsVectorSite (Vary node parent columns values tag_names vary ∷ before) (site_count header names before)
+        own e is =
+            subst (λ (v : VaryValues). AreAccepted names (scope_of header) (Vary node parent columns v tag_names vary ∷ before) → IsVectorSite (Vary node parent columns v tag_names vary ∷ before) (site_count header names before)) (sym is)
+            (vector_own before node parent columns e tag_names vary) good
+    from_statement before s good old c t k tags h = cc h
+
+    -- the site of each element
+    of_elements : (before : List Statement) → AreAccepted names (scope_of header) before → OfVectors before before
+    of_elements [] good c t k tags h = absurd (no_cell 0 header c t k tags h)
+    of_elements (s ∷ before) good c t k tags h =
+        go (λ d n m l q. further_site header names kind.Vect before s n (of_elements before good.1 d n m l q))
+        (of_joined (sources header names u before) (own_sources header names u before (sources header names u before) s) c (from.Element t k tags) h)
+      where
+        go : OfVectors before (s ∷ before) → (slice_get (sources header names u before) c ≡ Some (from.Element t k tags))
+            ⊎ ((n : ℕ) × (c ≡ length (sources header names u before) + n) × (slice_get (own_sources header names u before (sources header names u before) s) n ≡ Some (from.Element t k tags))) → IsVectorSite (s ∷ before) t
+        go old (inl q) = old c t k tags q
+        go old (inr q) = from_statement before s good old q.0 t k tags q.2
+
+-- the site of an element that gives a version its value is one of vectors
+pub element_kind : (j : JobView) → IsJob j → (u : Option ℕ) (c t k tags : ℕ) → source_at j u c ≡ from.Element t k tags → (e : CheckedExpr) → IsSiteExpr (job_graph j) t e → e.kind ≡ kind.Vect
+element_kind j job u c t k tags is e its =
+    let h =
+    of_elements j.dataset.columns (fn_names j.dataset.fns) (graph_under (job_graph j) u) (history j.script) (accepted_of j job) c t k tags
+    (of_some (sources j.dataset.columns (fn_names j.dataset.fns) (graph_under (job_graph j) u) (history j.script)) c t k tags is) in
+    kind_of_site j kind.Vect t h e its
+
+-- ---- The kinds of keys, site by site.
+
+-- ---- a site has one kind
+
+module _ (all : List ColType) where
+  abbrev HasKind : ℕ × ColType → Type 0
+  HasKind c = slice_get all c.0 ≡ Some c.1
+
+  same_pairs : (ks ls : List (ℕ × ColType)) → map (λ (c : ℕ × ColType). c.0) ks ≡ map (λ (c : ℕ × ColType). c.0) ls → AllByRecursion HasKind ks → AllByRecursion HasKind ls → ks ≡ ls
+  same_pairs [] [] e h k = refl
+  same_pairs [] (l ∷ ls) e h k = cc e
+  same_pairs (k ∷ ks) [] e h i = cc e
+  same_pairs (k ∷ ks) (l ∷ ls) e h i =
+      let number : k.0 ≡ l.0 = cc e in
+      let rest : map (λ (c : ℕ × ColType). c.0) ks ≡ map (λ (c : ℕ × ColType). c.0) ls = cc e in
+      let kind : k.1 ≡ l.1 = some_same k.1 l.1 (sym h.0 ∙ ap (slice_get all) number ∙ i.0) in
+      let tails = same_pairs ks ls rest h.1 i.1 in
+      λ x. (number x, kind x) ∷ tails x
+
+pub one_kind : (g : GraphView) (s : ℕ) (e d : CheckedExpr) → IsSiteExpr g s e → IsSiteExpr g s d → e.kind ≡ d.kind
+one_kind g s e d its other = same (sym its.typed.typed ∙ (λ i. num_kind (pairs i) g.names (trees i)) ∙ other.typed.typed)
+  where
+    same : ◌≡◌ {A = Result ColType GraphCause} (Ok e.kind) (Ok d.kind) → e.kind ≡ d.kind
+    same q = cc q
+
+    trees : e.tree ≡ d.tree
+    trees = some_same e.tree d.tree (sym its.tree ∙ other.tree)
+
+    pairs : e.kinds ≡ d.kinds
+    pairs =
+        same_pairs (graph_kinds g) e.kinds d.kinds (its.typed.columns ∙ ap (λ (t : NumTree). distinct (columns_in t)) trees ∙ sym other.typed.columns)
+        (recursion_from_All (HasKind (graph_kinds g)) e.kinds its.kinds) (recursion_from_All (HasKind (graph_kinds g)) d.kinds other.kinds)
+
+-- ---- keys of one more site
+
+own_kind : (n i : ℕ) (k : ColType) → i < n → slice_get (replicate n k) i ≡ Some k
+own_kind n i k low = slice_get-get_or (replicate n k) i k (let l = length-replicate n k in omega (arith, l, low)) ∙ ap Some (get_or-replicate n i k k low)
+
+pub no_kinds : (g : GraphView) (kinds : List ColType) → HaveKinds g 0 kinds
+no_kinds g kinds t w low = absurd (omega (arith, low))
+
+module _ (g : GraphView) (site : ℕ) (inside : site < length (graph_sites g)) (depends : VarSet) (its : (v : ℕ) → has depends v ≡ site_depends_at g site v) (count : ℕ) (members : count ≡ members_below depends 128)
+    (above : (v : ℕ) → 128 ≤ v → has depends v ≡ false) (e : CheckedExpr) (expr : IsSiteExpr g site e) (kinds : List ColType) (many : length kinds ≡ keys_before (graph_variations g) (graph_sites g) site)
+    (more : List ColType) (are : more ≡ kinds ++ replicate (1 + count) e.kind) where
+  abbrev x : SiteAt
+  x = (something_at (graph_sites g) site inside).0
+
+  at : slice_get (graph_sites g) site ≡ Some x
+  at = (something_at (graph_sites g) site inside).1
+
+  own_count : 1 + count ≡ own_keys (graph_variations g) x
+  own_count =
+      let e : count ≡ count_by (depends_on x) (graph_variations g) = members ∙ members_all (depends_on x) (graph_variations g) depends (λ v. its v ∙ ap (holds_at (λ y. holds_at (depends_on y) (slice_get (graph_variations g) v))) at) above in
+      let own : own_keys (graph_variations g) x ≡ suc (count_by (depends_on x) (graph_variations g)) = refl in
+      omega (arith, e, own)
+
+  pub more_many : length more ≡ keys_before (graph_variations g) (graph_sites g) (site + 1)
+  more_many =
+      let a = length-append kinds (replicate (1 + count) e.kind) in
+      let b = length-replicate (1 + count) e.kind in
+      let c = keys_next (graph_variations g) (graph_sites g) site x at in
+      let s : suc site ≡ site + 1 = omega arith in
+      ap length are ∙ a ∙ omega (arith, b, c, many, own_count) ∙ ap (keys_before (graph_variations g) (graph_sites g)) s
+
+  pub more_kinds : HaveKinds g site kinds → HaveKinds g (site + 1) more
+  more_kinds so_far t w low = go (cases_eq t site)
+    where
+      own_key : key g site w ≡ length kinds + slot (graph_variations g) x w
+      own_key = let k : key g site w ≡ keys_before (graph_variations g) (graph_sites g) site + slot (graph_variations g) x w = ap (λ o. keys_before (graph_variations g) (graph_sites g) site + slot_at (graph_variations g) o w) at in omega (arith, k, many)
+
+      mine : slice_get more (key g site w) ≡ Some e.kind
+      mine =
+          let low = slot_small (graph_variations g) x w in
+          ap (λ ks. slice_get ks (key g site w)) are ∙ next_at kinds (replicate (1 + count) e.kind) (slot (graph_variations g) x w) (key g site w) own_key ∙ own_kind (1 + count) (slot (graph_variations g) x w) e.kind (omega (arith, low, own_count))
+
+      go : (t ≡ site) ⊎ (t ≡ site → ⊥) → (d : CheckedExpr) × IsSiteExpr g t d × (slice_get more (key g t w) ≡ Some d.kind)
+      go (inl q) = subst (λ (n : ℕ). (d : CheckedExpr) × IsSiteExpr g n d × (slice_get more (key g n w) ≡ Some d.kind)) (sym q) (e, expr, mine)
+      go (inr q) =
+          let h = so_far t w (omega (arith, low, q)) in
+          (h.0, h.1, ap (λ ks. slice_get ks (key g t w)) are ∙ kept_at kinds (replicate (1 + count) e.kind) (key g t w) h.0.kind h.2)
+
+-- ---- all sites
+
+pub site_kinds : (g : GraphView) (kinds : List ColType) → HaveKinds g (length (graph_sites g)) kinds → AreSiteKinds g kinds
+site_kinds g kinds have t w e k its got =
+    let x = site_tree its in
+    let h = have t w (slice_get_within (graph_sites g) t x.0 x.1) in
+    one_kind g t e h.0 its h.1 ∙ some_same h.0.kind k (sym h.2 ∙ got)

@@ -1,7 +1,6 @@
 -- An action's pass, tried part by part.
-use Rattle.std.proofs.Common.{◌≡◌, ℕ, ◌+◌, ◌<◌, ◌≤◌, ℤ, Bool, true, false, List, [], ◌∷◌, length, Option, None, Some, refl, sym, ◌∙◌, ap, subst, arith, slice_get, nat_lt, if◌then◌else◌}
-use Rattle.std.specs.Prelude.{slice_set}
-use Rattle.std.specs.List.{filter, AllByRecursion}
+use Rattle.std.proofs.Common.{◌≡◌, ℕ, ◌+◌, ◌<◌, ◌≤◌, ℤ, Bool, true, false, List, [], ◌∷◌, length, Option, None, Some, refl, sym, ◌∙◌, ap, subst, arith, slice_get, nat_lt, if◌then◌else◌, nat_eq, slice_set, filter}
+use Rattle.std.specs.List.{AllByRecursion, list_any}
 use Rattle.std.proofs.lemmas.Option.{slice_get_within}
 use Rattle.rdf_values.specs.declared.action.ActionKind.{ActionKind}
 use Rattle.rdf_values.specs.declared.fault.EntryFault.{EntryFault}
@@ -10,38 +9,40 @@ use Rattle.rdf_model.specs.Evaluation.{Outcome, Gives, Faults, Needs}
 use Rattle.rdf_model.specs.Results.{fault_in, is_true}
 use Rattle.graph_numbers.specs.Graphs.{graph_filters, graph_results}
 use Rattle.graph_numbers.specs.Meets.{IfPassed}
-use Rattle.graph_numbers.specs.Outcomes.{booking_numbers, through_sites}
-use Rattle.graph_numbers.specs.Results.{ResultAt}
+use Rattle.graph_numbers.specs.Outcomes.{booking_numbers, through_sites, through_filter}
+use Rattle.graph_numbers.specs.Results.{ResultAt, FilterAt}
 use Rattle.graph_numbers.specs.declared.pass.Pass.{Pass as NumberedPass}
 use Rattle.expr_lanes.specs.Places.{EachPlace, is_in}
 use Rattle.block_cache.specs.Lanes.{LaneView}
-use Rattle.loop_keys.specs.Jobs.{IsJob, JobView, job_graph}
+use Rattle.loop_keys.specs.Jobs.{IsJob, JobView, job_graph, passes_in}
 use Rattle.loop_keys.specs.Store.{site_in, version_in}
 use Rattle.std.proofs.lemmas.List.Elements.{recursion_from_All}
-use Rattle.loop_keys.specs.Caches.{IsPlainLoop}
+use Rattle.loop_keys.specs.Caches.{IsPlainLoop, IsCovered}
 use Rattle.loop_keys.specs.Passes.{IsActionAt}
 use Rattle.loop_keys.specs.Plain.{ArePlainVersions, IsPlainVersion}
 use Rattle.loop_keys.proofs.ActionLaws.{can_act}
-use Rattle.loop_keys.proofs.PassTies.{pass_answer}
+use Rattle.loop_keys.proofs.PassTies.{pass_answer, pass_of}
 use Rattle.loop_keys.proofs.TableLaws.{row_there}
-use Rattle.loop_keys.specs.Turns.{HasAllDemands, pass_fault}
+use Rattle.loop_keys.specs.Turns.{HasAllDemands, pass_fault, IsReportPass, covers_of, is_covering, numbered_passes}
 use Rattle.block_passes.specs.Feeds.{CanGather, unfed}
 use Rattle.block_passes.specs.Inputs.{AreAtHand, CanServe, DemandsInputs, IsServedTo, inputs_fault}
-use Rattle.block_passes.specs.Parts.{where_passed}
-use Rattle.block_passes.specs.Plans.{IsLast, IsPlan, PlanView, through_chain}
-use Rattle.block_passes.specs.Searches.{Lowers, where_in}
-use Rattle.block_passes.specs.Selections.{AreKept, IsMade, IsReadyBelow, IsSelectedTo, chosen}
-use Rattle.block_passes.specs.Tries.{IsPassTried, IsReadBelow, IsReadOf}
+use Rattle.block_passes.specs.Searches.{where_passed, Lowers, where_in}
+use Rattle.block_passes.specs.Plans.{IsLast, IsPlan, PlanView, through_chain, IsActionOf, IsNamed, Chain}
+use Rattle.block_passes.specs.Tries.{AreKept, IsMade, IsReadyBelow, IsSelectedTo, chosen, IsPassTried, IsReadBelow, IsReadOf, IsTriedTo, filter_fault, filters_fault}
 use Rattle.block_passes.specs.declared.found.Found.{Found}
 use Rattle.block_passes.specs.declared.kept.Kept.{Kept}
 use Rattle.block_passes.proofs.Demanding.{pass_set}
-use Rattle.block_passes.proofs.FaultsOver.{chosen_below, in_chosen}
-use Rattle.block_passes.proofs.Parts.{action_fault, where_split, last_through}
-use Rattle.block_passes.proofs.PlaceLists.{narrowed}
-use Rattle.block_passes.proofs.Searching.{both_lower, lowers_as, or_else}
-use Rattle.block_passes.proofs.StepCases.{written_selected}
-use Rattle.block_passes.proofs.StepSelecting.{kept_lower}
+use Rattle.block_passes.proofs.Places.{chosen_below, in_chosen, narrowed}
+use Rattle.block_passes.proofs.Searching.{action_fault, where_split, last_through, report_fault, step_fault, both_lower, lowers_as, or_else}
+use Rattle.block_passes.proofs.Selecting.{written_selected, kept_lower}
 use Rattle.loop_keys.proofs.PassNumbers.{some_same}
+use Rattle.std.proofs.lemmas.Bool.Decides.{Decides-eqb}
+use Rattle.lemmas.proofs.Places.{any_at}
+use Rattle.rdf_values.specs.Bookings.{ActionAt, ReportOn}
+use Rattle.loop_keys.specs.Plans.{covered_in}
+use Rattle.loop_keys.proofs.ReportTies.{contained_at, filter_there, report_fault as its_fault}
+use Rattle.block_passes.specs.declared.plan.NamedSteps.{NamedSteps}
+use Rattle.block_passes.proofs.PlanSteps.{covered_is, one_result}
 
 if_passed : (o : Outcome ⊥ Bool) (X : Type 0) → is_true o ≡ true → IfPassed o X → X
 if_passed (Gives true) X h x = x
@@ -62,6 +63,9 @@ read_plain j job pass k inputs u own loop =
     each_source : (cs : List ℕ) → AllByRecursion (IsPlainVersion (job_graph j) loop.used) cs → ArePlainVersions j loop.used own.numbered.variation cs
     each_source [] h = tt
     each_source (c ∷ cs) h = (h.0.1 own.numbered.variation, each_source cs h.1)
+
+pub read_inside : (j : JobView) (n : ℕ) (k : ActionKind) (inputs : List ℕ) (u : Option ℕ) → IsReadOf j n k inputs u → n < length (passes_in j)
+read_inside j n k inputs u own = slice_get_within (passes_in j) n _ (pass_of j n own.numbered own.action.its_pass own.result own.action.its_result)
 
 last_none : (a b : Option EntryFault) → or_else a b ≡ None → b ≡ None
 last_none None b h = h
@@ -89,11 +93,11 @@ module _ (j : JobView) (job : IsJob j) (first count pass : ℕ) (plan : PlanView
 
   -- its last step
   pub has_step : pass < length plan.passes
-  has_step = let w = p.passes pass m r k own.action in slice_get_within plan.passes pass w.0 w.1
+  has_step = let low = read_inside j pass k inputs u own in let many = p.many_passes in omega (arith, low, many)
 
   module _ (last : ℕ) (its : slice_get plan.passes pass ≡ Some last) where
     is_last : IsLast p.chains r.filters m.variation last
-    is_last = let w = p.passes pass m r k own.action in subst (λ (n : ℕ). IsLast p.chains r.filters m.variation n) (some_same w.0 last (sym w.1 ∙ its)) w.2
+    is_last = p.passes pass last its m r k own.action
 
     pub last_there : last < length plan.steps
     last_there = let l = slice_get_within p.chains last is_last.chain is_last.its in let e = p.steps.many in omega (arith, l, e)
@@ -196,12 +200,11 @@ module _ (j : JobView) (job : IsJob j) (first count pass : ℕ) (plan : PlanView
         all_read m2 r2 k2 of2 q lt passed =
             let falls = t.lowers.falls in
             let below : q < f2.limit = omega (arith, lt, falls) in
-            let e1 : m ≡ m2 = some_same m m2 (sym own.action.its_pass ∙ of2.its_pass) in
-            let e2 : r ≡ r2 = some_same r r2 (sym own.action.its_result ∙ ap (λ (n : NumberedPass). slice_get (graph_results (job_graph j)) n.result) e1 ∙ of2.its_result) in
-            let passed_own : is_true (through_sites (site_in {M = ⊥} j (first + q) m.variation) r.filters) ≡ true = (λ i. is_true (through_sites (site_in {M = ⊥} j (first + q) (e1 i).variation) (e2 i).filters)) ∙ passed in
+            let e = one_result j pass m m2 r r2 own.action.its_pass of2.its_pass own.action.its_result of2.its_result in
+            let passed_own : is_true (through_sites (site_in {M = ⊥} j (first + q) m.variation) r.filters) ≡ true = (λ i. is_true (through_sites (site_in {M = ⊥} j (first + q) (e.0 i).variation) (e.1 i).filters)) ∙ passed in
             let inside : is_in q to2.places ≡ true = ap (is_in q) is_second ∙ in_chosen passes_at q f2.limit below ∙ ap is_true (through_is (first + q)) ∙ passed_own in
-            subst (λ (n : NumberedPass). AreAtHand j lanes2 n.variation r2.inputs q) e1
-            (subst (λ (x : ResultAt). AreAtHand j lanes2 m.variation x.inputs q) e2
+            subst (λ (n : NumberedPass). AreAtHand j lanes2 n.variation r2.inputs q) e.0
+            (subst (λ (x : ResultAt). AreAtHand j lanes2 m.variation x.inputs q) e.1
             (subst (λ (v : Option ℕ). AreAtHand j lanes2 v r.inputs q) (sym own.its_under)
             (subst (λ (cs : List ℕ). AreAtHand j lanes2 u cs q) (sym own.inputs_are) (held q inside))))
 
@@ -211,3 +214,100 @@ module _ (j : JobView) (job : IsJob j) (first count pass : ℕ) (plan : PlanView
           lowers = all_lower;
           read = all_read;
         }
+
+-- ---- Named filters, tried one after another.
+
+or_else_same : (a b : Option EntryFault) → or_else a (or_else a b) ≡ or_else a b
+or_else_same None b = refl
+or_else_same (Some k) b = refl
+
+-- ---- covered filters
+
+module _ (j : JobView) (job : IsJob j) (f : ℕ) (covered : IsCovered j f) where
+  covering : is_covering (graph_results (job_graph j)) f covered.numbered ≡ true
+  covering =
+      let at = contained_at covered.result.covers f covered.covers in
+      ap (λ o. list_any (nat_eq f) (covers_of o)) covered.its_result ∙ any_at (nat_eq f) covered.result.covers at.0 f at.1 ((Decides-eqb f f).1 refl)
+
+  there : (x : FilterAt) × (slice_get (graph_filters (job_graph j)) f ≡ Some x)
+  there = filter_there j job f covered
+
+  is_covered : slice_get (covered_in j) f ≡ Some true
+  is_covered =
+      covered_is j job f (slice_get_within (graph_filters (job_graph j)) f there.0 there.1) true
+      (sym (any_at (is_covering (graph_results (job_graph j)) f) (numbered_passes j) covered.pass covered.numbered covered.its_pass covering))
+
+  -- ---- its step
+
+  module _ (plan : PlanView) (p : IsPlan j plan) where
+    pub has_named : f < length plan.filters
+    has_named = let low = slice_get_within (graph_filters (job_graph j)) f there.0 there.1 in let many = p.many_filters in omega (arith, low, many)
+
+    pub never_none : slice_get plan.filters f ≡ Some None → ⊥
+    never_none e = let bad : true ≡ false = some_same true false (sym is_covered ∙ p.filters f None e there.0 there.1) in cc bad
+
+    module _ (s : NamedSteps) (its : slice_get plan.filters f ≡ Some (Some s)) where
+      named : IsNamed p.chains there.0 s
+      named = (p.filters f (Some s) its there.0 there.1).1
+
+      pub own_there : s.own < length plan.steps
+      own_there = let l = slice_get_within p.chains s.own named.own.chain named.own.its in let e = p.steps.many in omega (arith, l, e)
+
+      pub above_there : s.above < length plan.steps
+      above_there = let l = slice_get_within p.chains s.above named.above.chain named.above.its in let e = p.steps.many in omega (arith, l, e)
+
+      both_faults : (e : ℕ) → or_else (fault_in (through_chain j e named.above.chain)) (fault_in (through_chain j e named.own.chain)) ≡ fault_in (through_filter (site_in {M = ⊥} j e None) (slice_get (graph_filters (job_graph j)) f))
+      both_faults e =
+          let own = last_through j p.chains there.0.sites None s.own named.own e ∙ ap (through_sites (site_in {M = ⊥} j e None)) named.sites in
+          (λ i. or_else (fault_in (last_through j p.chains named.up None s.above named.above e i)) (fault_in (own i)))
+          ∙ ap (or_else (fault_in (through_sites (site_in {M = ⊥} j e None) named.up))) (step_fault (site_in j e None) named.up named.site)
+          ∙ or_else_same (fault_in (through_sites (site_in {M = ⊥} j e None) named.up)) (where_passed (through_sites (site_in {M = ⊥} j e None) named.up) (fault_in (site_in {M = ⊥} j e None named.site)))
+          ∙ sym (step_fault (site_in j e None) named.up named.site)
+          ∙ ap (λ (l : List ℕ). fault_in (through_sites (site_in {M = ⊥} j e None) l)) (sym named.sites)
+          ∙ ap (λ o. fault_in (through_filter (site_in {M = ⊥} j e None) o)) (sym there.1)
+
+      pub filter_tried : (first count pass : ℕ) (mid lanes : List LaneView) (between kept : List Kept) (a b c : Found)
+          → IsSelectedTo j first count p.chains pass s.above mid between a b → IsSelectedTo j first count p.chains pass s.own lanes kept b c → IsTriedTo j first count p.chains (filter_fault j first f) pass lanes kept a c
+      filter_tried first count pass mid lanes between kept a b c h k = record {
+        ready = k.ready;
+        lowers = lowers_as (λ q. or_else (fault_in (through_chain j (first + q) named.above.chain)) (fault_in (through_chain j (first + q) named.own.chain))) (filter_fault j first f) first pass a c (λ q lt. both_faults (first + q))
+            (both_lower (λ q. fault_in (through_chain j (first + q) named.above.chain)) (λ q. fault_in (through_chain j (first + q) named.own.chain)) first pass a b c (h.lowers named.above.chain named.above.its) (k.lowers named.own.chain named.own.its));
+      }
+
+-- ---- one after another
+
+pub filters_tried : (j : JobView) (first count : ℕ) (chains : List Chain) (pass : ℕ) (filters fs : List ℕ) (f : ℕ) → filters ≡ f ∷ fs → (lanes after : List LaneView) (kept now : List Kept) (a b c : Found)
+    → IsTriedTo j first count chains (filter_fault j first f) pass lanes kept a b → IsTriedTo j first count chains (filters_fault j first fs) pass after now b c → IsTriedTo j first count chains (filters_fault j first filters) pass after now a c
+filters_tried j first count chains pass filters fs f e lanes after kept now a b c h k =
+    subst (λ (l : List ℕ). IsTriedTo j first count chains (filters_fault j first l) pass after now a c) (sym e)
+    (record {
+      ready = k.ready;
+      lowers = lowers_as (λ p. or_else (filter_fault j first f p) (filters_fault j first fs p)) (filters_fault j first (f ∷ fs)) first pass a c
+          (λ p lt. sym (report_fault (site_in {M = ⊥} j (first + p) None) (graph_filters (job_graph j)) f fs))
+          (both_lower (filter_fault j first f) (filters_fault j first fs) first pass a b c h.lowers k.lowers);
+    })
+
+-- ---- a report
+
+-- its pass is not an action's
+pub no_action : (j : JobView) (pass own : ℕ) (rep : IsReportPass j pass own) (m : NumberedPass) (r : ResultAt) (k : ActionKind) → IsActionOf j pass m r k → ⊥
+no_action j pass own rep m r k of =
+    let same = (one_result j pass rep.numbered m rep.result r rep.its_pass of.its_pass (ap (slice_get (graph_results (job_graph j))) rep.its_result ∙ rep.there_is) of.its_result).1 in
+    let bad : ReportOn rep.filters ≡ ActionAt k of.at = sym rep.report ∙ ap (λ (x : ResultAt). x.booked.booking) same ∙ of.booking in
+    cc bad
+
+-- it is one report's
+pub same_report : (j : JobView) (pass own other : ℕ) (rep : IsReportPass j pass own) (rep2 : IsReportPass j pass other) → rep.result ≡ rep2.result
+same_report j pass own other rep rep2 =
+    let found = slice_get (graph_results (job_graph j)) in
+    (one_result j pass rep.numbered rep2.numbered rep.result rep2.result rep.its_pass rep2.its_pass (ap found rep.its_result ∙ rep.there_is) (ap found rep2.its_result ∙ rep2.there_is)).1
+
+-- its pass was tried
+pub report_tried : (j : JobView) (job : IsJob j) (first count : ℕ) (chains : List Chain) (pass own : ℕ) (rep : IsReportPass j pass own) (ns : List ℕ) → rep.result.covers ≡ ns → first + count ≤ length j.dataset.rows
+    → (lanes : List LaneView) (kept : List Kept) (a b : Found) → a.limit ≤ count → IsTriedTo j first count chains (filters_fault j first ns) pass lanes kept a b → IsPassTried j first count chains pass lanes kept a b
+report_tried j job first count chains pass own rep ns e within lanes kept a b low t = record {
+  ready = t.ready;
+  lowers = lowers_as (filters_fault j first ns) (λ q. pass_fault j (first + q) pass) first pass a b
+      (λ q lt. (let row = row_there j.dataset.rows (first + q) (omega (arith, lt, low, within)) in sym (its_fault j job (first + q) row.0 row.1 pass own rep ns e))) t.lowers;
+  read = λ m r k of q lt passed. absurd (no_action j pass own rep m r k of);
+}
