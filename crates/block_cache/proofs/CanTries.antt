@@ -15,15 +15,14 @@ use Rattle.graph_numbers.specs.Sources.{IsBelow}
 use Rattle.graph_numbers.specs.Versions.{version_count}
 use Rattle.graph_numbers.specs.declared.source.Source.{Source}
 use Rattle.graph_numbers.specs.declared.source.Source.TheVariants as from
-use Rattle.graph_numbers.proofs.Closing.{each_at}
 use Rattle.graph_numbers.proofs.Equations.{columns_below}
-use Rattle.graph_numbers.proofs.Meeting.{In, here, there as further}
+use Rattle.graph_numbers.proofs.Meeting.{In, here, there as further, each_at}
 use Rattle.block_cache.specs.Lanes.{LaneView, kinds_of}
 use Rattle.loop_keys.specs.Jobs.{JobView, job_graph}
 use Rattle.loop_keys.specs.Keys.{key}
 use Rattle.loop_keys.specs.Store.{source_at}
 use Rattle.loop_keys.proofs.EvaluateLaws.{accepted_of}
-use Rattle.loop_keys.proofs.RowLaws.{key_small}
+use Rattle.loop_keys.proofs.KeyLaws.{key_small}
 use Rattle.block_cache.specs.Blocks.{HasLane, HasSource, IsTriable}
 use Rattle.block_cache.specs.Fills.{IsLoaded}
 use Rattle.block_cache.specs.ForSites.{CanFillFor}

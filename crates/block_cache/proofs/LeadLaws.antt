@@ -30,7 +30,7 @@ use Rattle.loop_keys.specs.Plain.{ArePlain}
 use Rattle.loop_keys.specs.Store.{IsSiteOf, MeetsAt, site_in, source_at, version_in}
 use Rattle.loop_keys.specs.declared.rows.Place.TheVariants as stands
 use Rattle.loop_keys.proofs.EvaluateLaws.{accepted_of}
-use Rattle.loop_keys.proofs.RowLaws.{key_small}
+use Rattle.loop_keys.proofs.KeyLaws.{key_small}
 use Rattle.block_cache.specs.Fills.{CanFill, IsFilledTo, IsGrownOver, IsRankedBelow, IsSameAt, IsSpentOver, below_fault, holds_at, is_below, site_fault}
 use Rattle.block_cache.specs.ForSites.{CanFillFor, IsFilledFor, IsLeadFor, IsSpentFor, own_key}
 use Rattle.block_cache.specs.Leads.{first_read, first_read_in}

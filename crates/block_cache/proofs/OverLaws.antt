@@ -22,7 +22,7 @@ use Rattle.loop_keys.specs.declared.held.Held.TheVariants as held
 use Rattle.block_cache.proofs.LaneSteps.{given_among}
 use Rattle.loop_keys.proofs.ColumnLaws.{can_evaluate}
 use Rattle.loop_keys.proofs.FillLaws.{written}
-use Rattle.loop_keys.proofs.RowLaws.{key_small}
+use Rattle.loop_keys.proofs.KeyLaws.{key_small}
 use Rattle.block_cache.specs.Blocks.{HasSource, IsLaneSet, IsTelling, cells_at, held_at, held_value}
 use Rattle.block_cache.specs.ForSites.{IsBegunFor, IsTriedFor, own_key}
 use Rattle.block_cache.specs.OverBlocks.{AreReadOver, AreReadyOver, FitAt, block_job, outcome_over}

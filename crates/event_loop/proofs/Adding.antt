@@ -24,7 +24,8 @@ use Rattle.loop_keys.specs.Caches.{numbered_in}
 use Rattle.loop_keys.specs.Jobs.{IsJob, JobView, job_graph, passes_in}
 use Rattle.loop_keys.proofs.EvaluateLaws.{accepted_of}
 use Rattle.loop_keys.proofs.PassNumbers.{result_inside, result_there}
-use Rattle.loop_keys.proofs.PassTies.{of_chosen, pass_of}
+use Rattle.loop_keys.proofs.PassTies.{pass_of}
+use Rattle.loop_keys.proofs.Elements.{of_chosen}
 use Rattle.loop_keys.specs.Turns.{numbered_passes}
 use Rattle.loop_keys.proofs.Covered.{covered_count, passes_count}
 use Rattle.loop_keys.proofs.EntryLaws.{read_pass}

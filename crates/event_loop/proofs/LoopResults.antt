@@ -14,9 +14,8 @@ use Rattle.rdf_model.specs.Loops.{Access, accesses, filled_by, loop_passes, loop
 use Rattle.rdf_model.proofs.Accepted.{itself, names_equal}
 use Rattle.graph_numbers.specs.Results.{loops, pass_at, passes_from, result_passes}
 use Rattle.graph_numbers.specs.declared.pass.Pass.{Pass as NumberedPass}
-use Rattle.graph_numbers.proofs.Extending.{Extends, itself as all_of_it, further}
+use Rattle.graph_numbers.proofs.Extending.{Extends, itself as all_of_it, further, shorter}
 use Rattle.graph_numbers.proofs.Looping.{loops_are}
-use Rattle.graph_numbers.proofs.Passing.{shorter}
 use Rattle.graph.specs.LoopRows.{AreNamedInTurn}
 use Rattle.graph.proofs.Filled.{later_named}
 use Rattle.event_loop.specs.Places.{fills}

@@ -22,9 +22,8 @@ use Rattle.loop_pieces.specs.declared.flow.Counts.{Counts}
 use Rattle.graph_numbers.specs.Graphs.{GraphView, graph_filters}
 use Rattle.graph_numbers.specs.Results.{FilterAt, ResultAt, covered_at, filters, own_filters, own_results, results}
 use Rattle.graph_numbers.proofs.Covering.{AreNumbersOf, covered_numbers, numbers_later}
-use Rattle.graph_numbers.proofs.Extending.{Extends, itself}
+use Rattle.graph_numbers.proofs.Extending.{Extends, itself, shorter}
 use Rattle.graph_numbers.proofs.Listed.{next_at, of_joined}
-use Rattle.graph_numbers.proofs.Passing.{shorter}
 use Rattle.loop_pieces.specs.LoopPieces.{StandsFor, counts_at}
 use Rattle.loop_pieces.specs.Whole.{counts_of}
 use Rattle.loop_pieces.specs.declared.loop_piece.LoopPiece.{LoopPiece}

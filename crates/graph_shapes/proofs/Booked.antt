@@ -20,9 +20,8 @@ use Rattle.graph_numbers.specs.Kinds.{version_kinds}
 use Rattle.graph_numbers.specs.Results.{ResultAt, covered_at, own_results, results}
 use Rattle.graph_numbers.specs.Sites.{filter_sites}
 use Rattle.graph_numbers.specs.Versions.{version_at}
-use Rattle.graph_numbers.proofs.Extending.{Extends}
+use Rattle.graph_numbers.proofs.Extending.{Extends, shorter}
 use Rattle.graph_numbers.proofs.Listed.{of_joined}
-use Rattle.graph_numbers.proofs.Passing.{shorter}
 use Rattle.graph_numbers.proofs.VersionKinds.{kind_later, visible_kind}
 use Rattle.shard_runs.specs.Kinds.{first_kind}
 

@@ -26,9 +26,8 @@ use Rattle.graph_numbers.specs.Sources.{IsBelow, cell_value, site_value, source_
 use Rattle.graph_numbers.specs.Versions.{version_count}
 use Rattle.graph_numbers.specs.declared.source.Source.{Source}
 use Rattle.graph_numbers.specs.declared.source.Source.TheVariants as from
-use Rattle.graph_numbers.proofs.Closing.{each_at}
 use Rattle.graph_numbers.proofs.Equations.{columns_below, number_value, site_is, version_value}
-use Rattle.graph_numbers.proofs.Meeting.{In, here, there}
+use Rattle.graph_numbers.proofs.Meeting.{In, here, there, each_at}
 use Rattle.graph_numbers.proofs.VersionKinds.{FitsVersion, site_fits}
 
 -- ---- lists
